@@ -1,0 +1,31 @@
+-- `ask_at` meets its contract, by the two answers to a request.
+use Rattle.bucket.proofs.BucketLaws.{same-nanos, granted-within-patience, denied-beyond-patience}
+use mathlib.Core.Path.{sym}
+use native.Mathlib.Omega.{arith}
+use borrow.Author.Needs.{needs}
+use Rattle.bucket.proofs.BucketCore.ask_at.Statement.{statement}
+use Rattle.bucket.proofs.BucketCore.ask_at.Tie as tie
+
+time-until-at-requires : tie.Need-time-until-at-requires
+time-until-at-requires c κs = search needs
+
+longest-requires : tie.Need-longest-requires
+longest-requires c κs = search needs
+
+spent-at-requires : tie.Need-spent-at-requires
+spent-at-requires c κs = search needs
+
+returns : tie.Need-returns
+returns c =
+    let wait = c .before .before .before .before .time-until-at in
+    rw (c .spent-at .ensures, same-nanos (wait .result) (wait .ensures)) (sym (granted-within-patience _ _ _ _ _ (omega arith)))
+
+returns-2 : tie.Need-returns-2
+returns-2 c =
+    let wait = c .before .before .before .time-until-at in
+    rw (same-nanos (wait .result) (wait .ensures)) (sym (denied-beyond-patience _ _ _ _ _ (omega arith)))
+
+pub ask-at-spec : {M : Type 1} → statement M
+ask-at-spec =
+    tie.close
+    (tie.spec time-until-at-requires longest-requires spent-at-requires returns returns-2)

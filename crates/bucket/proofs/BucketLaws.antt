@@ -1,0 +1,113 @@
+-- The bucket's arithmetic: what fits 64 bits at an accepted rate, each case of a definition with a test, and how a shortfall falls.
+use Prim.Native.Nat.{ℕ, _+_, _*_, _-_, _/_, _≤_, _<_, _^_}
+use mathlib.Core.Path.{_≡_, refl, ap, sym, _∙_}
+use mathlib.Core.Bool.{true}
+use native.Mathlib.Nat.{mul-comm, mul-le-mul, mul-le-mul-right, mul-pos, mul-div-cancel, div-mul-le-self, sub-zero}
+use native.Mathlib.Omega.{arith}
+use borrow.Author.Tests.{eq-eqb, ne-eqb, le-leb, lt-leb, eqb-true}
+use Rattle.arith.specs.Arith.{ceilDiv, held}
+use Rattle.arith.proofs.Cases.{by-eq}
+use Rattle.arith.proofs.DivisionLaws.{ceilDiv-only}
+use Rattle.units.specs.declared.Nanos.{Nanos}
+use Rattle.bucket.specs.declared.BucketConfig.{BucketConfig}
+use Rattle.bucket.specs.declared.BucketCore.{BucketCore}
+use Rattle.bucket.specs.declared.Request.{Request}
+use Rattle.bucket.specs.declared.BucketDecision.the-variants.{Allowed, Denied}
+use Rattle.bucket.specs.Bucket.{Accepted, partsOf, fullParts, mostShortfall, readShortfall, shortfallAt, availableAt, fullAt, waitAt, spent, patience, asked, refunded}
+
+-- At an accepted rate a full bucket has less than 2^62 parts, so the most shortfall is below 2^63: every sum of the bucket fits 64 bits.
+pub full-parts-most : {c : BucketConfig} → Accepted c → fullParts c ≤ 2 ^ 62 - 2 ^ 46
+full-parts-most a = mul-le-mul (a .capacity-most) (a .period-most)
+
+pub most-shortfall-fits : {c : BucketConfig} → Accepted c → mostShortfall c < 2 ^ 63
+most-shortfall-fits a = omega (arith, full-parts-most a)
+
+-- Tokens that a bucket can hold have no more parts than a full one, so their product with the period fits.
+pub parts-within : (c : BucketConfig) (tokens : ℕ) → tokens ≤ c .capacity → partsOf c tokens ≤ fullParts c
+parts-within c tokens h = mul-le-mul-right (c .period .0) h
+
+pub parts-fit : {c : BucketConfig} (tokens : ℕ) → Accepted c → tokens ≤ c .capacity → partsOf c tokens < 2 ^ 64
+parts-fit {c} tokens a h = omega (arith, parts-within c tokens h, full-parts-most a)
+
+-- No shortfall is more than the most, whatever word is stored; so what a grant stores fits.
+pub shortfall-most : (c : BucketConfig) (b : BucketCore) (at : Nanos) → shortfallAt c b at ≤ mostShortfall c
+unfolding shortfallAt
+shortfall-most c b at = omega arith
+
+pub grant-fits : {c : BucketConfig} (b : BucketCore) (cost : ℕ) (at : Nanos) → Accepted c → cost ≤ c .capacity → shortfallAt c b at + partsOf c cost < 2 ^ 64
+grant-fits {c} b cost at a h = omega (arith, shortfall-most c b at, parts-within c cost h, full-parts-most a)
+
+-- What is taken from a number below 2^64 may be held to 64 bits first: past that the difference is 0 either way.
+pub fall-held : (x fall : ℕ) → x < 2 ^ 64 → x - held fall ≡ x - fall
+fall-held x fall h = omega arith
+
+-- The shortfall, by a fall held to 64 bits: the code's product of elapsed time and amount may be wider.
+pub shortfall-by-held : {c : BucketConfig} (b : BucketCore) (at : Nanos) → Accepted c →
+    readShortfall c b - held ((at .0 - b .stamp .0) * c .amount) ≡ shortfallAt c b at
+unfolding shortfallAt
+shortfall-by-held b at a = fall-held _ _ (omega (arith, most-shortfall-fits a))
+
+-- The tokens that are there are the whole tokens among the parts that are there.
+pub available-by-parts : (c : BucketConfig) (b : BucketCore) (at : Nanos) → (fullParts c - shortfallAt c b at) / c .period .0 ≡ availableAt c b at
+unfolding availableAt
+available-by-parts c b at = refl
+
+-- A refund, by parts held to 64 bits: its cost is any 32-bit number, so they may be more.
+pub refund-by-held : {c : BucketConfig} (b : BucketCore) (cost : ℕ) → Accepted c →
+    record { shortfall = readShortfall c b - held (c .period .0 * cost); stamp = b .stamp } ≡ refunded c b cost
+refund-by-held {c} b cost a =
+    rw (mul-comm (c .period .0) cost) (ap (λ (n : ℕ). record { shortfall = n; stamp = b .stamp }) (fall-held _ _ (omega (arith, most-shortfall-fits a))))
+
+-- The wait: none for no cost; else until what the bucket lacks has come back; so none where it lacks nothing, and there the code does not divide.
+pub no-cost-no-wait : (c : BucketConfig) (b : BucketCore) (cost : ℕ) (at : Nanos) → cost ≡ 0 → 0 ≡ waitAt c b cost at
+unfolding waitAt
+no-cost-no-wait c b cost at e = rw (eq-eqb _ _ e)
+
+pub wait-for-lack : (c : BucketConfig) (b : BucketCore) (cost : ℕ) (at : Nanos) → (cost ≡ 0 → ⊥) →
+    ceilDiv (shortfallAt c b at + partsOf c cost - fullParts c) (c .amount) ≡ waitAt c b cost at
+unfolding waitAt
+wait-for-lack c b cost at n = rw (ne-eqb _ _ n)
+
+pub enough-no-wait : {c : BucketConfig} (b : BucketCore) (cost : ℕ) (at : Nanos) → Accepted c →
+    shortfallAt c b at + partsOf c cost ≤ fullParts c → 0 ≡ waitAt c b cost at
+enough-no-wait {c} b cost at a h =
+    by-eq cost 0 (no-cost-no-wait c b cost at)
+    (λ n. sym (ceilDiv-only _ (c .amount) 0 (a .amount-least) (omega arith) (omega arith)) ∙ wait-for-lack c b cost at n)
+
+-- A span is known by its number. (A contract gives the number of a wait, an answer holds the span.)
+pub same-nanos : (t : Nanos) {n : ℕ} → t .0 ≡ n → t ≡ record { 0 = n }
+same-nanos t e = ap (λ (n : ℕ). record { 0 = n }) e
+
+-- The two answers to a request: granted and charged where the wait is within its patience, else denied with the bucket as it was.
+pub granted-within-patience : (c : BucketConfig) (request : Request) (b : BucketCore) (cost : ℕ) (at : Nanos) → waitAt c b cost at ≤ patience request →
+    asked c request b cost at ≡ record { decision = Allowed (record { 0 = waitAt c b cost at }); bucket = spent c b cost at }
+unfolding asked
+granted-within-patience c request b cost at h = rw (le-leb _ _ h)
+
+pub denied-beyond-patience : (c : BucketConfig) (request : Request) (b : BucketCore) (cost : ℕ) (at : Nanos) → patience request < waitAt c b cost at →
+    asked c request b cost at ≡ record { decision = Denied (record { 0 = waitAt c b cost at }); bucket = b }
+unfolding asked
+denied-beyond-patience c request b cost at h = rw (lt-leb _ _ h)
+
+-- From one moment to a later one no more comes back than the amount for each nanosecond between them. Bounds over a span of time rest on this.
+pub shortfall-falls-slowly : (c : BucketConfig) (b : BucketCore) (earlier later : Nanos) → earlier .0 ≤ later .0 →
+    earlier .0 * c .amount + shortfallAt c b earlier ≤ later .0 * c .amount + shortfallAt c b later
+unfolding shortfallAt
+shortfall-falls-slowly c b t u h =
+    let A : ℕ = c .amount in
+    let came : ℕ = t .0 - b .stamp .0 in
+    let longer : (u .0 - b .stamp .0) * A ≤ (came + (u .0 - t .0)) * A = mul-le-mul-right A (omega arith) in
+    let between : u .0 * A ≡ (t .0 + (u .0 - t .0)) * A = ap (λ (n : ℕ). n * A) (omega arith) in
+    omega arith
+
+-- A bucket is full exactly where all its tokens are there: the Rust tests the tokens before it forgets a bucket, the definitions the shortfall.
+pub full-all-available : {c : BucketConfig} (b : BucketCore) (at : Nanos) → Accepted c → fullAt c b at ≡ true → availableAt c b at ≡ c .capacity
+unfolding availableAt
+full-all-available {c} b at a full = rw (eqb-true (shortfallAt c b at) 0 full, sub-zero) (mul-div-cancel (c .capacity) (a .period-least))
+
+pub all-available-full : {c : BucketConfig} (b : BucketCore) (at : Nanos) → Accepted c → availableAt c b at ≡ c .capacity → fullAt c b at ≡ true
+unfolding availableAt
+all-available-full {c} b at a all =
+    let P : ℕ = c .period .0 in
+    let reached : availableAt c b at * P ≡ fullParts c = ap (λ (n : ℕ). n * P) all in
+    eq-eqb (shortfallAt c b at) 0 (omega (arith, div-mul-le-self (fullParts c - shortfallAt c b at) P, mul-pos (a .capacity-least) (a .period-least)))

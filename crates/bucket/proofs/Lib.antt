@@ -1,0 +1,3 @@
+pub mod BucketLaws
+pub mod DebtLaws
+pub mod Worked

@@ -1,0 +1,83 @@
+-- The token bucket, on numbers. A token is P parts, and a bucket is known by its shortfall: how many parts it is below full, and since when.
+use Prim.Native.Nat.{ℕ, _+_, _*_, _-_, _/_, _≤_, _^_, min, max}
+use mathlib.Core.Bool.{Bool, cond}
+use lib.Dec.{leb, eqb}
+use Rattle.arith.specs.Arith.{ceilDiv}
+use Rattle.units.specs.declared.Nanos.{Nanos}
+use Rattle.bucket.specs.declared.BucketConfig.{BucketConfig}
+use Rattle.bucket.specs.declared.BucketCore.{BucketCore}
+use Rattle.bucket.specs.declared.Request.{Request}
+use Rattle.bucket.specs.declared.Request.the-variants.{Acquire, Reserve}
+use Rattle.bucket.specs.declared.BucketDecision.the-variants.{Allowed, Denied}
+use Rattle.bucket.specs.declared.BucketOutcome.{BucketOutcome}
+
+-- The rates that are accepted. Every function of the bucket may count on these ranges; the settings' refusals see to them.
+pub record Accepted (c : BucketConfig) : Type 0 where
+  pub amount-least : 1 ≤ c .amount
+  pub amount-most : c .amount ≤ 65535
+  pub period-least : 1 ≤ c .period .0
+  pub period-most : c .period .0 ≤ 2 ^ 46
+  pub capacity-least : 1 ≤ c .capacity
+  pub capacity-most : c .capacity ≤ 65535
+  pub initial-most : c .initial ≤ c .capacity
+
+-- So many tokens, in parts.
+abbrev pub partsOf : BucketConfig → ℕ → ℕ
+partsOf c tokens = tokens * c .period .0
+
+-- The parts of a full bucket.
+abbrev pub fullParts : BucketConfig → ℕ
+fullParts c = partsOf c (c .capacity)
+
+-- No shortfall is read as more than this, whatever word is stored.
+abbrev pub mostShortfall : BucketConfig → ℕ
+mostShortfall c = fullParts c + 2 ^ 62
+
+-- A stored shortfall, as it is read.
+abbrev pub readShortfall : BucketConfig → BucketCore → ℕ
+readShortfall c b = min (b .shortfall) (mostShortfall c)
+
+-- The shortfall at a moment: the amount has come back for each nanosecond since the stamp, down to 0. Before the stamp nothing has come back:
+-- the difference of natural numbers is then 0.
+unfoldable pub shortfallAt : BucketConfig → BucketCore → Nanos → ℕ
+shortfallAt c b at = readShortfall c b - (at .0 - b .stamp .0) * c .amount
+
+-- The whole tokens that are there; none where the shortfall is more than a full bucket.
+unfoldable pub availableAt : BucketConfig → BucketCore → Nanos → ℕ
+availableAt c b at = (fullParts c - shortfallAt c b at) / c .period .0
+
+-- A bucket is full where nothing is missing.
+abbrev pub fullAt : BucketConfig → BucketCore → Nanos → Bool
+fullAt c b at = eqb (shortfallAt c b at) 0
+
+-- A fresh bucket holds the initial tokens.
+abbrev pub fresh : BucketConfig → Nanos → BucketCore
+fresh c at = record { shortfall = partsOf c (c .capacity - c .initial); stamp = at }
+
+-- How long a cost has to wait: nothing costs no wait; else until the parts that the bucket lacks for it have come back, rounded up.
+unfoldable pub waitAt : BucketConfig → BucketCore → ℕ → Nanos → ℕ
+waitAt c b cost at = cond (eqb cost 0) 0 (ceilDiv (shortfallAt c b at + partsOf c cost - fullParts c) (c .amount))
+
+-- How long until the bucket is full again: the wait for as many tokens as it can hold.
+abbrev pub recoveryAt : BucketConfig → BucketCore → Nanos → ℕ
+recoveryAt c b at = waitAt c b (c .capacity) at
+
+-- What a grant stores: the parts of the cost on top of the shortfall at that moment, and the later of the stamp and the moment.
+abbrev pub spent : BucketConfig → BucketCore → ℕ → Nanos → BucketCore
+spent c b cost at = record { shortfall = shortfallAt c b at + partsOf c cost; stamp = record { 0 = max (b .stamp .0) (at .0) } }
+
+-- The longest wait that a request takes: an acquire none, a reservation its own.
+abbrev pub patience : Request → ℕ
+patience Acquire = 0
+patience (Reserve longest) = longest .0
+
+-- A request is granted where its wait is within its patience, and then the bucket is charged. A denial tells the wait and stores nothing.
+unfoldable pub asked : BucketConfig → Request → BucketCore → ℕ → Nanos → BucketOutcome
+asked c request b cost at =
+    cond (leb (waitAt c b cost at) (patience request))
+    (record { decision = Allowed (record { 0 = waitAt c b cost at }); bucket = spent c b cost at })
+    (record { decision = Denied (record { 0 = waitAt c b cost at }); bucket = b })
+
+-- A refund lowers the shortfall, as read, by the parts of the cost, down to 0. The stamp stays.
+abbrev pub refunded : BucketConfig → BucketCore → ℕ → BucketCore
+refunded c b cost = record { shortfall = readShortfall c b - partsOf c cost; stamp = b .stamp }

@@ -1,0 +1,245 @@
+// The token bucket, by value: a shortfall in parts and the moment it was taken at. Every function is exact for any stored words.
+ghost use mathlib.Core.Path.{_≡_};
+ghost use Prim.Native.Nat.{_≤_};
+ghost use Rattle.arith.specs.Arith.{held};
+ghost use Rattle.bucket.specs.Bucket.{Accepted, fullParts, mostShortfall, readShortfall, shortfallAt, availableAt, fullAt, fresh, waitAt, recoveryAt, spent, asked, refunded};
+ghost use Rattle.bucket.specs.Debt.{missingTokens, charged, restored};
+use units::Nanos;
+
+// The rate of a bucket: `amount` tokens come back every `period`, up to `capacity`; a fresh bucket holds `initial`.
+pub struct BucketConfig {
+    pub capacity: u32,
+    pub amount: u32,
+    pub period: Nanos,
+    pub initial: u32,
+}
+
+// A bucket: the parts it is below full, as of the stamp. A token is `period` parts.
+pub struct BucketCore {
+    pub shortfall: u64,
+    pub stamp: Nanos,
+}
+
+// What is asked of a bucket: tokens now, or tokens after a wait of at most so long.
+pub enum Request {
+    Acquire,
+    Reserve(Nanos),
+}
+
+// What a bucket answers: the tokens are charged and usable after the wait, or nothing is charged and the same request can be met after the wait.
+pub enum BucketDecision {
+    Allowed(Nanos),
+    Denied(Nanos),
+}
+
+// An answer, and the bucket after it.
+pub struct BucketOutcome {
+    pub decision: BucketDecision,
+    pub bucket: BucketCore,
+}
+
+impl BucketConfig {
+    // The parts of a full bucket.
+    pub fn full_parts(self) -> u64
+        requires { ⌜ Accepted self ⌝ }
+        ensures { λ r. ⌜ r ≡ fullParts self ⌝ }
+    {
+        (self.capacity as u64) * self.period.0
+    }
+
+    // No shortfall is read as more than this.
+    pub fn most_shortfall(self) -> u64
+        requires { ⌜ Accepted self ⌝ }
+        ensures { λ r. ⌜ r ≡ mostShortfall self ⌝ }
+    {
+        self.full_parts() + 0x4000_0000_0000_0000
+    }
+
+    // The tokens that come back in a span, rounded up and held to 64 bits. Quotient and rest by the period are taken apart, so nothing wraps.
+    pub fn missing_tokens(self, remaining: u64) -> u64
+        requires { ⌜ Accepted self ⌝ }
+        ensures { λ r. ⌜ r ≡ held (missingTokens self remaining) ⌝ }
+    {
+        let period = self.period.0;
+        let whole = arith::saturating_mul(remaining / period, self.amount);
+        let rest = arith::div_ceil((remaining % period) * (self.amount as u64), period);
+        arith::saturating_add(whole, rest)
+    }
+}
+
+impl BucketCore {
+    // A fresh bucket, with the initial tokens.
+    pub fn new(config: BucketConfig, at: Nanos) -> BucketCore
+        requires { ⌜ Accepted config ⌝ }
+        ensures { λ r. ⌜ r ≡ fresh config at ⌝ }
+    {
+        let missing = (config.capacity - config.initial) as u64;
+        BucketCore {
+            shortfall: missing * config.period.0,
+            stamp: at,
+        }
+    }
+
+    // The stored shortfall as it is read: whatever word is stored, no more than the most.
+    fn read_shortfall(self, config: BucketConfig) -> u64
+        requires { ⌜ Accepted config ⌝ }
+        ensures { λ r. ⌜ r ≡ readShortfall config self ⌝ }
+    {
+        arith::smaller(self.shortfall, config.most_shortfall())
+    }
+
+    // The shortfall at a moment.
+    pub fn shortfall_at(self, config: BucketConfig, at: Nanos) -> u64
+        requires { ⌜ Accepted config ⌝ }
+        ensures { λ r. ⌜ r ≡ shortfallAt config self at ⌝ }
+    {
+        let shortfall = self.read_shortfall(config);
+        let elapsed = arith::saturating_sub(at.0, self.stamp.0);
+        arith::saturating_sub(shortfall, arith::saturating_mul(elapsed, config.amount))
+    }
+
+    // The whole tokens that are there at a moment.
+    pub fn available_at(self, config: BucketConfig, at: Nanos) -> u64
+        requires { ⌜ Accepted config ⌝ }
+        ensures { λ r. ⌜ r ≡ availableAt config self at ⌝ }
+    {
+        let period = config.period.0;
+        arith::saturating_sub(config.full_parts(), self.shortfall_at(config, at)) / period
+    }
+
+    // Whether nothing is missing.
+    pub fn is_full_at(self, config: BucketConfig, at: Nanos) -> bool
+        requires { ⌜ Accepted config ⌝ }
+        ensures { λ r. ⌜ r ≡ fullAt config self at ⌝ }
+    {
+        self.shortfall_at(config, at) == 0
+    }
+
+    // How long until `cost` tokens are there.
+    pub fn time_until_at(self, config: BucketConfig, cost: u32, at: Nanos) -> Nanos
+        requires { ⌜ Accepted config × (cost ≤ config .capacity) ⌝ }
+        ensures { λ r. ⌜ r .0 ≡ waitAt config self cost at ⌝ }
+    {
+        if cost == 0 {
+            return Nanos(0);
+        }
+        let wanted = self.shortfall_at(config, at) + (cost as u64) * config.period.0;
+        let full = config.full_parts();
+        if wanted <= full {
+            return Nanos(0);
+        }
+        Nanos(arith::div_ceil(wanted - full, config.amount as u64))
+    }
+
+    // How long until the bucket is full again.
+    pub fn recovers_in(self, config: BucketConfig, at: Nanos) -> Nanos
+        requires { ⌜ Accepted config ⌝ }
+        ensures { λ r. ⌜ r .0 ≡ recoveryAt config self at ⌝ }
+    {
+        self.time_until_at(config, config.capacity, at)
+    }
+
+    // The bucket after a grant of `cost` tokens.
+    pub fn spent_at(self, config: BucketConfig, cost: u32, at: Nanos) -> BucketCore
+        requires { ⌜ Accepted config × (cost ≤ config .capacity) ⌝ }
+        ensures { λ r. ⌜ r ≡ spent config self cost at ⌝ }
+    {
+        BucketCore {
+            shortfall: self.shortfall_at(config, at) + (cost as u64) * config.period.0,
+            stamp: Nanos(arith::larger(self.stamp.0, at.0)),
+        }
+    }
+
+    // A request for `cost` tokens: the answer, and the bucket after it.
+    pub fn ask_at(
+        self,
+        config: BucketConfig,
+        request: Request,
+        cost: u32,
+        at: Nanos,
+    ) -> BucketOutcome
+        requires { ⌜ Accepted config × (cost ≤ config .capacity) ⌝ }
+        ensures { λ r. ⌜ r ≡ asked config request self cost at ⌝ }
+    {
+        let wait = self.time_until_at(config, cost, at);
+        if wait.0 <= request.longest() {
+            return BucketOutcome {
+                decision: BucketDecision::Allowed(wait),
+                bucket: self.spent_at(config, cost, at),
+            };
+        }
+        BucketOutcome {
+            decision: BucketDecision::Denied(wait),
+            bucket: self,
+        }
+    }
+
+    // The bucket with `cost` tokens given back.
+    pub fn refund(self, config: BucketConfig, cost: u32) -> BucketCore
+        requires { ⌜ Accepted config ⌝ }
+        ensures { λ r. ⌜ r ≡ refunded config self cost ⌝ }
+    {
+        let shortfall = self.read_shortfall(config);
+        let returned = arith::saturating_mul(config.period.0, cost);
+        let stamp = self.stamp;
+        BucketCore {
+            shortfall: arith::saturating_sub(shortfall, returned),
+            stamp,
+        }
+    }
+
+    // The bucket with so many tokens taken out, into debt where they are not there.
+    pub fn charge_at(self, config: BucketConfig, tokens: u64, at: Nanos) -> BucketCore
+        requires { ⌜ Accepted config ⌝ }
+        ensures { λ r. ⌜ r ≡ charged config self tokens at ⌝ }
+    {
+        let stamp = Nanos(arith::larger(self.stamp.0, at.0));
+        let most = config.most_shortfall();
+        let period = config.period.0;
+        if most / period < tokens {
+            return BucketCore {
+                shortfall: most,
+                stamp,
+            };
+        }
+        let shortfall = self.shortfall_at(config, at) + tokens * period;
+        BucketCore {
+            shortfall: arith::smaller(shortfall, most),
+            stamp,
+        }
+    }
+}
+
+// Puts a bucket into the debt that settles at a moment. The missing tokens are rounded up, so a restored key is never fuller than it was.
+pub fn restore_debt(
+    bucket: BucketCore,
+    config: BucketConfig,
+    at: Nanos,
+    settles_at: Nanos,
+) -> BucketCore
+    requires { ⌜ Accepted config ⌝ }
+    ensures { λ r. ⌜ r ≡ restored config bucket at «settles_at» ⌝ }
+{
+    let remaining = arith::saturating_sub(settles_at.0, at.0);
+    if remaining == 0 {
+        return bucket;
+    }
+    let missing = config.missing_tokens(remaining);
+    let capacity = config.capacity as u64;
+    let keep = arith::saturating_sub(capacity, missing);
+    let available = bucket.available_at(config, at);
+    let cut = bucket.charge_at(config, arith::saturating_sub(available, keep), at);
+    cut.charge_at(config, arith::saturating_sub(missing, capacity), at)
+}
+
+impl Request {
+    // The longest wait that the request takes.
+    pub fn longest(self) -> u64
+        ensures { λ r. ⌜ r ≡ Rattle.bucket.specs.Bucket.patience self ⌝ }
+    {
+        match self {
+            Request::Acquire => 0,
+            Request::Reserve(longest) => longest.0,
+        }
+    }
+}

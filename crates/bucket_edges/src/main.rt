@@ -1,0 +1,15 @@
+// Prints what the settings and the bucket come to at the edges that document 01 names. The gate compares the lines with the file `stdout`,
+// which was worked out by hand.
+mod buckets;
+mod shapes;
+
+fn main() {
+    shapes::sizes();
+    shapes::refused_rates();
+    shapes::refused_sizes();
+    shapes::idle_limits();
+    buckets::tries();
+    buckets::reservations();
+    buckets::restored();
+    buckets::extremes();
+}

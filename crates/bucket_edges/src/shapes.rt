@@ -1,0 +1,110 @@
+// Settings: shards, cap and words; refusals; idle limits.
+use libc::STDOUT_FILENO;
+use settings::eviction::Eviction;
+use settings::rate::OptionTokens;
+use settings::rate::Rate;
+use settings::Limit;
+use settings::Settings;
+use units::Nanos;
+use units::OptionMillis;
+
+// Two tokens a second, up to four.
+fn two_per_second() -> Rate {
+    Rate {
+        amount: 2,
+        period: Nanos(1000000000),
+        burst: OptionTokens::Some(4),
+        initial: OptionTokens::None,
+    }
+}
+
+fn open(max_keys: usize, shards: usize) -> Settings {
+    Settings {
+        limit: Limit::Open(two_per_second()),
+        eviction: Eviction::capacity(max_keys),
+        shards,
+    }
+}
+
+// A line with a name and a number.
+pub(crate) fn line(name: &[u8], number: u64) {
+    io::write_all(STDOUT_FILENO, name);
+    io::write_all(STDOUT_FILENO, b" ");
+    io::print_decimal(STDOUT_FILENO, number);
+    io::write_all(STDOUT_FILENO, b"\n");
+}
+
+// Shards, places per shard and words.
+pub(crate) fn sizes() {
+    size(0, 0);
+    size(5, 3);
+    size(4096, 1);
+    size(4096, 64);
+}
+
+fn size(max_keys: usize, shards: usize) {
+    let settings = open(max_keys, shards);
+    line(b"shards", settings.shard_count() as u64);
+    line(b"cap", settings.per_shard_cap() as u64);
+    if settings.size_refusal() == 0 {
+        line(b"words", settings.words() as u64);
+    }
+}
+
+// The range of each number of the rate, at both ends, and the order of the refusals.
+pub(crate) fn refused_rates() {
+    rate(1, 1, 1);
+    rate(65535, 0x4000_0000_0000, 65535);
+    rate(0, 0, 0);
+    rate(65536, 0, 0);
+    rate(1, 0, 0);
+    rate(1, 0x4000_0000_0001, 0);
+    rate(1, 1, 0);
+    rate(1, 1, 65536);
+    line(b"closed", Limit::Closed.refusal());
+}
+
+fn rate(amount: u32, period: u64, burst: u32) {
+    let rate = Rate {
+        amount,
+        period: Nanos(period),
+        burst: OptionTokens::Some(burst),
+        initial: OptionTokens::None,
+    };
+    line(b"rate", rate.refusal());
+}
+
+pub(crate) fn refused_sizes() {
+    line(b"keys 4096", open(4096, 1).refusal());
+    line(b"keys 4097", open(4097, 1).refusal());
+    line(b"shards 64", open(1, 64).refusal());
+    line(b"shards 65", open(1, 65).refusal());
+    let idle = Settings {
+        limit: Limit::Closed,
+        eviction: Eviction::idle(Nanos(1)),
+        shards: 1,
+    };
+    line(b"idle alone", idle.refusal());
+}
+
+pub(crate) fn idle_limits() {
+    idle(1);
+    idle(2000000000);
+    idle(2000000001);
+    idle(u64::MAX);
+}
+
+fn idle(ttl: u64) {
+    let settings = Settings {
+        limit: Limit::Open(two_per_second()),
+        eviction: Eviction::new(4, Nanos(ttl)),
+        shards: 1,
+    };
+    let limit = settings.limit;
+    if limit.refusal() == 0 {
+        match settings.idle_limit() {
+            OptionMillis::Some(ms) => line(b"idle limit", ms.0),
+            OptionMillis::None => line(b"idle limit none", 0),
+        }
+    }
+}

@@ -1,0 +1,86 @@
+-- Held items after an item is stored, appended or removed: what stands where, and what becomes of a sum of weights.
+use Prim.Native.Nat.{ℕ, suc, _+_, _-_, _*_, _≤_, _<_}
+use mathlib.Core.Path.{_≡_, refl, ap, sym, _∙_}
+use native.Mathlib.Numerals.{add-one}
+use native.Mathlib.Omega.{arith}
+use lib.ListN.{length, getD, set, length-set}
+use lib.Seq.{getD-set-same, getD-set-other}
+use Rattle.arith.proofs.Cases.{by-eq}
+use Rattle.rows.specs.Held.{Held, sum, itemAt, removed, total, appended, stored}
+use Rattle.rows.proofs.SumLaws.{sum-same, sum-changed}
+
+-- The items stand in places that there are.
+pub record Sound {A : Type 0} (h : Held A) : Type 0 where
+  pub held : h .count ≤ length (h .places)
+
+module _ {A : Type 0} (free : A) where
+  pub item-stored : (h : Held A) (i : ℕ) (x : A) → i < length (h .places) → itemAt free (stored h i x) i ≡ x
+  item-stored h i x b = getD-set-same (h .places) i x free b
+
+  pub item-stored-other : (h : Held A) (i : ℕ) (x : A) (j : ℕ) → (j ≡ i → ⊥) → itemAt free (stored h i x) j ≡ itemAt free h j
+  item-stored-other h i x j other = getD-set-other (h .places) i j x free other
+
+  pub item-appended : (h : Held A) (x : A) → h .count < length (h .places) → itemAt free (appended h x) (h .count) ≡ x
+  item-appended h x b = getD-set-same (h .places) (h .count) x free b
+
+  pub item-appended-other : (h : Held A) (x : A) (j : ℕ) → j < h .count → itemAt free (appended h x) j ≡ itemAt free h j
+  item-appended-other h x j b = getD-set-other (h .places) (h .count) j x free (λ e. omega arith)
+
+  -- After a removal the last item stands in the gap, the others where they stood, and the last place is free.
+  pub item-moved : (h : Held A) (p : ℕ) → Sound h → p < h .count - 1 → itemAt free (removed free h p) p ≡ itemAt free h (h .count - 1)
+  unfolding removed
+  item-moved h p s b =
+      getD-set-other (set (h .places) p (itemAt free h (h .count - 1))) (h .count - 1) p free free (λ e. omega arith)
+      ∙ getD-set-same (h .places) p (itemAt free h (h .count - 1)) free (omega (arith, s .held))
+
+  pub item-kept : (h : Held A) (p i : ℕ) → i < h .count - 1 → (i ≡ p → ⊥) → itemAt free (removed free h p) i ≡ itemAt free h i
+  unfolding removed
+  item-kept h p i b other =
+      getD-set-other (set (h .places) p (itemAt free h (h .count - 1))) (h .count - 1) i free free (λ e. omega arith)
+      ∙ getD-set-other (h .places) p i (itemAt free h (h .count - 1)) free other
+
+  pub removed-count : (h : Held A) (p : ℕ) → removed free h p .count ≡ h .count - 1
+  unfolding removed
+  removed-count h p = refl
+
+  pub removed-length : (h : Held A) (p : ℕ) → length (removed free h p .places) ≡ length (h .places)
+  unfolding removed
+  removed-length h p = simp length-set
+
+  pub removed-sound : (h : Held A) (p : ℕ) → Sound h → Sound (removed free h p)
+  removed-sound h p s = record { held = omega (arith, s .held, removed-count h p, removed-length h p) }
+
+  -- The weights: a stored item changes its own, an appended one adds its own, a removed one takes its own away.
+  pub total-stored : (w : A → ℕ) (h : Held A) (i : ℕ) (x : A) → Sound h → i < h .count
+      → total free w (stored h i x) + w (itemAt free h i) ≡ total free w h + w x
+  total-stored w h i x s b =
+      rw (item-stored h i x (omega (arith, s .held))) at
+      (sum-changed (h .count) (λ j. w (itemAt free (stored h i x) j)) (λ j. w (itemAt free h j)) i b (λ j below other. ap w (item-stored-other h i x j other)))
+
+  pub total-appended : (w : A → ℕ) (h : Held A) (x : A) → h .count < length (h .places)
+      → total free w (appended h x) ≡ total free w h + w x
+  unfolding sum
+  total-appended w h x b =
+      rw (add-one, sum, item-appended h x b)
+      (ap (λ (n : ℕ). n + w x) (sum-same (h .count) (λ j. w (itemAt free (appended h x) j)) (λ j. w (itemAt free h j)) (λ j below. ap w (item-appended-other h x j below))))
+
+  total-but-last : (w : A → ℕ) (h : Held A) → 0 < h .count → sum (h .count - 1) (λ j. w (itemAt free h j)) + w (itemAt free h (h .count - 1)) ≡ total free w h
+  unfolding sum
+  total-but-last w h b = let e : h .count ≡ suc (h .count - 1) = omega arith in sym (ap (λ (n : ℕ). sum n (λ j. w (itemAt free h j))) e)
+
+  pub total-removed : (w : A → ℕ) (h : Held A) (p : ℕ) → Sound h → p < h .count
+      → total free w (removed free h p) + w (itemAt free h p) ≡ total free w h
+  total-removed w h p s b =
+      let before : ℕ → ℕ = λ j. w (itemAt free h j) in
+      let after : ℕ → ℕ = λ j. w (itemAt free (removed free h p) j) in
+      rw (removed-count h p)
+      (by-eq p (h .count - 1)
+      (λ last. omega (arith, total-but-last w h (omega arith), ap before last, sum-same (h .count - 1) after before (λ j below. ap w (item-kept h p j below (λ e. omega arith)))))
+      (λ inner.
+      let below : p < h .count - 1 = omega (arith, inner) in
+      omega (
+        arith,
+        total-but-last w h (omega arith),
+        ap w (item-moved h p s below),
+        sum-changed (h .count - 1) after before p below (λ j b′ other. ap w (item-kept h p j b′ other)),
+      )))

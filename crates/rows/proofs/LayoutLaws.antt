@@ -1,0 +1,82 @@
+-- Held items in words: what a read gives, and what a store or the lending of another part does to them. Over any item, width and place.
+use Prim.Native.Nat.{ℕ, _+_, _-_, _*_, _≤_, _<_}
+use mathlib.Core.Path.{_≡_, refl, ap, sym, _∙_}
+use mathlib.Core.List.{List, [], map}
+use native.Mathlib.Omega.{arith}
+use lib.ListN.{length, getD, set, take, drop, length-map, List·getD-map}
+use lib.Seq.{sets, getD-set-same, getD-set-other, drop-drop, take-take}
+use borrow.Rule.Slice.PartMut.{putMid}
+use Rattle.rows.specs.Parts.{part}
+use Rattle.rows.specs.Rows.{rows}
+use Rattle.rows.specs.Held.{Held, itemAt, stored}
+use Rattle.rows.specs.Layout.{heldIn}
+use Rattle.rows.proofs.PartLaws.{part-set, part-set-below, part-set-above, part-sets, part-sets-below, part-length, part-of-part, part-kept-below, word-kept}
+use Rattle.rows.proofs.RowLaws.{rows-length, record-at, record-put, record-put-word, row-end, getD-sets-lt}
+
+module _ {A : Type 0} (read : List ℕ → A) (w cap at first : ℕ) where
+  pub held-count : (ws : List ℕ) → heldIn read w cap at first ws .count ≡ getD ws at 0
+  unfolding heldIn
+  held-count ws = refl
+
+  pub held-length : (ws : List ℕ) → length (heldIn read w cap at first ws .places) ≡ cap
+  unfolding heldIn
+  held-length ws = length-map (rows w cap (part first (w * cap) ws)) read ∙ rows-length w cap (part first (w * cap) ws)
+
+  -- The item at place i is read from the words of row i.
+  pub held-item : (ws : List ℕ) (i : ℕ) → i < cap → itemAt (read []) (heldIn read w cap at first ws) i ≡ read (part (first + w * i) w ws)
+  unfolding heldIn
+  held-item ws i b =
+      record-at read w cap (part first (w * cap) ws) i b
+      ∙ ap read (part-of-part first (w * cap) (w * i) w ws (row-end w cap i b))
+
+  module _ (ws : List ℕ) (before : at < first) (room : first + w * cap ≤ length ws) where
+    pub held-count-put : (n : ℕ) → heldIn read w cap at first (set ws at n) ≡ record { count = n; places = heldIn read w cap at first ws .places }
+    unfolding heldIn
+    held-count-put n = λ j. record {
+      count = getD-set-same ws at n 0 (omega arith) j;
+      places = map read (rows w cap (part-set-below first (w * cap) ws at n before j));
+    }
+
+    -- A whole row stored, and one word of a row.
+    pub held-put : (i : ℕ) (vs : List ℕ) → i < cap → length vs ≡ w → heldIn read w cap at first (sets ws (first + w * i) vs) ≡ stored (heldIn read w cap at first ws) i (read vs)
+    unfolding heldIn
+    held-put i vs b k =
+        let e = row-end w cap i b in
+        let rows-put : map read (rows w cap (part first (w * cap) (sets ws (first + w * i) vs))) ≡ set (map read (rows w cap (part first (w * cap) ws))) i (read vs) =
+        rw (part-sets first (w * cap) ws (w * i) vs (omega arith))
+        (record-put read w cap (part first (w * cap) ws) i b vs k (omega (arith, part-length first (w * cap) ws room))) in
+        λ j. record { count = getD-sets-lt ws (first + w * i) at vs (omega arith) j; places = rows-put j }
+
+    pub held-put-word : (i f v : ℕ) → i < cap → f < w
+        → heldIn read w cap at first (set ws (first + (w * i + f)) v) ≡ stored (heldIn read w cap at first ws) i (read (set (part (first + w * i) w ws) f v))
+    unfolding heldIn
+    held-put-word i f v b c =
+        let e = row-end w cap i b in
+        let word-put : map read (rows w cap (part first (w * cap) (set ws (first + (w * i + f)) v))) ≡ set (map read (rows w cap (part first (w * cap) ws))) i (read (set (part (first + w * i) w ws) f v)) =
+        rw (part-set first (w * cap) ws (w * i + f) v (omega arith), ← part-of-part first (w * cap) (w * i) w ws e)
+        (record-put-word read w cap (part first (w * cap) ws) i b f v c) in
+        λ j. record { count = getD-set-other ws (first + (w * i + f)) at v 0 (λ q. omega arith) j; places = word-put j }
+
+    -- A word that is no item's, nor the count.
+    pub held-set-before : (j v : ℕ) → j < first → (at ≡ j → ⊥) → heldIn read w cap at first (set ws j v) ≡ heldIn read w cap at first ws
+    unfolding heldIn
+    held-set-before j v b other = λ k. record {
+      count = getD-set-other ws j at v 0 other k;
+      places = map read (rows w cap (part-set-below first (w * cap) ws j v b k));
+    }
+
+    pub held-set-after : (j v : ℕ) → first + w * cap ≤ j → heldIn read w cap at first (set ws j v) ≡ heldIn read w cap at first ws
+    unfolding heldIn
+    held-set-after j v b = λ k. record {
+      count = getD-set-other ws j at v 0 (λ q. omega arith) k;
+      places = map read (rows w cap (part-set-above first (w * cap) ws j v b k));
+    }
+
+    -- A part past the items that was lent and came back.
+    pub held-lent-after : (b n : ℕ) (ys : List ℕ) → b + n ≤ length ws → length ys ≡ n → first + w * cap ≤ b
+        → heldIn read w cap at first (putMid b n ws ys) ≡ heldIn read w cap at first ws
+    unfolding heldIn
+    held-lent-after b n ys h k past = λ j. record {
+      count = word-kept b n ws ys h k at (omega arith) j;
+      places = map read (rows w cap (part-kept-below b n ws ys h k first (w * cap) past j));
+    }

@@ -1,0 +1,5 @@
+pub mod Parts
+pub mod Rows
+pub mod Held
+pub mod Layout
+pub mod Outcome

@@ -1,0 +1,4 @@
+pub mod RateLaws
+pub mod ShardLaws
+pub mod SettingsLaws
+pub mod Worked

@@ -1,0 +1,102 @@
+-- What the settings come to, for the layers above: the refusals, and the bounds on shards, places per shard and the shard of a hash.
+use Prim.Native.Nat.{ℕ, _+_, _*_, _-_, _/_, _%_, _≤_, _<_, _^_}
+use mathlib.Core.Path.{_≡_, refl, sym, _∙_}
+use lib.Bits.{and-mask, mask-lt}
+use lib.Pow.{pow-pos, pow-mono}
+use native.Mathlib.Omega.{arith}
+use native.Mathlib.Nat.{le-max-right, max-le, mul-le-mul, mul-le-mul-left}
+use borrow.Author.Tests.{lt-ltb, le-ltb, eq-eqb, ne-eqb}
+use Rattle.arith.specs.Arith.{ceilDiv}
+use Rattle.arith.proofs.Cases.{by-le, by-eq}
+use Rattle.arith.proofs.DivisionLaws.{ceilDiv-least}
+use Rattle.settings.specs.declared.Settings.{Settings}
+use Rattle.settings.specs.Settings.{mostKeys, mostShards, limitRefusal, sizeRefusal, firstOf, settingsRefusal, shardCount, capOf, shardWords, wordsOf, shardOf, limitMillis}
+use Rattle.settings.proofs.ShardLaws.{PowerOfTwo, doubled-is-power}
+
+-- The check of the size, outcome by outcome.
+module _ (s : Settings) where
+  pub too-many-keys-is-refused-4 : mostKeys < s .eviction .«max_keys» → sizeRefusal s ≡ 4
+  unfolding sizeRefusal
+  too-many-keys-is-refused-4 more = rw (lt-ltb _ _ more)
+
+  pub too-many-shards-is-refused-4 : s .eviction .«max_keys» ≤ mostKeys → mostShards < s .shards → sizeRefusal s ≡ 4
+  unfolding sizeRefusal
+  too-many-shards-is-refused-4 few more = rw (le-ltb _ _ few, lt-ltb _ _ more)
+
+  pub small-enough-is-accepted : s .eviction .«max_keys» ≤ mostKeys → s .shards ≤ mostShards → sizeRefusal s ≡ 0
+  unfolding sizeRefusal
+  small-enough-is-accepted few-keys few-shards = rw (le-ltb _ _ few-keys, le-ltb _ _ few-shards)
+
+  -- An accepted size has no more keys than may be asked for.
+  accepted-keys : sizeRefusal s ≡ 0 → s .eviction .«max_keys» ≤ mostKeys
+  accepted-keys accepted =
+      by-le (s .eviction .«max_keys») mostKeys (λ few. few) (λ more. absurd (omega (arith, sym (too-many-keys-is-refused-4 more) ∙ accepted)))
+
+-- Of two refusals the first stands where there is one.
+pub first-refusal-stands : (first second : ℕ) → (first ≡ 0 → ⊥) → firstOf first second ≡ first
+unfolding firstOf
+first-refusal-stands first second refused = rw (ne-eqb _ _ refused)
+
+-- Where it is none, the second decides.
+pub no-refusal-hands-on : (first second : ℕ) → first ≡ 0 → firstOf first second ≡ second
+unfolding firstOf
+no-refusal-hands-on first second none = rw (eq-eqb _ _ none)
+
+-- Where the outcome is none, both are none.
+neither-refuses : (first second : ℕ) → firstOf first second ≡ 0 → (first ≡ 0) × (second ≡ 0)
+neither-refuses first second none =
+    by-eq first 0
+    (λ zero. (zero, sym (no-refusal-hands-on first second zero) ∙ none))
+    (λ refused. absurd (refused (sym (first-refusal-stands first second refused) ∙ none)))
+
+-- Settings are accepted where neither the rate nor the size is refused.
+pub accepted-parts : (s : Settings) → settingsRefusal s ≡ 0 → (limitRefusal (s .limit) ≡ 0) × (sizeRefusal s ≡ 0)
+accepted-parts s accepted = neither-refuses (limitRefusal (s .limit)) (sizeRefusal s) accepted
+
+-- The number of shards is a power of two, at least 1 and at most 64, whatever number is asked for.
+module _ (s : Settings) where
+  pub shards-power : PowerOfTwo 6 (shardCount s)
+  shards-power = doubled-is-power 6 0 (s .shards)
+
+  pub shards-least : 1 ≤ shardCount s
+  shards-least = rw (shards-power .is) (pow-pos (shards-power .exponent))
+
+  pub shards-most : shardCount s ≤ mostShards
+  shards-most = rw (shards-power .is) (pow-mono (shards-power .within))
+
+-- The shard of a hash.
+module _ (s : Settings) (hash : ℕ) where
+  -- The mask of a power of two is a remainder: of the bits from the 40th on, by the number of shards.
+  pub shard-is-remainder : shardOf s hash ≡ hash / 2 ^ 40 % shardCount s
+  shard-is-remainder = rw (shards-power s .is) (and-mask (hash / 2 ^ 40) (shards-power s .exponent))
+
+  -- So it is one of the shards that there are.
+  pub shard-below : shardOf s hash < shardCount s
+  shard-below = rw (shards-power s .is) (mask-lt (hash / 2 ^ 40) (shards-power s .exponent))
+
+-- The size of a shard and of the store.
+module _ (s : Settings) where
+  -- A shard holds at least one key.
+  pub cap-least : 1 ≤ capOf s
+  cap-least = le-max-right _ _
+
+  -- It holds no more than may be asked for in all, since there is at least one shard.
+  pub cap-most : sizeRefusal s ≡ 0 → capOf s ≤ mostKeys
+  cap-most accepted =
+      max-le
+      (ceilDiv-least _ _ mostKeys (shards-least s) (omega (arith, accepted-keys s accepted, mul-le-mul-left mostKeys (shards-least s))))
+      (omega arith)
+
+  -- So the words of a store are few enough to be counted in 64 bits.
+  pub words-most : sizeRefusal s ≡ 0 → wordsOf s ≤ mostShards * shardWords mostKeys
+  words-most accepted = mul-le-mul {m₂ = shardWords mostKeys} (shards-most s) (omega (arith, cap-most accepted))
+
+-- The idle limit of no span at all is 1.
+pub no-span-limit : limitMillis 0 ≡ 1
+unfolding ceilDiv
+no-span-limit = refl
+
+-- That of any other span, as the code comes to it: the whole milliseconds of the span less one nanosecond, and 2 more.
+pub some-span-limit : (span : ℕ) → 0 < span → (span - 1) / 1000000 + 2 ≡ limitMillis span
+unfolding ceilDiv
+some-span-limit span some = omega arith

@@ -1,0 +1,57 @@
+-- Worked settings, each computed from the definitions.
+use Prim.Native.Nat.{ℕ}
+use mathlib.Core.Path.{_≡_, refl}
+use Rattle.arith.specs.Arith.{ceilDiv}
+use Rattle.units.specs.declared.OptionNanos.the-variants as nanos
+use Rattle.units.specs.declared.OptionMillis.the-variants as millis
+use Rattle.settings.specs.declared.eviction.WhenFull.the-variants.{RefuseNew}
+use Rattle.settings.specs.declared.rate.OptionTokens.the-variants.{None, Some}
+use Rattle.settings.specs.declared.rate.Rate.{Rate}
+use Rattle.settings.specs.declared.Limit.{Limit}
+use Rattle.settings.specs.declared.Limit.the-variants.{Closed, Open}
+use Rattle.settings.specs.declared.Settings.{Settings}
+use Rattle.settings.specs.Eviction.{bounds}
+use Rattle.settings.specs.Rate.{unlessWithin, rateRefusal}
+use Rattle.settings.specs.Settings.{sizeRefusal, firstOf, settingsRefusal, doubledUpTo, shardCount, capOf, wordsOf, idleLimit}
+
+-- Two tokens a second, up to four.
+abbrev twoASecond : Rate
+twoASecond = record { amount = 2; period = record { 0 = 1000000000 }; burst = Some 4; initial = None }
+
+abbrev sized : Limit → ℕ → ℕ → Settings
+sized limit keys shards = record { limit = limit; eviction = bounds keys nanos.None RefuseNew; shards = shards }
+
+abbrev idleFor : ℕ → Settings
+idleFor ttl = record { limit = Open twoASecond; eviction = bounds 4 (nanos.Some (record { 0 = ttl })) RefuseNew; shards = 1 }
+
+-- Shards, places per shard and words.
+nothing-asked-for : (shardCount (sized Closed 0 0) ≡ 1) × (capOf (sized Closed 0 0) ≡ 1) × (wordsOf (sized Closed 0 0) ≡ 13)
+unfolding doubledUpTo ceilDiv
+nothing-asked-for = (refl, refl, refl)
+
+five-keys-three-shards : (shardCount (sized Closed 5 3) ≡ 4) × (capOf (sized Closed 5 3) ≡ 2) × (wordsOf (sized Closed 5 3) ≡ 84)
+unfolding doubledUpTo ceilDiv
+five-keys-three-shards = (refl, refl, refl)
+
+-- The idle limit: the time to be full where the idle time is shorter, the idle time where it is longer.
+idle-shorter-than-full : idleLimit (idleFor 1) ≡ millis.Some (record { 0 = 2001 })
+unfolding ceilDiv
+idle-shorter-than-full = refl
+
+idle-longer-than-full : idleLimit (idleFor 2000000001) ≡ millis.Some (record { 0 = 2002 })
+unfolding ceilDiv
+idle-longer-than-full = refl
+
+-- The largest sizes are accepted, and one more is refused.
+most-keys : (settingsRefusal (sized (Open twoASecond) 4096 1) ≡ 0) × (settingsRefusal (sized (Open twoASecond) 4097 1) ≡ 4)
+unfolding firstOf sizeRefusal rateRefusal unlessWithin
+most-keys = (refl, refl)
+
+most-shards : (settingsRefusal (sized (Open twoASecond) 1 64) ≡ 0) × (settingsRefusal (sized (Open twoASecond) 1 65) ≡ 4)
+unfolding firstOf sizeRefusal rateRefusal unlessWithin
+most-shards = (refl, refl)
+
+-- A closed limiter has no amount, period or burst that could be refused.
+closed-is-accepted : settingsRefusal (sized Closed 4 1) ≡ 0
+unfolding firstOf sizeRefusal
+closed-is-accepted = refl

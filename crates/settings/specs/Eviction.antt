@@ -1,0 +1,43 @@
+-- The bounds that the builders of `Eviction` make. Each starts from RefuseNew; the others change one field.
+use Prim.Native.Nat.{ℕ}
+use Rattle.units.specs.declared.Nanos.{Nanos}
+use Rattle.units.specs.declared.OptionNanos.{OptionNanos}
+use Rattle.units.specs.declared.OptionNanos.the-variants.{None, Some}
+use Rattle.settings.specs.declared.eviction.Eviction.{Eviction}
+use Rattle.settings.specs.declared.eviction.WhenFull.{WhenFull}
+use Rattle.settings.specs.declared.eviction.WhenFull.the-variants.{RefuseNew}
+
+-- How many looks the idle sweep, the ledger and the CLOCK hand take.
+abbrev pub ttlSweep : ℕ
+ttlSweep = 8
+
+abbrev pub ledgerScan : ℕ
+ledgerScan = 8
+
+abbrev pub clockScan : ℕ
+clockScan = 32
+
+-- The cap that `idle` sets.
+abbrev pub defaultMaxKeys : ℕ
+defaultMaxKeys = 1048576
+
+abbrev pub bounds : ℕ → OptionNanos → WhenFull → Eviction
+bounds keys idle full = record { «max_keys» = keys; «idle_ttl» = idle; «when_full» = full }
+
+abbrev pub capacityOf : ℕ → Eviction
+capacityOf keys = bounds keys None RefuseNew
+
+abbrev pub idleOf : Nanos → Eviction
+idleOf ttl = bounds defaultMaxKeys (Some ttl) RefuseNew
+
+abbrev pub boundedBy : ℕ → Nanos → Eviction
+boundedBy keys ttl = bounds keys (Some ttl) RefuseNew
+
+abbrev pub withCapacity : Eviction → ℕ → Eviction
+withCapacity e keys = bounds keys (e .«idle_ttl») (e .«when_full»)
+
+abbrev pub withIdle : Eviction → Nanos → Eviction
+withIdle e ttl = bounds (e .«max_keys») (Some ttl) (e .«when_full»)
+
+abbrev pub withWhenFull : Eviction → WhenFull → Eviction
+withWhenFull e full = bounds (e .«max_keys») (e .«idle_ttl») full

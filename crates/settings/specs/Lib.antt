@@ -1,0 +1,4 @@
+pub mod Decision
+pub mod Eviction
+pub mod Rate
+pub mod Settings

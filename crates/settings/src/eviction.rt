@@ -1,0 +1,98 @@
+// How the store bounds its memory.
+ghost use mathlib.Core.Path.{_≡_};
+ghost use Rattle.settings.specs.Eviction.{capacityOf, idleOf, boundedBy, withCapacity, withIdle, withWhenFull};
+use units::Nanos;
+use units::OptionNanos;
+
+// The cap on keys where none is named. It is more than this store accepts.
+pub const DEFAULT_MAX_KEYS: usize = 1048576;
+
+// What happens to a new key when its shard and the shard's ledger are both full: it is turned away, or the debt that settles soonest is forgotten.
+pub enum WhenFull {
+    RefuseNew,
+    ForgetDebt,
+}
+
+// The cap on keys, the idle time after which a full bucket may be forgotten, and the rule when full.
+pub struct Eviction {
+    pub max_keys: usize,
+    pub idle_ttl: OptionNanos,
+    pub when_full: WhenFull,
+}
+
+impl Eviction {
+    // How many slots the idle sweep looks at for each new key.
+    pub const TTL_SWEEP: usize = 8;
+
+    // How many debts the ledger looks at for each new key, and again to find room for a debt.
+    pub const LEDGER_SCAN: usize = 8;
+
+    // How many slots the CLOCK hand looks at to evict one.
+    pub const CLOCK_SCAN: usize = 32;
+
+    // A cap on keys, with no idle time.
+    pub fn capacity(max_keys: usize) -> Eviction
+        ensures { λ r. ⌜ r ≡ capacityOf «max_keys» ⌝ }
+    {
+        Eviction {
+            max_keys,
+            idle_ttl: OptionNanos::None,
+            when_full: WhenFull::RefuseNew,
+        }
+    }
+
+    // An idle time, with the default cap.
+    pub fn idle(ttl: Nanos) -> Eviction
+        ensures { λ r. ⌜ r ≡ idleOf ttl ⌝ }
+    {
+        Eviction::new(DEFAULT_MAX_KEYS, ttl)
+    }
+
+    // A cap on keys and an idle time.
+    pub fn new(max_keys: usize, ttl: Nanos) -> Eviction
+        ensures { λ r. ⌜ r ≡ boundedBy «max_keys» ttl ⌝ }
+    {
+        Eviction {
+            max_keys,
+            idle_ttl: OptionNanos::Some(ttl),
+            when_full: WhenFull::RefuseNew,
+        }
+    }
+
+    // The same bounds with another cap on keys.
+    pub fn with_capacity(self, max_keys: usize) -> Eviction
+        ensures { λ r. ⌜ r ≡ withCapacity self «max_keys» ⌝ }
+    {
+        let idle_ttl = self.idle_ttl;
+        let when_full = self.when_full;
+        Eviction {
+            max_keys,
+            idle_ttl,
+            when_full,
+        }
+    }
+
+    // The same bounds with another idle time.
+    pub fn with_idle(self, ttl: Nanos) -> Eviction
+        ensures { λ r. ⌜ r ≡ withIdle self ttl ⌝ }
+    {
+        let when_full = self.when_full;
+        Eviction {
+            max_keys: self.max_keys,
+            idle_ttl: OptionNanos::Some(ttl),
+            when_full,
+        }
+    }
+
+    // The same bounds with another rule when full.
+    pub fn with_when_full(self, when_full: WhenFull) -> Eviction
+        ensures { λ r. ⌜ r ≡ withWhenFull self «when_full» ⌝ }
+    {
+        let idle_ttl = self.idle_ttl;
+        Eviction {
+            max_keys: self.max_keys,
+            idle_ttl,
+            when_full,
+        }
+    }
+}

@@ -1,0 +1,148 @@
+// What a limiter is set to: the rate, the bounds on its memory, and what follows from them for the store: how many shards it has, how many keys
+// each holds, how many words it is lent, and after how long an idle key may go. A settings record may hold anything; `refusal` says whether it is accepted.
+ghost use mathlib.Core.Path.{_≡_};
+ghost use Rattle.settings.specs.Settings.{limitRefusal, sizeRefusal, settingsRefusal, shardCount, capOf, wordsOf, shardOf, leastIdle, idleLimit, limitMillis};
+use crate::eviction::Eviction;
+use crate::rate::Rate;
+use units::Millis;
+use units::Nanos;
+use units::OptionMillis;
+use units::OptionNanos;
+
+pub mod decision;
+pub mod eviction;
+pub mod rate;
+
+// The shard counts that there are: the powers of two up to the largest number of shards that may be asked for.
+pub const SHARD_COUNTS: [usize; 7] = [1, 2, 4, 8, 16, 32, 64];
+
+// The rate, if there is one. A closed limiter has none, and grants nothing.
+pub enum Limit {
+    Closed,
+    Open(Rate),
+}
+
+// The settings that every call is given.
+pub struct Settings {
+    pub limit: Limit,
+    pub eviction: Eviction,
+    pub shards: usize,
+}
+
+impl Limit {
+    // The number by which the rate is refused; 0 if it is accepted or there is none.
+    pub fn refusal(self) -> u64
+        ensures { λ r. ⌜ r ≡ limitRefusal self ⌝ }
+    {
+        match self {
+            Limit::Closed => 0,
+            Limit::Open(rate) => rate.refusal(),
+        }
+    }
+
+    // The shortest idle time that counts: how long a bucket takes to be full.
+    pub fn least_idle(self) -> Nanos
+        requires { ⌜ limitRefusal self ≡ 0 ⌝ }
+        ensures { λ r. ⌜ r .0 ≡ leastIdle self ⌝ }
+    {
+        match self {
+            Limit::Closed => Nanos(0),
+            Limit::Open(rate) => rate::time_to_full(rate.config()),
+        }
+    }
+}
+
+impl Settings {
+    // The number by which the settings are refused; 0 if they are accepted.
+    pub fn refusal(self) -> u64
+        ensures { λ r. ⌜ r ≡ settingsRefusal self ⌝ }
+    {
+        let limit = self.limit;
+        let refusal = limit.refusal();
+        if refusal != 0 {
+            return refusal;
+        }
+        self.size_refusal()
+    }
+
+    // 4 if more keys or shards are asked for than there may be, else 0.
+    pub fn size_refusal(self) -> u64
+        ensures { λ r. ⌜ r ≡ sizeRefusal self ⌝ }
+    {
+        if 4096 < self.eviction.max_keys {
+            return 4;
+        }
+        if 64 < self.shards {
+            return 4;
+        }
+        0
+    }
+
+    // The number of shards: the first count of the table that is at least the number asked for.
+    pub fn shard_count(self) -> usize
+        ensures { λ r. ⌜ r ≡ shardCount self ⌝ }
+    {
+        let asked = self.shards;
+        let mut i: usize = 0;
+        while i < 6 {
+            if asked <= SHARD_COUNTS[i] {
+                return SHARD_COUNTS[i];
+            }
+            i += 1;
+        }
+        SHARD_COUNTS[6]
+    }
+
+    // The keys that a shard holds.
+    pub fn per_shard_cap(self) -> usize
+        ensures { λ r. ⌜ r ≡ capOf self ⌝ }
+    {
+        let shards = self.shard_count();
+        let share = arith::div_ceil(self.eviction.max_keys as u64, shards as u64);
+        arith::larger(share, 1) as usize
+    }
+
+    // The words that the store is lent.
+    pub fn words(self) -> usize
+        requires { ⌜ sizeRefusal self ≡ 0 ⌝ }
+        ensures { λ r. ⌜ r ≡ wordsOf self ⌝ }
+    {
+        self.shard_count() * (5 + 8 * self.per_shard_cap())
+    }
+
+    // The shard that a hash belongs to.
+    pub fn shard_index(self, hash: u64) -> usize
+        ensures { λ r. ⌜ r ≡ shardOf self hash ⌝ }
+    {
+        ((hash >> 40) & ((self.shard_count() - 1) as u64)) as usize
+    }
+
+    // The idle limit: the idle time or the time to be full, whichever is longer, rounded up to milliseconds, and 1 more.
+    pub fn idle_limit(self) -> OptionMillis
+        requires { ⌜ limitRefusal (self .limit) ≡ 0 ⌝ }
+        ensures { λ r. ⌜ r ≡ idleLimit self ⌝ }
+    {
+        let eviction = self.eviction;
+        let idle_ttl = eviction.idle_ttl;
+        let limit = self.limit;
+        match idle_ttl {
+            OptionNanos::None => OptionMillis::None,
+            OptionNanos::Some(ttl) => {
+                let least = limit.least_idle();
+                let span = arith::larger(ttl.0, least.0);
+                OptionMillis::Some(past_whole_millis(Nanos(span)))
+            }
+        }
+    }
+}
+
+// The milliseconds that a span takes, rounded up, and 1 more.
+fn past_whole_millis(span: Nanos) -> Millis
+    ensures { λ r. ⌜ r .0 ≡ limitMillis (span .0) ⌝ }
+{
+    if span.0 == 0 {
+        return Millis(1);
+    }
+    let whole = Nanos(span.0 - 1).millis();
+    Millis(whole.0 + 2)
+}

@@ -1,0 +1,291 @@
+//! A limiter that answers every call by number, as document 01 does.
+
+use core::time::Duration;
+use std::sync::Arc;
+
+use clock_lib::ManualClock;
+
+use crate::decision::Decision;
+use crate::key::Key;
+use crate::perkey::PerKey;
+use crate::refusals::{self, Memory, Shape};
+use crate::settings::Settings;
+use crate::store::one_shard::{LoadError, OneShard};
+
+/// A code and a number beside it.
+#[derive(Debug, Clone, Copy, PartialEq, Eq)]
+pub struct Answer {
+    /// 0 granted, accepted or known; 1 retry; 2 impossible; 3 none or unknown; 10 + n refused as n.
+    pub code: u8,
+    /// The wait in ns of a retry or a reservation, the tokens available, the length; else 0.
+    pub number: u64,
+}
+
+impl Answer {
+    const fn new(code: u8, number: u64) -> Self {
+        Self { code, number }
+    }
+
+    /// Granted, accepted or known, with a number.
+    const fn done(number: u64) -> Self {
+        Self::new(0, number)
+    }
+
+    /// Known or unknown.
+    const fn known(known: bool) -> Self {
+        Self::new(if known { 0 } else { 3 }, 0)
+    }
+
+    /// Refused by number.
+    const fn refused(number: u8) -> Self {
+        Self::new(10 + number, 0)
+    }
+}
+
+impl From<Decision> for Answer {
+    fn from(decision: Decision) -> Self {
+        match decision {
+            Decision::Acquired => Self::done(0),
+            Decision::Retry { after } => Self::new(1, nanos(after)),
+            Decision::Impossible => Self::new(2, 0),
+        }
+    }
+}
+
+type Published = PerKey<Key, Arc<ManualClock>>;
+
+/// The published limiter with its settings, the clock that it reads, and a memory of a certain length.
+///
+/// After a refused set-up every call is refused with the same number, since every call repeats these refusals.
+pub struct Limiter {
+    settings: Settings,
+    /// The words that were lent at set-up. The Rust keeps its own memory; the number is there to be refused.
+    lent: u64,
+    clock: Arc<ManualClock>,
+    /// None after a refused set-up.
+    published: Option<Published>,
+}
+
+impl Limiter {
+    /// Set-up on `lent` words; the limiter, and whether it was accepted.
+    ///
+    /// # Panics
+    ///
+    /// When the Rust's shards or cap are not those of document 01.
+    #[must_use]
+    pub fn set_up(settings: Settings, lent: u64) -> (Self, Answer) {
+        let mut limiter = Self {
+            settings,
+            lent,
+            clock: Arc::new(ManualClock::new()),
+            published: None,
+        };
+        if let Some(number) = refusals::set_up(&limiter.settings, &limiter) {
+            return (limiter, Answer::refused(number));
+        }
+        let published = build(&settings, Arc::clone(&limiter.clock));
+        let shape = Shape::of(&settings);
+        assert_eq!(
+            published.shard_count() as u64,
+            shape.shards,
+            "the Rust's shards"
+        );
+        assert_eq!(
+            OneShard::new(published.store(), 0, None).cap() as u64,
+            shape.cap,
+            "the Rust's cap"
+        );
+        limiter.published = Some(published);
+        (limiter, Answer::done(0))
+    }
+
+    /// Set-up on as many words as the settings need.
+    #[must_use]
+    pub fn new(settings: Settings) -> (Self, Answer) {
+        // Settings that are refused as 4 are refused before the length is looked at.
+        let lent = if settings.max_keys > refusals::MOST_KEYS {
+            0
+        } else {
+            Shape::of(&settings).words()
+        };
+        Self::set_up(settings, lent)
+    }
+
+    /// The settings.
+    #[must_use]
+    pub const fn settings(&self) -> &Settings {
+        &self.settings
+    }
+
+    /// Takes `cost` tokens for `key` at `now`, if they are there.
+    pub fn try_(&self, now: u64, key: Key, cost: u32) -> Answer {
+        match refusals::try_(&self.settings, self, key.hash, now) {
+            Some(number) => Answer::refused(number),
+            None => self.at(now).decision(&key, cost).into(),
+        }
+    }
+
+    /// What a try would answer, taking nothing.
+    #[must_use]
+    pub fn peek(&self, now: u64, key: Key, cost: u32) -> Answer {
+        match refusals::peek(&self.settings, self, key.hash, now) {
+            Some(number) => Answer::refused(number),
+            None => self.at(now).peek(&key, cost).into(),
+        }
+    }
+
+    /// The tokens that `key` has at `now`.
+    #[must_use]
+    pub fn available(&self, now: u64, key: Key) -> Answer {
+        match refusals::available(&self.settings, self, key.hash, now) {
+            Some(number) => Answer::refused(number),
+            None => Answer::done(self.at(now).available(&key).into()),
+        }
+    }
+
+    /// Takes `cost` tokens for `key` at `now` if their wait is at most `max_wait`.
+    pub fn reserve(&self, now: u64, key: Key, cost: u32, max_wait: u64) -> Answer {
+        match refusals::reserve(&self.settings, self, key.hash, now, max_wait) {
+            Some(number) => Answer::refused(number),
+            None => {
+                let wait = self
+                    .at(now)
+                    .reserve(&key, cost, Duration::from_nanos(max_wait));
+                wait.map_or(Answer::known(false), |wait| Answer::done(nanos(wait)))
+            }
+        }
+    }
+
+    /// Gives `cost` tokens back to `key`.
+    pub fn refund(&self, key: Key, cost: u32) -> Answer {
+        match refusals::refund(&self.settings, self, key.hash) {
+            Some(number) => Answer::refused(number),
+            None => Answer::known(self.published().refund_known(&key, cost)),
+        }
+    }
+
+    /// Forgets `key` and its debt.
+    pub fn remove(&self, key: Key) -> Answer {
+        match refusals::remove(&self.settings, self, key.hash) {
+            Some(number) => Answer::refused(number),
+            None => Answer::known(self.published().remove(&key)),
+        }
+    }
+
+    /// Forgets every key and debt.
+    pub fn clear(&self) -> Answer {
+        match refusals::clear(&self.settings, self) {
+            Some(number) => Answer::refused(number),
+            None => {
+                self.published().clear();
+                Answer::done(0)
+            }
+        }
+    }
+
+    /// The number of keys with a slot.
+    #[must_use]
+    pub fn len(&self) -> Answer {
+        match refusals::length(&self.settings, self) {
+            Some(number) => Answer::refused(number),
+            None => Answer::done(self.published().len() as u64),
+        }
+    }
+
+    /// The number of shards, 0 after a refused set-up.
+    #[must_use]
+    pub fn shards(&self) -> usize {
+        self.published.as_ref().map_or(0, PerKey::shard_count)
+    }
+
+    /// One shard, if there is such a one.
+    #[must_use]
+    pub fn shard(&self, index: usize) -> Option<OneShard<'_>> {
+        let published = self.published.as_ref()?;
+        (index < published.shard_count())
+            .then(|| OneShard::new(published.store(), index, published.config()))
+    }
+
+    /// The whole store as words, shard by shard; no words after a refused set-up.
+    #[must_use]
+    pub fn words(&self) -> Vec<u64> {
+        (0..self.shards())
+            .filter_map(|index| self.shard(index))
+            .flat_map(|shard| shard.words())
+            .collect()
+    }
+
+    /// Replaces the store's contents by those that `words` stand for (see [`OneShard::load`]).
+    ///
+    /// # Errors
+    ///
+    /// When the Rust has no such contents; shards before the one at fault are then replaced already.
+    pub fn load(&self, words: &[u64]) -> Result<(), LoadError> {
+        let shape = Shape::of(&self.settings);
+        if self.published.is_none() || words.len() as u64 != shape.words() {
+            return Err(LoadError::Length);
+        }
+        let rows = words.chunks(shape.shard_words() as usize).enumerate();
+        rows.filter_map(|(index, row)| Some((self.shard(index)?, row)))
+            .try_for_each(|(shard, row)| shard.load(row))
+    }
+
+    /// The published limiter, for a call that is not refused.
+    fn published(&self) -> &Published {
+        self.published
+            .as_ref()
+            .expect("calls after a refused set-up are refused")
+    }
+
+    /// The published limiter with its clock at `now`.
+    fn at(&self, now: u64) -> &Published {
+        self.clock.set(now);
+        self.published()
+    }
+}
+
+/// The Rust's own store: its counts are never over the cap, but the length is as it was lent.
+impl Memory for Limiter {
+    fn length(&self) -> u64 {
+        self.lent
+    }
+
+    fn slot_count(&self, _shape: Shape, shard: u64) -> u64 {
+        self.shard(shard as usize)
+            .map_or(0, |shard| shard.slot_count() as u64)
+    }
+
+    fn debt_count(&self, _shape: Shape, shard: u64) -> u64 {
+        self.shard(shard as usize)
+            .map_or(0, |shard| shard.debt_count() as u64)
+    }
+}
+
+/// The published limiter for settings that are not refused. An amount of 0 is how the builder is told that there is no rate.
+fn build(settings: &Settings, clock: Arc<ManualClock>) -> Published {
+    let builder = match settings.rate {
+        None => PerKey::<Key>::builder().rate(0, Duration::ZERO),
+        Some(rate) => {
+            let builder =
+                PerKey::<Key>::builder().rate(rate.amount, Duration::from_nanos(rate.period));
+            let builder = rate
+                .burst
+                .into_iter()
+                .fold(builder, |builder, burst| builder.burst(burst));
+            rate.initial
+                .into_iter()
+                .fold(builder, |builder, initial| builder.initial(initial))
+        }
+    };
+    let shards = usize::try_from(settings.shards).expect("at most 64 shards");
+    builder
+        .eviction(settings.eviction())
+        .shards(shards)
+        .clock(clock)
+        .build()
+}
+
+/// The nanoseconds of a wait.
+fn nanos(wait: Duration) -> u64 {
+    u64::try_from(wait.as_nanos()).expect("a wait of the store fits 64 bits")
+}

@@ -1,0 +1,199 @@
+//! The numbered refusals of document 01, section "Refused by number", operation by operation. They are written from that
+//! page and use nothing of the published Rust, which has none of them. They come before the Rust's own rules.
+//!
+//! Each function gives the number of the first refusal that applies, or `None` if the call is not refused.
+
+use crate::settings::{Rate, Settings};
+
+/// The largest amount and the largest burst; the smallest is 1.
+pub const MOST_TOKENS: u32 = 65_535;
+/// The longest period in nanoseconds; the shortest is 1.
+pub const LONGEST_PERIOD: u64 = 1 << 46;
+/// The most keys that can be asked for.
+pub const MOST_KEYS: u64 = 4_096;
+/// The most shards that can be asked for.
+pub const MOST_SHARDS: u64 = 64;
+/// The latest moment in nanoseconds.
+pub const LATEST_MOMENT: u64 = 1 << 62;
+/// The longest wait in nanoseconds that a reservation may allow.
+pub const LONGEST_WAIT: u64 = 1 << 46;
+
+/// The shard counts there are.
+const SHARD_COUNTS: [u64; 7] = [1, 2, 4, 8, 16, 32, 64];
+
+/// How a memory is divided: so many shards, each with room for so many slots and as many debts.
+#[derive(Debug, Clone, Copy, PartialEq, Eq)]
+pub struct Shape {
+    /// The number of shards, a power of two.
+    pub shards: u64,
+    /// The slots of a shard, and its debts.
+    pub cap: u64,
+}
+
+impl Shape {
+    /// The shape that settings ask for; meant for settings that are not refused as 4.
+    #[must_use]
+    pub fn of(settings: &Settings) -> Self {
+        let shards = SHARD_COUNTS
+            .into_iter()
+            .find(|&count| count >= settings.shards)
+            .unwrap_or(MOST_SHARDS);
+        Self {
+            shards,
+            cap: settings.max_keys.div_ceil(shards).max(1),
+        }
+    }
+
+    /// The words of a shard.
+    #[must_use]
+    pub const fn shard_words(self) -> u64 {
+        5 + 8 * self.cap
+    }
+
+    /// The words of the whole memory.
+    #[must_use]
+    pub const fn words(self) -> u64 {
+        self.shards * self.shard_words()
+    }
+
+    /// The shard of a key with this hash.
+    #[must_use]
+    pub const fn shard_of(self, hash: u64) -> u64 {
+        hash >> 40 & (self.shards - 1)
+    }
+}
+
+/// What the refusals read of a memory.
+pub trait Memory {
+    /// The number of words.
+    fn length(&self) -> u64;
+    /// The slot count of a shard. Asked only of a memory of the right length.
+    fn slot_count(&self, shape: Shape, shard: u64) -> u64;
+    /// The debt count of a shard. Asked only of a memory of the right length.
+    fn debt_count(&self, shape: Shape, shard: u64) -> u64;
+}
+
+/// Words of any content.
+impl Memory for [u64] {
+    fn length(&self) -> u64 {
+        self.len() as u64
+    }
+
+    fn slot_count(&self, shape: Shape, shard: u64) -> u64 {
+        self[(shard * shape.shard_words()) as usize]
+    }
+
+    fn debt_count(&self, shape: Shape, shard: u64) -> u64 {
+        self[(shard * shape.shard_words() + 3 + 6 * shape.cap) as usize]
+    }
+}
+
+/// Set-up: 1 to 5.
+pub fn set_up<M: Memory + ?Sized>(settings: &Settings, memory: &M) -> Option<u8> {
+    let rate = settings.rate.as_ref().and_then(rate);
+    rate.or_else(|| sizes(settings))
+        .or_else(|| refuse(5, memory.length() != Shape::of(settings).words()))
+}
+
+/// Try: 1 to 5 as set-up, 5 for a count of the key's shard, then 6.
+pub fn try_<M: Memory + ?Sized>(
+    settings: &Settings,
+    memory: &M,
+    hash: u64,
+    now: u64,
+) -> Option<u8> {
+    keyed(settings, memory, hash).or_else(|| moment(now))
+}
+
+/// Peek: as try.
+pub fn peek<M: Memory + ?Sized>(
+    settings: &Settings,
+    memory: &M,
+    hash: u64,
+    now: u64,
+) -> Option<u8> {
+    keyed(settings, memory, hash).or_else(|| moment(now))
+}
+
+/// Available: as try.
+pub fn available<M: Memory + ?Sized>(
+    settings: &Settings,
+    memory: &M,
+    hash: u64,
+    now: u64,
+) -> Option<u8> {
+    keyed(settings, memory, hash).or_else(|| moment(now))
+}
+
+/// Reserve: as try, then 7.
+pub fn reserve<M: Memory + ?Sized>(
+    settings: &Settings,
+    memory: &M,
+    hash: u64,
+    now: u64,
+    max_wait: u64,
+) -> Option<u8> {
+    try_(settings, memory, hash, now).or_else(|| refuse(7, max_wait > LONGEST_WAIT))
+}
+
+/// Refund: 1 to 5 as try.
+pub fn refund<M: Memory + ?Sized>(settings: &Settings, memory: &M, hash: u64) -> Option<u8> {
+    keyed(settings, memory, hash)
+}
+
+/// Remove: 1 to 5 as try.
+pub fn remove<M: Memory + ?Sized>(settings: &Settings, memory: &M, hash: u64) -> Option<u8> {
+    keyed(settings, memory, hash)
+}
+
+/// Clear: as set-up.
+pub fn clear<M: Memory + ?Sized>(settings: &Settings, memory: &M) -> Option<u8> {
+    set_up(settings, memory)
+}
+
+/// Length: 1 to 5 as set-up, 5 for a slot count of any shard.
+pub fn length<M: Memory + ?Sized>(settings: &Settings, memory: &M) -> Option<u8> {
+    set_up(settings, memory).or_else(|| {
+        let shape = Shape::of(settings);
+        refuse(
+            5,
+            (0..shape.shards).any(|shard| memory.slot_count(shape, shard) > shape.cap),
+        )
+    })
+}
+
+/// `number` if the call is to be refused with it.
+fn refuse(number: u8, refused: bool) -> Option<u8> {
+    refused.then_some(number)
+}
+
+/// 1, 2 and 3, for a limiter that is not closed.
+fn rate(rate: &Rate) -> Option<u8> {
+    let tokens = 1..=MOST_TOKENS;
+    refuse(1, !tokens.contains(&rate.amount))
+        .or_else(|| refuse(2, !(1..=LONGEST_PERIOD).contains(&rate.period)))
+        .or_else(|| refuse(3, !tokens.contains(&rate.burst.unwrap_or(rate.amount))))
+}
+
+/// 4.
+fn sizes(settings: &Settings) -> Option<u8> {
+    refuse(
+        4,
+        settings.max_keys > MOST_KEYS || settings.shards > MOST_SHARDS,
+    )
+}
+
+/// 1 to 5 of a call with a key.
+fn keyed<M: Memory + ?Sized>(settings: &Settings, memory: &M, hash: u64) -> Option<u8> {
+    set_up(settings, memory).or_else(|| {
+        let shape = Shape::of(settings);
+        let shard = shape.shard_of(hash);
+        let slots_over = memory.slot_count(shape, shard) > shape.cap;
+        refuse(5, slots_over || memory.debt_count(shape, shard) > shape.cap)
+    })
+}
+
+/// 6.
+fn moment(now: u64) -> Option<u8> {
+    refuse(6, now > LATEST_MOMENT)
+}

@@ -1,0 +1,173 @@
+//! The library as its users call it.
+
+use oracle::refusals::{self, Shape};
+use oracle::{Key, Limiter, LoadError, Op, Outcome, Rate, Settings, WhenFull};
+
+/// 2 tokens a second, at most 4.
+const R: Rate = Rate {
+    amount: 2,
+    period: 1_000_000_000,
+    burst: Some(4),
+    initial: None,
+};
+
+fn settings(max_keys: u64, shards: u64) -> Settings {
+    Settings {
+        rate: Some(R),
+        max_keys,
+        shards,
+        idle: None,
+        when_full: WhenFull::RefuseNew,
+    }
+}
+
+const fn key(key: u64) -> Key {
+    Key { hash: key, key }
+}
+
+/// The code and number of each call, in a row.
+macro_rules! answers {
+    ($($call:expr),+ $(,)?) => { [$({ let answer = $call; (answer.code, answer.number) }),+] };
+}
+
+#[test]
+fn answers_by_number() {
+    let (limiter, accepted) = Limiter::set_up(settings(1, 1), 13);
+    let got = answers![
+        accepted,
+        limiter.try_(0, key(7), 4),
+        limiter.try_(0, key(8), 1),
+        limiter.try_(0, key(9), 1),
+        limiter.peek(0, key(7), 1),
+        limiter.reserve(0, key(8), 4, 1_000_000_000),
+        limiter.available(0, key(8)),
+        limiter.refund(key(7), 1),
+        limiter.remove(key(9)),
+        limiter.len(),
+    ];
+    let wait = 500_000_000;
+    assert_eq!(
+        got,
+        [
+            (0, 0),
+            (0, 0),
+            (0, 0),
+            (1, wait),
+            (1, wait),
+            (0, wait),
+            (0, 0),
+            (0, 0),
+            (3, 0),
+            (0, 1)
+        ]
+    );
+    let words = [
+        1,
+        1,
+        0,
+        8,
+        8,
+        5_000_000_000,
+        0,
+        1,
+        0,
+        1,
+        1,
+        7,
+        1_500_000_000,
+    ];
+    assert_eq!(limiter.words(), words);
+    assert_eq!(answers![limiter.clear(), limiter.len()], [(0, 0), (0, 0)]);
+    assert_eq!(limiter.words(), [0; 13]);
+}
+
+#[test]
+fn loads_what_it_shows() {
+    let (limiter, _accepted) = Limiter::new(settings(6, 2));
+    for number in 0..20 {
+        let hash = number << 38;
+        let _answer = limiter.try_(number, Key { hash, key: number }, 1 + number as u32 % 4);
+    }
+    let words = limiter.words();
+    let (other, _accepted) = Limiter::new(settings(6, 2));
+    assert_eq!(other.load(&words), Ok(()));
+    assert_eq!(other.words(), words);
+    for number in 0..30 {
+        let key = Key {
+            hash: number << 38,
+            key: number,
+        };
+        assert_eq!(other.try_(number, key, 2), limiter.try_(number, key, 2));
+        assert_eq!(other.words(), limiter.words());
+    }
+}
+
+#[test]
+fn loads_only_what_the_rust_can_hold() {
+    let (limiter, _accepted) = Limiter::new(settings(2, 1));
+    let with = |changes: &[(usize, u64)]| {
+        let mut words = vec![0; 21];
+        changes
+            .iter()
+            .for_each(|&(place, word)| words[place] = word);
+        limiter.load(&words)
+    };
+    assert_eq!(limiter.load(&[0; 20]), Err(LoadError::Length));
+    assert_eq!(with(&[(0, 3)]), Err(LoadError::Count));
+    assert_eq!(with(&[(15, 3)]), Err(LoadError::Count));
+    assert_eq!(with(&[(0, 2)]), Err(LoadError::SameIdentity));
+    assert_eq!(with(&[(15, 2)]), Err(LoadError::SameDebt));
+    assert_eq!(with(&[(0, 1), (9, 1)]), Err(LoadError::PastCount));
+    assert_eq!(
+        with(&[(0, 1), (7, 5), (1, u64::MAX), (5, u64::MAX)]),
+        Ok(())
+    );
+    // A mark of 5 is set; a shortfall of any size is kept.
+    let words = limiter.words();
+    assert_eq!((words[1], words[5], words[7]), (u64::MAX, u64::MAX, 1));
+}
+
+#[test]
+fn refuses_counts_over_the_cap() {
+    let settings = settings(4, 2);
+    let shape = Shape::of(&settings);
+    assert_eq!((shape.shards, shape.cap, shape.words()), (2, 2, 42));
+    let second_shard = 1 << 40;
+    for (place, length) in [(21, Some(5)), (21 + 15, None)] {
+        let mut words = [0; 42];
+        words[place] = 3;
+        let words = words.as_slice();
+        assert_eq!(refusals::set_up(&settings, words), None);
+        assert_eq!(refusals::clear(&settings, words), None);
+        assert_eq!(refusals::length(&settings, words), length);
+        assert_eq!(refusals::try_(&settings, words, 0, u64::MAX), Some(6));
+        assert_eq!(
+            refusals::try_(&settings, words, second_shard, u64::MAX),
+            Some(5)
+        );
+        assert_eq!(refusals::remove(&settings, words, 0), None);
+        assert_eq!(refusals::refund(&settings, words, second_shard), Some(5));
+    }
+}
+
+#[test]
+fn parts_can_be_called_alone() {
+    let (limiter, _accepted) = Limiter::new(settings(1, 1));
+    let shard = limiter.shard(0).expect("there is one shard");
+    assert_eq!(shard.run(&key(7), 0, Op::Try(4)), Outcome::Granted(0));
+    assert_eq!(shard.run(&key(7), 0, Op::Reserve(4, 0)), Outcome::TooLong);
+    assert_eq!(shard.evict_one(0, false), Ok(()));
+    assert_eq!(
+        (shard.debt_position(7), shard.position(&key(7))),
+        (Some(0), None)
+    );
+    assert_eq!(shard.record(8, 9, 8, false), Err(1_999_999_992));
+    assert_eq!(shard.record(8, 9, 8, true), Ok(()));
+    assert_eq!((shard.take(7), shard.take(8)), (None, Some(9)));
+    assert_eq!(shard.restored(0, 2_000_000_001), (5_000_000_000, 0));
+    shard.insert(key(9), 5, 6, 7_000_000);
+    assert!(shard.touch(0, 8_000_000));
+    // The looks in recording left the cursor at 1; nothing was there to look at since.
+    assert_eq!(shard.words(), [1, 1, 0, 9, 9, 5, 6, 1, 7, 0, 1, 0, 0]);
+    assert_eq!(shard.remove_at(0), Some(key(9)));
+}
