@@ -1,9 +1,9 @@
 // Buckets: tries, reservations, refunds, restored debts, and the largest words.
+use crate::shapes;
 use bucket::BucketConfig;
 use bucket::BucketCore;
 use bucket::BucketDecision;
 use bucket::Request;
-use crate::shapes;
 use units::Nanos;
 
 // Two tokens a second, up to four: a fresh bucket, and a request of it, whose answer is printed.
@@ -94,6 +94,11 @@ pub(crate) fn extremes() {
     shapes::line(b"most", worst.shortfall_at(config, start));
     shapes::line(b"longest wait", worst.time_until_at(config, 65535, start).0);
     shapes::line(b"available", worst.available_at(config, latest));
-    let debt = bucket::restore_debt(BucketCore::new(config, start), config, start, Nanos(u64::MAX));
+    let debt = bucket::restore_debt(
+        BucketCore::new(config, start),
+        config,
+        start,
+        Nanos(u64::MAX),
+    );
     shapes::line(b"restored", debt.shortfall);
 }

@@ -1,10 +1,10 @@
 // Settings: shards, cap and words; refusals; idle limits.
 use libc::STDOUT_FILENO;
+use settings::Limit;
+use settings::Settings;
 use settings::eviction::Eviction;
 use settings::rate::OptionTokens;
 use settings::rate::Rate;
-use settings::Limit;
-use settings::Settings;
 use units::Nanos;
 use units::OptionMillis;
 
