@@ -13,7 +13,7 @@ use Rattle.bucket.specs.declared.BucketConfig.{BucketConfig}
 use Rattle.bucket.specs.declared.BucketCore.{BucketCore}
 use Rattle.bucket.specs.declared.Request.{Request}
 use Rattle.bucket.specs.declared.BucketDecision.the-variants.{Allowed, Denied}
-use Rattle.bucket.specs.Bucket.{Accepted, partsOf, fullParts, mostShortfall, readShortfall, shortfallAt, availableAt, fullAt, waitAt, spent, patience, asked, refunded}
+use Rattle.bucket.specs.Bucket.{Accepted, partsOf, fullParts, mostShortfall, readShortfall, shortfallAt, availableAt, fullAt, waitAt, spent, longestWait, asked, refunded}
 
 -- At an accepted rate a full bucket has less than 2^62 parts, so the most shortfall is below 2^63: every sum of the bucket fits 64 bits.
 pub full-parts-most : {c : BucketConfig} → Accepted c → fullParts c ≤ 2 ^ 62 - 2 ^ 46
@@ -78,16 +78,16 @@ enough-no-wait {c} b cost at a h =
 pub same-nanos : (t : Nanos) {n : ℕ} → t .0 ≡ n → t ≡ record { 0 = n }
 same-nanos t e = ap (λ (n : ℕ). record { 0 = n }) e
 
--- The two answers to a request: granted and charged where the wait is within its patience, else denied with the bucket as it was.
-pub granted-within-patience : (c : BucketConfig) (request : Request) (b : BucketCore) (cost : ℕ) (at : Nanos) → waitAt c b cost at ≤ patience request →
+-- The two answers to a request: granted and charged where the wait is within its longest wait, else denied with the bucket as it was.
+pub granted-within-longest : (c : BucketConfig) (request : Request) (b : BucketCore) (cost : ℕ) (at : Nanos) → waitAt c b cost at ≤ longestWait request →
     asked c request b cost at ≡ record { decision = Allowed (record { 0 = waitAt c b cost at }); bucket = spent c b cost at }
 unfolding asked
-granted-within-patience c request b cost at h = rw (le-leb _ _ h)
+granted-within-longest c request b cost at h = rw (le-leb _ _ h)
 
-pub denied-beyond-patience : (c : BucketConfig) (request : Request) (b : BucketCore) (cost : ℕ) (at : Nanos) → patience request < waitAt c b cost at →
+pub denied-beyond-longest : (c : BucketConfig) (request : Request) (b : BucketCore) (cost : ℕ) (at : Nanos) → longestWait request < waitAt c b cost at →
     asked c request b cost at ≡ record { decision = Denied (record { 0 = waitAt c b cost at }); bucket = b }
 unfolding asked
-denied-beyond-patience c request b cost at h = rw (lt-leb _ _ h)
+denied-beyond-longest c request b cost at h = rw (lt-leb _ _ h)
 
 -- From one moment to a later one no more comes back than the amount for each nanosecond between them. Bounds over a span of time rest on this.
 pub shortfall-falls-slowly : (c : BucketConfig) (b : BucketCore) (earlier later : Nanos) → earlier .0 ≤ later .0 →

@@ -11,7 +11,7 @@ use Rattle.units.specs.declared.Nanos.{Nanos}
 use Rattle.bucket.specs.declared.BucketConfig.{BucketConfig}
 use Rattle.bucket.specs.declared.BucketCore.{BucketCore}
 use Rattle.bucket.specs.Bucket.{Accepted, partsOf, fullParts, mostShortfall, shortfallAt, availableAt, fresh}
-use Rattle.bucket.specs.Debt.{missingTokens, charged, lacking, restored}
+use Rattle.bucket.specs.Debt.{missingTokens, charged, takenOut, lacking, restored}
 use Rattle.bucket.proofs.BucketLaws.{most-shortfall-fits, shortfall-most, parts-within, fall-held}
 
 -- The missing tokens, with quotient and rest by the period taken apart. Of their sum, held to 64 bits, the first may be held before: so the code needs no
@@ -46,23 +46,36 @@ pub charge-fits : {c : BucketConfig} (b : BucketCore) (tokens : ℕ) (at : Nanos
     shortfallAt c b at + partsOf c tokens < 2 ^ 64
 charge-fits {c} b tokens at a h = omega (arith, shortfall-most c b at, charge-parts-most tokens a h, most-shortfall-fits a)
 
+-- Tokens are taken out by a charge; none changes nothing.
+pub none-taken-out : (c : BucketConfig) (b : BucketCore) (tokens : ℕ) (at : Nanos) → tokens ≡ 0 → b ≡ takenOut c b tokens at
+unfolding takenOut
+none-taken-out c b tokens at none = rw (eq-eqb _ _ none)
+
+pub some-taken-out : (c : BucketConfig) (b : BucketCore) (tokens : ℕ) (at : Nanos) → (tokens ≡ 0 → ⊥) → charged c b tokens at ≡ takenOut c b tokens at
+unfolding takenOut
+some-taken-out c b tokens at some = rw (ne-eqb _ _ some)
+
 -- Missing tokens held to 64 bits make the same debt as all of them: a token is at least one part, so what 64 bits cannot hold is past the most.
-charge-held : {c : BucketConfig} (b : BucketCore) (missing : ℕ) (at : Nanos) → Accepted c →
-    charged c b (held missing - c .capacity) at ≡ charged c b (missing - c .capacity) at
-charge-held {c} b missing at a =
+taken-out-held : {c : BucketConfig} (b : BucketCore) (missing : ℕ) (at : Nanos) → Accepted c →
+    takenOut c b (held missing - c .capacity) at ≡ takenOut c b (missing - c .capacity) at
+taken-out-held {c} b missing at a =
     let most : mostShortfall c / c .period .0 < 2 ^ 63 = lt-of-le-of-lt (div-le-self _ _) (most-shortfall-fits a) in
-    by-le missing (2 ^ 64 - 1) (λ fits. ap (λ (n : ℕ). charged c b (n - c .capacity) at) (omega arith))
-    (λ more. sym (charge-beyond-most b _ at a (omega arith)) ∙ charge-beyond-most b _ at a (omega arith))
+    by-le missing (2 ^ 64 - 1) (λ fits. ap (λ (n : ℕ). takenOut c b (n - c .capacity) at) (omega arith))
+    (λ more.
+    sym (some-taken-out c b (held missing - c .capacity) at (λ none. omega (arith, a .capacity-most)))
+    ∙ sym (charge-beyond-most b _ at a (omega (arith, a .capacity-most)))
+    ∙ charge-beyond-most b _ at a (omega (arith, a .capacity-most))
+    ∙ some-taken-out c b (missing - c .capacity) at (λ none. omega (arith, a .capacity-most)))
 
 pub restore-held : {c : BucketConfig} (b : BucketCore) (missing : ℕ) (at : Nanos) → Accepted c → lacking c b (held missing) at ≡ lacking c b missing at
 unfolding lacking
-restore-held {c} b missing at a = rw (fall-held (c .capacity) missing (omega arith)) (charge-held _ missing at a)
+restore-held {c} b missing at a = rw (fall-held (c .capacity) missing (omega (arith, a .capacity-most))) (taken-out-held _ missing at a)
 
--- The two charges that put a bucket into debt, as the code makes them.
-pub lacking-by-charges : (c : BucketConfig) (b : BucketCore) (missing : ℕ) (at : Nanos) →
-    charged c (charged c b (availableAt c b at - (c .capacity - missing)) at) (missing - c .capacity) at ≡ lacking c b missing at
+-- The cut and the charge that put a bucket into debt, as the code makes them.
+pub lacking-by-taking-out : (c : BucketConfig) (b : BucketCore) (missing : ℕ) (at : Nanos) →
+    takenOut c (takenOut c b (availableAt c b at - (c .capacity - missing)) at) (missing - c .capacity) at ≡ lacking c b missing at
 unfolding lacking
-lacking-by-charges c b missing at = refl
+lacking-by-taking-out c b missing at = refl
 
 -- The two cases of a restored bucket: a settled debt, and one that is not.
 pub restored-settled : (c : BucketConfig) (b : BucketCore) (at settles : Nanos) → settles .0 - at .0 ≡ 0 → b ≡ restored c b at settles
@@ -94,7 +107,15 @@ unfolding shortfallAt
 charge-at-stamp c lacks tokens at h =
     rw (sub-self, max-eq-left (le-refl (at .0))) (ap (λ (n : ℕ). record { shortfall = n; stamp = at }) (omega arith))
 
--- The two charges on a fresh bucket, in parts: the cut leaves the larger of what it lacks and the missing tokens within the capacity, the second charge
+-- So are tokens taken out then, even none.
+taken-out-at-stamp : (c : BucketConfig) (lacks tokens : ℕ) (at : Nanos) → lacks ≤ mostShortfall c →
+    takenOut c (record { shortfall = lacks; stamp = at }) tokens at ≡ record { shortfall = min (lacks + partsOf c tokens) (mostShortfall c); stamp = at }
+taken-out-at-stamp c lacks tokens at h =
+    by-eq tokens 0
+    (λ none. sym (none-taken-out c _ tokens at none) ∙ ap (λ (n : ℕ). record { shortfall = n; stamp = at }) (omega (arith, ap (partsOf c) none)))
+    (λ some. sym (some-taken-out c _ tokens at some) ∙ charge-at-stamp c lacks tokens at h)
+
+-- The cut and the charge on a fresh bucket, in parts: the cut leaves the larger of what it lacks and the missing tokens within the capacity, the second charge
 -- adds those beyond it.
 two-charges-lack-the-larger : {c : BucketConfig} (missing : ℕ) → Accepted c →
     min
@@ -125,10 +146,10 @@ unfolding lacking
 lacking-fresh {c} missing at a =
     let kept : ℕ = c .capacity - missing in
     let fresh-lacks : ℕ = partsOf c (c .capacity - c .initial) in
-    ap (λ (n : ℕ). charged c (charged c (fresh c at) (n - kept) at) (missing - c .capacity) at) (fresh-available at a)
-    ∙ ap (λ (b : BucketCore). charged c b (missing - c .capacity) at)
-    (charge-at-stamp c fresh-lacks (c .initial - kept) at (omega (arith, parts-within c (c .capacity - c .initial) (omega arith))))
-    ∙ charge-at-stamp c (min (fresh-lacks + partsOf c (c .initial - kept)) (mostShortfall c)) (missing - c .capacity) at (omega arith)
+    ap (λ (n : ℕ). takenOut c (takenOut c (fresh c at) (n - kept) at) (missing - c .capacity) at) (fresh-available at a)
+    ∙ ap (λ (b : BucketCore). takenOut c b (missing - c .capacity) at)
+    (taken-out-at-stamp c fresh-lacks (c .initial - kept) at (omega (arith, parts-within c (c .capacity - c .initial) (omega arith))))
+    ∙ taken-out-at-stamp c (min (fresh-lacks + partsOf c (c .initial - kept)) (mostShortfall c)) (missing - c .capacity) at (omega arith)
     ∙ ap (λ (n : ℕ). record { shortfall = n; stamp = at }) (two-charges-lack-the-larger missing a)
 
 -- In no time nothing comes back.

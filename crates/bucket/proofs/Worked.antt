@@ -6,7 +6,7 @@ use Rattle.units.specs.declared.Nanos.{Nanos}
 use Rattle.bucket.specs.declared.BucketConfig.{BucketConfig}
 use Rattle.bucket.specs.declared.BucketCore.{BucketCore}
 use Rattle.bucket.specs.Bucket.{shortfallAt, availableAt, fresh, waitAt, recoveryAt, spent}
-use Rattle.bucket.specs.Debt.{lacking, restored}
+use Rattle.bucket.specs.Debt.{takenOut, lacking, restored}
 
 -- A rate whose fresh buckets are full, and such a bucket that spends at moment 0.
 abbrev rate : ℕ → ℕ → ℕ → BucketConfig
@@ -25,7 +25,7 @@ uneven = rate 3 10 4
 
 pub missing-rounded-up :
     availableAt uneven (restored uneven (fresh uneven start) start (record { 0 = recoveryAt uneven (spender uneven 1) start })) start ≡ 2
-unfolding ceilDiv shortfallAt availableAt waitAt lacking restored
+unfolding ceilDiv shortfallAt availableAt waitAt takenOut lacking restored
 missing-rounded-up = refl
 
 -- 2 tokens a second, up to 4: after all 4 are spent the next is there in half a second.

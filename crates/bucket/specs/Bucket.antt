@@ -37,7 +37,7 @@ mostShortfall c = fullParts c + 2 ^ 62
 abbrev pub readShortfall : BucketConfig → BucketCore → ℕ
 readShortfall c b = min (b .shortfall) (mostShortfall c)
 
--- The shortfall at a moment: the amount has come back for each nanosecond since the stamp, down to 0. Before the stamp nothing has come back:
+-- The shortfall at a moment: `amount` parts have come back for each nanosecond since the stamp, down to 0. Before the stamp nothing has come back:
 -- the difference of natural numbers is then 0.
 unfoldable pub shortfallAt : BucketConfig → BucketCore → Nanos → ℕ
 shortfallAt c b at = readShortfall c b - (at .0 - b .stamp .0) * c .amount
@@ -54,11 +54,12 @@ fullAt c b at = eqb (shortfallAt c b at) 0
 abbrev pub fresh : BucketConfig → Nanos → BucketCore
 fresh c at = record { shortfall = partsOf c (c .capacity - c .initial); stamp = at }
 
--- How long a cost has to wait: nothing costs no wait; else until the parts that the bucket lacks for it have come back, rounded up.
+-- How long a cost has to wait: 0 for cost 0; else until the parts that the bucket lacks for it have come back, rounded up, counted as if the stamp
+-- were not after the moment.
 unfoldable pub waitAt : BucketConfig → BucketCore → ℕ → Nanos → ℕ
 waitAt c b cost at = cond (eqb cost 0) 0 (ceilDiv (shortfallAt c b at + partsOf c cost - fullParts c) (c .amount))
 
--- How long until the bucket is full again: the wait for as many tokens as it can hold.
+-- The recovery: the wait for as many tokens as the bucket can hold.
 abbrev pub recoveryAt : BucketConfig → BucketCore → Nanos → ℕ
 recoveryAt c b at = waitAt c b (c .capacity) at
 
@@ -67,14 +68,14 @@ abbrev pub spent : BucketConfig → BucketCore → ℕ → Nanos → BucketCore
 spent c b cost at = record { shortfall = shortfallAt c b at + partsOf c cost; stamp = record { 0 = max (b .stamp .0) (at .0) } }
 
 -- The longest wait that a request takes: an acquire none, a reservation its own.
-abbrev pub patience : Request → ℕ
-patience Acquire = 0
-patience (Reserve longest) = longest .0
+abbrev pub longestWait : Request → ℕ
+longestWait Acquire = 0
+longestWait (Reserve longest) = longest .0
 
--- A request is granted where its wait is within its patience, and then the bucket is charged. A denial tells the wait and stores nothing.
+-- A request is granted where its wait is within its longest wait, and then the bucket is charged. A denial tells the wait and stores nothing.
 unfoldable pub asked : BucketConfig → Request → BucketCore → ℕ → Nanos → BucketOutcome
 asked c request b cost at =
-    cond (leb (waitAt c b cost at) (patience request))
+    cond (leb (waitAt c b cost at) (longestWait request))
     (record { decision = Allowed (record { 0 = waitAt c b cost at }); bucket = spent c b cost at })
     (record { decision = Denied (record { 0 = waitAt c b cost at }); bucket = b })
 

@@ -19,10 +19,14 @@ charged c b tokens at = record {
   stamp = record { 0 = max (b .stamp .0) (at .0) };
 }
 
+-- The same where any are to be taken; none changes nothing.
+unfoldable pub takenOut : BucketConfig → BucketCore → ℕ → Nanos → BucketCore
+takenOut c b tokens at = cond (eqb tokens 0) b (charged c b tokens at)
+
 -- The tokens missing: what is available is cut to what they leave of the capacity, if it is more; those beyond the capacity are charged.
 unfoldable pub lacking : BucketConfig → BucketCore → ℕ → Nanos → BucketCore
 lacking c b missing at =
-    charged c (charged c b (availableAt c b at - (c .capacity - missing)) at) (missing - c .capacity) at
+    takenOut c (takenOut c b (availableAt c b at - (c .capacity - missing)) at) (missing - c .capacity) at
 
 -- A bucket in the debt that settles at a moment; a settled debt changes nothing.
 unfoldable pub restored : BucketConfig → BucketCore → Nanos → Nanos → BucketCore

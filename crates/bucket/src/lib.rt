@@ -2,8 +2,8 @@
 ghost use mathlib.Core.Path.{_≡_};
 ghost use Prim.Native.Nat.{_≤_};
 ghost use Rattle.arith.specs.Arith.{held};
-ghost use Rattle.bucket.specs.Bucket.{Accepted, fullParts, mostShortfall, readShortfall, shortfallAt, availableAt, fullAt, fresh, waitAt, recoveryAt, spent, asked, refunded};
-ghost use Rattle.bucket.specs.Debt.{missingTokens, charged, restored};
+ghost use Rattle.bucket.specs.Bucket.{Accepted, fullParts, mostShortfall, readShortfall, shortfallAt, availableAt, fullAt, fresh, waitAt, recoveryAt, spent, longestWait, asked, refunded};
+ghost use Rattle.bucket.specs.Debt.{missingTokens, charged, takenOut, restored};
 use units::Nanos;
 
 // The rate of a bucket: `amount` tokens come back every `period`, up to `capacity`; a fresh bucket holds `initial`.
@@ -27,6 +27,7 @@ pub enum Request {
 }
 
 // What a bucket answers: the tokens are charged and usable after the wait, or nothing is charged and the same request can be met after the wait.
+// A wait is counted as if the stamp were not after the moment.
 pub enum BucketDecision {
     Allowed(Nanos),
     Denied(Nanos),
@@ -56,13 +57,13 @@ impl BucketConfig {
     }
 
     // The tokens that come back in a span, rounded up and held to 64 bits. Quotient and rest by the period are taken apart, so nothing wraps.
-    pub fn missing_tokens(self, remaining: u64) -> u64
+    pub fn missing_tokens(self, remaining: Nanos) -> u64
         requires { ⌜ Accepted self ⌝ }
-        ensures { λ r. ⌜ r ≡ held (missingTokens self remaining) ⌝ }
+        ensures { λ r. ⌜ r ≡ held (missingTokens self (remaining .0)) ⌝ }
     {
         let period = self.period.0;
-        let whole = arith::saturating_mul(remaining / period, self.amount);
-        let rest = arith::div_ceil((remaining % period) * (self.amount as u64), period);
+        let whole = arith::saturating_mul(remaining.0 / period, self.amount);
+        let rest = arith::div_ceil((remaining.0 % period) * (self.amount as u64), period);
         arith::saturating_add(whole, rest)
     }
 }
@@ -162,7 +163,7 @@ impl BucketCore {
         ensures { λ r. ⌜ r ≡ asked config request self cost at ⌝ }
     {
         let wait = self.time_until_at(config, cost, at);
-        if wait.0 <= request.longest() {
+        if wait.0 <= request.longest().0 {
             return BucketOutcome {
                 decision: BucketDecision::Allowed(wait),
                 bucket: self.spent_at(config, cost, at),
@@ -208,6 +209,17 @@ impl BucketCore {
             stamp,
         }
     }
+
+    // The same where any tokens are to be taken; none changes nothing.
+    pub fn take_out(self, config: BucketConfig, tokens: u64, at: Nanos) -> BucketCore
+        requires { ⌜ Accepted config ⌝ }
+        ensures { λ r. ⌜ r ≡ takenOut config self tokens at ⌝ }
+    {
+        if tokens == 0 {
+            return self;
+        }
+        self.charge_at(config, tokens, at)
+    }
 }
 
 // Puts a bucket into the debt that settles at a moment. The missing tokens are rounded up, so a restored key is never fuller than it was.
@@ -224,22 +236,22 @@ pub fn restore_debt(
     if remaining == 0 {
         return bucket;
     }
-    let missing = config.missing_tokens(remaining);
+    let missing = config.missing_tokens(Nanos(remaining));
     let capacity = config.capacity as u64;
     let keep = arith::saturating_sub(capacity, missing);
     let available = bucket.available_at(config, at);
-    let cut = bucket.charge_at(config, arith::saturating_sub(available, keep), at);
-    cut.charge_at(config, arith::saturating_sub(missing, capacity), at)
+    let cut = bucket.take_out(config, arith::saturating_sub(available, keep), at);
+    cut.take_out(config, arith::saturating_sub(missing, capacity), at)
 }
 
 impl Request {
     // The longest wait that the request takes.
-    pub fn longest(self) -> u64
-        ensures { λ r. ⌜ r ≡ Rattle.bucket.specs.Bucket.patience self ⌝ }
+    pub fn longest(self) -> Nanos
+        ensures { λ r. ⌜ r .0 ≡ longestWait self ⌝ }
     {
         match self {
-            Request::Acquire => 0,
-            Request::Reserve(longest) => longest.0,
+            Request::Acquire => Nanos(0),
+            Request::Reserve(longest) => longest,
         }
     }
 }

@@ -8,6 +8,8 @@ fn main() {
     shapes::refused_rates();
     shapes::refused_sizes();
     shapes::idle_limits();
+    shapes::looks();
+    shapes::configs();
     buckets::tries();
     buckets::reservations();
     buckets::restored();

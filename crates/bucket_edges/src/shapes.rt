@@ -3,6 +3,7 @@ use libc::STDOUT_FILENO;
 use settings::Limit;
 use settings::Settings;
 use settings::eviction::Eviction;
+use settings::eviction::WhenFull;
 use settings::rate::OptionTokens;
 use settings::rate::Rate;
 use units::Nanos;
@@ -107,4 +108,40 @@ fn idle(ttl: u64) {
             OptionMillis::None => line(b"idle limit none", 0),
         }
     }
+}
+
+// The look counts.
+pub(crate) fn looks() {
+    line(b"idle sweep", Eviction::TTL_SWEEP as u64);
+    line(b"ledger", Eviction::LEDGER_SCAN as u64);
+    line(b"hand", Eviction::CLOCK_SCAN as u64);
+}
+
+// Burst and initial: unset, set, and an initial above the burst.
+pub(crate) fn configs() {
+    config(OptionTokens::None, OptionTokens::None);
+    config(OptionTokens::Some(4), OptionTokens::None);
+    config(OptionTokens::Some(4), OptionTokens::Some(3));
+    config(OptionTokens::Some(4), OptionTokens::Some(u32::MAX));
+    let built = Eviction::capacity(9)
+        .with_capacity(7)
+        .with_idle(Nanos(5))
+        .with_when_full(WhenFull::ForgetDebt);
+    line(b"built keys", built.max_keys as u64);
+}
+
+fn config(burst: OptionTokens, initial: OptionTokens) {
+    let rate = Rate {
+        amount: 2,
+        period: Nanos(1),
+        burst,
+        initial,
+    };
+    let config = rate.config();
+    line(b"capacity", wide(config.capacity));
+    line(b"initial", wide(config.initial));
+}
+
+fn wide(tokens: u32) -> u64 {
+    tokens as u64
 }

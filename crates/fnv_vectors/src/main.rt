@@ -1,5 +1,6 @@
 // Prints the hash of each published FNV-1a vector, in hexadecimal, and of a few keys, in decimal.
-// The gate compares the lines with the file `stdout`: it has the published values and, for the keys, values that another program computed.
+// The gate compares the lines with the file `stdout`. Its values for strings are those published with FNV-1a, written down from memory and confirmed by
+// another program; those for keys were computed by that program.
 use libc::STDOUT_FILENO;
 
 fn main() {

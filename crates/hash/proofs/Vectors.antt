@@ -1,4 +1,4 @@
--- The draft's worked examples, computed from the definition.
+-- Published vectors of FNV-1a, computed from the definition.
 use mathlib.Core.Path.{_≡_, refl}
 use mathlib.Core.List.{[], _∷_}
 use Rattle.hash.specs.Fnv.{mixed, hashFrom, fnv1a}

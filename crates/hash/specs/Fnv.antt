@@ -1,4 +1,4 @@
--- FNV-1a for 64 bits, as draft-eastlake-fnv defines it. Numbers stand for 64-bit words, and lists of numbers below 256 for strings of bytes.
+-- FNV-1a for 64 bits, as document 01 gives it from draft-eastlake-fnv. Numbers stand for 64-bit words, and lists of numbers below 256 for strings of bytes.
 use Prim.Native.Nat.{ℕ, zero, suc, _*_, _/_, _%_, _^_}
 use mathlib.Core.List.{List, [], _∷_}
 use lib.Bits.{bitXor}

@@ -1,5 +1,4 @@
-// Items of several words each, held in order in lent words. The definitions are in specs/, the laws in proofs/, over any item; ledger, slots and
-// shards use them alike.
+// Items of several words each, held in order in lent words. The definitions are in specs/, the laws in proofs/, over any item.
 
 // Where a lookup finds an item: at a place, counted from 0, or nowhere.
 pub enum Place {

@@ -10,7 +10,7 @@ use Rattle.arith.specs.Arith.{ceilDiv}
 use Rattle.arith.proofs.Cases.{by-le, by-eq}
 use Rattle.arith.proofs.DivisionLaws.{ceilDiv-least}
 use Rattle.settings.specs.declared.Settings.{Settings}
-use Rattle.settings.specs.Settings.{mostKeys, mostShards, limitRefusal, sizeRefusal, firstOf, settingsRefusal, shardCount, capOf, shardWords, wordsOf, shardOf, limitMillis}
+use Rattle.settings.specs.Settings.{mostKeys, mostShards, limitRefusal, sizeRefusal, firstOf, settingsRefusal, shardCount, capOf, shardWords, wordsOf, shardOf, idleLimitMillis}
 use Rattle.settings.proofs.ShardLaws.{PowerOfTwo, doubled-is-power}
 
 -- The check of the size, outcome by outcome.
@@ -92,11 +92,11 @@ module _ (s : Settings) where
   words-most accepted = mul-le-mul {m₂ = shardWords mostKeys} (shards-most s) (omega (arith, cap-most accepted))
 
 -- The idle limit of no span at all is 1.
-pub no-span-limit : limitMillis 0 ≡ 1
+pub no-span-limit : idleLimitMillis 0 ≡ 1
 unfolding ceilDiv
 no-span-limit = refl
 
 -- That of any other span, as the code comes to it: the whole milliseconds of the span less one nanosecond, and 2 more.
-pub some-span-limit : (span : ℕ) → 0 < span → (span - 1) / 1000000 + 2 ≡ limitMillis span
+pub some-span-limit : (span : ℕ) → 0 < span → (span - 1) / 1000000 + 2 ≡ idleLimitMillis span
 unfolding ceilDiv
 some-span-limit span some = omega arith

@@ -25,33 +25,33 @@ abbrev idleFor : ℕ → Settings
 idleFor ttl = record { limit = Open twoASecond; eviction = bounds 4 (nanos.Some (record { 0 = ttl })) RefuseNew; shards = 1 }
 
 -- Shards, places per shard and words.
-nothing-asked-for : (shardCount (sized Closed 0 0) ≡ 1) × (capOf (sized Closed 0 0) ≡ 1) × (wordsOf (sized Closed 0 0) ≡ 13)
+pub nothing-asked-for : (shardCount (sized Closed 0 0) ≡ 1) × (capOf (sized Closed 0 0) ≡ 1) × (wordsOf (sized Closed 0 0) ≡ 13)
 unfolding doubledUpTo ceilDiv
 nothing-asked-for = (refl, refl, refl)
 
-five-keys-three-shards : (shardCount (sized Closed 5 3) ≡ 4) × (capOf (sized Closed 5 3) ≡ 2) × (wordsOf (sized Closed 5 3) ≡ 84)
+pub five-keys-three-shards : (shardCount (sized Closed 5 3) ≡ 4) × (capOf (sized Closed 5 3) ≡ 2) × (wordsOf (sized Closed 5 3) ≡ 84)
 unfolding doubledUpTo ceilDiv
 five-keys-three-shards = (refl, refl, refl)
 
 -- The idle limit: the time to be full where the idle time is shorter, the idle time where it is longer.
-idle-shorter-than-full : idleLimit (idleFor 1) ≡ millis.Some (record { 0 = 2001 })
+pub idle-shorter-than-full : idleLimit (idleFor 1) ≡ millis.Some (record { 0 = 2001 })
 unfolding ceilDiv
 idle-shorter-than-full = refl
 
-idle-longer-than-full : idleLimit (idleFor 2000000001) ≡ millis.Some (record { 0 = 2002 })
+pub idle-longer-than-full : idleLimit (idleFor 2000000001) ≡ millis.Some (record { 0 = 2002 })
 unfolding ceilDiv
 idle-longer-than-full = refl
 
 -- The largest sizes are accepted, and one more is refused.
-most-keys : (settingsRefusal (sized (Open twoASecond) 4096 1) ≡ 0) × (settingsRefusal (sized (Open twoASecond) 4097 1) ≡ 4)
+pub most-keys : (settingsRefusal (sized (Open twoASecond) 4096 1) ≡ 0) × (settingsRefusal (sized (Open twoASecond) 4097 1) ≡ 4)
 unfolding firstOf sizeRefusal rateRefusal unlessWithin
 most-keys = (refl, refl)
 
-most-shards : (settingsRefusal (sized (Open twoASecond) 1 64) ≡ 0) × (settingsRefusal (sized (Open twoASecond) 1 65) ≡ 4)
+pub most-shards : (settingsRefusal (sized (Open twoASecond) 1 64) ≡ 0) × (settingsRefusal (sized (Open twoASecond) 1 65) ≡ 4)
 unfolding firstOf sizeRefusal rateRefusal unlessWithin
 most-shards = (refl, refl)
 
 -- A closed limiter has no amount, period or burst that could be refused.
-closed-is-accepted : settingsRefusal (sized Closed 4 1) ≡ 0
+pub closed-is-accepted : settingsRefusal (sized Closed 4 1) ≡ 0
 unfolding firstOf sizeRefusal
 closed-is-accepted = refl

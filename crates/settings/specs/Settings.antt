@@ -38,7 +38,7 @@ firstOf first second = cond (eqb first 0) second first
 abbrev pub settingsRefusal : Settings → ℕ
 settingsRefusal s = firstOf (limitRefusal (s .limit)) (sizeRefusal s)
 
--- The first of 1, 2, 4, .. that is at least n; the last of so many doublings where none is.
+-- The first of a count, its double, the double of that and so on that is at least n; after so many doublings the last, where none is.
 unfoldable pub doubledUpTo : ℕ → ℕ → ℕ → ℕ
 doubledUpTo zero count n = count
 doubledUpTo (suc left) count n = cond (leb n count) count (doubledUpTo left (2 * count) n)
@@ -47,7 +47,7 @@ doubledUpTo (suc left) count n = cond (leb n count) count (doubledUpTo left (2 *
 abbrev pub shardCount : Settings → ℕ
 shardCount s = doubledUpTo 6 1 (s .shards)
 
--- The keys that a shard holds: an equal share of the most keys, rounded up, and at least 1.
+-- The keys that a shard holds: an equal share of `max_keys`, rounded up, and at least 1.
 abbrev pub capOf : Settings → ℕ
 capOf s = max (ceilDiv (s .eviction .«max_keys») (shardCount s)) 1
 
@@ -59,7 +59,7 @@ shardWords cap = 5 + 8 * cap
 abbrev pub wordsOf : Settings → ℕ
 wordsOf s = shardCount s * shardWords (capOf s)
 
--- The shard of a hash: as many of its bits from the 40th on as the shard count needs.
+-- The shard of a hash: as many of its bits, from bit 40 on (counted from 0), as the shard count needs.
 abbrev pub shardOf : Settings → ℕ → ℕ
 shardOf s hash = bitAnd (hash / 2 ^ 40) (shardCount s - 1)
 
@@ -69,14 +69,14 @@ leastIdle Closed = 0
 leastIdle (Open rate) = timeToFull (configOf rate)
 
 -- A span as an idle limit: its milliseconds, rounded up, and 1 more, since the two stamps of an idle span are each rounded down.
-abbrev pub limitMillis : ℕ → ℕ
-limitMillis span = ceilDiv span nanosPerMilli + 1
+abbrev pub idleLimitMillis : ℕ → ℕ
+idleLimitMillis span = ceilDiv span nanosPerMilli + 1
 
 -- The idle limit for an idle time and the least that counts.
-abbrev pub limitOf : OptionNanos → ℕ → OptionMillis
-limitOf nanos.None least = millis.None
-limitOf (nanos.Some ttl) least = millis.Some (record { 0 = limitMillis (max (ttl .0) least) })
+abbrev pub idleLimitOf : OptionNanos → ℕ → OptionMillis
+idleLimitOf nanos.None least = millis.None
+idleLimitOf (nanos.Some ttl) least = millis.Some (record { 0 = idleLimitMillis (max (ttl .0) least) })
 
 -- The idle limit of settings; none where no idle time is set.
 abbrev pub idleLimit : Settings → OptionMillis
-idleLimit s = limitOf (s .eviction .«idle_ttl») (leastIdle (s .limit))
+idleLimit s = idleLimitOf (s .eviction .«idle_ttl») (leastIdle (s .limit))

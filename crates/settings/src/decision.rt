@@ -4,7 +4,7 @@ ghost use Rattle.settings.specs.Decision.{acquired, retryAfter};
 use units::Nanos;
 use units::OptionNanos;
 
-// Granted; refused until the wait is over; or never to be granted, since the cost is more than a full bucket.
+// Granted; refused until the wait is over; or never to be granted, since the cost is more than a full bucket or the limiter is closed.
 pub enum Decision {
     Acquired,
     Retry { after: Nanos },

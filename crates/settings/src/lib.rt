@@ -1,7 +1,7 @@
 // What a limiter is set to: the rate, the bounds on its memory, and what follows from them for the store: how many shards it has, how many keys
 // each holds, how many words it is lent, and after how long an idle key may go. A settings record may hold anything; `refusal` says whether it is accepted.
 ghost use mathlib.Core.Path.{_≡_};
-ghost use Rattle.settings.specs.Settings.{limitRefusal, sizeRefusal, settingsRefusal, shardCount, capOf, wordsOf, shardOf, leastIdle, idleLimit, limitMillis};
+ghost use Rattle.settings.specs.Settings.{limitRefusal, sizeRefusal, settingsRefusal, shardCount, capOf, wordsOf, shardOf, leastIdle, idleLimit, idleLimitMillis};
 use crate::eviction::Eviction;
 use crate::rate::Rate;
 use units::Millis;
@@ -78,7 +78,7 @@ impl Settings {
         0
     }
 
-    // The number of shards: the first count of the table that is at least the number asked for.
+    // The number of shards: the first count of the table that is at least the number asked for, else the last.
     pub fn shard_count(self) -> usize
         ensures { λ r. ⌜ r ≡ shardCount self ⌝ }
     {
@@ -130,15 +130,15 @@ impl Settings {
             OptionNanos::Some(ttl) => {
                 let least = limit.least_idle();
                 let span = arith::larger(ttl.0, least.0);
-                OptionMillis::Some(past_whole_millis(Nanos(span)))
+                OptionMillis::Some(idle_limit_millis(Nanos(span)))
             }
         }
     }
 }
 
-// The milliseconds that a span takes, rounded up, and 1 more.
-fn past_whole_millis(span: Nanos) -> Millis
-    ensures { λ r. ⌜ r .0 ≡ limitMillis (span .0) ⌝ }
+// A span as an idle limit: the milliseconds that it takes, rounded up, and 1 more.
+fn idle_limit_millis(span: Nanos) -> Millis
+    ensures { λ r. ⌜ r .0 ≡ idleLimitMillis (span .0) ⌝ }
 {
     if span.0 == 0 {
         return Millis(1);

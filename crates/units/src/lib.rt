@@ -22,7 +22,7 @@ pub enum OptionMillis {
 }
 
 impl Nanos {
-    // The whole milliseconds in a count of nanoseconds. No other function turns the one unit into the other.
+    // The whole milliseconds in a count of nanoseconds. Every way from the one unit to the other goes through this function.
     pub fn millis(self) -> Millis
         ensures { λ r. ⌜ r ≡ millisOf self ⌝ }
     {

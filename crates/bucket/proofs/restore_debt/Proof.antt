@@ -1,5 +1,5 @@
--- `restore_debt` meets its contract: its two charges are those of the definition, and missing tokens held to 64 bits make the same debt as all of them.
-use Rattle.bucket.proofs.DebtLaws.{restore-held, lacking-by-charges, restored-settled, restored-unsettled}
+-- `restore_debt` meets its contract: its cut and its charge are those of the definition, and missing tokens held to 64 bits make the same debt as all of them.
+use Rattle.bucket.proofs.DebtLaws.{restore-held, lacking-by-taking-out, restored-settled, restored-unsettled}
 use mathlib.Core.Path.{sym, _∙_}
 use borrow.Author.Needs.{needs}
 use Rattle.bucket.proofs.restore_debt.Statement.{statement}
@@ -26,14 +26,14 @@ available-at-requires c κs = search needs
 saturating-sub-requires-3 : tie.Need-saturating-sub-requires-3
 saturating-sub-requires-3 c κs = search needs
 
-charge-at-requires : tie.Need-charge-at-requires
-charge-at-requires c κs = search needs
+take-out-requires : tie.Need-take-out-requires
+take-out-requires c κs = search needs
 
 saturating-sub-requires-4 : tie.Need-saturating-sub-requires-4
 saturating-sub-requires-4 c κs = search needs
 
-charge-at-requires-2 : tie.Need-charge-at-requires-2
-charge-at-requires-2 c κs = search needs
+take-out-requires-2 : tie.Need-take-out-requires-2
+take-out-requires-2 c κs = search needs
 
 returns-2 : tie.Need-returns-2
 returns-2 c =
@@ -41,17 +41,17 @@ returns-2 c =
     let kept = cut .before .before .before in
     let owing = kept .before .before .before in
     let remaining = owing .before .saturating-sub .ensures in
-    rw (
-      c .charge-at2 .ensures,
+    simp (
+      c .take-out2 .ensures,
       c .before .saturating-sub4 .ensures,
-      cut .charge-at .ensures,
+      cut .take-out .ensures,
       cut .before .saturating-sub3 .ensures,
       cut .before .before .available-at .ensures,
       kept .saturating-sub2 .ensures,
       kept .before .before .missing-tokens .ensures,
       remaining,
     )
-    (lacking-by-charges _ _ _ _ ∙ restore-held _ _ _ (owing .before .before .pre) ∙ restored-unsettled _ _ _ _ (rw remaining at (owing .if1 .left)))
+    (lacking-by-taking-out _ _ _ _ ∙ restore-held _ _ _ (owing .before .before .pre) ∙ restored-unsettled _ _ _ _ (rw remaining at (owing .if1 .left)))
 
 pub restore-debt-spec : {M : Type 1} → statement M
 restore-debt-spec =
@@ -64,7 +64,7 @@ restore-debt-spec =
     saturating-sub-requires-2
     available-at-requires
     saturating-sub-requires-3
-    charge-at-requires
+    take-out-requires
     saturating-sub-requires-4
-    charge-at-requires-2
+    take-out-requires-2
     returns-2)

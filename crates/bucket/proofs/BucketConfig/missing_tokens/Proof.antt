@@ -17,7 +17,7 @@ cast-div-ceil : tie.Need-cast-div-ceil
 cast-div-ceil c = search needs
 
 mul-div-ceil : tie.Need-mul-div-ceil
-mul-div-ceil c = record { fits = rest-product-fits _ (c .before .before .pre) }
+mul-div-ceil c = record { fits = rest-product-fits _ (c .before .before .before .before .pre) }
 
 div-ceil-requires : tie.Need-div-ceil-requires
 div-ceil-requires c κs = search needs
@@ -26,9 +26,7 @@ saturating-add-requires : tie.Need-saturating-add-requires
 saturating-add-requires c κs = search needs
 
 returns : tie.Need-returns
-returns c =
-    let whole = c .before .before .before in
-    rw (c .saturating-add .ensures, c .before .div-ceil .ensures, whole .saturating-mul .ensures) (missing-held _ (whole .before .pre))
+returns c = rw (c .saturating-add .ensures, c .before .div-ceil .ensures, c .before .before .before .before .saturating-mul .ensures) (missing-held _ (c .before .before .before .before .before .before .pre))
 
 pub missing-tokens-spec : {M : Type 1} → statement M
 missing-tokens-spec =

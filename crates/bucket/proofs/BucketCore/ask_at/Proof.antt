@@ -1,5 +1,5 @@
 -- `ask_at` meets its contract, by the two answers to a request.
-use Rattle.bucket.proofs.BucketLaws.{same-nanos, granted-within-patience, denied-beyond-patience}
+use Rattle.bucket.proofs.BucketLaws.{same-nanos, granted-within-longest, denied-beyond-longest}
 use mathlib.Core.Path.{sym}
 use native.Mathlib.Omega.{arith}
 use borrow.Author.Needs.{needs}
@@ -17,13 +17,13 @@ spent-at-requires c κs = search needs
 
 returns : tie.Need-returns
 returns c =
-    let wait = c .before .before .before .before .time-until-at in
-    rw (c .spent-at .ensures, same-nanos (wait .result) (wait .ensures)) (sym (granted-within-patience _ _ _ _ _ (omega arith)))
+    let time-until-at′ = c .before .before .before .before .before .time-until-at in
+    rw (c .spent-at .ensures, same-nanos (time-until-at′ .result) (time-until-at′ .ensures)) (sym (granted-within-longest _ _ _ _ _ (omega arith)))
 
 returns-2 : tie.Need-returns-2
 returns-2 c =
-    let wait = c .before .before .before .time-until-at in
-    rw (same-nanos (wait .result) (wait .ensures)) (sym (denied-beyond-patience _ _ _ _ _ (omega arith)))
+    let time-until-at′ = c .before .before .before .before .time-until-at in
+    rw (same-nanos (time-until-at′ .result) (time-until-at′ .ensures)) (sym (denied-beyond-longest _ _ _ _ _ (omega arith)))
 
 pub ask-at-spec : {M : Type 1} → statement M
 ask-at-spec =

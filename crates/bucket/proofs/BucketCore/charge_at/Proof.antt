@@ -42,7 +42,7 @@ smaller-requires c κs = search needs
 returns-2 : tie.Need-returns-2
 returns-2 c =
     let late = c .before .before .before in
-    rw (c .smaller .ensures, c .before .shortfall-at .ensures, late .most-shortfall .ensures, late .before .larger .ensures)
+    simp (c .smaller .ensures, c .before .shortfall-at .ensures, late .most-shortfall .ensures, late .before .larger .ensures)
 
 pub charge-at-spec : {M : Type 1} → statement M
 charge-at-spec =

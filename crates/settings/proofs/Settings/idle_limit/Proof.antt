@@ -15,14 +15,14 @@ least-idle-requires c κs = search needs
 larger-requires : tie.Need-larger-requires
 larger-requires c κs = search needs
 
-past-whole-millis-requires : tie.Need-past-whole-millis-requires
-past-whole-millis-requires c κs = search needs
+idle-limit-millis-requires : tie.Need-idle-limit-millis-requires
+idle-limit-millis-requires c κs = search needs
 
 returns : tie.Need-returns
 returns c = search needs
 
 returns-2 : tie.Need-returns-2
-returns-2 c = rw (c .past-whole-millis .ensures, c .before .larger .ensures, c .before .before .least-idle .ensures, c .before .before .before .before .idle-ttl .given .1)
+returns-2 c = rw (c .idle-limit-millis .ensures, c .before .larger .ensures, c .before .before .least-idle .ensures, c .before .before .before .before .idle-ttl .given .1)
 
 pub idle-limit-spec : {M : Type 1} → statement M
 idle-limit-spec =
@@ -32,6 +32,6 @@ idle-limit-spec =
     enum-known-idle-ttl
     least-idle-requires
     larger-requires
-    past-whole-millis-requires
+    idle-limit-millis-requires
     returns
     returns-2)

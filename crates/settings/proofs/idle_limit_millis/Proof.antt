@@ -1,10 +1,10 @@
--- `past_whole_millis` rounds a span up to milliseconds and adds 1, by dividing the span less one nanosecond.
+-- `idle_limit_millis` rounds a span up to milliseconds and adds 1, by dividing the span less one nanosecond.
 use Rattle.settings.proofs.SettingsLaws.{no-span-limit, some-span-limit}
 use native.Mathlib.Omega.{arith}
 use mathlib.Core.Path.{sym}
 use borrow.Author.Needs.{needs}
-use Rattle.settings.proofs.past_whole_millis.Statement.{statement}
-use Rattle.settings.proofs.past_whole_millis.Tie as tie
+use Rattle.settings.proofs.idle_limit_millis.Statement.{statement}
+use Rattle.settings.proofs.idle_limit_millis.Tie as tie
 
 returns : tie.Need-returns
 returns c = rw (c .if1 .taken) (sym no-span-limit)
@@ -21,5 +21,5 @@ add-t4 c = rw (c .before .millis .ensures) (omega arith)
 returns-2 : tie.Need-returns-2
 returns-2 c = rw (c .before .millis .ensures) (some-span-limit _ (omega arith))
 
-pub past-whole-millis-spec : {M : Type 1} → statement M
-past-whole-millis-spec = tie.close (tie.spec returns sub-t4 millis-requires add-t4 returns-2)
+pub idle-limit-millis-spec : {M : Type 1} → statement M
+idle-limit-millis-spec = tie.close (tie.spec returns sub-t4 millis-requires add-t4 returns-2)
