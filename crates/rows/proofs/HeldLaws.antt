@@ -1,9 +1,9 @@
 -- Held items after an item is stored, appended or removed: what stands where, and what becomes of a sum of weights.
-use Prim.Native.Nat.{ℕ, suc, _+_, _-_, _*_, _≤_, _<_}
+use Prim.Native.Nat.{ℕ, suc, _+_, _-_, _≤_, _<_}
 use mathlib.Core.Path.{_≡_, refl, ap, sym, _∙_}
 use native.Mathlib.Numerals.{add-one}
 use native.Mathlib.Omega.{arith}
-use lib.ListN.{length, getD, set, length-set}
+use lib.ListN.{length, set, length-set}
 use lib.Seq.{getD-set-same, getD-set-other}
 use Rattle.arith.proofs.Cases.{by-eq}
 use Rattle.rows.specs.Held.{Held, sum, itemAt, removed, total, appended, stored}

@@ -1,17 +1,17 @@
 -- Held items in words: what a read gives, and what a store or the lending of another part does to them. Over any item, width and place.
 use Prim.Native.Nat.{ℕ, _+_, _-_, _*_, _≤_, _<_}
-use mathlib.Core.Path.{_≡_, refl, ap, sym, _∙_}
+use mathlib.Core.Path.{_≡_, refl, ap, _∙_}
 use mathlib.Core.List.{List, [], map}
 use native.Mathlib.Omega.{arith}
-use lib.ListN.{length, getD, set, take, drop, length-map, List·getD-map}
-use lib.Seq.{sets, getD-set-same, getD-set-other, drop-drop, take-take}
+use lib.ListN.{length, getD, set, length-map}
+use lib.Seq.{sets, getD-set-same, getD-set-other}
 use borrow.Rule.Slice.PartMut.{putMid}
 use Rattle.rows.specs.Parts.{part}
-use Rattle.rows.specs.Rows.{rows}
+use Rattle.rows.specs.Rows.{rows, unrow}
 use Rattle.rows.specs.Held.{Held, itemAt, stored}
 use Rattle.rows.specs.Layout.{heldIn}
-use Rattle.rows.proofs.PartLaws.{part-set, part-set-below, part-set-above, part-sets, part-sets-below, part-length, part-of-part, part-kept-below, word-kept}
-use Rattle.rows.proofs.RowLaws.{rows-length, record-at, record-put, record-put-word, row-end, getD-sets-lt}
+use Rattle.rows.proofs.PartLaws.{part-set, part-set-below, part-set-above, part-sets, part-length, part-of-part, part-kept-below, word-kept}
+use Rattle.rows.proofs.RowLaws.{rows-length, record-at, record-put, record-put-word, row-end, getD-sets-lt, rows-round, unrow-rows}
 
 module _ {A : Type 0} (read : List ℕ → A) (w cap at first : ℕ) where
   pub held-count : (ws : List ℕ) → heldIn read w cap at first ws .count ≡ getD ws at 0
@@ -28,6 +28,14 @@ module _ {A : Type 0} (read : List ℕ → A) (w cap at first : ℕ) where
   held-item ws i b =
       record-at read w cap (part first (w * cap) ws) i b
       ∙ ap read (part-of-part first (w * cap) (w * i) w ws (row-end w cap i b))
+
+  -- Items written as the rows that they were read from give the words of those rows.
+  pub held-round : (write : A → List ℕ) (ws : List ℕ) → ((row : List ℕ) → length row ≡ w → write (read row) ≡ row) → first + w * cap ≤ length ws
+      → unrow (map write (heldIn read w cap at first ws .places)) ≡ part first (w * cap) ws
+  unfolding heldIn
+  held-round write ws round room =
+      let all = part-length first (w * cap) ws room in
+      rw (rows-round read write w cap (part first (w * cap) ws) round (omega (arith, all))) (unrow-rows w cap (part first (w * cap) ws) all)
 
   module _ (ws : List ℕ) (before : at < first) (room : first + w * cap ≤ length ws) where
     pub held-count-put : (n : ℕ) → heldIn read w cap at first (set ws at n) ≡ record { count = n; places = heldIn read w cap at first ws .places }

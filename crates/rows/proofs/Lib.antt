@@ -5,3 +5,5 @@ pub mod LowestLaws
 pub mod HeldLaws
 pub mod DistinctLaws
 pub mod LayoutLaws
+pub mod OutcomeLaws
+pub mod ReadBack

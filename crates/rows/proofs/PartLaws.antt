@@ -1,11 +1,11 @@
 -- A part of lent words: after a store, and after another part has been lent and come back (`putMid` is the borrow checker's word for that).
-use Prim.Native.Nat.{ℕ, zero, suc, _+_, _-_, _*_, _≤_, _<_, min}
+use Prim.Native.Nat.{ℕ, zero, suc, _+_, _-_, _≤_, _<_}
 use native.Mathlib.Omega.{arith}
 use mathlib.Core.Path.{_≡_, refl, ap, sym, _∙_}
 use mathlib.Core.List.{List, [], _∷_, _++_}
-use lib.ListN.{length, getD, set, take, drop, length-take, length-drop, length-append, List·getD-append, take-append-drop}
+use lib.ListN.{length, getD, set, take, drop, length-drop, List·getD-append, take-append-drop}
 use native.Mathlib.Nat.{add-suc}
-use lib.Seq.{sets, take-take, take-set-lt, take-set-le, drop-set-lt, drop-set-add, set-out, drop-drop, drop-append-le, take-append-le, drop-append-add, take-at, drop-at, length-take-le, getD-take, take-add}
+use lib.Seq.{sets, take-take, take-set-lt, take-set-le, drop-set-lt, drop-set-add, drop-drop, drop-append-le, take-append-le, take-at, drop-at, length-take-le, getD-take, take-add}
 use borrow.Rule.Slice.PartMut.{putMid}
 use Rattle.rows.specs.Parts.{part}
 

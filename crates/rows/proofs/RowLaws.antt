@@ -1,10 +1,10 @@
 -- Words in rows: what a read, a store and the lending of a row mean for them, and the way back from rows to words. At every width.
-use Prim.Native.Nat.{ℕ, zero, suc, _+_, _*_, _-_, _≤_, _<_, min}
+use Prim.Native.Nat.{ℕ, zero, suc, _+_, _*_, _-_, _≤_, _<_}
 use native.Mathlib.Omega.{arith}
-use native.Mathlib.Nat.{mul-suc, mul-zero, zero-add, add-zero, add-suc, le-trans, mul-le-mul-left}
+use native.Mathlib.Nat.{mul-suc, mul-zero, zero-add, add-zero, add-suc, mul-le-mul-left}
 use mathlib.Core.Path.{_≡_, refl, ap, sym, _∙_, subst}
 use mathlib.Core.List.{List, [], _∷_, _++_, map, append-nil}
-use lib.ListN.{length, getD, set, take, drop, length-take, length-drop, List·getD-map, length-set, drop-of-length-le}
+use lib.ListN.{length, getD, set, take, drop, length-drop, List·getD-map, length-set, drop-of-length-le}
 use lib.Seq.{drop-drop, take-set-lt, take-set-le, drop-set-lt, drop-set-add, getD-take, getD-drop, length-take-le, take-append-le, drop-append-le, sets, getD-set-same, getD-set-other, set-getD, set-set, ext-getD, take-add, take-all, sets-eq}
 use borrow.Rule.Slice.PartMut.{putMid}
 use mathlib.Core.Logic.{_⊎_, inl, inr, ⊎-elim}

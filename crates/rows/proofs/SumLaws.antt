@@ -11,6 +11,12 @@ unfolding sum
 sum-same zero f g same = refl
 sum-same (suc n) f g same = omega (arith, sum-same n f g (λ i b. same i (omega arith)), same n (omega arith))
 
+-- A sum of zeros.
+pub sum-of-zeros : (n : ℕ) (f : ℕ → ℕ) → ((i : ℕ) → i < n → f i ≡ 0) → sum n f ≡ 0
+unfolding sum
+sum-of-zeros zero f zeros = refl
+sum-of-zeros (suc n) f zeros = omega (arith, sum-of-zeros n f (λ i below. zeros i (omega arith)), zeros n (omega arith))
+
 -- Two sums that differ at place j alone.
 pub sum-changed : (n : ℕ) (f g : ℕ → ℕ) (j : ℕ) → j < n → ((i : ℕ) → i < n → (i ≡ j → ⊥) → f i ≡ g i) → sum n f + g j ≡ sum n g + f j
 unfolding sum

@@ -43,7 +43,7 @@ unfolding firstOf
 no-refusal-hands-on first second none = rw (eq-eqb _ _ none)
 
 -- Where the outcome is none, both are none.
-neither-refuses : (first second : ℕ) → firstOf first second ≡ 0 → (first ≡ 0) × (second ≡ 0)
+pub neither-refuses : (first second : ℕ) → firstOf first second ≡ 0 → (first ≡ 0) × (second ≡ 0)
 neither-refuses first second none =
     by-eq first 0
     (λ zero. (zero, sym (no-refusal-hands-on first second zero) ∙ none))

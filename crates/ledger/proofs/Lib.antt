@@ -1,0 +1,9 @@
+pub mod LayoutLaws
+pub mod StepLaws
+pub mod RecordLaws
+pub mod ModelLaws
+pub mod KeptLaws
+pub mod DistinctLaws
+pub mod LookupLaws
+pub mod Worked
+pub mod ReadBack

@@ -1,0 +1,196 @@
+-- Laws that the proofs of the code go by: one turn of a loop is one step of the definition that counts the looks left; what a definition is in each
+-- case that the code goes through; and words that are lent stay lent after each call.
+use Prim.Native.Nat.{ℕ, zero, suc, _+_, _-_, _≤_, _<_, min}
+use native.Mathlib.Omega.{arith}
+use native.Mathlib.Nat.{sub-zero}
+use mathlib.Core.Path.{_≡_, refl, ap, sym, _∙_}
+use mathlib.Core.Bool.{Bool, true, false}
+use mathlib.Core.List.{List}
+use lib.ListN.{length}
+use borrow.Author.Tests.{eq-eqb, ne-eqb, lt-ltb, le-ltb, le-leb, lt-leb}
+use Rattle.bucket.specs.declared.BucketConfig.{BucketConfig}
+use Rattle.settings.specs.Eviction.{ledgerScan}
+use Rattle.rows.specs.declared.Place.{Place}
+use Rattle.rows.specs.declared.Place.the-variants.{At, Nowhere}
+use Rattle.rows.specs.Held.{lowestFrom, removed}
+use Rattle.rows.specs.Outcome.{Outcome, outcome}
+use Rattle.rows.proofs.OutcomeLaws.{answer-is, after-is}
+use Rattle.rows.proofs.LowestLaws.{lowest-hit, lowest-miss, lowest-end}
+use Rattle.ledger.specs.declared.Debt.{Debt}
+use Rattle.ledger.specs.declared.Choice.{Choice}
+use Rattle.ledger.specs.declared.Choice.the-variants.{Settled, Soonest}
+use Rattle.ledger.specs.declared.Recorded.{Recorded}
+use Rattle.ledger.specs.declared.Recorded.the-variants.{Done, NoRoom}
+use Rattle.ledger.specs.Model.{Ledger, Sound, noDebt, capOf, debtAt, settlesAt, cursorOf, withCount, withCursor, withDebt, owes, placeOf, removeAt, append, takenAt, taken, lookAt, look, sweep, sooner, scanFrom, scan, dropChosen, makeRoom, joined, later, recordedAt, recorded, credit, paidAt, paidDown}
+use Rattle.ledger.specs.Layout.{ledger, Lent}
+use Rattle.ledger.proofs.LayoutLaws.{cap-is}
+use Rattle.ledger.proofs.StepLaws.{cursor-below}
+use Rattle.ledger.proofs.RecordLaws.{sooner-is-either, chosen, scan-chooses-held, scan-sound, make-room-sound, make-room-makes-room}
+
+-- Append and removal, store by store, as the code makes them.
+pub append-by-stores : (l : Ledger) (d : Debt) → withCount (withDebt l (l .debts .count) d) (l .debts .count + 1) ≡ append l d
+unfolding append
+append-by-stores l d = refl
+
+pub remove-by-stores : (l : Ledger) (p : ℕ)
+    → withCount (withDebt (withDebt l p (debtAt l (l .debts .count - 1))) (l .debts .count - 1) noDebt) (l .debts .count - 1) ≡ removeAt l p
+unfolding removeAt removed
+remove-by-stores l p = refl
+
+-- Lookup. `placeFrom l hash i n` is what a search that has come to place i of n will give; the next laws are the steps of its loop.
+unfoldable pub placeFrom : Ledger → ℕ → ℕ → ℕ → Place
+placeFrom l hash i n = lowestFrom (λ j. owes hash (debtAt l j)) i (n - i)
+
+pub place-start : (l : Ledger) (hash : ℕ) → placeFrom l hash 0 (l .debts .count) ≡ placeOf l hash
+unfolding placeFrom placeOf
+place-start l hash = rw sub-zero
+
+module _ (l : Ledger) (hash i n : ℕ) where
+  pub place-hit : i < n → debtAt l i .hash ≡ hash → placeFrom l hash i n ≡ At i
+  unfolding placeFrom
+  place-hit below same = lowest-hit (λ j. owes hash (debtAt l j)) i n below (eq-eqb _ _ same)
+
+  pub place-miss : i < n → (debtAt l i .hash ≡ hash → ⊥) → placeFrom l hash i n ≡ placeFrom l hash (i + 1) n
+  unfolding placeFrom
+  place-miss below other = lowest-miss (λ j. owes hash (debtAt l j)) i n below (ne-eqb _ _ other)
+
+  pub place-end : n ≤ i → placeFrom l hash i n ≡ Nowhere
+  unfolding placeFrom
+  place-end past = lowest-end (λ j. owes hash (debtAt l j)) i n past
+
+-- Take and pay down, once the place of the hash is known.
+module _ (l : Ledger) (hash : ℕ) {place : Place} (looked-up : placeOf l hash ≡ place) where
+  pub taken-where : takenAt l place ≡ taken l hash
+  unfolding taken
+  taken-where = rw looked-up
+
+  pub paid-where : (cost : ℕ) (c : BucketConfig) → paidAt l (credit c cost) place ≡ paidDown l hash cost c
+  unfolding paidDown
+  paid-where cost c = rw looked-up
+
+-- A look of the sweep: at a settled debt, at an unsettled one, and where there is none.
+module _ (at : ℕ) (l : Ledger) where
+  pub look-settled : 0 < l .debts .count → settlesAt l (cursorOf l) ≤ at → removeAt (withCursor l (cursorOf l)) (cursorOf l) ≡ look at l
+  unfolding look lookAt
+  look-settled some settled = rw (ne-eqb (l .debts .count) 0 (omega arith), le-leb _ _ settled)
+
+  pub look-unsettled : 0 < l .debts .count → at < settlesAt l (cursorOf l) → withCursor l (cursorOf l + 1) ≡ look at l
+  unfolding look lookAt
+  look-unsettled some unsettled = rw (ne-eqb (l .debts .count) 0 (omega arith), lt-leb _ _ unsettled)
+
+  pub look-none : l .debts .count ≡ 0 → look at l ≡ l
+  unfolding look
+  look-none none = rw (eq-eqb _ _ none)
+
+-- The sweep: one look more, no look left, no debt left.
+module _ (at : ℕ) (l : Ledger) (left : ℕ) where
+  pub sweep-turn : 0 < left → sweep at left l ≡ sweep at (left - 1) (look at l)
+  unfolding sweep
+  sweep-turn some = let e : left ≡ suc (left - 1) = omega arith in ap (λ (n : ℕ). sweep at n l) e
+
+  pub sweep-end : left ≤ 0 → sweep at left l ≡ l
+  unfolding sweep
+  sweep-end none = let e : left ≡ 0 = omega arith in rw e
+
+pub sweep-none : (at : ℕ) (l : Ledger) (left : ℕ) → l .debts .count ≡ 0 → sweep at left l ≡ l
+unfolding sweep
+sweep-none at l zero none = refl
+sweep-none at l (suc left) none = rw (look-none at l none) (sweep-none at l left none)
+
+-- The scan of a full ledger: its start, no look left, a settled debt, an unsettled one.
+pub scan-start : (at : ℕ) (l : Ledger) → scanFrom at (min ledgerScan (l .debts .count)) l (cursorOf l) ≡ scan at l
+unfolding scan
+scan-start at l = refl
+
+module _ (at left : ℕ) (l : Ledger) (best : ℕ) where
+  pub scan-end : left ≤ 0 → scanFrom at left l best ≡ outcome (Soonest best) l
+  unfolding scanFrom
+  scan-end none = let e : left ≡ 0 = omega arith in rw e
+
+  pub scan-settled : 0 < left → settlesAt l (cursorOf l) ≤ at → scanFrom at left l best ≡ outcome (Settled (cursorOf l)) (withCursor l (cursorOf l))
+  unfolding scanFrom
+  scan-settled some settled = let e : left ≡ suc (left - 1) = omega arith in rw (e, scanFrom, le-leb _ _ settled)
+
+  pub scan-turn : 0 < left → at < settlesAt l (cursorOf l)
+      → scanFrom at left l best ≡ scanFrom at (left - 1) (withCursor l (cursorOf l + 1)) (sooner l best (cursorOf l))
+  unfolding scanFrom
+  scan-turn some unsettled =
+      let e : left ≡ suc (left - 1) = omega arith in
+      ap (λ (n : ℕ). scanFrom at n l best) e ∙ rw (scanFrom, lt-leb _ _ unsettled)
+
+-- Room is made, once the scan has chosen: a settled debt goes, the soonest goes where debts may be forgotten, else it stays.
+module _ (at : ℕ) (l : Ledger) {m : Ledger} {choice : Choice} (forget : Bool) (p : ℕ) (gave : outcome choice m ≡ scan at l) where
+  pub settled-dropped : choice ≡ Settled p → outcome Done (removeAt m p) ≡ makeRoom at forget l
+  unfolding makeRoom dropChosen
+  settled-dropped is = rw (← gave, is)
+
+  pub soonest-dropped : choice ≡ Soonest p → forget ≡ true → outcome Done (removeAt m p) ≡ makeRoom at forget l
+  unfolding makeRoom dropChosen
+  soonest-dropped is may = rw (← gave, is, may)
+
+  pub soonest-kept : choice ≡ Soonest p → forget ≡ false → outcome (NoRoom (record { 0 = settlesAt m p - at })) m ≡ makeRoom at forget l
+  unfolding makeRoom dropChosen
+  soonest-kept is may = rw (← gave, is, may)
+
+-- Recording: the hash is there; it is not; and then there is room, or room was made, or not.
+module _ (l : Ledger) (d : Debt) (at : ℕ) (forget : Bool) where
+  pub recorded-existing : {p : ℕ} → placeOf l (d .hash) ≡ At p → outcome Done (withDebt l p (later (debtAt l p) (d .settles .0))) ≡ recorded l d at forget
+  unfolding recorded recordedAt
+  recorded-existing looked-up = rw looked-up
+
+  pub recorded-new : placeOf l (d .hash) ≡ Nowhere → recordedAt l d at forget Nowhere ≡ recorded l d at forget
+  unfolding recorded
+  recorded-new looked-up = rw looked-up
+
+  pub recorded-free : l .debts .count < capOf l → outcome Done (append l d) ≡ recordedAt l d at forget Nowhere
+  unfolding recordedAt
+  recorded-free free = rw (lt-ltb _ _ free)
+
+  pub recorded-full : {m : Ledger} {r known : Recorded} → capOf l ≤ l .debts .count → outcome r m ≡ makeRoom at forget l → r ≡ known
+      → joined d m known ≡ recordedAt l d at forget Nowhere
+  unfolding recordedAt
+  recorded-full full made is = rw (le-ltb _ _ full, ← made, is)
+
+-- Words that are lent have room for cap debts, and a debt that is held stands below the cap. Where there is a debt the cursor stands at one, and the
+-- sooner of two that are held is held.
+pub lent-cap : {cap : ℕ} {ws : List ℕ} → Lent cap ws → capOf (ledger cap ws) ≡ cap
+lent-cap {cap} {ws} lent = cap-is cap ws
+
+pub lent-below : {cap : ℕ} {ws : List ℕ} {i : ℕ} → Lent cap ws → i < ledger cap ws .debts .count → i < cap
+lent-below lent held = omega (arith, lent .sound .held, lent-cap lent)
+
+pub lent-cursor : {cap : ℕ} {ws : List ℕ} → Lent cap ws → 0 < ledger cap ws .debts .count → cursorOf (ledger cap ws) < ledger cap ws .debts .count
+lent-cursor {cap} {ws} lent some = cursor-below (ledger cap ws) some
+
+pub lent-sooner : {cap : ℕ} {ws : List ℕ} {best c : ℕ} → Lent cap ws → best < ledger cap ws .debts .count → c < ledger cap ws .debts .count
+    → sooner (ledger cap ws) best c < ledger cap ws .debts .count
+lent-sooner {cap} {ws} {best} {c} lent b d = sooner-is-either (ledger cap ws) best c (λ p. p < ledger cap ws .debts .count) b d
+
+-- Words stay lent while their length is kept and their ledger is sound. After a call that is so by what the call gave (the ledger alone, or an
+-- answer with it) and by what its operation keeps.
+module _ {cap : ℕ} {ws ws′ : List ℕ} (lent : Lent cap ws) (same : length ws′ ≡ length ws) where
+  pub lent-after : {l : Ledger} → ledger cap ws′ ≡ l → Sound l → Lent cap ws′
+  lent-after gave s = record { size = same ∙ lent .size; sound = rw gave s }
+
+  pub lent-after-answer : {A : Type 0} {a : A} {o : Outcome A Ledger} → outcome a (ledger cap ws′) ≡ o → Sound (o .after) → Lent cap ws′
+  lent-after-answer gave s = lent-after (after-is gave) s
+
+-- After a scan the words are still lent, and the place that it chose holds a debt.
+pub record AfterScan (cap : ℕ) (ws : List ℕ) (choice : Choice) : Type 0 where
+  pub lent : Lent cap ws
+  pub held : chosen choice < ledger cap ws .debts .count
+
+pub after-scan : {cap : ℕ} {ws ws′ : List ℕ} {choice : Choice} (at : ℕ) → Lent cap ws → 0 < ledger cap ws .debts .count → length ws′ ≡ length ws
+    → outcome choice (ledger cap ws′) ≡ scan at (ledger cap ws) → AfterScan cap ws′ choice
+after-scan {cap} {ws} at lent some same gave = record {
+  lent = lent-after-answer lent same gave (scan-sound at (ledger cap ws) some (lent .sound));
+  held = rw (answer-is gave, after-is gave) (scan-chooses-held at (ledger cap ws) some);
+}
+
+-- After room was made the words are still lent, and there is room for a debt.
+pub after-make-room : {cap : ℕ} {ws ws′ : List ℕ} {r : Recorded} (at : ℕ) (forget : Bool) → Lent cap ws → 0 < ledger cap ws .debts .count → length ws′ ≡ length ws
+    → outcome r (ledger cap ws′) ≡ makeRoom at forget (ledger cap ws) → r ≡ Done → Lent cap ws′ × (ledger cap ws′ .debts .count < cap)
+after-make-room {cap} {ws} {ws′} at forget lent some same gave done =
+    let free = make-room-makes-room (ledger cap ws) at forget some (lent .sound) (sym (answer-is gave) ∙ done) in
+    let free′ : ledger cap ws′ .debts .count < capOf (ledger cap ws′) = rw (after-is gave) free in
+    (lent-after-answer lent same gave (make-room-sound (ledger cap ws) at forget some (lent .sound)), omega (arith, free′, cap-is cap ws′))

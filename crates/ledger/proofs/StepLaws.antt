@@ -1,0 +1,150 @@
+-- What lookup by hash says, what the operations leave of the room, and the sweep as steps: it only moves the cursor and drops settled debts, so what
+-- both keep a sweep keeps. Laws about sums, hashes and lookup go by this and do not open the sweep.
+use Prim.Native.Nat.{ℕ, zero, suc, _-_, _≤_, _<_}
+use mathlib.Core.Path.{_≡_, refl, _∙_}
+use mathlib.Core.Bool.{Bool, true, false}
+use native.Mathlib.Omega.{arith}
+use lib.ListN.{length-set}
+use lib.Dec.{ltb, leb, eqb}
+use borrow.Author.Tests.{ltb-true, leb-true, eqb-true, eqb-false}
+use Rattle.arith.proofs.Cases.{by-test}
+use Rattle.units.specs.declared.OptionNanos.{OptionNanos}
+use Rattle.units.specs.declared.OptionNanos.the-variants.{None, Some}
+use Rattle.bucket.specs.declared.BucketConfig.{BucketConfig}
+use Rattle.rows.specs.declared.Place.{Place}
+use Rattle.rows.specs.declared.Place.the-variants.{At, Nowhere}
+use Rattle.rows.specs.Outcome.{Outcome, outcome}
+use Rattle.rows.proofs.HeldLaws.{removed-count, removed-length}
+use Rattle.rows.proofs.LowestLaws.{found-passes, nowhere-passes-none}
+use Rattle.ledger.specs.declared.Debt.{Debt}
+use Rattle.ledger.specs.Model.{Ledger, Sound, noDebt, capOf, debtAt, settlesAt, cursorOf, withCursor, withDebt, owes, placeOf, removeAt, append, owedAt, owedBy, takenAt, taken, lookAt, look, sweep, credit, paidAt, paidDown}
+
+-- The cursor, as it is read, stands at a debt.
+pub cursor-below : (l : Ledger) → 0 < l .debts .count → cursorOf l < l .debts .count
+cursor-below l some = by-test (ltb (l .cursor) (l .debts .count)) (λ t. rw t (ltb-true _ _ t)) (λ t. rw t some)
+
+-- What a lookup by hash says of the debts that are held.
+pub record Owing (l : Ledger) (h p : ℕ) : Type 0 where
+  pub below : p < l .debts .count
+  pub own : debtAt l p .hash ≡ h
+
+pub found-owes : (l : Ledger) (h p : ℕ) → placeOf l h ≡ At p → Owing l h p
+unfolding placeOf
+found-owes l h p e = let f = found-passes (l .debts .count) (λ i. owes h (debtAt l i)) p e in record { below = f .below; own = eqb-true _ _ (f .passes) }
+
+pub nowhere-owes-none : (l : Ledger) (h : ℕ) → placeOf l h ≡ Nowhere → (i : ℕ) → i < l .debts .count → debtAt l i .hash ≡ h → ⊥
+unfolding placeOf
+nowhere-owes-none l h e i below = eqb-false _ _ (nowhere-passes-none (l .debts .count) (λ j. owes h (debtAt l j)) i e below)
+
+-- When the debt of a hash settles, once its place is known.
+pub owed-where : (l : Ledger) (h : ℕ) {place : Place} → placeOf l h ≡ place → owedAt l place ≡ owedBy l h
+unfolding owedBy
+owed-where l h looked-up = rw looked-up
+
+-- The cursor has no part in whether a ledger is sound.
+pub cursor-sound : (l : Ledger) (c : ℕ) → Sound l → Sound (withCursor l c)
+cursor-sound l c s = record { room = s .room; held = s .held }
+
+-- A removal leaves one debt less and the same room.
+pub removal-count : (l : Ledger) (p : ℕ) → removeAt l p .debts .count ≡ l .debts .count - 1
+unfolding removeAt
+removal-count l p = removed-count noDebt (l .debts) p
+
+pub removal-cap : (l : Ledger) (p : ℕ) → capOf (removeAt l p) ≡ capOf l
+unfolding removeAt
+removal-cap l p = removed-length noDebt (l .debts) p
+
+pub removal-sound : (l : Ledger) (p : ℕ) → Sound l → Sound (removeAt l p)
+removal-sound l p s = record { room = omega (arith, removal-cap l p); held = omega (arith, removal-cap l p, removal-count l p) }
+
+-- So there is room for another debt.
+pub removal-leaves-room : (l : Ledger) (p : ℕ) → l .debts .count ≤ capOf l → p < l .debts .count → removeAt l p .debts .count < capOf (removeAt l p)
+removal-leaves-room l p held below = omega (arith, removal-cap l p, removal-count l p)
+
+-- A debt that is changed, or that joins where there is room, leaves a sound ledger.
+pub change-sound : (l : Ledger) (p : ℕ) (d : Debt) → Sound l → Sound (withDebt l p d)
+change-sound l p d s = record { room = simp length-set (s .room); held = simp length-set (s .held) }
+
+pub append-sound : (l : Ledger) (d : Debt) → l .debts .count < capOf l → Sound (append l d)
+unfolding append
+append-sound l d room = record { room = simp length-set (omega arith); held = simp length-set (omega arith) }
+
+-- A debt that settles so much sooner.
+abbrev pub sooner-by : ℕ → Debt → Debt
+sooner-by off d = record { hash = d .hash; settles = record { 0 = d .settles .0 - off } }
+
+-- Taking out and paying down, by what lookup finds.
+pub taken-cases : (l : Ledger) (h : ℕ) (Q : Outcome OptionNanos Ledger → Type 0)
+    → ((p : ℕ) → placeOf l h ≡ At p → Q (outcome (Some (debtAt l p .settles)) (removeAt l p))) → (placeOf l h ≡ Nowhere → Q (outcome None l)) → Q (taken l h)
+unfolding taken
+taken-cases l h Q found none = go (placeOf l h) refl
+  where
+    go : (place : Place) → placeOf l h ≡ place → Q (takenAt l place)
+    go (At p) e = found p e
+    go Nowhere e = none e
+
+pub paid-cases : (l : Ledger) (h cost : ℕ) (c : BucketConfig) (Q : Outcome Bool Ledger → Type 0)
+    → ((p : ℕ) → placeOf l h ≡ At p → Q (outcome true (withDebt l p (sooner-by (credit c cost) (debtAt l p))))) → (placeOf l h ≡ Nowhere → Q (outcome false l)) → Q (paidDown l h cost c)
+unfolding paidDown
+paid-cases l h cost c Q found none = go (placeOf l h) refl
+  where
+    go : (place : Place) → placeOf l h ≡ place → Q (paidAt l (credit c cost) place)
+    go (At p) e = found p e
+    go Nowhere e = none e
+
+-- Both leave a sound ledger with the same room.
+pub taken-sound : (l : Ledger) (h : ℕ) → Sound l → Sound (taken l h .after)
+taken-sound l h s = taken-cases l h (λ o. Sound (o .after)) (λ p e. removal-sound l p s) (λ e. s)
+
+pub taken-cap : (l : Ledger) (h : ℕ) → capOf (taken l h .after) ≡ capOf l
+taken-cap l h = taken-cases l h (λ o. capOf (o .after) ≡ capOf l) (λ p e. removal-cap l p) (λ e. refl)
+
+pub paid-sound : (l : Ledger) (h cost : ℕ) (c : BucketConfig) → Sound l → Sound (paidDown l h cost c .after)
+paid-sound l h cost c s = paid-cases l h cost c (λ o. Sound (o .after)) (λ p e. change-sound l p _ s) (λ e. s)
+
+pub paid-cap : (l : Ledger) (h cost : ℕ) (c : BucketConfig) → capOf (paidDown l h cost c .after) ≡ capOf l
+paid-cap l h cost c = paid-cases l h cost c (λ o. capOf (o .after) ≡ capOf l) (λ p e. simp length-set) (λ e. refl)
+
+-- Once a debt was taken out there is room for another.
+pub taken-leaves-room : (l : Ledger) (h p : ℕ) → Sound l → placeOf l h ≡ At p → taken l h .after .debts .count < capOf (taken l h .after)
+unfolding taken
+taken-leaves-room l h p s e = rw e (removal-leaves-room l p (s .held) (found-owes l h p e .below))
+
+-- Q is kept by the two steps of a sweep: the cursor moves, and a settled debt leaves.
+pub record KeptBySteps (at : ℕ) (Q : Ledger → Type 0) : Type 0 where
+  pub moves : (l : Ledger) (c : ℕ) → Q l → Q (withCursor l c)
+  pub drops : (l : Ledger) (p : ℕ) → Sound l → p < l .debts .count → settlesAt l p ≤ at → Q l → Q (removeAt l p)
+
+look-keeps : (at : ℕ) (Q : Ledger → Type 0) → KeptBySteps at Q → (l : Ledger) → Sound l → Q l → Q (look at l)
+unfolding look lookAt
+look-keeps at Q k l s q =
+    by-test (eqb (l .debts .count) 0)
+    (λ none. rw (none, look) q)
+    (λ some. by-test (leb (settlesAt l (cursorOf l)) at)
+    (λ settled.
+    let below : cursorOf l < l .debts .count = cursor-below l (omega (arith, eqb-false (l .debts .count) 0 some)) in
+    rw (some, look, settled, lookAt) (k .drops (withCursor l _) (cursorOf l) (cursor-sound l _ s) below (leb-true _ _ settled) (k .moves l _ q)))
+    (λ unsettled. rw (some, look, unsettled, lookAt) (k .moves l _ q)))
+
+sound-by-steps : {at : ℕ} → KeptBySteps at Sound
+sound-by-steps = record { moves = cursor-sound; drops = λ m p t below settled u. removal-sound m p t }
+
+pub look-sound : (at : ℕ) (l : Ledger) → Sound l → Sound (look at l)
+look-sound at l s = look-keeps at Sound sound-by-steps l s s
+
+-- What the steps keep a sweep keeps.
+pub sweep-keeps : (at : ℕ) (Q : Ledger → Type 0) → KeptBySteps at Q → (n : ℕ) (l : Ledger) → Sound l → Q l → Q (sweep at n l)
+unfolding sweep
+sweep-keeps at Q k zero l s q = q
+sweep-keeps at Q k (suc n) l s q = sweep-keeps at Q k n (look at l) (look-sound at l s) (look-keeps at Q k l s q)
+
+-- A sweep leaves a sound ledger with the same room, and no more debts than there were.
+pub sweep-sound : (at n : ℕ) (l : Ledger) → Sound l → Sound (sweep at n l)
+sweep-sound at n l s = sweep-keeps at Sound sound-by-steps n l s s
+
+pub sweep-cap : (at n : ℕ) (l : Ledger) → Sound l → capOf (sweep at n l) ≡ capOf l
+sweep-cap at n l s = sweep-keeps at (λ m. capOf m ≡ capOf l) (record { moves = λ m c same. same; drops = λ m p t below settled same. removal-cap m p ∙ same }) n l s refl
+
+pub sweep-count : (at n : ℕ) (l : Ledger) → Sound l → sweep at n l .debts .count ≤ l .debts .count
+sweep-count at n l s =
+    sweep-keeps at (λ m. m .debts .count ≤ l .debts .count) (record { moves = λ m c fewer. fewer; drops = λ m p t below settled fewer. omega (arith, removal-count m p) }) n l s (omega arith)

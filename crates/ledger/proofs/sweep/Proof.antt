@@ -1,0 +1,75 @@
+-- `sweep` makes its looks one by one. The loop holds that the looks left, made from here, give what all of them give from the start.
+use mathlib.Core.Path.{_≡_, refl, sym, _∙_}
+use mathlib.Core.List.{List}
+use Prim.Native.Nat.{ℕ}
+use Rattle.ledger.proofs.StepLaws.{look-sound}
+use Rattle.ledger.proofs.ModelLaws.{sweep-turn, sweep-none, sweep-end, lent-after}
+use Rattle.ledger.specs.Layout.{ledger, Lent}
+use Rattle.ledger.specs.Model.{sweep}
+use borrow.Author.Needs.{needs}
+use Rattle.ledger.proofs.sweep.Statement.{statement}
+use Rattle.ledger.proofs.sweep.Tie as tie
+
+-- The sweep from here, with the looks that are left, is the sweep from the start.
+record Sweeping (ws₀ : List ℕ) (cap at budget : ℕ) (ws : List ℕ) (left : ℕ) : Type 0 where
+  lent : Lent cap ws
+  same : sweep at left (ledger cap ws) ≡ sweep at budget (ledger cap ws₀)
+
+abbrev Inv-loop : tie.InvT-loop
+Inv-loop ws₀ cap at budget left₀ ws left = Sweeping ws₀ cap (at .0) budget ws left
+
+abbrev μ-loop : tie.MeasureT-loop
+μ-loop ws₀ cap at budget left₀ ws left = left
+
+loop-holds : tie.Need-loop-holds Inv-loop μ-loop
+loop-holds c = record { lent = c .before .pre; same = refl }
+
+count-requires : tie.Need-count-requires Inv-loop μ-loop
+count-requires c κs = search needs
+
+look-requires : tie.Need-look-requires Inv-loop μ-loop
+look-requires c κs = (c .before .before .before .before .before .loop .inv .lent, search needs)
+
+sub-left : tie.Need-sub-left Inv-loop μ-loop
+sub-left c = search needs
+
+loop-less : tie.Need-loop-less Inv-loop μ-loop
+loop-less c = search needs
+
+loop-again : tie.Need-loop-again Inv-loop μ-loop
+loop-again c =
+    let loop′ = c .before .before .before .before .before .before .before .before .loop in
+    let look′ = c .before .before .look in
+    record {
+      lent = lent-after (loop′ .inv .lent) (look′ .kept .0) (look′ .ensures) (look-sound _ _ (loop′ .inv .lent .sound));
+      same = rw (look′ .ensures) (sym (sweep-turn _ _ _ (c .before .before .before .before .before .before .before .loop-test .taken)) ∙ loop′ .inv .same);
+    }
+
+same-length : tie.Need-same-length Inv-loop μ-loop
+same-length c = search needs
+
+returns : tie.Need-returns Inv-loop μ-loop
+returns c = sym (sweep-end _ _ _ (c .loop-test .left)) ∙ c .before .loop .inv .same
+
+same-length-2 : tie.Need-same-length-2 Inv-loop μ-loop
+same-length-2 c = search needs
+
+returns-2 : tie.Need-returns-2 Inv-loop μ-loop
+returns-2 c = sym (sweep-none _ _ _ (sym (c .before .count .ensures) ∙ c .if1 .taken)) ∙ c .before .before .before .before .loop .inv .same
+
+pub sweep-spec : {M : Type 1} → statement M
+sweep-spec =
+    tie.close
+    (tie.spec
+    Inv-loop
+    μ-loop
+    loop-holds
+    count-requires
+    look-requires
+    sub-left
+    loop-less
+    loop-again
+    same-length
+    returns
+    same-length-2
+    returns-2)

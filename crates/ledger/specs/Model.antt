@@ -1,0 +1,159 @@
+-- The ledger of one shard: the debts of keys that were forgotten before their buckets were full, and what each operation makes of it.
+use Prim.Native.Nat.{ℕ, zero, suc, _+_, _*_, _-_, _/_, _≤_, _<_, min, max}
+use mathlib.Core.Bool.{Bool, true, false, cond}
+use lib.ListN.{length}
+use lib.Dec.{ltb, leb, eqb}
+use Rattle.arith.specs.Arith.{held}
+use Rattle.units.specs.declared.OptionNanos.{OptionNanos}
+use Rattle.units.specs.declared.OptionNanos.the-variants.{None, Some}
+use Rattle.bucket.specs.declared.BucketConfig.{BucketConfig}
+use Rattle.settings.specs.Eviction.{ledgerScan}
+use Rattle.rows.specs.declared.Place.{Place}
+use Rattle.rows.specs.declared.Place.the-variants.{At, Nowhere}
+use Rattle.rows.specs.Held.{Held, wrapped, itemAt, position, removed, appended, stored}
+use Rattle.rows.specs.Outcome.{Outcome, outcome}
+use Rattle.ledger.specs.declared.Debt.{Debt}
+use Rattle.ledger.specs.declared.Choice.{Choice}
+use Rattle.ledger.specs.declared.Choice.the-variants.{Settled, Soonest}
+use Rattle.ledger.specs.declared.Recorded.{Recorded}
+use Rattle.ledger.specs.declared.Recorded.the-variants.{Done, NoRoom}
+
+-- The debts, and the cursor: the place at which the next look begins.
+pub record Ledger : Type 0 where
+  pub debts : Held Debt
+  pub cursor : ℕ
+
+-- What stands in a place that holds no debt.
+abbrev pub noDebt : Debt
+noDebt = record { hash = 0; settles = record { 0 = 0 } }
+
+-- How many debts there is room for.
+abbrev pub capOf : Ledger → ℕ
+capOf l = length (l .debts .places)
+
+-- There is room for a debt, and no more are held than there is room for.
+pub record Sound (l : Ledger) : Type 0 where
+  pub room : 0 < capOf l
+  pub held : l .debts .count ≤ capOf l
+
+-- The debt at a place, and the moment at which it settles.
+abbrev pub debtAt : Ledger → ℕ → Debt
+debtAt l i = itemAt noDebt (l .debts) i
+
+abbrev pub settlesAt : Ledger → ℕ → ℕ
+settlesAt l i = debtAt l i .settles .0
+
+-- The cursor as it is read: the first place where it stands at or past the count.
+abbrev pub cursorOf : Ledger → ℕ
+cursorOf l = wrapped (l .cursor) (l .debts .count)
+
+abbrev pub withDebts : Ledger → Held Debt → Ledger
+withDebts l ds = record { debts = ds; cursor = l .cursor }
+
+abbrev pub withCount : Ledger → ℕ → Ledger
+withCount l n = withDebts l (record { count = n; places = l .debts .places })
+
+abbrev pub withCursor : Ledger → ℕ → Ledger
+withCursor l c = record { debts = l .debts; cursor = c }
+
+abbrev pub withDebt : Ledger → ℕ → Debt → Ledger
+withDebt l i d = withDebts l (stored (l .debts) i d)
+
+-- Lookup by hash: the lowest place that has it.
+abbrev pub owes : ℕ → Debt → Bool
+owes hash d = eqb (d .hash) hash
+
+unfoldable pub placeOf : Ledger → ℕ → Place
+placeOf l hash = position noDebt (l .debts) (owes hash)
+
+-- A debt leaves, and the last one moves into the gap. A new debt comes last.
+unfoldable pub removeAt : Ledger → ℕ → Ledger
+removeAt l p = withDebts l (removed noDebt (l .debts) p)
+
+unfoldable pub append : Ledger → Debt → Ledger
+append l d = withDebts l (appended (l .debts) d)
+
+-- When the debt of a hash settles, if there is one.
+abbrev pub owedAt : Ledger → Place → OptionNanos
+owedAt l (At p) = Some (debtAt l p .settles)
+owedAt l Nowhere = None
+
+unfoldable pub owedBy : Ledger → ℕ → OptionNanos
+owedBy l hash = owedAt l (placeOf l hash)
+
+-- The debt of a hash is taken out, if there is one, and its moment told.
+abbrev pub takenAt : Ledger → Place → Outcome OptionNanos Ledger
+takenAt l (At p) = outcome (Some (debtAt l p .settles)) (removeAt l p)
+takenAt l Nowhere = outcome None l
+
+unfoldable pub taken : Ledger → ℕ → Outcome OptionNanos Ledger
+taken l hash = takenAt l (placeOf l hash)
+
+-- A look of the sweep, at place c: a settled debt goes, and what moves into its place is looked at next; else the cursor advances.
+unfoldable pub lookAt : ℕ → Ledger → ℕ → Ledger
+lookAt at l c = cond (leb (settlesAt l c) at) (removeAt (withCursor l c) c) (withCursor l (c + 1))
+
+-- The next look; there is none where no debt is left.
+unfoldable pub look : ℕ → Ledger → Ledger
+look at l = cond (eqb (l .debts .count) 0) l (lookAt at l (cursorOf l))
+
+-- The sweep: so many looks, going round again if need be.
+unfoldable pub sweep : ℕ → ℕ → Ledger → Ledger
+sweep at zero l = l
+sweep at (suc left) l = sweep at left (look at l)
+
+-- The sooner of two debts, by place; the first of equals.
+abbrev pub sooner : Ledger → ℕ → ℕ → ℕ
+sooner l best c = cond (ltb (settlesAt l c) (settlesAt l best)) c best
+
+-- The looks at a full ledger for a debt to drop: the first settled one, with the cursor resting there; failing that the soonest looked at.
+-- A look at an unsettled debt advances the cursor.
+unfoldable pub scanFrom : ℕ → ℕ → Ledger → ℕ → Outcome Choice Ledger
+scanFrom at zero l best = outcome (Soonest best) l
+scanFrom at (suc left) l best =
+    cond (leb (settlesAt l (cursorOf l)) at)
+    (outcome (Settled (cursorOf l)) (withCursor l (cursorOf l)))
+    (scanFrom at left (withCursor l (cursorOf l + 1)) (sooner l best (cursorOf l)))
+
+-- At most `ledgerScan` looks, and no more than there are debts. Before the first look the soonest is the place that it will look at.
+unfoldable pub scan : ℕ → Ledger → Outcome Choice Ledger
+scan at l = scanFrom at (min ledgerScan (l .debts .count)) l (cursorOf l)
+
+-- A settled debt is dropped. An unsettled one is dropped only where debts may be forgotten; else nothing is, and how long it still takes is told.
+unfoldable pub dropChosen : ℕ → Bool → Ledger → Choice → Outcome Recorded Ledger
+dropChosen at forget l (Settled p) = outcome Done (removeAt l p)
+dropChosen at forget l (Soonest p) =
+    cond forget (outcome Done (removeAt l p)) (outcome (NoRoom (record { 0 = settlesAt l p - at })) l)
+
+unfoldable pub makeRoom : ℕ → Bool → Ledger → Outcome Recorded Ledger
+makeRoom at forget l = dropChosen at forget (scan at l .after) (scan at l .answer)
+
+-- A new debt joins once there is room for it.
+abbrev pub joined : Debt → Ledger → Recorded → Outcome Recorded Ledger
+joined d l Done = outcome Done (append l d)
+joined d l (NoRoom wait) = outcome (NoRoom wait) l
+
+-- The later of two moments for one hash.
+abbrev pub later : Debt → ℕ → Debt
+later d moment = record { hash = d .hash; settles = record { 0 = max (d .settles .0) moment } }
+
+-- A debt is recorded: a hash that is there keeps the later moment; a new one comes last, after room is made where the ledger is full.
+unfoldable pub recordedAt : Ledger → Debt → ℕ → Bool → Place → Outcome Recorded Ledger
+recordedAt l d at forget (At p) = outcome Done (withDebt l p (later (debtAt l p) (d .settles .0)))
+recordedAt l d at forget Nowhere =
+    cond (ltb (l .debts .count) (capOf l)) (joined d l Done) (joined d (makeRoom at forget l .after) (makeRoom at forget l .answer))
+
+unfoldable pub recorded : Ledger → Debt → ℕ → Bool → Outcome Recorded Ledger
+recorded l d at forget = recordedAt l d at forget (placeOf l (d .hash))
+
+-- What a refund of some tokens takes off a debt: the time that each token takes to come back, rounded down, held to 64 bits.
+abbrev pub credit : BucketConfig → ℕ → ℕ
+credit c cost = held (c .period .0 / c .amount * cost)
+
+-- The debt of a hash settles that much sooner, not before moment 0; whether there is one is told.
+abbrev pub paidAt : Ledger → ℕ → Place → Outcome Bool Ledger
+paidAt l off (At p) = outcome true (withDebt l p (record { hash = debtAt l p .hash; settles = record { 0 = settlesAt l p - off } }))
+paidAt l off Nowhere = outcome false l
+
+unfoldable pub paidDown : Ledger → ℕ → ℕ → BucketConfig → Outcome Bool Ledger
+paidDown l hash cost c = paidAt l (credit c cost) (placeOf l hash)

@@ -1,0 +1,80 @@
+// The words of a ledger, read and stored. No other function of the crate knows where a word lies.
+ghost use mathlib.Core.Path.{_≡_};
+ghost use Prim.Native.Nat.{_<_};
+ghost use lib.ListN.{length};
+ghost use Rattle.ledger.specs.Model as Model;
+ghost use Rattle.ledger.specs.Layout.{ledger, ledgerWords};
+use crate::Debt;
+use units::Nanos;
+
+// How many debts are held.
+pub(crate) fn count(ws: &[u64], cap: usize) -> usize
+    requires { ⌜ length (now ws) ≡ ledgerWords cap ⌝ }
+    ensures { λ r. ⌜ r ≡ ledger cap (now (ws .entry)) .debts .count ⌝ }
+{
+    ws[0] as usize
+}
+
+// The cursor, read as 0 where it stands at or past the count.
+pub(crate) fn cursor(ws: &[u64], cap: usize) -> usize
+    requires { ⌜ length (now ws) ≡ ledgerWords cap ⌝ }
+    ensures { λ r. ⌜ r ≡ Model.cursorOf (ledger cap (now (ws .entry))) ⌝ }
+{
+    let cursor = ws[1];
+    if cursor < ws[0] { cursor as usize } else { 0 }
+}
+
+// The hash of the debt at a place.
+pub(crate) fn hash_at(ws: &[u64], cap: usize, i: usize) -> u64
+    requires { ⌜ (length (now ws) ≡ ledgerWords cap) × (i < cap) ⌝ }
+    ensures { λ r. ⌜ r ≡ Model.debtAt (ledger cap (now (ws .entry))) i .hash ⌝ }
+{
+    ws[2 + 2 * i]
+}
+
+// The moment at which the debt at a place settles, in ns.
+pub(crate) fn settles_at(ws: &[u64], cap: usize, i: usize) -> u64
+    requires { ⌜ (length (now ws) ≡ ledgerWords cap) × (i < cap) ⌝ }
+    ensures { λ r. ⌜ r ≡ Model.settlesAt (ledger cap (now (ws .entry))) i ⌝ }
+{
+    ws[2 + 2 * i + 1]
+}
+
+// The debt at a place.
+pub(crate) fn load(ws: &[u64], cap: usize, i: usize) -> Debt
+    requires { ⌜ (length (now ws) ≡ ledgerWords cap) × (i < cap) ⌝ }
+    ensures { λ r. ⌜ r ≡ Model.debtAt (ledger cap (now (ws .entry))) i ⌝ }
+{
+    let first = 2 + 2 * i;
+    Debt {
+        hash: ws[first],
+        settles: Nanos(ws[first + 1]),
+    }
+}
+
+// From now on so many debts are held.
+pub(crate) fn set_count(ws: &mut [u64], cap: usize, count: usize)
+    requires { ⌜ length (now ws) ≡ ledgerWords cap ⌝ }
+    ensures { λ _. ⌜ ledger cap (now (ws .exit)) ≡ Model.withCount (ledger cap (now (ws .entry))) count ⌝ }
+{
+    ws[0] = count as u64;
+}
+
+// The next look begins at this place.
+pub(crate) fn set_cursor(ws: &mut [u64], cap: usize, cursor: usize)
+    requires { ⌜ length (now ws) ≡ ledgerWords cap ⌝ }
+    ensures { λ _. ⌜ ledger cap (now (ws .exit)) ≡ Model.withCursor (ledger cap (now (ws .entry))) cursor ⌝ }
+{
+    ws[1] = cursor as u64;
+}
+
+// A debt comes to stand at a place.
+pub(crate) fn put(ws: &mut [u64], cap: usize, i: usize, debt: Debt)
+    requires { ⌜ (length (now ws) ≡ ledgerWords cap) × (i < cap) ⌝ }
+    ensures { λ _. ⌜ ledger cap (now (ws .exit)) ≡ Model.withDebt (ledger cap (now (ws .entry))) i debt ⌝ }
+{
+    let first = 2 + 2 * i;
+    let settles = debt.settles;
+    ws[first] = debt.hash;
+    ws[first + 1] = settles.0;
+}

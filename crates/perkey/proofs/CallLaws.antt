@@ -1,0 +1,161 @@
+-- Every call alike: it is refused by its number and leaves the words as they are, or its rule decides. A rule never answers with a number of a refusal.
+use Prim.Native.Nat.{ℕ}
+use mathlib.Core.Path.{_≡_, refl, sym, ap, _∙_}
+use mathlib.Core.Bool.{Bool, true, false, not, true≢false}
+use mathlib.Core.List.{List}
+use lib.Dec.{ltb, eqb}
+use Rattle.arith.proofs.Cases.{by-test, by-eq}
+use Rattle.rows.specs.Outcome.{Outcome, outcome}
+use Rattle.bucket.specs.declared.BucketDecision.the-variants.{Allowed, Denied}
+use Rattle.bucket.specs.declared.Request.the-variants.{Acquire, Reserve}
+use Rattle.units.specs.declared.Nanos.{Nanos}
+use Rattle.settings.specs.declared.Settings.{Settings}
+use Rattle.store.specs.declared.Identity.{Identity}
+use Rattle.settings.specs.declared.Limit.{Limit}
+use Rattle.settings.specs.declared.Limit.the-variants.{Closed, Open}
+use Rattle.settings.specs.declared.rate.Rate.{Rate}
+use Rattle.settings.specs.Rate.{configOf}
+use Rattle.settings.specs.Settings.{capOf, shardCount}
+use Rattle.store.specs.declared.Answer.{Answer}
+use Rattle.store.specs.declared.Answer.the-variants.{Decided, NoSpace}
+use Rattle.store.specs.Model as Store
+use Rattle.perkey.specs.declared.Reply.{Reply}
+use Rattle.perkey.specs.declared.Reply.the-variants.{Impossible, Nothing, Count, Refused}
+use Rattle.perkey.specs.Memory.{shardAt, slotCount}
+use Rattle.perkey.specs.Refusals.{keyedRefusal, timedRefusal, reserveRefusal, lengthCallRefusal}
+use Rattle.perkey.specs.Rules as Rules
+use Rattle.perkey.proofs.MemoryLaws.{unless-refused-accepts, unless-refused-refuses}
+use Rattle.rows.specs.Held.{sum}
+use Rattle.perkey.specs.Calls.{Call, try, reserve, peek, available, len, refund, remove, rules, Answered, numbered, accepted}
+
+-- The number by which a call is refused, 0 if it is not.
+abbrev pub refusalOf : Call → List ℕ → ℕ
+refusalOf (try s at id cost) ws = timedRefusal s (id .hash) at ws
+refusalOf (reserve s at id cost longest) ws = reserveRefusal s (id .hash) at longest ws
+refusalOf (peek s at id cost) ws = timedRefusal s (id .hash) at ws
+refusalOf (available s at id) ws = timedRefusal s (id .hash) at ws
+refusalOf (len s) ws = lengthCallRefusal s ws
+refusalOf (refund s id cost) ws = keyedRefusal s (id .hash) ws
+refusalOf (remove s id) ws = keyedRefusal s (id .hash) ws
+
+-- What a call gives where it is not refused.
+abbrev pub ruleOf : Call → List ℕ → Outcome Reply (List ℕ)
+ruleOf (try s at id cost) ws = Rules.triedBy (s .limit) s at id cost ws
+ruleOf (reserve s at id cost longest) ws = Rules.reservedBy (s .limit) s at id cost longest ws
+ruleOf (peek s at id cost) ws = outcome (Rules.peekedBy (s .limit) s at id cost ws) ws
+ruleOf (available s at id) ws = outcome (Count (Rules.availableBy (s .limit) s at id ws)) ws
+ruleOf (len s) ws = outcome (Count (sum (shardCount s) (λ i. slotCount (capOf s) i ws))) ws
+ruleOf (refund s id cost) ws = Rules.refundedBy (s .limit) s id cost ws
+ruleOf (remove s id) ws = Rules.keyed s id ws (Store.removed id (shardAt s (id .hash) ws))
+
+rules-are : (c : Call) (ws : List ℕ) → rules c ws ≡ Rules.unlessRefused (refusalOf c ws) ws (ruleOf c ws)
+unfolding Rules.tryAcquire Rules.reserve Rules.peek Rules.available Rules.len Rules.refund Rules.remove
+rules-are (try s at id cost) ws = refl
+rules-are (reserve s at id cost longest) ws = refl
+rules-are (peek s at id cost) ws = refl
+rules-are (available s at id) ws = refl
+rules-are (len s) ws = refl
+rules-are (refund s id cost) ws = refl
+rules-are (remove s id) ws = refl
+
+pub not-refused-is-ruled : (c : Call) (ws : List ℕ) → refusalOf c ws ≡ 0 → rules c ws ≡ ruleOf c ws
+not-refused-is-ruled c ws none = rules-are c ws ∙ unless-refused-accepts (refusalOf c ws) ws (ruleOf c ws) none
+
+pub refused-is-told : (c : Call) (ws : List ℕ) → (refusalOf c ws ≡ 0 → ⊥) → rules c ws ≡ outcome (Refused (refusalOf c ws)) ws
+refused-is-told c ws some = rules-are c ws ∙ unless-refused-refuses (refusalOf c ws) ws (ruleOf c ws) some
+
+-- No rule answers with a number of a refusal.
+closed-not-numbered : (cost : ℕ) → numbered (Rules.closed cost) ≡ false
+unfolding Rules.closed
+closed-not-numbered cost = by-test (eqb cost 0) (λ t. rw t) (λ t. rw t)
+
+try-not-numbered : (a : Answer) → numbered (Rules.tryReply a) ≡ false
+try-not-numbered (Decided (Allowed wait)) = refl
+try-not-numbered (Decided (Denied wait)) = refl
+try-not-numbered (NoSpace wait) = refl
+
+reserve-not-numbered : (a : Answer) → numbered (Rules.reserveReply a) ≡ false
+reserve-not-numbered (Decided (Allowed wait)) = refl
+reserve-not-numbered (Decided (Denied wait)) = refl
+reserve-not-numbered (NoSpace wait) = refl
+
+known-not-numbered : (b : Bool) → numbered (Rules.knownReply b) ≡ false
+known-not-numbered true = refl
+known-not-numbered false = refl
+
+trivial-not-numbered : (rate : Rate) (cost : ℕ) (tooMuch : Reply) (ws : List ℕ) (asked : Outcome Reply (List ℕ))
+    → numbered tooMuch ≡ false → numbered (asked .answer) ≡ false → numbered (Rules.unlessTrivial rate cost tooMuch ws asked .answer) ≡ false
+unfolding Rules.unlessTrivial
+trivial-not-numbered rate cost tooMuch ws asked a b =
+    by-test (ltb (configOf rate .capacity) cost) (λ t. rw t a) (λ t. by-test (eqb cost 0) (λ u. rw (t, u)) (λ u. rw (t, u) b))
+
+tried-not-numbered : (c : Limit) (s : Settings) (at : Nanos) (id : Identity) (cost : ℕ) (ws : List ℕ) → numbered (Rules.triedBy c s at id cost ws .answer) ≡ false
+tried-not-numbered Closed s at id cost ws = closed-not-numbered cost
+tried-not-numbered (Open rate) s at id cost ws = trivial-not-numbered rate cost Impossible ws _ refl (try-not-numbered (Store.withOrInsert (Rules.policyOf s rate) id Acquire cost at (shardAt s (id .hash) ws) .answer))
+
+reserved-not-numbered : (c : Limit) (s : Settings) (at : Nanos) (id : Identity) (cost : ℕ) (longest : Nanos) (ws : List ℕ)
+    → numbered (Rules.reservedBy c s at id cost longest ws .answer) ≡ false
+reserved-not-numbered Closed s at id cost longest ws = refl
+reserved-not-numbered (Open rate) s at id cost longest ws = trivial-not-numbered rate cost Nothing ws _ refl (reserve-not-numbered (Store.withOrInsert (Rules.policyOf s rate) id (Reserve longest) cost at (shardAt s (id .hash) ws) .answer))
+
+wait-not-numbered : (wait : ℕ) → numbered (Rules.waitReply wait) ≡ false
+unfolding Rules.waitReply
+wait-not-numbered wait = by-test (eqb wait 0) (λ t. rw t) (λ t. rw t)
+
+peeked-not-numbered : (c : Limit) (s : Settings) (at : Nanos) (id : Identity) (cost : ℕ) (ws : List ℕ) → numbered (Rules.peekedBy c s at id cost ws) ≡ false
+unfolding Rules.peekedAt
+peeked-not-numbered Closed s at id cost ws = closed-not-numbered cost
+peeked-not-numbered (Open rate) s at id cost ws = by-test (ltb (configOf rate .capacity) cost) (λ t. rw t) (λ t. rw t (wait-not-numbered _))
+
+refunded-not-numbered : (c : Limit) (s : Settings) (id : Identity) (cost : ℕ) (ws : List ℕ) → numbered (Rules.refundedBy c s id cost ws .answer) ≡ false
+refunded-not-numbered Closed s id cost ws = refl
+refunded-not-numbered (Open rate) s id cost ws = known-not-numbered (Store.refunded (configOf rate) id cost (shardAt s (id .hash) ws) .answer)
+
+rule-not-numbered : (c : Call) (ws : List ℕ) → numbered (ruleOf c ws .answer) ≡ false
+rule-not-numbered (try s at id cost) ws = tried-not-numbered (s .limit) s at id cost ws
+rule-not-numbered (reserve s at id cost longest) ws = reserved-not-numbered (s .limit) s at id cost longest ws
+rule-not-numbered (peek s at id cost) ws = peeked-not-numbered (s .limit) s at id cost ws
+rule-not-numbered (available s at id) ws = refl
+rule-not-numbered (len s) ws = refl
+rule-not-numbered (refund s id cost) ws = refunded-not-numbered (s .limit) s id cost ws
+rule-not-numbered (remove s id) ws = known-not-numbered (Store.removed id (shardAt s (id .hash) ws) .answer)
+
+-- So a call is refused by number exactly where it has a number.
+pub numbered-is-refused : (c : Call) (ws : List ℕ) → numbered (rules c ws .answer) ≡ true → refusalOf c ws ≡ 0 → ⊥
+numbered-is-refused c ws told none =
+    true≢false (sym told ∙ ap (λ (o : Outcome Reply (List ℕ)). numbered (o .answer)) (not-refused-is-ruled c ws none) ∙ rule-not-numbered c ws)
+
+-- A call that is refused by number changes no word, whichever call it is.
+pub refused-changes-nothing : (c : Call) (ws : List ℕ) → numbered (rules c ws .answer) ≡ true → rules c ws .after ≡ ws
+refused-changes-nothing c ws told = ap (λ (o : Outcome Reply (List ℕ)). o .after) (refused-is-told c ws (numbered-is-refused c ws told))
+
+-- Looks change no word: a peek, a look at available, a look at the length.
+pub data Look : Call → Type 0 where
+  peeks : {s : Settings} {at : Nanos} {id : Identity} {cost : ℕ} → Look (peek s at id cost)
+  looks-available : {s : Settings} {at : Nanos} {id : Identity} → Look (available s at id)
+  looks-length : {s : Settings} → Look (len s)
+
+looked-unchanged : {c : Call} (ws : List ℕ) → Look c → ruleOf c ws .after ≡ ws
+looked-unchanged ws peeks = refl
+looked-unchanged ws looks-available = refl
+looked-unchanged ws looks-length = refl
+
+pub looks-change-nothing : {c : Call} (ws : List ℕ) → Look c → rules c ws .after ≡ ws
+looks-change-nothing {c} ws look =
+    by-eq (refusalOf c ws) 0
+    (λ none. ap (λ (o : Outcome Reply (List ℕ)). o .after) (not-refused-is-ruled c ws none) ∙ looked-unchanged ws look)
+    (λ some. ap (λ (o : Outcome Reply (List ℕ)). o .after) (refused-is-told c ws some))
+
+-- An accepted call has no number of a refusal, and is decided by its rule; one that is not accepted leaves the words as they are.
+pub accepted-not-refused : (a : Answered) → accepted a ≡ true → refusalOf (a .call) (a .words) ≡ 0
+unfolding accepted
+accepted-not-refused a yes′ =
+    by-eq (refusalOf (a .call) (a .words)) 0 (λ none. none)
+    (λ some. absurd (true≢false (sym yes′ ∙ ap (λ (o : Outcome Reply (List ℕ)). not (numbered (o .answer))) (refused-is-told (a .call) (a .words) some))))
+
+pub unaccepted-refused : (a : Answered) → accepted a ≡ false → rules (a .call) (a .words) ≡ outcome (Refused (refusalOf (a .call) (a .words))) (a .words)
+unfolding accepted
+unaccepted-refused a no′ =
+    by-eq (refusalOf (a .call) (a .words)) 0
+    (λ none. absurd (true≢false (ap not (sym (rule-not-numbered (a .call) (a .words))) ∙ ap (λ (o : Outcome Reply (List ℕ)). not (numbered (o .answer))) (sym (not-refused-is-ruled (a .call) (a .words) none)) ∙ no′)))
+    (λ some. refused-is-told (a .call) (a .words) some)

@@ -1,0 +1,32 @@
+-- Every row of the table of edges holds, by one computation from the rules.
+use mathlib.Core.Path.{_≡_, refl}
+use mathlib.Core.Bool.{true}
+use Rattle.arith.specs.Arith.{ceilDiv}
+use Rattle.rows.specs.Rows.{rows, unrow}
+use Rattle.rows.specs.Layout.{heldIn}
+use Rattle.rows.specs.Held.{lowestFrom, removed}
+use Rattle.bucket.specs.Bucket.{shortfallAt, availableAt, waitAt, asked}
+use Rattle.bucket.specs.Debt.{takenOut, lacking, restored}
+use Rattle.settings.specs.Rate as Rate
+use Rattle.settings.specs.Settings as Settings
+use Rattle.hash.specs.Fnv.{hashFrom}
+use Rattle.ledger.specs.Layout as Debts
+use Rattle.ledger.specs.Model as Ledger
+use Rattle.shard_map.specs.Layout as Layout
+use Rattle.shard_map.specs.Model as Shard
+use Rattle.shard_map.specs.Evict.{noted, walkFrom, walked, evicted}
+use Rattle.store.specs.Model as Store
+use Rattle.perkey.specs.Refusals as Refusals
+use Rattle.perkey.specs.Rules as Rules
+use Rattle.perkey.specs.Edges.{allHold, edges}
+
+pub every-edge-holds : allHold edges ≡ true
+unfolding ceilDiv rows unrow heldIn lowestFrom removed shortfallAt availableAt waitAt asked takenOut lacking restored
+    Rate.unlessWithin Rate.rateRefusal Settings.sizeRefusal Settings.firstOf Settings.doubledUpTo hashFrom
+    Debts.ledger Debts.wordsOf Ledger.placeOf Ledger.removeAt Ledger.append Ledger.owedBy Ledger.taken Ledger.lookAt Ledger.look Ledger.sweep
+    Ledger.scanFrom Ledger.scan Ledger.dropChosen Ledger.makeRoom Ledger.recordedAt Ledger.recorded Ledger.paidDown
+    Layout.shard Layout.wordsOf Shard.placeOf Shard.removeAt Shard.insert Shard.idleLookAt Shard.idleLook Shard.sweepIdle
+    noted walkFrom walked evicted Store.makeRoom Store.new Store.withOrInsert Store.viewed Store.refunded
+    Refusals.lengthRefusal Refusals.countRefusal Refusals.momentRefusal
+    Rules.unlessRefused Rules.setUp Rules.unlessTrivial Rules.tryAcquire Rules.available Rules.refund
+every-edge-holds = refl

@@ -1,0 +1,3 @@
+pub mod MemoryLaws
+pub mod CallLaws
+pub mod EdgeLaws

@@ -1,0 +1,147 @@
+-- The edges of the scope that are theorems, as a table: a row has its settings, its calls and what they come to. One test goes over all rows.
+use Prim.Native.Nat.{ℕ}
+use mathlib.Core.Bool.{Bool, true, false, _&&_}
+use mathlib.Core.List.{List, [], _∷_}
+use lib.Dec.{eqb}
+use lib.ListN.{replicate}
+use Rattle.rows.specs.Outcome.{Outcome}
+use Rattle.units.specs.declared.OptionMillis.{OptionMillis}
+use Rattle.units.specs.declared.OptionMillis.the-variants as millis
+use Rattle.settings.specs.declared.Limit.the-variants.{Open}
+use Rattle.settings.specs.declared.Settings.{Settings}
+use Rattle.settings.specs.declared.eviction.Eviction.{Eviction}
+use Rattle.settings.specs.declared.rate.OptionTokens.the-variants.{None, Some}
+use Rattle.settings.specs.declared.rate.Rate.{Rate}
+use Rattle.settings.specs.Eviction.{capacityOf, boundedBy}
+use Rattle.settings.specs.Settings.{shardCount, capOf, wordsOf, idleLimit}
+use Rattle.hash.specs.Fnv.{fnv1a}
+use Rattle.store.specs.declared.Identity.{Identity}
+use Rattle.perkey.specs.declared.Reply.{Reply}
+use Rattle.perkey.specs.Rules.{codeOf, numberOf, setUp}
+use Rattle.perkey.specs.Calls.{Call, try, available, refund, rules}
+
+-- Rates by amount, period and burst, with the initial tokens unset. Two tokens a second, up to four, is the rate that the scope calls R; the last has
+-- its burst unset.
+abbrev pub rateOf : ℕ → ℕ → ℕ → Rate
+rateOf amount period burst = record { amount = amount; period = record { 0 = period }; burst = Some burst; initial = None }
+
+abbrev pub twoPerSecond : Rate
+twoPerSecond = rateOf 2 1000000000 4
+
+abbrev threePerTen : Rate
+threePerTen = rateOf 3 10 4
+
+abbrev fastest : Rate
+fastest = record { amount = 65535; period = record { 0 = 1000000000 }; burst = None; initial = None }
+
+-- Settings with such a rate. Both builders of the bounds turn new keys away when full.
+abbrev pub limited : Rate → Eviction → ℕ → Settings
+limited rate bounds shards = record { limit = Open rate; eviction = bounds; shards = shards }
+
+-- One shard with room for one key.
+abbrev forOneKey : Rate → Settings
+forOneKey rate = limited rate (capacityOf 1) 1
+
+-- One shard with room for two keys, and an idle time in nanoseconds.
+abbrev idleAfter : ℕ → Settings
+idleAfter span = limited twoPerSecond (boundedBy 2 (record { 0 = span })) 1
+
+-- A key whose hash is its own number.
+abbrev pub keyOf : ℕ → Identity
+keyOf n = record { hash = n; key = n }
+
+-- Calls by moment, key and cost, for settings that the row gives.
+abbrev pub asks : ℕ → ℕ → ℕ → Settings → Call
+asks moment key cost s = try s (record { 0 = moment }) (keyOf key) cost
+
+abbrev looksAt : ℕ → ℕ → Settings → Call
+looksAt moment key s = available s (record { 0 = moment }) (keyOf key)
+
+abbrev returns : ℕ → ℕ → Settings → Call
+returns key cost s = refund s (keyOf key) cost
+
+-- The last answer and the last words of a run through the rules.
+abbrev ranFrom : Settings → List (Settings → Call) → Outcome Reply (List ℕ) → Outcome Reply (List ℕ)
+ranFrom s [] o = o
+ranFrom s (c ∷ cs) o = ranFrom s cs (rules (c s) (o .after))
+
+-- A run begins with set-up, on memory that is not yet zero.
+abbrev ran : Settings → List (Settings → Call) → Outcome Reply (List ℕ)
+ran s cs = ranFrom s cs (setUp s (replicate (wordsOf s) 1))
+
+-- A row of the table.
+pub data Edge : Type 0 where
+  -- Settings that come to so many shards, places in each and words.
+  sized : Settings → (shards cap words : ℕ) → Edge
+  -- Settings with an idle limit of so many milliseconds.
+  idles : Settings → (limit : ℕ) → Edge
+  -- A run whose last answer has this code and this number, and which leaves these words.
+  ends : Settings → List (Settings → Call) → (code number : ℕ) → (words : List ℕ) → Edge
+  -- Bytes with this hash.
+  hashes : List ℕ → (hash : ℕ) → Edge
+
+-- The test of a row.
+abbrev sameWords : List ℕ → List ℕ → Bool
+sameWords [] [] = true
+sameWords [] (y ∷ ys) = false
+sameWords (x ∷ xs) [] = false
+sameWords (x ∷ xs) (y ∷ ys) = eqb x y && sameWords xs ys
+
+abbrev limitIs : OptionMillis → ℕ → Bool
+limitIs millis.None limit = false
+limitIs (millis.Some ms) limit = eqb (ms .0) limit
+
+abbrev endsIn : Outcome Reply (List ℕ) → ℕ → ℕ → List ℕ → Bool
+endsIn o code number words = eqb (codeOf (o .answer)) code && eqb (numberOf (o .answer)) number && sameWords (o .after) words
+
+abbrev holds : Edge → Bool
+holds (sized s shards cap words) = eqb (shardCount s) shards && eqb (capOf s) cap && eqb (wordsOf s) words
+holds (idles s limit) = limitIs (idleLimit s) limit
+holds (ends s cs code number words) = endsIn (ran s cs) code number words
+holds (hashes bytes hash) = eqb (fnv1a bytes) hash
+
+-- Every row passes its test.
+abbrev pub allHold : List Edge → Bool
+allHold [] = true
+allHold (edge ∷ rest) = holds edge && allHold rest
+
+-- The table. The words of a shard are its slot count, hand and sweep, six a slot (hash, key, shortfall, stamp, mark, last-seen), its debt count and
+-- cursor, and two a debt (hash, settles-at).
+abbrev pub edges : List Edge
+edges =
+    -- No keys and no shards asked for: one shard with one place.
+    sized (limited twoPerSecond (capacityOf 0) 0) 1 1 13
+    -- 5 keys and 3 shards asked for: 4 shards with two places each.
+    ∷ sized (limited twoPerSecond (capacityOf 5) 3) 4 2 84
+    -- A cost above the burst is impossible, and cost 0 is granted; neither leaves a slot.
+    ∷ ends (forOneKey twoPerSecond) (asks 0 7 5 ∷ []) 2 0 (replicate 13 0)
+    ∷ ends (forOneKey twoPerSecond) (asks 0 7 0 ∷ []) 0 0 (replicate 13 0)
+    -- An idle time of 1 ns counts as the 2 s that the bucket needs; one of a nanosecond more than 2 s is rounded up to the next millisecond.
+    ∷ idles (idleAfter 1) 2001
+    ∷ idles (idleAfter 2000000001) 2002
+    -- Key 7, last seen at 0, is full again at 2 s. It is still there when key 8 comes at 2.000999999 s, and has gone when key 8 comes at 2.001 s.
+    ∷ ends (idleAfter 1) (asks 0 7 4 ∷ asks 2000999999 8 1 ∷ []) 0 0
+    (2 ∷ 0 ∷ 1 ∷ 7 ∷ 7 ∷ 4000000000 ∷ 0 ∷ 0 ∷ 0 ∷ 8 ∷ 8 ∷ 1000000000 ∷ 2000999999 ∷ 0 ∷ 2000 ∷ replicate 6 0)
+    ∷ ends (idleAfter 1) (asks 0 7 4 ∷ asks 2001000000 8 1 ∷ []) 0 0
+    (1 ∷ 0 ∷ 0 ∷ 8 ∷ 8 ∷ 1000000000 ∷ 2001000000 ∷ 0 ∷ 2001 ∷ replicate 12 0)
+    -- Key 7 spends all, and key 8 turns it into a debt. For key 9 there is no space: it gets no slot, and waits until key 8 is full.
+    ∷ ends (forOneKey twoPerSecond) (asks 0 7 4 ∷ asks 0 8 1 ∷ asks 0 9 1 ∷ []) 1 500000000
+    (1 ∷ 1 ∷ 0 ∷ 8 ∷ 8 ∷ 1000000000 ∷ 0 ∷ 0 ∷ 0 ∷ 1 ∷ 1 ∷ 7 ∷ 2000000000 ∷ [])
+    -- Key 7 in the place of key 9 is let in, since its own debt makes way for that of key 8. Its bucket tells the wait.
+    ∷ ends (forOneKey twoPerSecond) (asks 0 7 4 ∷ asks 0 8 1 ∷ asks 0 7 1 ∷ []) 1 500000000
+    (1 ∷ 1 ∷ 0 ∷ 7 ∷ 7 ∷ 4000000000 ∷ 0 ∷ 0 ∷ 0 ∷ 1 ∷ 0 ∷ 8 ∷ 500000000 ∷ [])
+    -- Who is turned away for space waits at least a millisecond, though after 15,260 ns key 8 is full and the debt of key 7 settled.
+    ∷ ends (forOneKey fastest) (asks 0 7 1 ∷ asks 0 8 1 ∷ asks 0 9 1 ∷ []) 1 1000000
+    (1 ∷ 1 ∷ 0 ∷ 8 ∷ 8 ∷ 1000000000 ∷ 0 ∷ 0 ∷ 0 ∷ 1 ∷ 1 ∷ 7 ∷ 15260 ∷ [])
+    -- Key 7 spends one of four tokens of 10 parts each, and is evicted. Its debt of 4 ns is 12 parts, which counts as two tokens: two are left, as long as
+    -- it is a debt and once it is back.
+    ∷ ends (forOneKey threePerTen) (asks 0 7 1 ∷ asks 0 8 1 ∷ looksAt 0 7 ∷ []) 0 2
+    (1 ∷ 1 ∷ 0 ∷ 8 ∷ 8 ∷ 10 ∷ 0 ∷ 0 ∷ 0 ∷ 1 ∷ 0 ∷ 7 ∷ 4 ∷ [])
+    ∷ ends (forOneKey threePerTen) (asks 0 7 1 ∷ asks 0 8 1 ∷ asks 0 7 3 ∷ looksAt 0 7 ∷ []) 0 2
+    (1 ∷ 1 ∷ 0 ∷ 7 ∷ 7 ∷ 20 ∷ 0 ∷ 0 ∷ 0 ∷ 1 ∷ 0 ∷ 8 ∷ 4 ∷ [])
+    -- A token refunded to key 7, whose debt settles at 2 s, takes half a second off the debt.
+    ∷ ends (forOneKey twoPerSecond) (asks 0 7 4 ∷ asks 0 8 1 ∷ returns 7 1 ∷ []) 0 0
+    (1 ∷ 1 ∷ 0 ∷ 8 ∷ 8 ∷ 1000000000 ∷ 0 ∷ 0 ∷ 0 ∷ 1 ∷ 0 ∷ 7 ∷ 1500000000 ∷ [])
+    -- No bytes hash to the number at which the hash starts.
+    ∷ hashes [] 14695981039346656037
+    ∷ []

@@ -1,0 +1,5 @@
+pub mod Memory
+pub mod Refusals
+pub mod Rules
+pub mod Calls
+pub mod Edges

@@ -1,0 +1,171 @@
+-- The rules: what every operation answers and leaves, for settings and words of any kind.
+use Prim.Native.Nat.{ℕ, _+_}
+use mathlib.Core.Bool.{Bool, true, false, cond}
+use mathlib.Core.List.{List}
+use lib.Dec.{ltb, eqb}
+use lib.ListN.{replicate}
+use Rattle.rows.specs.Held.{sum}
+use Rattle.rows.specs.Outcome.{Outcome, outcome}
+use Rattle.units.specs.declared.Nanos.{Nanos}
+use Rattle.bucket.specs.declared.BucketCore.{BucketCore}
+use Rattle.bucket.specs.declared.BucketDecision.the-variants.{Allowed, Denied}
+use Rattle.bucket.specs.declared.Request.{Request}
+use Rattle.bucket.specs.declared.Request.the-variants.{Acquire, Reserve}
+use Rattle.bucket.specs.Bucket.{waitAt, availableAt}
+use Rattle.settings.specs.declared.Limit.{Limit}
+use Rattle.settings.specs.declared.Limit.the-variants.{Closed, Open}
+use Rattle.settings.specs.declared.Settings.{Settings}
+use Rattle.settings.specs.declared.eviction.WhenFull.{WhenFull}
+use Rattle.settings.specs.declared.eviction.WhenFull.the-variants.{RefuseNew, ForgetDebt}
+use Rattle.settings.specs.declared.rate.Rate.{Rate}
+use Rattle.settings.specs.Rate.{configOf}
+use Rattle.settings.specs.Settings.{shardCount, capOf, wordsOf, idleLimit}
+use Rattle.store.specs.declared.Identity.{Identity}
+use Rattle.store.specs.declared.Policy.{Policy}
+use Rattle.store.specs.declared.Answer.{Answer}
+use Rattle.store.specs.declared.Answer.the-variants.{Decided, NoSpace}
+use Rattle.shard_map.specs.Model.{Shard}
+use Rattle.store.specs.Model as Store
+use Rattle.perkey.specs.declared.Reply.{Reply}
+use Rattle.perkey.specs.declared.Reply.the-variants.{Granted, Retry, Impossible, Nothing, Done, Count, Refused}
+use Rattle.perkey.specs.Memory.{shardAt, inShard, slotCount}
+use Rattle.perkey.specs.Refusals.{setUpRefusal, keyedRefusal, timedRefusal, reserveRefusal, lengthCallRefusal}
+
+-- The code of a reply: 0 granted, accepted, known or counted, 1 to be tried again, 2 impossible, 3 none or unknown, 10 + n refused as n.
+abbrev pub codeOf : Reply → ℕ
+codeOf (Granted wait) = 0
+codeOf (Retry wait) = 1
+codeOf Impossible = 2
+codeOf Nothing = 3
+codeOf Done = 0
+codeOf (Count n) = 0
+codeOf (Refused n) = 10 + n
+
+-- The number beside the code: the wait of a grant or a retry, the number counted, else 0.
+abbrev pub numberOf : Reply → ℕ
+numberOf (Granted wait) = wait .0
+numberOf (Retry wait) = wait .0
+numberOf Impossible = 0
+numberOf Nothing = 0
+numberOf Done = 0
+numberOf (Count n) = n
+numberOf (Refused n) = 0
+
+-- A call that is refused by number changes no word.
+unfoldable pub unlessRefused : ℕ → List ℕ → Outcome Reply (List ℕ) → Outcome Reply (List ℕ)
+unlessRefused refusal ws accepted = cond (eqb refusal 0) accepted (outcome (Refused refusal) ws)
+
+-- What of the settings decides inside a shard.
+abbrev pub forgets : WhenFull → Bool
+forgets RefuseNew = false
+forgets ForgetDebt = true
+
+abbrev pub policyOf : Settings → Rate → Policy
+policyOf s rate = record { config = configOf rate; «idle_limit» = idleLimit s; «forget_debt» = forgets (s .eviction .«when_full») }
+
+-- Set-up and clear zero all words.
+unfoldable pub setUp : Settings → List ℕ → Outcome Reply (List ℕ)
+setUp s ws = unlessRefused (setUpRefusal s ws) ws (outcome Done (replicate (wordsOf s) 0))
+
+-- The answer to a try: granted, or to be tried again, by its bucket or for want of space.
+abbrev pub tryReply : Answer → Reply
+tryReply (Decided (Allowed wait)) = Granted wait
+tryReply (Decided (Denied wait)) = Retry wait
+tryReply (NoSpace wait) = Retry wait
+
+-- The answer to a reservation: granted with its wait, else none.
+abbrev pub reserveReply : Answer → Reply
+reserveReply (Decided (Allowed wait)) = Granted wait
+reserveReply (Decided (Denied wait)) = Nothing
+reserveReply (NoSpace wait) = Nothing
+
+-- No wait at all.
+abbrev pub noWait : Nanos
+noWait = record { 0 = 0 }
+
+-- What a request does in its shard, and its answer.
+abbrev pub requested : Settings → Rate → Identity → Request → ℕ → Nanos → List ℕ → (Answer → Reply) → Outcome Reply (List ℕ)
+requested s rate id request cost at ws reply =
+    let o = inShard s (id .hash) ws (Store.withOrInsert (policyOf s rate) id request cost at (shardAt s (id .hash) ws)) in
+    outcome (reply (o .answer)) (o .after)
+
+-- More than a full bucket is impossible, and nothing is granted at once; neither touches a word.
+unfoldable pub unlessTrivial : Rate → ℕ → Reply → List ℕ → Outcome Reply (List ℕ) → Outcome Reply (List ℕ)
+unlessTrivial rate cost tooMuch ws asked =
+    cond (ltb (configOf rate .capacity) cost) (outcome tooMuch ws)
+    (cond (eqb cost 0) (outcome (Granted noWait) ws) asked)
+
+-- A closed limiter grants nothing but nothing.
+unfoldable pub closed : ℕ → Reply
+closed cost = cond (eqb cost 0) (Granted noWait) Impossible
+
+-- A try.
+abbrev pub triedBy : Limit → Settings → Nanos → Identity → ℕ → List ℕ → Outcome Reply (List ℕ)
+triedBy Closed s at id cost ws = outcome (closed cost) ws
+triedBy (Open rate) s at id cost ws = unlessTrivial rate cost Impossible ws (requested s rate id Acquire cost at ws tryReply)
+
+unfoldable pub tryAcquire : Settings → Nanos → Identity → ℕ → List ℕ → Outcome Reply (List ℕ)
+tryAcquire s at id cost ws = unlessRefused (timedRefusal s (id .hash) at ws) ws (triedBy (s .limit) s at id cost ws)
+
+-- A reservation.
+abbrev pub reservedBy : Limit → Settings → Nanos → Identity → ℕ → Nanos → List ℕ → Outcome Reply (List ℕ)
+reservedBy Closed s at id cost longest ws = outcome Nothing ws
+reservedBy (Open rate) s at id cost longest ws = unlessTrivial rate cost Nothing ws (requested s rate id (Reserve longest) cost at ws reserveReply)
+
+unfoldable pub reserve : Settings → Nanos → Identity → ℕ → Nanos → List ℕ → Outcome Reply (List ℕ)
+reserve s at id cost longest ws = unlessRefused (reserveRefusal s (id .hash) at longest ws) ws (reservedBy (s .limit) s at id cost longest ws)
+
+-- The bucket that a key has, or would have if it came in now.
+abbrev pub bucketOf : Settings → Rate → Identity → Nanos → List ℕ → BucketCore
+bucketOf s rate id at ws = Store.viewed (configOf rate) id at (shardAt s (id .hash) ws)
+
+-- A peek: the wait of that bucket. It changes no word.
+unfoldable pub waitReply : ℕ → Reply
+waitReply wait = cond (eqb wait 0) (Granted noWait) (Retry (record { 0 = wait }))
+
+unfoldable pub peekedAt : Settings → Rate → Nanos → Identity → ℕ → List ℕ → Reply
+peekedAt s rate at id cost ws =
+    cond (ltb (configOf rate .capacity) cost) Impossible (waitReply (waitAt (configOf rate) (bucketOf s rate id at ws) cost at))
+
+abbrev pub peekedBy : Limit → Settings → Nanos → Identity → ℕ → List ℕ → Reply
+peekedBy Closed s at id cost ws = closed cost
+peekedBy (Open rate) s at id cost ws = peekedAt s rate at id cost ws
+
+unfoldable pub peek : Settings → Nanos → Identity → ℕ → List ℕ → Outcome Reply (List ℕ)
+peek s at id cost ws = unlessRefused (timedRefusal s (id .hash) at ws) ws (outcome (peekedBy (s .limit) s at id cost ws) ws)
+
+-- Available: the tokens of the same bucket.
+abbrev pub availableBy : Limit → Settings → Nanos → Identity → List ℕ → ℕ
+availableBy Closed s at id ws = 0
+availableBy (Open rate) s at id ws = availableAt (configOf rate) (bucketOf s rate id at ws) at
+
+unfoldable pub available : Settings → Nanos → Identity → List ℕ → Outcome Reply (List ℕ)
+available s at id ws = unlessRefused (timedRefusal s (id .hash) at ws) ws (outcome (Count (availableBy (s .limit) s at id ws)) ws)
+
+-- Whether a key was known.
+abbrev pub knownReply : Bool → Reply
+knownReply true = Done
+knownReply false = Nothing
+
+abbrev pub keyed : Settings → Identity → List ℕ → Outcome Bool Shard → Outcome Reply (List ℕ)
+keyed s id ws o = outcome (knownReply (o .answer)) (inShard s (id .hash) ws o .after)
+
+-- A refund; a closed limiter knows no key.
+abbrev pub refundedBy : Limit → Settings → Identity → ℕ → List ℕ → Outcome Reply (List ℕ)
+refundedBy Closed s id cost ws = outcome Nothing ws
+refundedBy (Open rate) s id cost ws = keyed s id ws (Store.refunded (configOf rate) id cost (shardAt s (id .hash) ws))
+
+unfoldable pub refund : Settings → Identity → ℕ → List ℕ → Outcome Reply (List ℕ)
+refund s id cost ws = unlessRefused (keyedRefusal s (id .hash) ws) ws (refundedBy (s .limit) s id cost ws)
+
+-- A removal.
+unfoldable pub remove : Settings → Identity → List ℕ → Outcome Reply (List ℕ)
+remove s id ws = unlessRefused (keyedRefusal s (id .hash) ws) ws (keyed s id ws (Store.removed id (shardAt s (id .hash) ws)))
+
+-- Clear does what set-up does.
+abbrev pub clear : Settings → List ℕ → Outcome Reply (List ℕ)
+clear s ws = setUp s ws
+
+-- Length: the slots of all shards.
+unfoldable pub len : Settings → List ℕ → Outcome Reply (List ℕ)
+len s ws = unlessRefused (lengthCallRefusal s ws) ws (outcome (Count (sum (shardCount s) (λ i. slotCount (capOf s) i ws))) ws)

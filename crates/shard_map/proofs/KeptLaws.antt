@@ -1,0 +1,337 @@
+-- Two sums over all that a shard has of one hash. `count` is how many items there are, where a slot of another key with the same hash counts as two: while
+-- it is at most 1, the key's slot or its debt is all that there is. `held` is what they lack at a moment. A step that grants the key nothing never raises the
+-- first and, while that is at most 1, never lowers the second: this is how no debt is lost. Layers above add up these laws and look at no place.
+use Prim.Native.Nat.{ℕ, _+_, _*_, _-_, _≤_, _<_, min}
+use mathlib.Core.Path.{_≡_, refl, _∙_, ap}
+use mathlib.Core.Bool.{Bool, false, cond}
+use native.Mathlib.Nat.{mul-le-mul-left, mul-le-mul-right, sub-self}
+use native.Mathlib.Omega.{arith}
+use lib.Dec.{eqb}
+use borrow.Author.Tests.{eq-eqb, ne-eqb}
+use Rattle.arith.proofs.Cases.{by-eq}
+use Rattle.arith.proofs.DivisionLaws.{ceilDiv-reaches}
+use Rattle.units.specs.declared.Nanos.{Nanos}
+use Rattle.units.specs.declared.Millis.{Millis}
+use Rattle.bucket.specs.declared.BucketConfig.{BucketConfig}
+use Rattle.bucket.specs.declared.BucketCore.{BucketCore}
+use Rattle.bucket.specs.Bucket.{Accepted, fullParts, mostShortfall, shortfallAt, fresh, recoveryAt}
+use Rattle.bucket.specs.Debt.{restored}
+use Rattle.bucket.proofs.BucketLaws.{shortfall-most, shortfall-falls-slowly, wait-for-lack}
+use Rattle.bucket.proofs.DebtLaws.{restored-fresh}
+use Rattle.rows.specs.declared.Place.the-variants.{Nowhere}
+use Rattle.rows.specs.Outcome.{Outcome}
+use Rattle.rows.specs.Held.{total}
+use Rattle.rows.proofs.SumLaws.{sum-same, sum-le, term-le-sum, sum-of-zeros}
+use Rattle.rows.proofs.HeldLaws.{total-stored, total-appended, total-removed}
+use Rattle.slot.specs.declared.Slot.{Slot}
+use Rattle.slot.specs.Slot.{withMark}
+use Rattle.ledger.specs.declared.Debt.{Debt}
+use Rattle.ledger.specs.declared.Recorded.the-variants.{Done, NoRoom}
+use Rattle.ledger.specs.Model as Ledger
+use Rattle.ledger.proofs.KeptLaws.{weigh, owed, one, SettledIsNothing, weigh-own, weigh-other, sweep-never-adds, sweep-keeps-unsettled, owed-by-another-value, none-owed-nothing-owed, record-adds-at-most, record-keeps-unsettled, refusal-keeps}
+use Rattle.shard_map.specs.declared.evict.Room.{Room}
+use Rattle.shard_map.specs.Model.{Shard, Sound, noSlot, capOf, slotAt, withSlot, withLedger, placeOf, removeAt, insert, sweepIdle}
+use Rattle.shard_map.specs.Evict.{walked, debtOf, evictAt, evicted}
+use Rattle.shard_map.proofs.StepLaws.{Holding, nowhere-holds-none, removal-ledger, reclaimable-is-full, sweep-idle-keeps}
+use Rattle.shard_map.proofs.WalkLaws.{Remarked, remarked-slots, remarked-sound, walk-kept, debtRecorded, debt-recorded-sound, Evicting, full-goes, owing-goes, none-goes, evict-cases}
+
+-- What a slot counts for the identity (h, k), and what it lacks at a moment if its hash is h.
+unfoldable pub weight : ℕ → ℕ → Slot → ℕ
+weight h k slot = cond (eqb (slot .hash) h) (cond (eqb (slot .key) k) 1 2) 0
+
+unfoldable pub hold : BucketConfig → ℕ → Nanos → Slot → ℕ
+hold c h at slot = cond (eqb (slot .hash) h) (shortfallAt c (slot .bucket) at) 0
+
+-- What a debt lacks at a moment, by when it settles: what comes back until then, but no more than a bucket can lack.
+abbrev pub unpaid : BucketConfig → Nanos → ℕ → ℕ
+unpaid c at settles = min ((settles - at .0) * c .amount) (mostShortfall c)
+
+-- The values of all slots that a shard holds, and with them the values of its debts of hash h.
+abbrev pub overSlots : (Slot → ℕ) → Shard → ℕ
+overSlots value s = total noSlot value (s .slots)
+
+abbrev pub overAll : ℕ → (Slot → ℕ) → (ℕ → ℕ) → Shard → ℕ
+overAll h slotValue debtValue s = overSlots slotValue s + owed h debtValue (s .ledger)
+
+abbrev pub count : ℕ → ℕ → Shard → ℕ
+count h k s = overAll h (weight h k) one s
+
+abbrev pub held : BucketConfig → ℕ → Nanos → Shard → ℕ
+held c h at s = overAll h (hold c h at) (unpaid c at) s
+
+-- The cases of a slot's weight and of what it holds.
+module _ (h k : ℕ) (slot : Slot) where
+  pub weight-own : slot .hash ≡ h → slot .key ≡ k → weight h k slot ≡ 1
+  unfolding weight
+  weight-own own key = rw (eq-eqb _ _ own, eq-eqb _ _ key)
+
+  pub weight-shared : slot .hash ≡ h → (slot .key ≡ k → ⊥) → weight h k slot ≡ 2
+  unfolding weight
+  weight-shared own foreign = rw (eq-eqb _ _ own, ne-eqb _ _ foreign)
+
+  pub weight-other : (slot .hash ≡ h → ⊥) → weight h k slot ≡ 0
+  unfolding weight
+  weight-other other = rw (ne-eqb _ _ other)
+
+  -- A slot of the hash counts.
+  pub weight-of-hash : slot .hash ≡ h → 1 ≤ weight h k slot
+  weight-of-hash own = by-eq (slot .key) k (λ key. omega (arith, weight-own own key)) (λ foreign. omega (arith, weight-shared own foreign))
+
+module _ (c : BucketConfig) (h : ℕ) (at : Nanos) (slot : Slot) where
+  pub hold-own : slot .hash ≡ h → hold c h at slot ≡ shortfallAt c (slot .bucket) at
+  unfolding hold
+  hold-own own = rw (eq-eqb _ _ own)
+
+  pub hold-other : (slot .hash ≡ h → ⊥) → hold c h at slot ≡ 0
+  unfolding hold
+  hold-other other = rw (ne-eqb _ _ other)
+
+  pub hold-full : shortfallAt c (slot .bucket) at ≡ 0 → hold c h at slot ≡ 0
+  hold-full full = by-eq (slot .hash) h (λ own. hold-own own ∙ full) (λ other. hold-other other)
+
+-- The steps: a slot that leaves takes its value away, one that comes adds its own, one that is changed changes its own.
+module _ (h : ℕ) (slotValue : Slot → ℕ) (debtValue : ℕ → ℕ) where
+  all-removed : (s : Shard) (p : ℕ) → Sound s → p < s .slots .count
+      → overAll h slotValue debtValue (removeAt s p) + slotValue (slotAt s p) ≡ overAll h slotValue debtValue s
+  unfolding removeAt
+  all-removed s p u below = omega (arith, total-removed noSlot slotValue (s .slots) p (record { held = u .held }) below)
+
+  all-inserted : (s : Shard) (slot : Slot) → s .slots .count < capOf s → overAll h slotValue debtValue (insert s slot) ≡ overAll h slotValue debtValue s + slotValue slot
+  unfolding insert
+  all-inserted s slot room = omega (arith, total-appended noSlot slotValue (s .slots) slot room)
+
+  all-stored : (s : Shard) (p : ℕ) (slot : Slot) → Sound s → p < s .slots .count
+      → overAll h slotValue debtValue (withSlot s p slot) + slotValue (slotAt s p) ≡ overAll h slotValue debtValue s + slotValue slot
+  all-stored s p slot u below = omega (arith, total-stored noSlot slotValue (s .slots) p slot (record { held = u .held }) below)
+
+  -- What does not look at marks is the same after a walk.
+  all-remarked : ((slot : Slot) (mark : ℕ) → slotValue (withMark slot mark) ≡ slotValue slot) → (s t : Shard) → Remarked s t
+      → overAll h slotValue debtValue t ≡ overAll h slotValue debtValue s
+  all-remarked blind s t r =
+      let same : (i : ℕ) → i < s .slots .count → slotValue (slotAt t i) ≡ slotValue (slotAt s i) = λ i below. remarked-slots s t r slotValue blind i in
+      rw (r .count, r .ledger) (omega (arith, sum-same (s .slots .count) (λ i. slotValue (slotAt t i)) (λ i. slotValue (slotAt s i)) same))
+
+-- A shard without a slot and without a debt has nothing of any hash.
+pub empty-has-nothing : (h : ℕ) (slotValue : Slot → ℕ) (debtValue : ℕ → ℕ) (s : Shard) → s .slots .count ≡ 0 → s .ledger .debts .count ≡ 0
+    → overAll h slotValue debtValue s ≡ 0
+unfolding owed
+empty-has-nothing h slotValue debtValue s no-slot no-debt =
+    omega (
+      arith,
+      sum-of-zeros (s .slots .count) (λ i. slotValue (slotAt s i)) (λ i below. absurd (omega arith)),
+      sum-of-zeros (s .ledger .debts .count) (λ i. weigh h debtValue (Ledger.debtAt (s .ledger) i)) (λ i below. absurd (omega arith)),
+    )
+
+-- What a slot that leaves, comes or is changed does to the two sums.
+pub count-removed : (h k : ℕ) (s : Shard) (p : ℕ) → Sound s → p < s .slots .count → count h k (removeAt s p) + weight h k (slotAt s p) ≡ count h k s
+count-removed h k = all-removed h (weight h k) one
+
+pub held-removed : (c : BucketConfig) (h : ℕ) (at : Nanos) (s : Shard) (p : ℕ) → Sound s → p < s .slots .count
+    → held c h at (removeAt s p) + hold c h at (slotAt s p) ≡ held c h at s
+held-removed c h at = all-removed h (hold c h at) (unpaid c at)
+
+pub count-inserted : (h k : ℕ) (s : Shard) (slot : Slot) → s .slots .count < capOf s → count h k (insert s slot) ≡ count h k s + weight h k slot
+count-inserted h k = all-inserted h (weight h k) one
+
+pub held-inserted : (c : BucketConfig) (h : ℕ) (at : Nanos) (s : Shard) (slot : Slot) → s .slots .count < capOf s → held c h at (insert s slot) ≡ held c h at s + hold c h at slot
+held-inserted c h at = all-inserted h (hold c h at) (unpaid c at)
+
+pub count-stored : (h k : ℕ) (s : Shard) (p : ℕ) (slot : Slot) → Sound s → p < s .slots .count
+    → count h k (withSlot s p slot) + weight h k (slotAt s p) ≡ count h k s + weight h k slot
+count-stored h k = all-stored h (weight h k) one
+
+pub held-stored : (c : BucketConfig) (h : ℕ) (at : Nanos) (s : Shard) (p : ℕ) (slot : Slot) → Sound s → p < s .slots .count
+    → held c h at (withSlot s p slot) + hold c h at (slotAt s p) ≡ held c h at s + hold c h at slot
+held-stored c h at = all-stored h (hold c h at) (unpaid c at)
+
+-- A step at a moment that grants the key nothing.
+pub record Keeps (c : BucketConfig) (h k : ℕ) (at : Nanos) (s t : Shard) : Type 0 where
+  pub fewer : count h k t ≤ count h k s
+  pub more : count h k s ≤ 1 → held c h at s ≤ held c h at t
+
+-- A debt lasts at least as long as the shortfall that it stands for.
+pub debt-lasts : (c : BucketConfig) (b : BucketCore) (at : Nanos) → Accepted c → shortfallAt c b at ≤ (at .0 + recoveryAt c b at - at .0) * c .amount
+debt-lasts c b at a =
+    let lack : ℕ = shortfallAt c b at + fullParts c - fullParts c in
+    omega (
+      arith,
+      ceilDiv-reaches lack (c .amount) (a .amount-least),
+      ap (λ (n : ℕ). n * c .amount) (wait-for-lack c b (c .capacity) at (λ e. omega (arith, a .capacity-least))),
+      mul-le-mul-right {m = recoveryAt c b at} {n = at .0 + recoveryAt c b at - at .0} (c .amount) (omega arith),
+    )
+
+-- A fresh bucket put back into a debt lacks at least what the debt lacks.
+pub restored-lacks-the-debt : (c : BucketConfig) (at settles : Nanos) → Accepted c → unpaid c at (settles .0) ≤ shortfallAt c (restored c (fresh c at) at settles) at
+unfolding shortfallAt
+restored-lacks-the-debt c at settles a =
+    rw (restored-fresh at settles a, sub-self) (omega (arith, ceilDiv-reaches ((settles .0 - at .0) * c .amount) (c .period .0) (a .period-least)))
+
+-- A debt that is settled lacks nothing. From one moment to a later one no debt falls by more than the amount for each nanosecond between them.
+pub unpaid-settled : (c : BucketConfig) (at : Nanos) → SettledIsNothing (at .0) (unpaid c at)
+unpaid-settled c at settles past = omega (arith, mul-le-mul-right {m = settles - at .0} {n = 0} (c .amount) (omega arith))
+
+unpaid-falls-slowly : (c : BucketConfig) (n m : Nanos) → n .0 ≤ m .0 → (settles : ℕ) → unpaid c n settles ≤ unpaid c m settles + (m .0 - n .0) * c .amount
+unpaid-falls-slowly c n m le settles = omega (arith, mul-le-mul-right {m = settles - n .0} {n = settles - m .0 + (m .0 - n .0)} (c .amount) (omega arith))
+
+amount-between : (c : BucketConfig) (n m : Nanos) → n .0 ≤ m .0 → m .0 * c .amount ≡ n .0 * c .amount + (m .0 - n .0) * c .amount
+amount-between c n m le =
+    let later : m .0 * c .amount ≡ (n .0 + (m .0 - n .0)) * c .amount = ap (λ (t : ℕ). t * c .amount) (omega arith) in
+    omega arith
+
+module _ (c : BucketConfig) (h k : ℕ) where
+  pub keeps-refl : (at : Nanos) (s : Shard) → Keeps c h k at s s
+  keeps-refl at s = record { fewer = omega arith; more = λ single. omega arith }
+
+  pub keeps-trans : (at : Nanos) (s t u : Shard) → Keeps c h k at s t → Keeps c h k at t u → Keeps c h k at s u
+  keeps-trans at s t u p q = record { fewer = omega (arith, p .fewer, q .fewer); more = λ single. omega (arith, p .more single, q .more (omega (arith, p .fewer))) }
+
+  -- A full slot that leaves takes nothing with it.
+  pub full-slot-loses-nothing : (at : Nanos) (s : Shard) (p : ℕ) → Sound s → p < s .slots .count → shortfallAt c (slotAt s p .bucket) at ≡ 0 → Keeps c h k at s (removeAt s p)
+  full-slot-loses-nothing at s p u below full = record {
+    fewer = omega (arith, count-removed h k s p u below);
+    more = λ single. omega (arith, held-removed c h at s p u below, hold-full c h at (slotAt s p) full);
+  }
+
+  -- The sweeps.
+  pub sweep-idle-keeps-held : (at : Nanos) (limit : Millis) (n : ℕ) (s : Shard) → Sound s → Keeps c h k at s (sweepIdle c at limit n s)
+  sweep-idle-keeps-held at limit n s u =
+      sweep-idle-keeps c at limit (Keeps c h k at s)
+      (record {
+        moves = λ t p kept. record { fewer = kept .fewer; more = kept .more };
+        drops = λ t p v below goes kept. keeps-trans at s t (removeAt t p) kept (full-slot-loses-nothing at t p v below (reclaimable-is-full c at limit (slotAt t p) goes));
+      })
+      n s u (keeps-refl at s)
+
+  pub ledger-sweep-keeps-held : (at : Nanos) (n : ℕ) (s : Shard) → Sound s → Keeps c h k at s (withLedger s (Ledger.sweep (at .0) n (s .ledger)))
+  ledger-sweep-keeps-held at n s u = record {
+    fewer = omega (arith, sweep-never-adds h one (at .0) n (s .ledger) (u .ledger));
+    more = λ single. omega (arith, sweep-keeps-unsettled h (unpaid c at) (at .0) n (s .ledger) (u .ledger) (unpaid-settled c at));
+  }
+
+  -- The walk changes neither sum.
+  walk-keeps-held : (at : Nanos) (s t : Shard) → Remarked s t → Keeps c h k at s t
+  unfolding weight hold
+  walk-keeps-held at s t r = record {
+    fewer = omega (arith, all-remarked h (weight h k) one (λ slot mark. refl) s t r);
+    more = λ single. omega (arith, all-remarked h (hold c h at) (unpaid c at) (λ slot mark. refl) s t r);
+  }
+
+  -- The debt that a slot leaves counts no more than the slot, and holds what it held.
+  debt-counts-no-more : (at : Nanos) (slot : Slot) → weigh h one (debtOf c at slot) ≤ weight h k slot
+  debt-counts-no-more at slot =
+      let d : Debt = debtOf c at slot in
+      by-eq (slot .hash) h (λ own. omega (arith, weigh-own h one d own, weight-of-hash h k slot own)) (λ other. omega (arith, weigh-other h one d other))
+
+  debt-holds-as-much : (at : Nanos) (slot : Slot) → Accepted c → hold c h at slot ≤ weigh h (unpaid c at) (debtOf c at slot)
+  debt-holds-as-much at slot a =
+      let d : Debt = debtOf c at slot in
+      by-eq (slot .hash) h
+      (λ own. omega (arith, weigh-own h (unpaid c at) d own, hold-own c h at slot own, debt-lasts c (slot .bucket) at a, shortfall-most c (slot .bucket) at))
+      (λ other. omega (arith, hold-other c h at slot other))
+
+  -- A slot goes once its debt is recorded, where debts may not be forgotten; and a recording that is refused changes nothing.
+  owing-slot-loses-nothing : (at : Nanos) (forget : Bool) (s : Shard) (p : ℕ) → Accepted c → Sound s → forget ≡ false → p < s .slots .count
+      → debtRecorded c at forget s p .answer ≡ Done → Keeps c h k at s (evictAt (withLedger s (debtRecorded c at forget s p .after)) p)
+  owing-slot-loses-nothing at forget s p a u never below done =
+      let slot : Slot = slotAt s p in
+      let d : Debt = debtOf c at slot in
+      let l : Ledger.Ledger = debtRecorded c at forget s p .after in
+      let v : Sound (withLedger s l) = debt-recorded-sound c at forget s p u in
+      record {
+        fewer = omega (arith, all-removed h (weight h k) one (withLedger s l) p v below, record-adds-at-most h one (s .ledger) (u .ledger) d (at .0) forget done, debt-counts-no-more at slot);
+        more = λ single.
+            let alone : owed h one (s .ledger) + weigh h one d ≤ 1 = omega (arith, count-removed h k s p u below, ap (owed h one) (removal-ledger s p), debt-counts-no-more at slot) in
+            omega (
+              arith,
+              all-removed h (hold c h at) (unpaid c at) (withLedger s l) p v below,
+              record-keeps-unsettled h (unpaid c at) (s .ledger) (u .ledger) d (at .0) forget never (unpaid-settled c at) alone done,
+              debt-holds-as-much at slot a,
+            );
+      }
+
+  refusal-loses-nothing : (at : Nanos) (forget : Bool) (s : Shard) (p : ℕ) (wait : Nanos) → Sound s → debtRecorded c at forget s p .answer ≡ NoRoom wait
+      → Keeps c h k at s (withLedger s (debtRecorded c at forget s p .after))
+  refusal-loses-nothing at forget s p wait u told =
+      let d : Debt = debtOf c at (slotAt s p) in
+      record {
+        fewer = omega (arith, refusal-keeps h one (s .ledger) (u .ledger) d (at .0) forget wait told);
+        more = λ single. omega (arith, refusal-keeps h (unpaid c at) (s .ledger) (u .ledger) d (at .0) forget wait told);
+      }
+
+  -- An eviction loses nothing, whether it makes room or is refused, where debts may not be forgotten.
+  pub evict-keeps-held : (at : Nanos) (forget : Bool) (s : Shard) → Accepted c → Sound s → 0 < s .slots .count → forget ≡ false → Keeps c h k at s (evicted c at forget s .after)
+  evict-keeps-held at forget s a u some never =
+      keeps-trans at s (walked c at s .after) (evicted c at forget s .after) (walk-keeps-held at s (walked c at s .after) walk)
+      (go (remarked-sound s (walked c at s .after) walk u) (evict-cases c at forget s u some))
+    where
+      walk : Remarked s (walked c at s .after)
+      walk = walk-kept c at s u some .same
+
+      go : {t : Shard} {o : Outcome Room Shard} → Sound t → Evicting c at forget t o → Keeps c h k at t (o .after)
+      go {t} v (full-goes p f) =
+          let kept : Keeps c h k at t (removeAt t p) = full-slot-loses-nothing at t p v (f .below) (f .full) in
+          record { fewer = kept .fewer; more = kept .more }
+      go {t} v (owing-goes p below done) = owing-slot-loses-nothing at forget t p a v never below done
+      go {t} v (none-goes p wait ledger-wait below told least) = refusal-loses-nothing at forget t p ledger-wait v told
+
+  -- Time passes: what a single item lacks falls by no more than the amount for each nanosecond.
+  hold-falls-slowly : (n m : Nanos) → n .0 ≤ m .0 → (slot : Slot) → hold c h n slot ≤ hold c h m slot + (m .0 - n .0) * c .amount * weight h k slot
+  hold-falls-slowly n m le slot =
+      let fall : ℕ = (m .0 - n .0) * c .amount in
+      by-eq (slot .hash) h
+      (λ own.
+      omega (arith, hold-own c h n slot own, hold-own c h m slot own, amount-between c n m le, shortfall-falls-slowly c (slot .bucket) n m le, mul-le-mul-left fall (weight-of-hash h k slot own)))
+      (λ other. omega (arith, hold-other c h n slot other))
+
+  pub later-keeps-line : (n m : Nanos) (s : Shard) → n .0 ≤ m .0 → count h k s ≤ 1 → n .0 * c .amount + held c h n s ≤ m .0 * c .amount + held c h m s
+  later-keeps-line n m s le single =
+      let fall : ℕ = (m .0 - n .0) * c .amount in
+      omega (
+        arith,
+        sum-le (s .slots .count) (λ i. hold c h n (slotAt s i)) (λ i. hold c h m (slotAt s i)) (λ i. weight h k (slotAt s i)) fall (λ i below. hold-falls-slowly n m le (slotAt s i)),
+        owed-by-another-value h (unpaid c n) (unpaid c m) fall (unpaid-falls-slowly c n m le) (s .ledger),
+        mul-le-mul-left fall single,
+        amount-between c n m le,
+      )
+
+  -- Slots that count nothing: none has the hash, and they hold nothing.
+  pub weightless-has-no-slot : (s : Shard) → overSlots (weight h k) s ≡ 0 → (i : ℕ) → i < s .slots .count → slotAt s i .hash ≡ h → ⊥
+  weightless-has-no-slot s none i below own = omega (arith, weight-of-hash h k (slotAt s i) own, term-le-sum (s .slots .count) (λ j. weight h k (slotAt s j)) i below)
+
+  pub weightless-holds-nothing : (at : Nanos) (s : Shard) → overSlots (weight h k) s ≡ 0 → overSlots (hold c h at) s ≡ 0
+  weightless-holds-nothing at s none =
+      sum-of-zeros (s .slots .count) (λ i. hold c h at (slotAt s i)) (λ i below. hold-other c h at (slotAt s i) (weightless-has-no-slot s none i below))
+
+  -- Where no slot of the key is found and the count is at most 1, no slot has its hash: what is held is the debt's.
+  pub nowhere-weighs-nothing : (s : Shard) → placeOf s h k ≡ Nowhere → count h k s ≤ 1 → overSlots (weight h k) s ≡ 0
+  nowhere-weighs-nothing s e single =
+      sum-of-zeros (s .slots .count) (λ i. weight h k (slotAt s i))
+      (λ i below. weight-other h k (slotAt s i) (λ own.
+      omega (arith, weight-shared h k (slotAt s i) own (nowhere-holds-none s h k e i below own), term-le-sum (s .slots .count) (λ j. weight h k (slotAt s j)) i below)))
+
+  pub nowhere-holds-the-debt : (at : Nanos) (s : Shard) → placeOf s h k ≡ Nowhere → count h k s ≤ 1 → held c h at s ≡ owed h (unpaid c at) (s .ledger)
+  nowhere-holds-the-debt at s e single = omega (arith, weightless-holds-nothing at s (nowhere-weighs-nothing s e single))
+
+  -- A slot of the key with a count of at most 1 is all that there is of the hash: the ledger owes it nothing, and what is held is the slot's shortfall.
+  pub record OneSlot (at : Nanos) (s : Shard) (p : ℕ) : Type 0 where
+    pub single : count h k s ≡ 1
+    pub no-debt : owed h one (s .ledger) ≡ 0
+    pub all : held c h at s ≡ shortfallAt c (slotAt s p .bucket) at
+
+  pub one-slot-is-all : (at : Nanos) (s : Shard) (p : ℕ) → Sound s → Holding s h k p → count h k s ≤ 1 → OneSlot at s p
+  one-slot-is-all at s p u f single =
+      let own : weight h k (slotAt s p) ≡ 1 = weight-own h k (slotAt s p) (f .hash) (f .key) in
+      let rest : count h k (removeAt s p) + weight h k (slotAt s p) ≡ count h k s = count-removed h k s p u (f .below) in
+      let no-other : overSlots (weight h k) (removeAt s p) ≡ 0 = omega arith in
+      let no-debt : owed h one (removeAt s p .ledger) ≡ 0 = omega arith in
+      record {
+        single = omega arith;
+        no-debt = rw (← removal-ledger s p) no-debt;
+        all = omega (
+          arith,
+          held-removed c h at s p u (f .below),
+          hold-own c h at (slotAt s p) (f .hash),
+          weightless-holds-nothing at (removeAt s p) no-other,
+          none-owed-nothing-owed h (unpaid c at) (removeAt s p .ledger) no-debt,
+        );
+      }

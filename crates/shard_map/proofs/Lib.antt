@@ -1,0 +1,8 @@
+pub mod LayoutLaws
+pub mod StepLaws
+pub mod WalkLaws
+pub mod ModelLaws
+pub mod KeptLaws
+pub mod DistinctLaws
+pub mod ReadBack
+pub mod Worked

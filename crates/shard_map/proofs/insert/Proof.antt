@@ -1,0 +1,32 @@
+-- `insert` is the model's insertion: its calls make the same stores, in the same order.
+use Rattle.shard_map.proofs.ModelLaws.{insert-by-stores}
+use borrow.Author.Needs.{needs}
+use Rattle.shard_map.proofs.insert.Statement.{statement}
+use Rattle.shard_map.proofs.insert.Tie as tie
+
+count-requires : tie.Need-count-requires
+count-requires c κs = search needs
+
+put-requires : tie.Need-put-requires
+put-requires c κs = (c .before .before .before .before .pre .0 .size, search needs)
+
+add-set-count : tie.Need-add-set-count
+add-set-count c = search needs
+
+set-count-requires : tie.Need-set-count-requires
+set-count-requires c κs = search needs
+
+same-length : tie.Need-same-length
+same-length c = search needs
+
+returns : tie.Need-returns
+returns c =
+    let set-count′ = c .before .before .set-count in
+    let put′ = c .before .before .before .before .before .before .put in
+    let count′ = c .before .before .before .before .before .before .before .before .count in
+    rw (set-count′ .ensures, put′ .ensures, count′ .ensures) (insert-by-stores _ _)
+
+pub insert-spec : {M : Type 1} → statement M
+insert-spec =
+    tie.close
+    (tie.spec count-requires put-requires add-set-count set-count-requires same-length returns)

@@ -1,0 +1,77 @@
+-- `sweep_idle` makes its looks one by one. The loop holds that the looks left, made from here, give what all of them give from the start.
+use Rattle.shard_map.specs.Model.{sweepIdle}
+use Rattle.shard_map.specs.Layout.{shard, Lent}
+use Rattle.bucket.specs.declared.BucketConfig.{BucketConfig}
+use Rattle.units.specs.declared.Millis.{Millis}
+use Rattle.units.specs.declared.Nanos.{Nanos}
+use Prim.Native.Nat.{ℕ}
+use mathlib.Core.List.{List}
+use mathlib.Core.Path.{_≡_, refl, sym, _∙_}
+use Rattle.shard_map.proofs.ModelLaws.{idle-look-sound, sweep-idle-turn, sweep-idle-end, sweep-idle-none, lent-after}
+use borrow.Author.Needs.{needs}
+use Rattle.shard_map.proofs.sweep_idle.Statement.{statement}
+use Rattle.shard_map.proofs.sweep_idle.Tie as tie
+
+-- The sweep from here, with the looks that are left, is the sweep from the start.
+record Sweeping (ws₀ : List ℕ) (cap : ℕ) (c : BucketConfig) (at : Nanos) (limit : Millis) (budget : ℕ) (ws : List ℕ) (left : ℕ) : Type 0 where
+  lent : Lent cap ws
+  same : sweepIdle c at limit left (shard cap ws) ≡ sweepIdle c at limit budget (shard cap ws₀)
+
+abbrev Inv-loop : tie.InvT-loop
+Inv-loop ws₀ cap config at ttl-ms budget left₀ ws left = Sweeping ws₀ cap config at ttl-ms budget ws left
+
+abbrev μ-loop : tie.MeasureT-loop
+μ-loop ws₀ cap config at ttl-ms budget left₀ ws left = left
+
+loop-holds : tie.Need-loop-holds Inv-loop μ-loop
+loop-holds c = record { lent = c .before .pre .0; same = refl }
+
+count-requires : tie.Need-count-requires Inv-loop μ-loop
+count-requires c κs = search needs
+
+idle-look-requires : tie.Need-idle-look-requires Inv-loop μ-loop
+idle-look-requires c κs = (c .before .before .before .before .before .loop .inv .lent, c .before .before .before .before .before .before .before .pre .1, search needs)
+
+sub-left : tie.Need-sub-left Inv-loop μ-loop
+sub-left c = search needs
+
+loop-less : tie.Need-loop-less Inv-loop μ-loop
+loop-less c = search needs
+
+loop-again : tie.Need-loop-again Inv-loop μ-loop
+loop-again c =
+    let loop′ = c .before .before .before .before .before .before .before .before .loop in
+    let idle-look′ = c .before .before .idle-look in
+    record {
+      lent = lent-after (loop′ .inv .lent) (idle-look′ .kept .0) (idle-look′ .ensures) (idle-look-sound _ _ _ _ (loop′ .inv .lent .sound));
+      same = rw (idle-look′ .ensures) (sym (sweep-idle-turn _ _ _ _ _ (c .before .before .before .before .before .before .before .loop-test .taken)) ∙ loop′ .inv .same);
+    }
+
+same-length : tie.Need-same-length Inv-loop μ-loop
+same-length c = search needs
+
+returns : tie.Need-returns Inv-loop μ-loop
+returns c = sym (sweep-idle-end _ _ _ _ _ (c .loop-test .left)) ∙ c .before .loop .inv .same
+
+same-length-2 : tie.Need-same-length-2 Inv-loop μ-loop
+same-length-2 c = search needs
+
+returns-2 : tie.Need-returns-2 Inv-loop μ-loop
+returns-2 c = sym (sweep-idle-none _ _ _ _ _ (sym (c .before .count .ensures) ∙ c .if1 .taken)) ∙ c .before .before .before .before .loop .inv .same
+
+pub sweep-idle-spec : {M : Type 1} → statement M
+sweep-idle-spec =
+    tie.close
+    (tie.spec
+    Inv-loop
+    μ-loop
+    loop-holds
+    count-requires
+    idle-look-requires
+    sub-left
+    loop-less
+    loop-again
+    same-length
+    returns
+    same-length-2
+    returns-2)

@@ -1,0 +1,99 @@
+-- One shard: the slots of its keys, the hand and the sweep that go round them, and the ledger. No word offset stands here.
+use Prim.Native.Nat.{ℕ, zero, suc, _+_, _≤_, _<_}
+use mathlib.Core.Bool.{Bool, false, cond}
+use lib.ListN.{length}
+use lib.Dec.{eqb}
+use Rattle.units.specs.declared.Nanos.{Nanos}
+use Rattle.units.specs.declared.Millis.{Millis}
+use Rattle.units.specs.Units.{millisOf}
+use Rattle.bucket.specs.declared.BucketConfig.{BucketConfig}
+use Rattle.rows.specs.declared.Place.{Place}
+use Rattle.rows.specs.Held.{Held, wrapped, itemAt, position, removed, appended, stored}
+use Rattle.rows.specs.Outcome.{Outcome, outcome}
+use Rattle.slot.specs.declared.Slot.{Slot}
+use Rattle.slot.specs.Slot.{isKey, touched, expired, lossless}
+use Rattle.ledger.specs.Model as Ledger
+
+pub record Shard : Type 0 where
+  pub slots : Held Slot
+  pub hand : ℕ
+  pub sweep : ℕ
+  pub ledger : Ledger.Ledger
+
+-- What stands in a place that holds no slot.
+abbrev pub noSlot : Slot
+noSlot = record { hash = 0; key = 0; bucket = record { shortfall = 0; stamp = record { 0 = 0 } }; mark = 0; seen = record { 0 = 0 } }
+
+-- How many slots there is room for.
+abbrev pub capOf : Shard → ℕ
+capOf s = length (s .slots .places)
+
+-- There is room for a slot and for a debt, and no more of either are held than there is room for.
+pub record Sound (s : Shard) : Type 0 where
+  pub room : 0 < capOf s
+  pub held : s .slots .count ≤ capOf s
+  pub ledger : Ledger.Sound (s .ledger)
+
+abbrev pub slotAt : Shard → ℕ → Slot
+slotAt s i = itemAt noSlot (s .slots) i
+
+abbrev pub withSlots : Shard → Held Slot → Shard
+withSlots s slots = record { slots = slots; hand = s .hand; sweep = s .sweep; ledger = s .ledger }
+
+abbrev pub withCount : Shard → ℕ → Shard
+withCount s n = withSlots s (record { count = n; places = s .slots .places })
+
+abbrev pub withSlot : Shard → ℕ → Slot → Shard
+withSlot s i slot = withSlots s (stored (s .slots) i slot)
+
+abbrev pub withHand : Shard → ℕ → Shard
+withHand s hand = record { slots = s .slots; hand = hand; sweep = s .sweep; ledger = s .ledger }
+
+abbrev pub withSweep : Shard → ℕ → Shard
+withSweep s sweep = record { slots = s .slots; hand = s .hand; sweep = sweep; ledger = s .ledger }
+
+abbrev pub withLedger : Shard → Ledger.Ledger → Shard
+withLedger s l = record { slots = s .slots; hand = s .hand; sweep = s .sweep; ledger = l }
+
+-- What an operation of the ledger gives, in its shard.
+abbrev pub inLedger : {A : Type 0} → Shard → Outcome A Ledger.Ledger → Outcome A Shard
+inLedger s o = outcome (o .answer) (withLedger s (o .after))
+
+-- The hand and the sweep as they are read: the first place where they stand at or past the count.
+abbrev pub handOf : Shard → ℕ
+handOf s = wrapped (s .hand) (s .slots .count)
+
+abbrev pub sweepOf : Shard → ℕ
+sweepOf s = wrapped (s .sweep) (s .slots .count)
+
+-- Lookup by hash and key: the lowest place that has both.
+unfoldable pub placeOf : Shard → ℕ → ℕ → Place
+placeOf s hash key = position noSlot (s .slots) (isKey hash key)
+
+-- A slot leaves, and the last one moves into the gap. A new slot comes last.
+unfoldable pub removeAt : Shard → ℕ → Shard
+removeAt s p = withSlots s (removed noSlot (s .slots) p)
+
+unfoldable pub insert : Shard → Slot → Shard
+insert s slot = withSlots s (appended (s .slots) slot)
+
+-- A touch alters the slot at a place, and nothing else.
+abbrev pub touchAt : Shard → ℕ → Millis → Bool → Shard
+touchAt s p stamp track = withSlot s p (touched (slotAt s p) stamp track)
+
+-- A slot may go for being idle where it has been idle for the limit and its bucket is full.
+abbrev pub reclaimable : BucketConfig → Nanos → Millis → Slot → Bool
+reclaimable c at limit slot = cond (expired slot (millisOf at) limit) (lossless c slot at) false
+
+-- A look of the idle sweep, at place p: such a slot goes, and what moves into its place is looked at next; else the sweep advances.
+unfoldable pub idleLookAt : BucketConfig → Nanos → Millis → Shard → ℕ → Shard
+idleLookAt c at limit s p = cond (reclaimable c at limit (slotAt s p)) (removeAt (withSweep s p) p) (withSweep s (p + 1))
+
+-- The next look; there is none where no slot is left.
+unfoldable pub idleLook : BucketConfig → Nanos → Millis → Shard → Shard
+idleLook c at limit s = cond (eqb (s .slots .count) 0) s (idleLookAt c at limit s (sweepOf s))
+
+-- The idle sweep: so many looks, going round again if need be.
+unfoldable pub sweepIdle : BucketConfig → Nanos → Millis → ℕ → Shard → Shard
+sweepIdle c at limit zero s = s
+sweepIdle c at limit (suc left) s = sweepIdle c at limit left (idleLook c at limit s)

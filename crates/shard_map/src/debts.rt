@@ -1,0 +1,62 @@
+// The ledger of a shard: the ledger's functions, lent the part of the shard's words that is its own.
+ghost use mathlib.Core.Path.{_≡_};
+ghost use Rattle.rows.specs.Outcome.{outcome};
+ghost use Rattle.bucket.specs.Bucket.{Accepted};
+ghost use Rattle.ledger.specs.Model as Ledger;
+ghost use Rattle.shard_map.specs.Model as Model;
+ghost use Rattle.shard_map.specs.Layout.{shard, Lent};
+use bucket::BucketConfig;
+use ledger::Debt;
+use ledger::Recorded;
+use units::Nanos;
+use units::OptionNanos;
+
+// When the debt of the hash settles, if there is one.
+pub fn owed_by(ws: &[u64], cap: usize, hash: u64) -> OptionNanos
+    requires { ⌜ Lent cap (now ws) ⌝ }
+    ensures { λ r. ⌜ r ≡ Ledger.owedBy (shard cap (now (ws .entry)) .ledger) hash ⌝ }
+{
+    let start = 3 + 6 * cap;
+    let end = start + (2 + 2 * cap);
+    ledger::owed_by(&ws[start..end], cap, hash)
+}
+
+// Takes out the debt of the hash, if there is one.
+pub fn take(ws: &mut [u64], cap: usize, hash: u64) -> OptionNanos
+    requires { ⌜ Lent cap (now ws) ⌝ }
+    ensures { λ r. ⌜ outcome r (shard cap (now (ws .exit))) ≡ Model.inLedger (shard cap (now (ws .entry))) (Ledger.taken (shard cap (now (ws .entry)) .ledger) hash) ⌝ }
+{
+    let start = 3 + 6 * cap;
+    let end = start + (2 + 2 * cap);
+    ledger::take(&mut ws[start..end], cap, hash)
+}
+
+// Records a debt.
+pub fn record(ws: &mut [u64], cap: usize, debt: Debt, at: Nanos, forget: bool) -> Recorded
+    requires { ⌜ Lent cap (now ws) ⌝ }
+    ensures { λ r. ⌜ outcome r (shard cap (now (ws .exit))) ≡ Model.inLedger (shard cap (now (ws .entry))) (Ledger.recorded (shard cap (now (ws .entry)) .ledger) debt (at .0) forget) ⌝ }
+{
+    let start = 3 + 6 * cap;
+    let end = start + (2 + 2 * cap);
+    ledger::record(&mut ws[start..end], cap, debt, at, forget)
+}
+
+// Drops settled debts among the next `budget` looks.
+pub fn sweep(ws: &mut [u64], cap: usize, at: Nanos, budget: usize)
+    requires { ⌜ Lent cap (now ws) ⌝ }
+    ensures { λ _. ⌜ shard cap (now (ws .exit)) ≡ Model.withLedger (shard cap (now (ws .entry))) (Ledger.sweep (at .0) budget (shard cap (now (ws .entry)) .ledger)) ⌝ }
+{
+    let start = 3 + 6 * cap;
+    let end = start + (2 + 2 * cap);
+    ledger::sweep(&mut ws[start..end], cap, at, budget);
+}
+
+// Pays tokens off the debt of the hash, if there is one.
+pub fn pay_down(ws: &mut [u64], cap: usize, hash: u64, cost: u32, config: BucketConfig) -> bool
+    requires { ⌜ Lent cap (now ws) × Accepted config ⌝ }
+    ensures { λ r. ⌜ outcome r (shard cap (now (ws .exit))) ≡ Model.inLedger (shard cap (now (ws .entry))) (Ledger.paidDown (shard cap (now (ws .entry)) .ledger) hash cost config) ⌝ }
+{
+    let start = 3 + 6 * cap;
+    let end = start + (2 + 2 * cap);
+    ledger::pay_down(&mut ws[start..end], cap, hash, cost, config)
+}

@@ -1,0 +1,165 @@
+// One shard over lent words: the slots of its keys in the order in which they came, the hand and the sweep that go round them, and the ledger.
+ghost use mathlib.Core.Path.{_≡_};
+ghost use Prim.Native.Nat.{_<_};
+ghost use Rattle.bucket.specs.Bucket.{Accepted};
+ghost use Rattle.slot.specs.Slot.{isKey};
+ghost use Rattle.shard_map.specs.Model as Model;
+ghost use Rattle.shard_map.specs.Layout.{shard, Lent};
+use bucket::BucketConfig;
+use rows::Place;
+use slot::Slot;
+use units::Millis;
+use units::Nanos;
+
+pub mod debts;
+pub mod evict;
+mod words;
+
+// The lowest place that has the hash and the key.
+pub fn position(ws: &[u64], cap: usize, hash: u64, key: u64) -> Place
+    requires { ⌜ Lent cap (now ws) ⌝ }
+    ensures { λ r. ⌜ r ≡ Model.placeOf (shard cap (now (ws .entry))) hash key ⌝ }
+{
+    let count = words::count(ws, cap);
+    let mut i: usize = 0;
+    while i < count {
+        if is_key_at(ws, cap, i, hash, key) {
+            return Place::At(i);
+        }
+        i += 1;
+    }
+    Place::Nowhere
+}
+
+// Whether the slot at a place has the hash and the key.
+fn is_key_at(ws: &[u64], cap: usize, pos: usize, hash: u64, key: u64) -> bool
+    requires { ⌜ Lent cap (now ws) × (pos < cap) ⌝ }
+    ensures { λ r. ⌜ r ≡ isKey hash key (Model.slotAt (shard cap (now (ws .entry))) pos) ⌝ }
+{
+    if words::hash_at(ws, cap, pos) == hash {
+        let held = words::key_at(ws, cap, pos);
+        return held == key;
+    }
+    false
+}
+
+// The slot at a place.
+pub fn get(ws: &[u64], cap: usize, pos: usize) -> Slot
+    requires { ⌜ Lent cap (now ws) × (pos < cap) ⌝ }
+    ensures { λ r. ⌜ r ≡ Model.slotAt (shard cap (now (ws .entry))) pos ⌝ }
+{
+    words::load(ws, cap, pos)
+}
+
+// Puts a slot at a place.
+pub fn set(ws: &mut [u64], cap: usize, pos: usize, slot: Slot)
+    requires { ⌜ Lent cap (now ws) × (pos < cap) ⌝ }
+    ensures { λ _. ⌜ shard cap (now (ws .exit)) ≡ Model.withSlot (shard cap (now (ws .entry))) pos slot ⌝ }
+{
+    words::put(ws, cap, pos, slot);
+}
+
+// How many slots are held.
+pub fn len(ws: &[u64], cap: usize) -> usize
+    requires { ⌜ Lent cap (now ws) ⌝ }
+    ensures { λ r. ⌜ r ≡ shard cap (now (ws .entry)) .slots .count ⌝ }
+{
+    words::count(ws, cap)
+}
+
+// Appends a slot. The caller has made room.
+pub fn insert(ws: &mut [u64], cap: usize, slot: Slot)
+    requires { ⌜ Lent cap (now ws) × (shard cap (now ws) .slots .count < cap) ⌝ }
+    ensures { λ _. ⌜ shard cap (now (ws .exit)) ≡ Model.insert (shard cap (now (ws .entry))) slot ⌝ }
+{
+    let count = words::count(ws, cap);
+    words::put(ws, cap, count, slot);
+    words::set_count(ws, cap, count + 1);
+}
+
+// Removes the slot at a place: the last slot moves into the gap.
+pub fn remove_at(ws: &mut [u64], cap: usize, pos: usize)
+    requires { ⌜ Lent cap (now ws) × (pos < shard cap (now ws) .slots .count) ⌝ }
+    ensures { λ _. ⌜ shard cap (now (ws .exit)) ≡ Model.removeAt (shard cap (now (ws .entry))) pos ⌝ }
+{
+    let last = words::count(ws, cap) - 1;
+    let moved = words::load(ws, cap, last);
+    let free = free_slot();
+    words::put(ws, cap, pos, moved);
+    words::put(ws, cap, last, free);
+    words::set_count(ws, cap, last);
+}
+
+// What stands in a place that holds no slot.
+fn free_slot() -> Slot
+    ensures { λ r. ⌜ r ≡ Model.noSlot ⌝ }
+{
+    let bucket = bucket::BucketCore {
+        shortfall: 0,
+        stamp: Nanos(0),
+    };
+    Slot {
+        hash: 0,
+        key: 0,
+        bucket,
+        mark: 0,
+        seen: Millis(0),
+    }
+}
+
+// Marks the slot at a place as used: it is read into a record, lent to `touch`, and written back.
+pub fn touch_at(ws: &mut [u64], cap: usize, pos: usize, now_ms: Millis, track_idle: bool)
+    requires { ⌜ Lent cap (now ws) × (pos < cap) ⌝ }
+    ensures { λ _. ⌜ shard cap (now (ws .exit)) ≡ Model.touchAt (shard cap (now (ws .entry))) pos «now_ms» «track_idle» ⌝ }
+{
+    let slot = words::load(ws, cap, pos);
+    let touched = slot::touch_value(slot, now_ms, track_idle);
+    words::put(ws, cap, pos, touched);
+}
+
+// Whether the slot has been idle for the limit and its bucket is full.
+fn is_reclaimable(slot: Slot, config: BucketConfig, at: Nanos, ttl_ms: Millis) -> bool
+    requires { ⌜ Accepted config ⌝ }
+    ensures { λ r. ⌜ r ≡ Model.reclaimable config at «ttl_ms» slot ⌝ }
+{
+    if slot.is_expired(at.millis(), ttl_ms) {
+        return slot.is_lossless(config, at);
+    }
+    false
+}
+
+// One look of the idle sweep, at a shard that holds a slot.
+fn idle_look(ws: &mut [u64], cap: usize, config: BucketConfig, at: Nanos, ttl_ms: Millis)
+    requires { ⌜ Lent cap (now ws) × Accepted config × (0 < shard cap (now ws) .slots .count) ⌝ }
+    ensures { λ _. ⌜ shard cap (now (ws .exit)) ≡ Model.idleLook config at «ttl_ms» (shard cap (now (ws .entry))) ⌝ }
+{
+    let sweep = words::sweep(ws, cap);
+    if is_reclaimable(words::load(ws, cap, sweep), config, at, ttl_ms) {
+        words::set_sweep(ws, cap, sweep);
+        remove_at(ws, cap, sweep);
+    } else {
+        words::set_sweep(ws, cap, sweep + 1);
+    }
+}
+
+// Reclaims idle slots with full buckets among the next `budget` looks.
+pub fn sweep_idle(
+    ws: &mut [u64],
+    cap: usize,
+    config: BucketConfig,
+    at: Nanos,
+    ttl_ms: Millis,
+    budget: usize,
+)
+    requires { ⌜ Lent cap (now ws) × Accepted config ⌝ }
+    ensures { λ _. ⌜ shard cap (now (ws .exit)) ≡ Model.sweepIdle config at «ttl_ms» budget (shard cap (now (ws .entry))) ⌝ }
+{
+    let mut left = budget;
+    while 0 < left {
+        if words::count(ws, cap) == 0 {
+            break;
+        }
+        idle_look(ws, cap, config, at, ttl_ms);
+        left -= 1;
+    }
+}

@@ -1,0 +1,100 @@
+// One key's slot: what the store keeps of a key while it has a place. Rust's `Slot` and `Entry` in one record.
+ghost use mathlib.Core.Path.{_≡_};
+ghost use Rattle.bucket.specs.Bucket.{Accepted};
+ghost use Rattle.slot.specs.Slot as Model;
+use bucket::BucketConfig;
+use bucket::BucketCore;
+use units::Millis;
+use units::Nanos;
+
+// The identity (hash and key), the bucket, the mark that an access sets and the CLOCK hand clears, and the idle stamp of the last access.
+pub struct Slot {
+    pub hash: u64,
+    pub key: u64,
+    pub bucket: BucketCore,
+    pub mark: u64,
+    pub seen: Millis,
+}
+
+impl Slot {
+    // A new key starts unmarked, so that a key seen once is the first to go.
+    pub fn new(hash: u64, key: u64, bucket: BucketCore, now_ms: Millis) -> Slot
+        ensures { λ r. ⌜ r ≡ Model.newSlot hash key bucket «now_ms» ⌝ }
+    {
+        Slot {
+            hash,
+            key,
+            bucket,
+            mark: 0,
+            seen: now_ms,
+        }
+    }
+
+    // The slot after an access.
+    pub fn touched(self, now_ms: Millis, track_idle: bool) -> Slot
+        ensures { λ r. ⌜ r ≡ Model.touched self «now_ms» «track_idle» ⌝ }
+    {
+        let bucket = self.bucket;
+        let seen = self.seen_after(now_ms, track_idle);
+        Slot {
+            hash: self.hash,
+            key: self.key,
+            bucket,
+            mark: 1,
+            seen,
+        }
+    }
+
+    // Last-seen after an access: raised to the access's stamp where idle times are tracked.
+    fn seen_after(self, now_ms: Millis, track_idle: bool) -> Millis
+        ensures { λ r. ⌜ r ≡ Model.touched self «now_ms» «track_idle» .seen ⌝ }
+    {
+        let seen = self.seen;
+        if track_idle {
+            return Millis(arith::larger(seen.0, now_ms.0));
+        }
+        seen
+    }
+
+    // Whether the key has been idle for at least `ttl_ms`.
+    pub fn is_expired(self, now_ms: Millis, ttl_ms: Millis) -> bool
+        ensures { λ r. ⌜ r ≡ Model.expired self «now_ms» «ttl_ms» ⌝ }
+    {
+        let seen = self.seen;
+        ttl_ms.0 <= arith::saturating_sub(now_ms.0, seen.0)
+    }
+
+    // Whether the slot can go without loss: its bucket is full.
+    pub fn is_lossless(self, config: BucketConfig, at: Nanos) -> bool
+        requires { ⌜ Accepted config ⌝ }
+        ensures { λ r. ⌜ r ≡ Model.lossless config self at ⌝ }
+    {
+        let bucket = self.bucket;
+        bucket.is_full_at(config, at)
+    }
+
+    // How long until the bucket is full again.
+    pub fn recovers_in(self, config: BucketConfig, at: Nanos) -> Nanos
+        requires { ⌜ Accepted config ⌝ }
+        ensures { λ r. ⌜ r .0 ≡ Model.recovery config self at ⌝ }
+    {
+        let bucket = self.bucket;
+        bucket.recovers_in(config, at)
+    }
+}
+
+// Marks the one slot that is lent as used.
+pub fn touch(slot: &mut Slot, now_ms: Millis, track_idle: bool)
+    ensures { λ _. ⌜ now (slot .exit) ≡ Model.touched (now (slot .entry)) «now_ms» «track_idle» ⌝ }
+{
+    *slot = slot.touched(now_ms, track_idle);
+}
+
+// A slot that goes by value, lent to `touch` on the way.
+pub fn touch_value(slot: Slot, now_ms: Millis, track_idle: bool) -> Slot
+    ensures { λ r. ⌜ r ≡ Model.touched slot «now_ms» «track_idle» ⌝ }
+{
+    let mut lent = slot;
+    touch(&mut lent, now_ms, track_idle);
+    lent
+}

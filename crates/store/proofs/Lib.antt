@@ -1,0 +1,4 @@
+pub mod RoomLaws
+pub mod StoreLaws
+pub mod OwnBucketLaws
+pub mod DistinctLaws

@@ -1,0 +1,164 @@
+-- One call of the list, under the rules: the state of the memory stands after it, with what it granted to the key.
+use Prim.Native.Nat.{ℕ, _+_, _≤_, _<_, _^_}
+use mathlib.Core.Path.{_≡_, refl, sym, ap, _∙_}
+use mathlib.Core.Bool.{true, false}
+use mathlib.Core.List.{List, _∷_}
+use native.Mathlib.Omega.{arith}
+use borrow.Author.Tests.{lt-ltb, le-ltb}
+use Rattle.arith.proofs.Cases.{by-test, by-eq, by-le}
+use Rattle.rows.specs.Outcome.{Outcome, outcome}
+use Rattle.units.specs.declared.Nanos.{Nanos}
+use Rattle.bucket.specs.declared.Request.{Request}
+use Rattle.bucket.specs.declared.Request.the-variants.{Acquire, Reserve}
+use Rattle.bucket.specs.Bucket.{Accepted, longestWait}
+use Rattle.settings.specs.declared.Limit.{Limit}
+use Rattle.settings.specs.declared.Limit.the-variants.{Open}
+use Rattle.settings.specs.declared.Settings.{Settings}
+use Rattle.settings.specs.declared.rate.Rate.{Rate}
+use Rattle.settings.specs.Rate.{burstOf, configOf}
+use Rattle.settings.specs.Settings.{shardOf}
+use Rattle.shard_map.specs.Model as Shard
+use Rattle.store.specs.declared.Identity.{Identity}
+use Rattle.store.specs.declared.Answer.{Answer}
+use Rattle.store.specs.Model as Store
+use Rattle.store.proofs.StoreLaws.{ask-same-room, refund-same-room, remove-same-room}
+use Rattle.perkey.specs.declared.Reply.{Reply}
+use Rattle.perkey.specs.declared.Reply.the-variants.{Granted, Impossible, Nothing}
+use Rattle.perkey.specs.Memory.{shardAt, inShard}
+use Rattle.perkey.specs.Rules.{unlessTrivial, noWait, triedBy, reservedBy, requested, policyOf, tryReply, reserveReply, keyed, refundedBy}
+use Rattle.perkey.proofs.MemoryLaws as Memory
+use Rattle.perkey.specs.Calls.{Call, try, reserve, peek, available, len, refund, remove, rules, Answered, settingsOf, momentOf, ofKey, ofReturned, accepted}
+use Rattle.window.specs.Demands.{clock}
+use Rattle.window.proofs.GrantLaws.{Grant, bounded-nil}
+use Rattle.window.proofs.BucketKept.{grantsOfAnswer}
+use Rattle.window.proofs.RequestLaws.{invariant-keeps, own-request, other-request, other-refund, other-removal}
+use Rattle.perkey.proofs.CallLaws.{refusalOf, not-refused-is-ruled, accepted-not-refused, unaccepted-refused}
+use Rattle.window.proofs.OwnBucket.{in-range-is-asked}
+use Rattle.window.proofs.StandingLaws.{moment, Standing, standing-later, operation-stands}
+use Rattle.window.proofs.GivenLaws.{ifOwn, granting, given, own-call, other-hash, same-either-way, refusal-gives-nothing, try-grants, reserve-grants}
+
+-- The call as the rules answer it in some words.
+abbrev pub ruled : Call → List ℕ → Answered
+ruled c ws = record { call = c; reply = rules c ws .answer; words = ws }
+
+-- Costs that never reach the store: more than the burst, or nothing at all.
+too-much : (rate : Rate) (cost : ℕ) (told : Reply) (ws : List ℕ) (asked : Outcome Reply (List ℕ)) → burstOf rate < cost → unlessTrivial rate cost told ws asked ≡ outcome told ws
+unfolding unlessTrivial
+too-much rate cost told ws asked more = rw (lt-ltb (burstOf rate) cost more)
+
+no-cost : (rate : Rate) (cost : ℕ) (told : Reply) (ws : List ℕ) (asked : Outcome Reply (List ℕ)) → cost ≡ 0 → unlessTrivial rate cost told ws asked ≡ outcome (Granted noWait) ws
+unfolding unlessTrivial
+no-cost rate cost told ws asked none = rw (none, le-ltb (burstOf rate) 0 (omega arith))
+
+module _ (s : Settings) (rate : Rate) (k : Identity) (a : Accepted (configOf rate)) (never : policyOf s rate .«forget_debt» ≡ false) where
+  abbrev Stands : ℕ → List ℕ → List Grant → Type 0
+  Stands n ws gs = Standing s rate k n ws gs
+
+  -- A request of any kind, put to the store, under a reply that grants as the store's answer does.
+  module _ (request : Request) (told : Answer → Reply) (grants : (at : Nanos) (cost : ℕ) (gs : List Grant) (answer : Answer) → granting at cost gs (told answer) ≡ grantsOfAnswer at cost answer gs)
+      (patient : longestWait request ≤ 2 ^ 46) (at : Nanos) (id : Identity) (cost : ℕ) (ws : List ℕ) (gs : List Grant)
+      (sound : Shard.Sound (shardAt s (id .hash) ws)) (alone : id .hash ≡ k .hash → id .key ≡ k .key) (v : Stands (at .0) ws gs) where
+    abbrev answered : Outcome Answer Shard.Shard
+    answered = Store.withOrInsert (policyOf s rate) id request cost at (shardAt s (id .hash) ws)
+
+    request-stands : 1 ≤ cost → cost ≤ burstOf rate → Stands (at .0) (inShard s (id .hash) ws answered .after) (ifOwn k id (granting at cost gs (told (answered .answer))) gs)
+    request-stands least most =
+        by-eq (id .hash) (k .hash)
+        (λ hash.
+        rw (own-call k id (granting at cost gs (told (answered .answer))) gs hash (alone hash), grants at cost gs (answered .answer))
+        (operation-stands s rate k (id .hash) (at .0) ws v answered (ask-same-room (shardAt s (id .hash) ws) sound (policyOf s rate) id request cost at) _
+        (λ same b. own-request (policyOf s rate) id request cost at (shardAt s (id .hash) ws) a never sound (k .hash) (k .key) hash (alone hash) least most patient b)
+        (λ apart. absurd (apart (ap (shardOf s) (sym hash))))))
+        (λ differs.
+        rw (other-hash k id (granting at cost gs (told (answered .answer))) gs differs)
+        (operation-stands s rate k (id .hash) (at .0) ws v answered (ask-same-room (shardAt s (id .hash) ws) sound (policyOf s rate) id request cost at) _
+        (λ same b. invariant-keeps (configOf rate) (k .hash) (k .key) at _ _ (other-request (policyOf s rate) id request cost at (shardAt s (id .hash) ws) a never sound (k .hash) (k .key) differs) b)
+        (λ apart. refl)))
+
+    -- A grant of no tokens bounds as before.
+    nothing-granted-stands : cost ≡ 0 → Stands (at .0) ws (ifOwn k id (record { usable = at .0 + 0; tokens = cost } ∷ gs) gs)
+    nothing-granted-stands none =
+        by-eq (id .hash) (k .hash)
+        (λ hash.
+        rw (own-call k id (record { usable = at .0 + 0; tokens = cost } ∷ gs) gs hash (alone hash), none)
+        (record {
+          size = v .size;
+          sound = v .sound;
+          bounds = record { one = v .bounds .one; bound = bounded-nil (configOf rate .amount) (configOf rate .period .0) (configOf rate .capacity) (at .0 + 0) (v .bounds .bound) };
+        }))
+        (λ differs. rw (other-hash k id (record { usable = at .0 + 0; tokens = cost } ∷ gs) gs differs) v)
+
+    -- What a request gives and leaves, whatever its cost.
+    pub any-request-stands : (none : Reply) → granting at cost gs none ≡ gs →
+        let o = unlessTrivial rate cost none ws (requested s rate id request cost at ws told) in
+        Stands (at .0) (o .after) (ifOwn k id (granting at cost gs (o .answer)) gs)
+    any-request-stands none ungranted =
+        by-le cost (burstOf rate)
+        (λ most. by-eq cost 0
+        (λ zero. rw (no-cost rate cost none ws (requested s rate id request cost at ws told) zero) (nothing-granted-stands zero))
+        (λ some. rw (in-range-is-asked rate cost none ws (requested s rate id request cost at ws told) (omega (arith, some)) most) (request-stands (omega (arith, some)) most)))
+        (λ more. rw (too-much rate cost none ws (requested s rate id request cost at ws told) more, ungranted, same-either-way k id gs) v)
+
+  -- Accepted calls, with the settings of set-up.
+  module _ (rated : s .limit ≡ Open rate) where
+    -- What is asked of an accepted call: its settings are those of set-up, time does not fall, its key shares no hash with the key in question, and that key
+    -- is not given tokens back.
+    pub record Fair (n : ℕ) (c : Call) : Type 0 where
+      pub settings : settingsOf c ≡ s
+      pub later : n ≤ momentOf c n
+      pub alone : ofKey (λ id. id .hash ≡ k .hash → id .key ≡ k .key) c
+      pub unreturned : ofReturned (λ id. id .hash ≡ k .hash → id .key ≡ k .key → ⊥) c
+
+    -- The rule of a call with the settings and the rate written in.
+    tried : (s′ : Settings) (at : Nanos) (id : Identity) (cost : ℕ) (ws : List ℕ) → s′ ≡ s
+        → triedBy (s′ .limit) s′ at id cost ws ≡ unlessTrivial rate cost Impossible ws (requested s rate id Acquire cost at ws tryReply)
+    tried s′ at id cost ws e = ap (λ (x : Settings). triedBy (x .limit) x at id cost ws) e ∙ ap (λ (l : Limit). triedBy l s at id cost ws) rated
+
+    reserved : (s′ : Settings) (at : Nanos) (id : Identity) (cost : ℕ) (longest : Nanos) (ws : List ℕ) → s′ ≡ s
+        → reservedBy (s′ .limit) s′ at id cost longest ws ≡ unlessTrivial rate cost Nothing ws (requested s rate id (Reserve longest) cost at ws reserveReply)
+    reserved s′ at id cost longest ws e =
+        ap (λ (x : Settings). reservedBy (x .limit) x at id cost longest ws) e ∙ ap (λ (l : Limit). reservedBy l s at id cost longest ws) rated
+
+    refunding : (s′ : Settings) (id : Identity) (cost : ℕ) (ws : List ℕ) → s′ ≡ s
+        → refundedBy (s′ .limit) s′ id cost ws ≡ keyed s id ws (Store.refunded (configOf rate) id cost (shardAt s (id .hash) ws))
+    refunding s′ id cost ws e = ap (λ (x : Settings). refundedBy (x .limit) x id cost ws) e ∙ ap (λ (l : Limit). refundedBy l s id cost ws) rated
+
+    module _ (n : ℕ) (ws : List ℕ) (gs : List Grant) (v : Stands n ws gs) where
+      abbrev After : Call → Type 0
+      After c = Stands (momentOf c n) (rules c ws .after) (given k c (rules c ws .answer) gs)
+
+      accepted-stands : (c : Call) → refusalOf c ws ≡ 0 → Fair n c → After c
+      accepted-stands (try s′ at id cost) none fair =
+          let sound = rw (fair .settings) at (Memory.timed-not-refused s′ (id .hash) ws at none .0 .sound) in
+          rw (not-refused-is-ruled (try s′ at id cost) ws none, tried s′ at id cost ws (fair .settings))
+          (any-request-stands Acquire tryReply try-grants (omega arith) at id cost ws gs sound (fair .alone) (standing-later s rate k n (at .0) ws (fair .later) v) Impossible refl)
+      accepted-stands (reserve s′ at id cost longest) none fair =
+          let open′ = Memory.reserve-not-refused s′ (id .hash) ws at longest none in
+          let sound = rw (fair .settings) at (open′ .0 .sound) in
+          rw (not-refused-is-ruled (reserve s′ at id cost longest) ws none, reserved s′ at id cost longest ws (fair .settings))
+          (any-request-stands (Reserve longest) reserveReply reserve-grants (open′ .2) at id cost ws gs sound (fair .alone) (standing-later s rate k n (at .0) ws (fair .later) v) Nothing refl)
+      accepted-stands (peek s′ at id cost) none fair = rw (not-refused-is-ruled (peek s′ at id cost) ws none) (standing-later s rate k n (at .0) ws (fair .later) v)
+      accepted-stands (available s′ at id) none fair = rw (not-refused-is-ruled (available s′ at id) ws none) (standing-later s rate k n (at .0) ws (fair .later) v)
+      accepted-stands (len s′) none fair = rw (not-refused-is-ruled (len s′) ws none) v
+      accepted-stands (refund s′ id cost) none fair =
+          let sound = rw (fair .settings) at (Memory.keyed-not-refused s′ (id .hash) ws none .sound) in
+          let differs : id .hash ≡ k .hash → ⊥ = λ hash. fair .unreturned hash (fair .alone hash) in
+          rw (not-refused-is-ruled (refund s′ id cost) ws none, refunding s′ id cost ws (fair .settings))
+          (operation-stands s rate k (id .hash) n ws v (Store.refunded (configOf rate) id cost (shardAt s (id .hash) ws)) (refund-same-room (shardAt s (id .hash) ws) sound (configOf rate) id cost) gs
+          (λ same b. invariant-keeps (configOf rate) (k .hash) (k .key) (moment n) _ _ (other-refund (configOf rate) (k .hash) (k .key) (moment n) (shardAt s (id .hash) ws) sound id differs cost) b)
+          (λ apart. refl))
+      accepted-stands (remove s′ id) none fair =
+          let sound = rw (fair .settings) at (Memory.keyed-not-refused s′ (id .hash) ws none .sound) in
+          let differs : id .hash ≡ k .hash → ⊥ = λ hash. fair .unreturned hash (fair .alone hash) in
+          rw (not-refused-is-ruled (remove s′ id) ws none, fair .settings)
+          (operation-stands s rate k (id .hash) n ws v (Store.removed id (shardAt s (id .hash) ws)) (remove-same-room (shardAt s (id .hash) ws) sound id) gs
+          (λ same b. invariant-keeps (configOf rate) (k .hash) (k .key) (moment n) _ _ (other-removal (configOf rate) (k .hash) (k .key) (moment n) (shardAt s (id .hash) ws) sound id differs) b)
+          (λ apart. refl))
+
+      -- Every call: accepted ones as above; refused ones change nothing.
+      pub call-stands : (c : Call) → (accepted (ruled c ws) ≡ true → Fair n c)
+          → Stands (clock n (ruled c ws)) (rules c ws .after) (given k c (rules c ws .answer) gs)
+      call-stands c fair =
+          by-test (accepted (ruled c ws))
+          (λ t. rw t (accepted-stands c (accepted-not-refused (ruled c ws) t) (fair t)))
+          (λ t. rw (t, unaccepted-refused (ruled c ws) t, refusal-gives-nothing k c (refusalOf c ws) gs) v)

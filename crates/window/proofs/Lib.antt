@@ -1,0 +1,10 @@
+pub mod GrantLaws
+pub mod BucketKept
+pub mod RequestLaws
+pub mod OwnBucket
+pub mod StandingLaws
+pub mod GivenLaws
+pub mod CallSteps
+pub mod AppearsLaws
+pub mod Theorem
+pub mod ImpostorLaws

@@ -1,0 +1,134 @@
+-- The rules meet demand 3, both parts, and demand 2; so does every implementation that meets demand 2.
+use Prim.Native.Nat.{ℕ, _+_, _*_, _-_, _≤_}
+use mathlib.Core.Path.{_≡_, refl, sym, ap, _∙_}
+use mathlib.Core.Bool.{true, false}
+use mathlib.Core.List.{List, [], _∷_}
+use native.Mathlib.Omega.{arith}
+use native.Mathlib.Nat.{mul-le-mul-right}
+use lib.ListN.{length, replicate, length-replicate}
+use Rattle.arith.proofs.Cases.{by-test, by-eq}
+use Rattle.rows.specs.Outcome.{Outcome, outcome}
+use Rattle.bucket.specs.Bucket.{Accepted}
+use Rattle.settings.specs.declared.Limit.the-variants.{Open}
+use Rattle.settings.specs.declared.Settings.{Settings}
+use Rattle.settings.specs.declared.rate.Rate.{Rate}
+use Rattle.settings.specs.Rate.{burstOf, configOf}
+use Rattle.settings.specs.Settings.{wordsOf, settingsRefusal}
+use Rattle.settings.proofs.RateLaws.{accepted-rate}
+use Rattle.settings.proofs.SettingsLaws.{accepted-parts}
+use Rattle.shard_map.specs.Model as Shard
+use Rattle.store.specs.declared.Identity.{Identity}
+use Rattle.perkey.specs.declared.Reply.{Reply}
+use Rattle.perkey.specs.declared.Reply.the-variants.{Done, Refused}
+use Rattle.perkey.specs.Refusals.{setUpRefusal}
+use Rattle.perkey.specs.Rules.{setUp, forgets, policyOf}
+use Rattle.perkey.proofs.MemoryLaws.{fresh-shards-are-empty, set-up-not-refused, unless-refused-accepts, unless-refused-refuses, fresh-sound}
+use Rattle.perkey.specs.Calls.{Call, Implementation, rules, Answered, replies, accepted, Every}
+use Rattle.window.specs.Demands.{Demand2, SameSettings, clock, TimesNeverFall, NoSharedHash, NeverReturned, tokensOf, tokensUsable, Window, OwnBucket, Demand3}
+use Rattle.window.proofs.GrantLaws.{Grant, within, window-from-bound}
+use Rattle.window.proofs.RequestLaws.{invariant-empty}
+use Rattle.window.proofs.OwnBucket.{rules-decide-by-own-bucket}
+use Rattle.window.proofs.StandingLaws.{moment, Standing}
+use Rattle.window.proofs.GivenLaws.{given, given-within}
+use Rattle.window.proofs.CallSteps.{ruled, Fair, call-stands}
+use Rattle.window.proofs.AppearsLaws.{Alone, appears, appearing-is-alone, absent-is-granted-nothing}
+
+-- Set-up that is accepted leaves zeros, of the length that the settings ask for.
+pub record SetUp (s : Settings) (ws : List ℕ) : Type 0 where
+  pub settings : settingsRefusal s ≡ 0
+  pub words : setUp s ws .after ≡ replicate (wordsOf s) 0
+
+set-up-done : (s : Settings) (ws : List ℕ) → setUp s ws .answer ≡ Done → SetUp s ws
+unfolding setUp
+set-up-done s ws done′ =
+    by-eq (setUpRefusal s ws) 0
+    (λ none. record {
+      settings = set-up-not-refused s ws none .0;
+      words = ap (λ (o : Outcome Reply (List ℕ)). o .after) (unless-refused-accepts (setUpRefusal s ws) ws (outcome Done (replicate (wordsOf s) 0)) none);
+    })
+    (λ some.
+    let told : Refused (setUpRefusal s ws) ≡ Done = ap (λ (o : Outcome Reply (List ℕ)). o .answer) (sym (unless-refused-refuses (setUpRefusal s ws) ws (outcome Done (replicate (wordsOf s) 0)) some)) ∙ done′ in
+    let z : _≡_ {A = ℕ} 0 1 = cc in absurd (omega arith))
+
+module _ (s : Settings) (rate : Rate) (k : Identity) (a : Accepted (configOf rate)) (never : policyOf s rate .«forget_debt» ≡ false) (rated : s .limit ≡ Open rate) where
+  abbrev Stands : ℕ → List ℕ → List Grant → Type 0
+  Stands n ws gs = Standing s rate k n ws gs
+
+  -- A fresh memory, before any grant.
+  fresh-stands : Stands 0 (replicate (wordsOf s) 0) []
+  fresh-stands =
+      let empty = fresh-shards-are-empty s (k .hash) in
+      record {
+        size = length-replicate (wordsOf s) 0;
+        sound = fresh-sound s (k .hash);
+        bounds = invariant-empty (configOf rate) (k .hash) (k .key) (moment 0) _ (empty .slots) (empty .debts);
+      }
+
+  -- The whole list, call by call: what was granted before and what is granted in it stay within the bound.
+  run : (cs : List Call) (n : ℕ) (ws : List ℕ) (gs : List Grant) → SameSettings s (replies rules cs ws ws) → TimesNeverFall n (replies rules cs ws ws)
+      → Every (Alone k) (replies rules cs ws ws) → NeverReturned k (replies rules cs ws ws) → Stands n ws gs
+      → (t u : ℕ) → t ≤ u
+      → (tokensUsable k t u (replies rules cs ws ws) + within t u gs) * rate .period .0 + t * rate .amount ≤ burstOf rate * rate .period .0 + u * rate .amount + rate .amount
+  unfolding replies TimesNeverFall tokensUsable
+  run [] n ws gs same rising alone unreturned v t u le = omega (arith, v .bounds .bound .window t u le)
+  run (c ∷ cs) n ws gs same rising alone unreturned v t u le =
+      let fair : accepted (ruled c ws) ≡ true → Fair s rate k a never rated n c = λ taken.
+      record { settings = same .0 taken; later = rw taken at (rising .0); alone = alone .0 taken; unreturned = unreturned .0 taken } in
+      let next = call-stands s rate k a never rated n ws gs v c fair in
+      let rest = run cs (clock n (ruled c ws)) (rules c ws .after) (given k c (rules c ws .answer) gs) (same .1) (rising .1) (alone .1) (unreturned .1) next t u le in
+      let sums : tokensOf k t u c (rules c ws .answer) + tokensUsable k t u (replies rules cs (rules c ws .after) (rules c ws .after)) + within t u gs
+      ≡ tokensUsable k t u (replies rules cs (rules c ws .after) (rules c ws .after)) + within t u (given k c (rules c ws .answer) gs) = omega (arith, given-within k t u gs c (rules c ws .answer)) in
+      rw sums rest
+
+  -- From a fresh memory. A key that no accepted call names is granted nothing; of any other it holds that no accepted call shares its hash.
+  module _ (cs : List Call) (t u : ℕ) (le : t ≤ u) where
+    abbrev answered : List Answered
+    answered = replies rules cs (replicate (wordsOf s) 0) (replicate (wordsOf s) 0)
+
+    appearing-window : SameSettings s answered → TimesNeverFall 0 answered → NoSharedHash answered → NeverReturned k answered → appears k answered ≡ true
+        → tokensUsable k t u answered * rate .period .0 + t * rate .amount ≤ burstOf rate * rate .period .0 + u * rate .amount + rate .amount
+    unfolding within
+    appearing-window same rising apart unreturned there =
+        omega (arith, run cs 0 (replicate (wordsOf s) 0) [] same rising (appearing-is-alone k answered there apart) unreturned fresh-stands t u le)
+
+    absent-window : appears k answered ≡ false
+        → tokensUsable k t u answered * rate .period .0 + t * rate .amount ≤ burstOf rate * rate .period .0 + u * rate .amount + rate .amount
+    absent-window absent = rw (absent-is-granted-nothing k t u cs (replicate (wordsOf s) 0) absent) (omega (arith, mul-le-mul-right (rate .amount) le))
+
+    fresh-window : SameSettings s answered → TimesNeverFall 0 answered → NoSharedHash answered → NeverReturned k answered
+        → tokensUsable k t u answered * rate .period .0 ≤ burstOf rate * rate .period .0 + (u - t + 1) * rate .amount
+    fresh-window same rising apart unreturned =
+        window-from-bound (rate .amount) (rate .period .0) (burstOf rate) (tokensUsable k t u answered) t u le
+        (by-test (appears k answered) (appearing-window same rising apart unreturned) absent-window)
+
+-- The first part.
+pub rules-keep-the-window : Window rules
+rules-keep-the-window s rate ws rated refuses done′ cs same rising apart k unreturned t u le =
+    let up = set-up-done s ws done′ in
+    let a : Accepted (configOf rate) = accepted-rate rate (rw rated at (accepted-parts s (up .settings) .0)) in
+    rw (up .words)
+    (fresh-window s rate k a (ap forgets refuses) rated cs t u le (rw (up .words) at same) (rw (up .words) at rising) (rw (up .words) at apart) (rw (up .words) at unreturned))
+
+-- Demand 3, whole.
+pub rules-meet-demand3 : Demand3 rules
+rules-meet-demand3 = (rules-keep-the-window, rules-decide-by-own-bucket)
+
+pub rules-meet-demand2 : Demand2 rules
+rules-meet-demand2 c ws = refl
+
+-- An implementation that answers and leaves what the rules do gets through a list as they do.
+same-replies : (f : Implementation) → Demand2 f → (cs : List Call) (ws law : List ℕ) → replies f cs ws law ≡ replies rules cs ws law
+unfolding replies
+same-replies f equal [] ws law = refl
+same-replies f equal (c ∷ cs) ws law =
+    rw (equal c ws) (ap {B = List Answered} (λ rest. record { call = c; reply = rules c ws .answer; words = law } ∷ rest) (same-replies f equal cs (rules c ws .after) (rules c law .after)))
+
+-- So it meets demand 3 as well.
+pub demand2-gives-demand3 : (f : Implementation) → Demand2 f → Demand3 f
+demand2-gives-demand3 f equal = (keeps, decides)
+  where
+    keeps : Window f
+    keeps s rate ws rated refuses done′ cs = rw (same-replies f equal cs (setUp s ws .after) (setUp s ws .after)) (rules-keep-the-window s rate ws rated refuses done′ cs)
+
+    decides : OwnBucket f
+    decides ws cs = rw (same-replies f equal cs ws ws) (rules-decide-by-own-bucket ws cs)
