@@ -26,7 +26,7 @@ unfolding ceilDiv rows unrow heldIn lowestFrom removed shortfallAt availableAt w
     Debts.ledger Debts.wordsOf Ledger.placeOf Ledger.removeAt Ledger.append Ledger.owedBy Ledger.taken Ledger.lookAt Ledger.look Ledger.sweep
     Ledger.scanFrom Ledger.scan Ledger.dropChosen Ledger.makeRoom Ledger.recordedAt Ledger.recorded Ledger.paidDown
     Layout.shard Layout.wordsOf Shard.placeOf Shard.removeAt Shard.insert Shard.idleLookAt Shard.idleLook Shard.sweepIdle
-    noted walkFrom walked evicted Store.makeRoom Store.new Store.withOrInsert Store.viewed Store.refunded
+    noted walkFrom walked evicted Store.makeRoom Store.known Store.new Store.withOrInsert Store.viewed Store.refunded
     Refusals.lengthRefusal Refusals.countRefusal Refusals.momentRefusal
     Rules.unlessRefused Rules.setUp Rules.unlessTrivial Rules.tryAcquire Rules.available Rules.refund
 every-edge-holds = refl

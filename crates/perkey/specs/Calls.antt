@@ -39,10 +39,11 @@ pub record Answered : Type 0 where
   pub reply : Reply
   pub words : List ℕ
 
--- Each call gets the words that the implementation left; beside it the rules go their own way from their own words.
+-- Each call gets the words that the implementation left; beside it run the rules, on the words that they left themselves.
 unfoldable pub replies : Implementation → List Call → List ℕ → List ℕ → List Answered
-replies f [] ws law = []
-replies f (c ∷ cs) ws law = record { call = c; reply = f c ws .answer; words = law } ∷ replies f cs (f c ws .after) (rules c law .after)
+replies f [] ws rulesWords = []
+replies f (c ∷ cs) ws rulesWords =
+    record { call = c; reply = f c ws .answer; words = rulesWords } ∷ replies f cs (f c ws .after) (rules c rulesWords .after)
 
 -- What a call names: its settings; the moment to which it brings the clock, from the moment before it; what is said of the key that it names.
 abbrev pub settingsOf : Call → Settings

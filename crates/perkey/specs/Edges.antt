@@ -133,6 +133,9 @@ edges =
     -- Who is turned away for space waits at least a millisecond, though after 15,260 ns key 8 is full and the debt of key 7 settled.
     ∷ ends (forOneKey fastest) (asks 0 7 1 ∷ asks 0 8 1 ∷ asks 0 9 1 ∷ []) 1 1000000
     (1 ∷ 1 ∷ 0 ∷ 8 ∷ 8 ∷ 1000000000 ∷ 0 ∷ 0 ∷ 0 ∷ 1 ∷ 1 ∷ 7 ∷ 15260 ∷ [])
+    -- The wait of a key's own bucket has no such floor. The second call of key 7 finds its slot and marks it.
+    ∷ ends (forOneKey fastest) (asks 0 7 65535 ∷ asks 0 7 1 ∷ []) 1 15260
+    (1 ∷ 0 ∷ 0 ∷ 7 ∷ 7 ∷ 65535000000000 ∷ 0 ∷ 1 ∷ 0 ∷ replicate 4 0)
     -- Key 7 spends one of four tokens of 10 parts each, and is evicted. Its debt of 4 ns is 12 parts, which counts as two tokens: two are left, as long as
     -- it is a debt and once it is back.
     ∷ ends (forOneKey threePerTen) (asks 0 7 1 ∷ asks 0 8 1 ∷ looksAt 0 7 ∷ []) 0 2

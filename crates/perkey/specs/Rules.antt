@@ -31,7 +31,7 @@ use Rattle.perkey.specs.declared.Reply.the-variants.{Granted, Retry, Imp
 use Rattle.perkey.specs.Memory.{shardAt, inShard, slotCount}
 use Rattle.perkey.specs.Refusals.{setUpRefusal, keyedRefusal, timedRefusal, reserveRefusal, lengthCallRefusal}
 
--- The code of a reply: 0 granted, accepted, known or counted, 1 to be tried again, 2 impossible, 3 none or unknown, 10 + n refused as n.
+-- The desk's code of a reply: 0 granted, accepted, known or counted, 1 to be tried again, 2 impossible, 3 none or unknown, 10 + n refused as n.
 abbrev pub codeOf : Reply → ℕ
 codeOf (Granted wait) = 0
 codeOf (Retry wait) = 1
@@ -89,13 +89,13 @@ requested s rate id request cost at ws reply =
     let o = inShard s (id .hash) ws (Store.withOrInsert (policyOf s rate) id request cost at (shardAt s (id .hash) ws)) in
     outcome (reply (o .answer)) (o .after)
 
--- More than a full bucket is impossible, and nothing is granted at once; neither touches a word.
+-- A cost of more than a full bucket is told so, and cost 0 is granted without a wait; neither touches a word.
 unfoldable pub unlessTrivial : Rate → ℕ → Reply → List ℕ → Outcome Reply (List ℕ) → Outcome Reply (List ℕ)
 unlessTrivial rate cost tooMuch ws asked =
     cond (ltb (configOf rate .capacity) cost) (outcome tooMuch ws)
     (cond (eqb cost 0) (outcome (Granted noWait) ws) asked)
 
--- A closed limiter grants nothing but nothing.
+-- A closed limiter grants only cost 0.
 unfoldable pub closed : ℕ → Reply
 closed cost = cond (eqb cost 0) (Granted noWait) Impossible
 

@@ -32,7 +32,7 @@ abbrev pub placeOr : Place → ℕ → ℕ
 placeOr (At p) other = p
 placeOr Nowhere other = other
 
--- What the walk has noted before its first look: nothing. No recovery takes as long as 64 bits count.
+-- What the walk has noted before its first look: nothing. Every recovery is less than the number that it starts with.
 abbrev pub nothingNoted : Walk
 nothingNoted = record { full = Nowhere; unmarked = Nowhere; soonest = record { 0 = 2 ^ 64 - 1 } }
 

@@ -16,7 +16,7 @@ use settings::eviction::Eviction;
 use slot::Slot;
 use units::Nanos;
 
-// The shortest wait that a key refused for space is told, in nanoseconds, so that a retry loop cannot spin.
+// The shortest wait that a key refused for space is told, in nanoseconds, so that it does not ask again at once.
 const MIN_REFUSAL_WAIT: u64 = 1000000;
 
 // Whether a slot was evicted; if none could be, how long until room is expected.

@@ -1,7 +1,9 @@
 // One shard over lent words: the slots of its keys in the order in which they came, the hand and the sweep that go round them, and the ledger.
 ghost use mathlib.Core.Path.{_≡_};
 ghost use Prim.Native.Nat.{_<_};
+ghost use lib.ListN.{length};
 ghost use Rattle.bucket.specs.Bucket.{Accepted};
+ghost use Rattle.settings.specs.Settings.{shardWords};
 ghost use Rattle.slot.specs.Slot.{isKey};
 ghost use Rattle.shard_map.specs.Model as Model;
 ghost use Rattle.shard_map.specs.Layout.{shard, Lent};
@@ -59,9 +61,9 @@ pub fn set(ws: &mut [u64], cap: usize, pos: usize, slot: Slot)
     words::put(ws, cap, pos, slot);
 }
 
-// How many slots are held.
+// How many slots are held. It asks for the length alone, so that a count that is too large can be told.
 pub fn len(ws: &[u64], cap: usize) -> usize
-    requires { ⌜ Lent cap (now ws) ⌝ }
+    requires { ⌜ length (now ws) ≡ shardWords cap ⌝ }
     ensures { λ r. ⌜ r ≡ shard cap (now (ws .entry)) .slots .count ⌝ }
 {
     words::count(ws, cap)

@@ -1,4 +1,4 @@
-// The words of a shard, read and stored. No other function of the crate knows where a word lies.
+// The words of a shard, read and stored. No other function of the crate knows where a word lies, but for `debts`, which lends the ledger's part.
 ghost use mathlib.Core.Path.{_≡_};
 ghost use Prim.Native.Nat.{_<_};
 ghost use lib.ListN.{length};

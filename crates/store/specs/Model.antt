@@ -85,9 +85,9 @@ admitted p id request cost at owed s (Refused wait) = outcome (NoSpace wait) (pu
 -- A new key takes its debt out first, so that the debt's own place in the ledger is free for the room that it needs.
 unfoldable pub new : Policy → Identity → Request → ℕ → Nanos → Shard → Outcome Answer Shard
 new p id request cost at s =
-    let debt = Ledger.taken (s .ledger) (id .hash) in
-    let room = makeRoom p at (withLedger s (debt .after)) in
-    admitted p id request cost at (debt .answer) (room .after) (room .answer)
+    let own = Ledger.taken (s .ledger) (id .hash) in
+    let room = makeRoom p at (withLedger s (own .after)) in
+    admitted p id request cost at (own .answer) (room .after) (room .answer)
 
 -- A request for a key.
 abbrev pub askedFrom : Policy → Identity → Request → ℕ → Nanos → Shard → Place → Outcome Answer Shard

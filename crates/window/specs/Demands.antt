@@ -23,7 +23,7 @@ use Rattle.perkey.specs.Memory.{shardAt}
 use Rattle.perkey.specs.Rules.{setUp, tryReply, reserveReply, bucketOf}
 use Rattle.perkey.specs.Calls.{Call, try, reserve, peek, available, len, refund, remove, Implementation, rules, Answered, replies, settingsOf, momentOf, ofKey, ofReturned, ofGrant, accepted, Every}
 
--- Demand 2: every answer, and all words after it, are those of the rules.
+-- Demand 2, as far as it is about these calls: every answer, and all words after it, are those of the rules.
 abbrev pub Demand2 : Implementation → Type 0
 Demand2 f = (c : Call) (ws : List ℕ) → f c ws ≡ rules c ws
 
