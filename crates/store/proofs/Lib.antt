@@ -2,3 +2,4 @@ pub mod RoomLaws
 pub mod StoreLaws
 pub mod OwnBucketLaws
 pub mod DistinctLaws
+pub mod ModelLaws

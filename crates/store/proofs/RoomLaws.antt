@@ -74,13 +74,16 @@ module _ (p : Policy) (at : Nanos) (s : Shard) (u : Sound s) where
   swept-idle-keeps Q k q millis.None = q
   swept-idle-keeps Q k q (millis.Some limit) = k .idle s limit u q
 
+  pub swept-idle-sound : (limit : OptionMillis) → Sound (sweptIdle p at s limit)
+  swept-idle-sound limit = swept-idle-keeps Sound (sound-by-sweeps p at) u limit
+
   -- What the sweeps keep holds after both.
   swept-keeps : (Q : Shard → Type 0) → KeptBySweeps p at Q → Q s → Q (swept p at s)
   swept-keeps Q k q =
       let limit : OptionMillis = p .«idle_limit» in
-      k .ledger (sweptIdle p at s limit) (swept-idle-keeps Sound (sound-by-sweeps p at) u limit) (swept-idle-keeps Q k q limit)
+      k .ledger (sweptIdle p at s limit) (swept-idle-sound limit) (swept-idle-keeps Q k q limit)
 
-  swept-sound : Sound (swept p at s)
+  pub swept-sound : Sound (swept p at s)
   swept-sound = swept-keeps Sound (sound-by-sweeps p at) u
 
   -- They leave the ledger the room that it had, and no more debts than there were.

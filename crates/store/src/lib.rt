@@ -1,8 +1,24 @@
 // The operations of the store on the one shard that a key belongs to.
+ghost use mathlib.Core.Path.{_≡_};
+ghost use Prim.Native.Nat.{_≤_, _<_, _^_};
+ghost use Rattle.rows.specs.Outcome.{outcome};
+ghost use Rattle.bucket.specs.Bucket.{Accepted};
+ghost use Rattle.slot.specs.Slot.{withBucket};
+ghost use Rattle.shard_map.specs.Layout.{shard, Lent};
+ghost use Rattle.store.specs.Model as Model;
 use bucket::BucketConfig;
+use bucket::BucketCore;
 use bucket::BucketDecision;
+use bucket::Request;
+use rows::Place;
+use settings::eviction::Eviction;
+use shard_map::debts;
+use shard_map::evict;
+use shard_map::evict::Room;
+use slot::Slot;
 use units::Nanos;
 use units::OptionMillis;
+use units::OptionNanos;
 
 // A key: its hash and the key itself, together.
 pub struct Identity {
@@ -21,4 +37,227 @@ pub struct Policy {
 pub enum Answer {
     Decided(BucketDecision),
     NoSpace(Nanos),
+}
+
+impl Policy {
+    // Whether last-seen is kept up to date.
+    pub fn tracks_idle(self) -> bool
+        ensures { λ r. ⌜ r ≡ Model.tracks (self .«idle_limit») ⌝ }
+    {
+        let idle_limit = self.idle_limit;
+        match idle_limit {
+            OptionMillis::None => false,
+            OptionMillis::Some(_) => true,
+        }
+    }
+}
+
+// Runs a request on a key's bucket. A new key gets a bucket first, in its debt if it left one, and room is made for it.
+pub fn with_or_insert(
+    ws: &mut [u64],
+    cap: usize,
+    policy: Policy,
+    id: Identity,
+    request: Request,
+    cost: u32,
+    at: Nanos,
+) -> Answer
+    requires { ⌜ Lent cap (now ws) × Accepted (policy .config) × (cost ≤ policy .config .capacity) × (at .0 ≤ 2 ^ 62) ⌝ }
+    ensures { λ r. ⌜ outcome r (shard cap (now (ws .exit))) ≡ Model.withOrInsert policy id request cost at (shard cap (now (ws .entry))) ⌝ }
+{
+    match shard_map::position(ws, cap, id.hash, id.key) {
+        Place::At(pos) => known(ws, cap, policy, pos, request, cost, at),
+        Place::Nowhere => new(ws, cap, policy, id, request, cost, at),
+    }
+}
+
+// A known key: its slot is touched, and its bucket is asked.
+fn known(
+    ws: &mut [u64],
+    cap: usize,
+    policy: Policy,
+    pos: usize,
+    request: Request,
+    cost: u32,
+    at: Nanos,
+) -> Answer
+    requires { ⌜ Lent cap (now ws) × Accepted (policy .config) × (cost ≤ policy .config .capacity) × (pos < cap) ⌝ }
+    ensures { λ r. ⌜ outcome r (shard cap (now (ws .exit))) ≡ Model.known policy request cost at (shard cap (now (ws .entry))) pos ⌝ }
+{
+    shard_map::touch_at(ws, cap, pos, at.millis(), policy.tracks_idle());
+    let slot = shard_map::get(ws, cap, pos);
+    let bucket = slot.bucket;
+    let config = policy.config;
+    let asked = bucket.ask_at(config, request, cost, at);
+    let decision = asked.decision;
+    let after = asked.bucket;
+    shard_map::set(ws, cap, pos, with_bucket(slot, after));
+    Answer::Decided(decision)
+}
+
+// The slot with another bucket.
+fn with_bucket(slot: Slot, bucket: BucketCore) -> Slot
+    ensures { λ r. ⌜ r ≡ withBucket slot bucket ⌝ }
+{
+    let seen = slot.seen;
+    Slot {
+        hash: slot.hash,
+        key: slot.key,
+        bucket,
+        mark: slot.mark,
+        seen,
+    }
+}
+
+// A new key takes its debt out first, so that the debt's own place in the ledger is free for the room that it needs. A key that left a debt is
+// therefore never turned away for space, and no debt has to be put back.
+fn new(
+    ws: &mut [u64],
+    cap: usize,
+    policy: Policy,
+    id: Identity,
+    request: Request,
+    cost: u32,
+    at: Nanos,
+) -> Answer
+    requires { ⌜ Lent cap (now ws) × Accepted (policy .config) × (cost ≤ policy .config .capacity) × (at .0 ≤ 2 ^ 62) ⌝ }
+    ensures { λ r. ⌜ outcome r (shard cap (now (ws .exit))) ≡ Model.new policy id request cost at (shard cap (now (ws .entry))) ⌝ }
+{
+    let owed = debts::take(ws, cap, id.hash);
+    match make_room(ws, cap, policy, at) {
+        Room::Made => join(ws, cap, policy, id, request, cost, at, owed),
+        Room::Refused(wait) => Answer::NoSpace(wait),
+    }
+}
+
+// Room is there: the key's bucket is asked, and its slot comes last, whatever the bucket answered.
+fn join(
+    ws: &mut [u64],
+    cap: usize,
+    policy: Policy,
+    id: Identity,
+    request: Request,
+    cost: u32,
+    at: Nanos,
+    owed: OptionNanos,
+) -> Answer
+    requires { ⌜ Lent cap (now ws) × Accepted (policy .config) × (cost ≤ policy .config .capacity) × (shard cap (now ws) .slots .count < cap) ⌝ }
+    ensures { λ r. ⌜ outcome r (shard cap (now (ws .exit))) ≡ Model.joined policy id request cost at owed (shard cap (now (ws .entry))) ⌝ }
+{
+    let config = policy.config;
+    let bucket = returning(config, at, owed);
+    let asked = bucket.ask_at(config, request, cost, at);
+    let decision = asked.decision;
+    let after = asked.bucket;
+    shard_map::insert(ws, cap, Slot::new(id.hash, id.key, after, at.millis()));
+    Answer::Decided(decision)
+}
+
+// The bucket of a key without a slot: a fresh one, in its debt if it left one.
+fn returning(config: BucketConfig, at: Nanos, owed: OptionNanos) -> BucketCore
+    requires { ⌜ Accepted config ⌝ }
+    ensures { λ r. ⌜ r ≡ Model.returning config at owed ⌝ }
+{
+    match owed {
+        OptionNanos::None => BucketCore::new(config, at),
+        OptionNanos::Some(settles) => bucket::restore_debt(
+            BucketCore::new(config, at),
+            config,
+            at,
+            settles,
+        ),
+    }
+}
+
+// Makes room in a shard that is about to receive a new key: the idle sweep, the ledger's sweep, and one eviction if the shard is full all the same.
+fn make_room(ws: &mut [u64], cap: usize, policy: Policy, at: Nanos) -> Room
+    requires { ⌜ Lent cap (now ws) × Accepted (policy .config) × (at .0 ≤ 2 ^ 62) ⌝ }
+    ensures { λ r. ⌜ outcome r (shard cap (now (ws .exit))) ≡ Model.makeRoom policy at (shard cap (now (ws .entry))) ⌝ }
+{
+    sweep(ws, cap, policy, at);
+    if shard_map::len(ws, cap) < cap {
+        return Room::Made;
+    }
+    let config = policy.config;
+    evict::evict_one(ws, cap, config, at, policy.forget_debt)
+}
+
+// The two sweeps.
+fn sweep(ws: &mut [u64], cap: usize, policy: Policy, at: Nanos)
+    requires { ⌜ Lent cap (now ws) × Accepted (policy .config) ⌝ }
+    ensures { λ _. ⌜ shard cap (now (ws .exit)) ≡ Model.swept policy at (shard cap (now (ws .entry))) ⌝ }
+{
+    sweep_idle(ws, cap, policy, at);
+    debts::sweep(ws, cap, at, Eviction::LEDGER_SCAN);
+}
+
+// The idle sweep, where an idle time is set.
+fn sweep_idle(ws: &mut [u64], cap: usize, policy: Policy, at: Nanos)
+    requires { ⌜ Lent cap (now ws) × Accepted (policy .config) ⌝ }
+    ensures { λ _. ⌜ shard cap (now (ws .exit)) ≡ Model.sweptIdle policy at (shard cap (now (ws .entry))) (policy .«idle_limit») ⌝ }
+{
+    let config = policy.config;
+    let idle_limit = policy.idle_limit;
+    match idle_limit {
+        OptionMillis::None => {}
+        OptionMillis::Some(limit) => {
+            shard_map::sweep_idle(ws, cap, config, at, limit, Eviction::TTL_SWEEP);
+        }
+    }
+}
+
+// The bucket that a key has, or would have if it came in now. Creates nothing and touches nothing.
+pub fn view(ws: &[u64], cap: usize, config: BucketConfig, id: Identity, at: Nanos) -> BucketCore
+    requires { ⌜ Lent cap (now ws) × Accepted config ⌝ }
+    ensures { λ r. ⌜ r ≡ Model.viewed config id at (shard cap (now (ws .entry))) ⌝ }
+{
+    match shard_map::position(ws, cap, id.hash, id.key) {
+        Place::At(pos) => {
+            let slot = shard_map::get(ws, cap, pos);
+            slot.bucket
+        }
+        Place::Nowhere => returning(config, at, debts::owed_by(ws, cap, id.hash)),
+    }
+}
+
+// Gives tokens back to a key: to its slot, or off the debt that it left. Tells whether it had either.
+pub fn refund(ws: &mut [u64], cap: usize, config: BucketConfig, id: Identity, cost: u32) -> bool
+    requires { ⌜ Lent cap (now ws) × Accepted config ⌝ }
+    ensures { λ r. ⌜ outcome r (shard cap (now (ws .exit))) ≡ Model.refunded config id cost (shard cap (now (ws .entry))) ⌝ }
+{
+    match shard_map::position(ws, cap, id.hash, id.key) {
+        Place::At(pos) => {
+            let slot = shard_map::get(ws, cap, pos);
+            let bucket = slot.bucket;
+            shard_map::set(ws, cap, pos, with_bucket(slot, bucket.refund(config, cost)));
+            true
+        }
+        Place::Nowhere => debts::pay_down(ws, cap, id.hash, cost, config),
+    }
+}
+
+// Forgets a key: its slot, and the debt of its hash. Tells whether it had either.
+pub fn remove(ws: &mut [u64], cap: usize, id: Identity) -> bool
+    requires { ⌜ Lent cap (now ws) ⌝ }
+    ensures { λ r. ⌜ outcome r (shard cap (now (ws .exit))) ≡ Model.removed id (shard cap (now (ws .entry))) ⌝ }
+{
+    let place = shard_map::position(ws, cap, id.hash, id.key);
+    let debt = debts::take(ws, cap, id.hash);
+    match place {
+        Place::At(pos) => {
+            shard_map::remove_at(ws, cap, pos);
+            true
+        }
+        Place::Nowhere => had(debt),
+    }
+}
+
+// Whether there was a debt.
+fn had(debt: OptionNanos) -> bool
+    ensures { λ r. ⌜ r ≡ Model.hasDebt debt ⌝ }
+{
+    match debt {
+        OptionNanos::None => false,
+        OptionNanos::Some(_) => true,
+    }
 }
