@@ -36,7 +36,7 @@ use Rattle.store.proofs.RoomLaws.{swept-idle-sound, swept-sound, room-s
 use Rattle.store.proofs.StoreLaws.{roomFor, debt-taken-sound, refused-took-nothing}
 
 -- A place that lookup found holds a slot, and stands below the cap.
-pub found-held : (s : Shard) (h k i : ℕ) → placeOf s h k ≡ At i → i < s .slots .count
+found-held : (s : Shard) (h k i : ℕ) → placeOf s h k ≡ At i → i < s .slots .count
 found-held s h k i e = found-holds s h k i e .below
 
 pub found-below-cap : {cap : ℕ} {ws : List ℕ} (h k i : ℕ) → Lent cap ws → placeOf (shard cap ws) h k ≡ At i → i < cap

@@ -22,7 +22,13 @@ same-length : tie.Need-same-length
 same-length c = search needs
 
 returns : tie.Need-returns
-returns c = rw (c .before .before .insert .ensures, c .before .before .before .new .ensures, c .before .before .before .before .millis .ensures, c .before .before .before .before .before .before .before .ask-at .ensures, c .before .before .before .before .before .before .before .before .returning .ensures)
+returns c =
+    let insert′ = c .before .before .insert in
+    let new′ = c .before .before .before .new in
+    let millis′ = c .before .before .before .before .millis in
+    let ask-at′ = c .before .before .before .before .before .before .before .ask-at in
+    let returning′ = c .before .before .before .before .before .before .before .before .returning in
+    rw (insert′ .ensures, new′ .ensures, millis′ .ensures, ask-at′ .ensures, returning′ .ensures)
 
 pub join-spec : {M : Type 1} → statement M
 join-spec =

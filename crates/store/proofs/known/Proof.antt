@@ -38,9 +38,16 @@ same-length c = search needs
 returns : tie.Need-returns
 returns c =
     let pre′ = c .before .before .before .before .before .before .before .before .before .before .before .before .before .before .before .before .before .before .pre in
-    let touched = rw (c .before .before .before .before .before .before .before .before .before .before .before .before .before .before .before .millis .ensures, c .before .before .before .before .before .before .before .before .before .before .before .before .before .before .tracks-idle .ensures) at (c .before .before .before .before .before .before .before .before .before .before .before .before .before .touch-at .ensures) in
-    let read = c .before .before .before .before .before .before .before .before .before .get .ensures in
-    rw (c .before .before .set .ensures, c .before .before .before .with-bucket .ensures, c .before .before .before .before .before .before .ask-at .ensures) (known-by-stores _ _ _ _ _ _ (rw (lent-cap (pre′ .0)) (pre′ .3)) touched read)
+    let millis′ = c .before .before .before .before .before .before .before .before .before .before .before .before .before .before .before .millis in
+    let tracks-idle′ = c .before .before .before .before .before .before .before .before .before .before .before .before .before .before .tracks-idle in
+    let touch-at′ = c .before .before .before .before .before .before .before .before .before .before .before .before .before .touch-at in
+    let get′ = c .before .before .before .before .before .before .before .before .before .get in
+    let set′ = c .before .before .set in
+    let with-bucket′ = c .before .before .before .with-bucket in
+    let ask-at′ = c .before .before .before .before .before .before .ask-at in
+    let touched = rw (millis′ .ensures, tracks-idle′ .ensures) at (touch-at′ .ensures) in
+    let read = get′ .ensures in
+    rw (set′ .ensures, with-bucket′ .ensures, ask-at′ .ensures) (known-by-stores _ _ _ _ _ _ (rw (lent-cap (pre′ .0)) (pre′ .3)) touched read)
 
 pub known-spec : {M : Type 1} → statement M
 known-spec =

@@ -23,7 +23,8 @@ returns : tie.Need-returns
 returns c =
     let sweep′ = c .before .before .before .before .before .sweep in
     let args′ = c .before .before .before .before .before .before .before .before .args in
-    let lent = lent-after-sweeps (c .before .before .before .before .before .before .before .before .pre .0) (sweep′ .kept .0) (args′ .policy) (args′ .at) (sweep′ .ensures) in
+    let pre′ = c .before .before .before .before .before .before .before .before .pre in
+    let lent = lent-after-sweeps (pre′ .0) (sweep′ .kept .0) (args′ .policy) (args′ .at) (sweep′ .ensures) in
     room-is-left _ _ _ (sweep′ .ensures) (omega (arith, lent-cap lent))
 
 evict-one-requires : tie.Need-evict-one-requires
@@ -41,8 +42,10 @@ returns-2 : tie.Need-returns-2
 returns-2 c =
     let sweep′ = c .before .before .before .before .before .before .before .before .before .before .sweep in
     let args′ = c .before .before .before .before .before .before .before .before .before .before .before .before .before .args in
-    let lent = lent-after-sweeps (c .before .before .before .before .before .before .before .before .before .before .before .before .before .pre .0) (sweep′ .kept .0) (args′ .policy) (args′ .at) (sweep′ .ensures) in
-    c .before .before .evict-one .ensures ∙ room-by-eviction _ _ _ (sweep′ .ensures) (omega (arith, lent-cap lent))
+    let pre′ = c .before .before .before .before .before .before .before .before .before .before .before .before .before .pre in
+    let evict-one′ = c .before .before .evict-one in
+    let lent = lent-after-sweeps (pre′ .0) (sweep′ .kept .0) (args′ .policy) (args′ .at) (sweep′ .ensures) in
+    evict-one′ .ensures ∙ room-by-eviction _ _ _ (sweep′ .ensures) (omega (arith, lent-cap lent))
 
 pub make-room-spec : {M : Type 1} → statement M
 make-room-spec =

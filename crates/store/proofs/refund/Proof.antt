@@ -26,7 +26,9 @@ with-bucket-requires c κs = search needs
 set-requires : tie.Need-set-requires
 set-requires c κs =
     let pre′ = c .before .before .before .before .before .before .before .before .before .before .before .before .pre in
-    let found = sym (c .before .before .before .before .before .before .before .before .before .position .ensures) ∙ c .before .before .before .before .before .before .before .pos .given .1 in
+    let position′ = c .before .before .before .before .before .before .before .before .before .position in
+    let pos′ = c .before .before .before .before .before .before .before .pos in
+    let found = sym (position′ .ensures) ∙ pos′ .given .1 in
     (pre′ .0, found-below-cap _ _ _ (pre′ .0) found)
 
 enum-told : tie.Need-enum-told
@@ -40,17 +42,26 @@ same-length c = search needs
 
 returns : tie.Need-returns
 returns c =
-    let found = sym (c .before .before .before .before .before .before .before .before .before .before .before .before .position .ensures) ∙ c .before .before .before .before .before .before .before .before .before .before .pos .given .1 in
-    let read = c .before .before .before .before .before .before .before .get .ensures in
-    rw (c .before .before .set .ensures, c .before .before .before .with-bucket .ensures, c .before .before .before .before .refund .ensures) (refund-with-slot _ _ _ _ _ found read)
+    let position′ = c .before .before .before .before .before .before .before .before .before .before .before .before .position in
+    let pos′ = c .before .before .before .before .before .before .before .before .before .before .pos in
+    let get′ = c .before .before .before .before .before .before .before .get in
+    let set′ = c .before .before .set in
+    let with-bucket′ = c .before .before .before .with-bucket in
+    let refund′ = c .before .before .before .before .refund in
+    let found = sym (position′ .ensures) ∙ pos′ .given .1 in
+    let read = get′ .ensures in
+    rw (set′ .ensures, with-bucket′ .ensures, refund′ .ensures) (refund-with-slot _ _ _ _ _ found read)
 
 same-length-2 : tie.Need-same-length-2
 same-length-2 c = search needs
 
 returns-2 : tie.Need-returns-2
 returns-2 c =
-    let missed = sym (c .before .before .before .before .before .before .position .ensures) ∙ c .before .before .before .before .enum-told .given .1 in
-    c .before .before .pay-down .ensures ∙ refund-without-slot _ _ _ _ missed
+    let position′ = c .before .before .before .before .before .before .position in
+    let enum-told′ = c .before .before .before .before .enum-told in
+    let pay-down′ = c .before .before .pay-down in
+    let missed = sym (position′ .ensures) ∙ enum-told′ .given .1 in
+    pay-down′ .ensures ∙ refund-without-slot _ _ _ _ missed
 
 pub refund-spec : {M : Type 1} → statement M
 refund-spec =

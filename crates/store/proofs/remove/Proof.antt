@@ -18,8 +18,11 @@ remove-at-requires : tie.Need-remove-at-requires
 remove-at-requires c κs =
     let take′ = c .before .before .before .before .before .before .take in
     let args′ = c .before .before .before .before .before .before .before .before .before .before .before .args in
-    let found = sym (c .before .before .before .before .before .before .before .before .position .ensures) ∙ c .before .before .place .given .1 in
-    (lent-after-taking (c .before .before .before .before .before .before .before .before .before .before .before .pre) (take′ .kept .0) (args′ .id) (take′ .ensures), taking-keeps-held (args′ .id) _ (take′ .ensures) _ found)
+    let position′ = c .before .before .before .before .before .before .before .before .position in
+    let place′ = c .before .before .place in
+    let pre′ = c .before .before .before .before .before .before .before .before .before .before .before .pre in
+    let found = sym (position′ .ensures) ∙ place′ .given .1 in
+    (lent-after-taking pre′ (take′ .kept .0) (args′ .id) (take′ .ensures), taking-keeps-held (args′ .id) _ (take′ .ensures) _ found)
 
 enum-told : tie.Need-enum-told
 enum-told c = search needs
@@ -32,9 +35,13 @@ same-length c = search needs
 
 returns : tie.Need-returns
 returns c =
-    let took = c .before .before .before .before .before .before .before .before .before .take .ensures in
-    let found = sym (c .before .before .before .before .before .before .before .before .before .before .before .position .ensures) ∙ c .before .before .before .before .before .place .given .1 in
-    rw (c .before .before .remove-at .ensures) (remove-with-slot _ _ took _ found)
+    let take′ = c .before .before .before .before .before .before .before .before .before .take in
+    let position′ = c .before .before .before .before .before .before .before .before .before .before .before .position in
+    let place′ = c .before .before .before .before .before .place in
+    let remove-at′ = c .before .before .remove-at in
+    let took = take′ .ensures in
+    let found = sym (position′ .ensures) ∙ place′ .given .1 in
+    rw (remove-at′ .ensures) (remove-with-slot _ _ took _ found)
 
 same-length-2 : tie.Need-same-length-2
 same-length-2 c = search needs

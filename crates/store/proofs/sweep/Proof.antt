@@ -11,7 +11,8 @@ sweep-requires : tie.Need-sweep-requires
 sweep-requires c κs =
     let sweep-idle′ = c .before .before .before .sweep-idle in
     let args′ = c .before .before .before .before .before .before .args in
-    lent-after-idle-sweep (c .before .before .before .before .before .before .pre .0) (sweep-idle′ .kept .0) (args′ .policy) (args′ .at) (sweep-idle′ .ensures)
+    let pre′ = c .before .before .before .before .before .before .pre in
+    lent-after-idle-sweep (pre′ .0) (sweep-idle′ .kept .0) (args′ .policy) (args′ .at) (sweep-idle′ .ensures)
 
 same-length : tie.Need-same-length
 same-length c = search needs

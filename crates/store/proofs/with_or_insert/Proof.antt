@@ -28,16 +28,22 @@ same-length c = search needs
 
 returns : tie.Need-returns
 returns c =
-    let found = sym (c .before .before .before .before .before .before .before .position .ensures) ∙ c .before .before .before .before .before .pos .given .1 in
-    c .before .before .known .ensures ∙ ask-with-slot _ _ _ _ _ _ _ found
+    let position′ = c .before .before .before .before .before .before .before .position in
+    let pos′ = c .before .before .before .before .before .pos in
+    let known′ = c .before .before .known in
+    let found = sym (position′ .ensures) ∙ pos′ .given .1 in
+    known′ .ensures ∙ ask-with-slot _ _ _ _ _ _ _ found
 
 same-length-2 : tie.Need-same-length-2
 same-length-2 c = search needs
 
 returns-2 : tie.Need-returns-2
 returns-2 c =
-    let missed = sym (c .before .before .before .before .before .before .position .ensures) ∙ c .before .before .before .before .enum-told .given .1 in
-    c .before .before .new .ensures ∙ ask-without-slot _ _ _ _ _ _ missed
+    let position′ = c .before .before .before .before .before .before .position in
+    let enum-told′ = c .before .before .before .before .enum-told in
+    let new′ = c .before .before .new in
+    let missed = sym (position′ .ensures) ∙ enum-told′ .given .1 in
+    new′ .ensures ∙ ask-without-slot _ _ _ _ _ _ missed
 
 pub with-or-insert-spec : {M : Type 1} → statement M
 with-or-insert-spec =
