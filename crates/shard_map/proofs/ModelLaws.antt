@@ -37,7 +37,7 @@ use Rattle.shard_map.specs.declared.evict.Room.the-variants.{Made, Refus
 use Rattle.shard_map.specs.Model.{Shard, Sound, noSlot, capOf, slotAt, withCount, withSlot, withSweep, inLedger, handOf, sweepOf, placeOf, removeAt, insert, reclaimable, idleLookAt, idleLook, sweepIdle}
 use Rattle.shard_map.specs.Evict.{minRefusalWait, orPlace, placeOr, nothingNoted, noted, looked, goesAtOnce, holds, Within, walkFrom, walked, evictAt, debtOf, evictLimited, evictNoted, evicted}
 use Rattle.shard_map.specs.Layout.{shard, Lent}
-use Rattle.shard_map.proofs.LayoutLaws.{cap-is, ledger-lent}
+use Rattle.shard_map.proofs.LayoutLaws.{cap-is, ledger-lent, ledger-long}
 use Rattle.shard_map.proofs.StepLaws.{hand-below, sweep-below, change-sound, sweep-sound, ledger-sound, sweep-idle-sound}
 use Rattle.shard_map.proofs.WalkLaws.{fullIfAny, walk-kept, remarked-sound}
 
@@ -56,13 +56,7 @@ lent-sweep {cap} {ws} lent some = let held = sweep-below (shard cap ws) some in 
 
 -- The ledger's part of words that are lent is lent, in the form in which the code lends it.
 pub lent-ledger : {cap : ℕ} {ws : List ℕ} → Lent cap ws → LedgerLayout.Lent cap (part (3 + 6 * cap) (3 + 6 * cap + (2 + 2 * cap) - (3 + 6 * cap)) ws)
-lent-ledger {cap} {ws} lent =
-    let size = lent .size in
-    let long : 3 + 6 * cap + (2 + 2 * cap) - (3 + 6 * cap) ≡ 2 + 2 * cap = omega arith in
-    record {
-      size = part-length (3 + 6 * cap) (3 + 6 * cap + (2 + 2 * cap) - (3 + 6 * cap)) ws (omega arith) ∙ long;
-      sound = rw (ledger-lent cap ws) (lent .sound .ledger);
-    }
+lent-ledger {cap} {ws} lent = record { size = ledger-long cap ws (lent .size); sound = rw (ledger-lent cap ws) (lent .sound .ledger) }
 
 -- Words stay lent after a call that keeps their length and gives a sound shard: the shard alone, or an answer with it.
 module _ {cap : ℕ} {ws ws′ : List ℕ} (lent : Lent cap ws) (same : length ws′ ≡ length ws) where
