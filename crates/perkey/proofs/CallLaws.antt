@@ -21,10 +21,10 @@ use Rattle.store.specs.declared.Answer.the-variants.{Decided, NoSpace}
 use Rattle.store.specs.Model as Store
 use Rattle.perkey.specs.declared.Reply.{Reply}
 use Rattle.perkey.specs.declared.Reply.the-variants.{Impossible, Nothing, Count, Refused}
-use Rattle.perkey.specs.Memory.{shardAt, slotCount}
-use Rattle.perkey.specs.Refusals.{keyedRefusal, timedRefusal, reserveRefusal, lengthCallRefusal}
+use Rattle.shards.specs.Memory.{shardAt, slotCount}
+use Rattle.shards.specs.Refusals.{keyedRefusal, timedRefusal, reserveRefusal, lengthCallRefusal}
 use Rattle.perkey.specs.Rules as Rules
-use Rattle.perkey.proofs.MemoryLaws.{unless-refused-accepts, unless-refused-refuses}
+use Rattle.perkey.proofs.RefusedLaws.{unless-refused-accepts, unless-refused-refuses}
 use Rattle.rows.specs.Held.{sum}
 use Rattle.perkey.specs.Calls.{Call, try, reserve, peek, available, len, refund, remove, rules, Answered, numbered, accepted}
 
@@ -63,6 +63,13 @@ not-refused-is-ruled c ws none = rules-are c ws ∙ unless-refused-accepts (refu
 
 pub refused-is-told : (c : Call) (ws : List ℕ) → (refusalOf c ws ≡ 0 → ⊥) → rules c ws ≡ outcome (Refused (refusalOf c ws)) ws
 refused-is-told c ws some = rules-are c ws ∙ unless-refused-refuses (refusalOf c ws) ws (ruleOf c ws) some
+
+-- As the code comes to them: a number that is not 0 is told, and where it is 0 the rule decides.
+pub refusal-is-told : (c : Call) (ws : List ℕ) {told : ℕ} → told ≡ refusalOf c ws → (told ≡ 0 → ⊥) → outcome (Refused told) ws ≡ rules c ws
+refusal-is-told c ws is some = rw is (sym (refused-is-told c ws (λ none. some (is ∙ none))))
+
+pub rule-is-told : (c : Call) (ws : List ℕ) {told : ℕ} {o : Outcome Reply (List ℕ)} → told ≡ refusalOf c ws → told ≡ 0 → o ≡ ruleOf c ws → o ≡ rules c ws
+rule-is-told c ws is none gave = gave ∙ sym (not-refused-is-ruled c ws (sym is ∙ none))
 
 -- No rule answers with a number of a refusal.
 closed-not-numbered : (cost : ℕ) → numbered (Rules.closed cost) ≡ false

@@ -16,7 +16,7 @@ use Rattle.shard_map.specs.Layout as Layout
 use Rattle.shard_map.specs.Model as Shard
 use Rattle.shard_map.specs.Evict.{noted, walkFrom, walked, evicted}
 use Rattle.store.specs.Model as Store
-use Rattle.perkey.specs.Refusals as Refusals
+use Rattle.shards.specs.Refusals as Refusals
 use Rattle.perkey.specs.Rules as Rules
 use Rattle.perkey.specs.Edges.{allHold, edges}
 

@@ -1,3 +1,4 @@
-pub mod MemoryLaws
+pub mod RefusedLaws
+pub mod RuleLaws
 pub mod CallLaws
 pub mod EdgeLaws

@@ -28,8 +28,8 @@ use Rattle.shard_map.specs.Model.{Shard}
 use Rattle.store.specs.Model as Store
 use Rattle.perkey.specs.declared.Reply.{Reply}
 use Rattle.perkey.specs.declared.Reply.the-variants.{Granted, Retry, Impossible, Nothing, Done, Count, Refused}
-use Rattle.perkey.specs.Memory.{shardAt, inShard, slotCount}
-use Rattle.perkey.specs.Refusals.{setUpRefusal, keyedRefusal, timedRefusal, reserveRefusal, lengthCallRefusal}
+use Rattle.shards.specs.Memory.{shardAt, inShard, slotCount}
+use Rattle.shards.specs.Refusals.{setUpRefusal, keyedRefusal, timedRefusal, reserveRefusal, lengthCallRefusal}
 
 -- The desk's code of a reply: 0 granted, accepted, known or counted, 1 to be tried again, 2 impossible, 3 none or unknown, 10 + n refused as n.
 abbrev pub codeOf : Reply → ℕ

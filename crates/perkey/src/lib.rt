@@ -1,4 +1,19 @@
-// The limiter: every operation on any settings and any lent words.
+// The limiter: its nine operations, on settings, arguments and lent words of any kind. A call that is refused by number changes no word.
+ghost use mathlib.Core.Path.{_≡_};
+ghost use Rattle.rows.specs.Outcome.{outcome};
+ghost use Rattle.settings.specs.Settings.{limitRefusal};
+ghost use Rattle.shards.specs.Refusals.{keyedRefusal, timedRefusal, reserveRefusal};
+ghost use Rattle.perkey.specs.Rules as Rules;
+use bucket::BucketDecision;
+use bucket::Request;
+use settings::Limit;
+use settings::Settings;
+use settings::eviction::WhenFull;
+use settings::rate::Rate;
+use shards::refusals;
+use store::Answer;
+use store::Identity;
+use store::Policy;
 use units::Nanos;
 
 // What an operation answers.
@@ -17,4 +32,290 @@ pub enum Reply {
     Count(u64),
     // Refused by number.
     Refused(u64),
+}
+
+// Sets the store up in the lent words.
+pub fn set_up(settings: Settings, ws: &mut [u64]) -> Reply
+    ensures { λ r. ⌜ outcome r (now (ws .exit)) ≡ Rules.setUp settings (now (ws .entry)) ⌝ }
+{
+    let refusal = refusals::set_up_refusal(settings, ws);
+    if refusal != 0 {
+        return Reply::Refused(refusal);
+    }
+    shards::clear(ws);
+    Reply::Done
+}
+
+// Takes tokens for a key without waiting: granted, to be tried again after a wait, or impossible.
+pub fn try_acquire_with_cost(
+    settings: Settings,
+    ws: &mut [u64],
+    at: Nanos,
+    id: Identity,
+    cost: u32,
+) -> Reply
+    ensures { λ r. ⌜ outcome r (now (ws .exit)) ≡ Rules.tryAcquire settings at id cost (now (ws .entry)) ⌝ }
+{
+    let refusal = refusals::timed_refusal(settings, ws, id.hash, at);
+    if refusal != 0 {
+        return Reply::Refused(refusal);
+    }
+    decide(settings, ws, at, id, cost)
+}
+
+// A try that is not refused. No state is made for a cost that can never be granted, nor for cost 0.
+fn decide(settings: Settings, ws: &mut [u64], at: Nanos, id: Identity, cost: u32) -> Reply
+    requires { ⌜ timedRefusal settings (id .hash) at (now ws) ≡ 0 ⌝ }
+    ensures { λ r. ⌜ outcome r (now (ws .exit)) ≡ Rules.triedBy (settings .limit) settings at id cost (now (ws .entry)) ⌝ }
+{
+    let limit = settings.limit;
+    match limit {
+        Limit::Closed => closed(cost),
+        Limit::Open(rate) => {
+            if rate.capacity() < cost {
+                return Reply::Impossible;
+            }
+            if cost == 0 {
+                return Reply::Granted(Nanos(0));
+            }
+            let policy = policy(settings, rate);
+            try_reply(shards::with_or_insert(ws, settings, policy, id, Request::Acquire, cost, at))
+        }
+    }
+}
+
+// Takes tokens for a key that become usable after a wait, if the wait is at most `max_wait`.
+pub fn reserve(
+    settings: Settings,
+    ws: &mut [u64],
+    at: Nanos,
+    id: Identity,
+    cost: u32,
+    max_wait: Nanos,
+) -> Reply
+    ensures { λ r. ⌜ outcome r (now (ws .exit)) ≡ Rules.reserve settings at id cost «max_wait» (now (ws .entry)) ⌝ }
+{
+    let refusal = refusals::reserve_refusal(settings, ws, id.hash, at, max_wait);
+    if refusal != 0 {
+        return Reply::Refused(refusal);
+    }
+    reserve_within(settings, ws, at, id, cost, max_wait)
+}
+
+// A reservation that is not refused.
+fn reserve_within(
+    settings: Settings,
+    ws: &mut [u64],
+    at: Nanos,
+    id: Identity,
+    cost: u32,
+    max_wait: Nanos,
+) -> Reply
+    requires { ⌜ timedRefusal settings (id .hash) at (now ws) ≡ 0 ⌝ }
+    ensures { λ r. ⌜ outcome r (now (ws .exit)) ≡ Rules.reservedBy (settings .limit) settings at id cost «max_wait» (now (ws .entry)) ⌝ }
+{
+    let limit = settings.limit;
+    match limit {
+        Limit::Closed => Reply::Nothing,
+        Limit::Open(rate) => {
+            if rate.capacity() < cost {
+                return Reply::Nothing;
+            }
+            if cost == 0 {
+                return Reply::Granted(Nanos(0));
+            }
+            let policy = policy(settings, rate);
+            reserve_reply(shards::with_or_insert(
+                ws,
+                settings,
+                policy,
+                id,
+                Request::Reserve(max_wait),
+                cost,
+                at,
+            ))
+        }
+    }
+}
+
+// What a try would answer, taking nothing.
+pub fn peek(settings: Settings, ws: &[u64], at: Nanos, id: Identity, cost: u32) -> Reply
+    ensures { λ r. ⌜ outcome r (now (ws .entry)) ≡ Rules.peek settings at id cost (now (ws .entry)) ⌝ }
+{
+    let refusal = refusals::timed_refusal(settings, ws, id.hash, at);
+    if refusal != 0 {
+        return Reply::Refused(refusal);
+    }
+    look(settings, ws, at, id, cost)
+}
+
+// A peek that is not refused: the wait of the bucket that the key has, or would have if it came in now.
+fn look(settings: Settings, ws: &[u64], at: Nanos, id: Identity, cost: u32) -> Reply
+    requires { ⌜ timedRefusal settings (id .hash) at (now ws) ≡ 0 ⌝ }
+    ensures { λ r. ⌜ r ≡ Rules.peekedBy (settings .limit) settings at id cost (now (ws .entry)) ⌝ }
+{
+    let limit = settings.limit;
+    match limit {
+        Limit::Closed => closed(cost),
+        Limit::Open(rate) => {
+            let config = rate.config();
+            if config.capacity < cost {
+                return Reply::Impossible;
+            }
+            let bucket = shards::view(ws, settings, config, id, at);
+            wait_reply(bucket.time_until_at(config, cost, at))
+        }
+    }
+}
+
+// The whole tokens that a key has.
+pub fn available(settings: Settings, ws: &[u64], at: Nanos, id: Identity) -> Reply
+    ensures { λ r. ⌜ outcome r (now (ws .entry)) ≡ Rules.available settings at id (now (ws .entry)) ⌝ }
+{
+    let refusal = refusals::timed_refusal(settings, ws, id.hash, at);
+    if refusal != 0 {
+        return Reply::Refused(refusal);
+    }
+    Reply::Count(tokens(settings, ws, at, id))
+}
+
+// The tokens of the same bucket; none where there is no rate.
+fn tokens(settings: Settings, ws: &[u64], at: Nanos, id: Identity) -> u64
+    requires { ⌜ timedRefusal settings (id .hash) at (now ws) ≡ 0 ⌝ }
+    ensures { λ r. ⌜ r ≡ Rules.availableBy (settings .limit) settings at id (now (ws .entry)) ⌝ }
+{
+    let limit = settings.limit;
+    match limit {
+        Limit::Closed => 0,
+        Limit::Open(rate) => {
+            let config = rate.config();
+            let bucket = shards::view(ws, settings, config, id, at);
+            bucket.available_at(config, at) as u64
+        }
+    }
+}
+
+// Gives tokens back to a key, if it is known.
+pub fn refund(settings: Settings, ws: &mut [u64], id: Identity, cost: u32) -> Reply
+    ensures { λ r. ⌜ outcome r (now (ws .exit)) ≡ Rules.refund settings id cost (now (ws .entry)) ⌝ }
+{
+    let refusal = refusals::keyed_refusal(settings, ws, id.hash);
+    if refusal != 0 {
+        return Reply::Refused(refusal);
+    }
+    let limit = settings.limit;
+    match limit {
+        Limit::Closed => Reply::Nothing,
+        Limit::Open(rate) => known_reply(shards::refund(ws, settings, rate.config(), id, cost)),
+    }
+}
+
+// Forgets a key, if it is known.
+pub fn remove(settings: Settings, ws: &mut [u64], id: Identity) -> Reply
+    ensures { λ r. ⌜ outcome r (now (ws .exit)) ≡ Rules.remove settings id (now (ws .entry)) ⌝ }
+{
+    let refusal = refusals::keyed_refusal(settings, ws, id.hash);
+    if refusal != 0 {
+        return Reply::Refused(refusal);
+    }
+    known_reply(shards::remove(ws, settings, id))
+}
+
+// Forgets every key.
+pub fn clear(settings: Settings, ws: &mut [u64]) -> Reply
+    ensures { λ r. ⌜ outcome r (now (ws .exit)) ≡ Rules.clear settings (now (ws .entry)) ⌝ }
+{
+    set_up(settings, ws)
+}
+
+// How many keys have a slot.
+pub fn len(settings: Settings, ws: &[u64]) -> Reply
+    ensures { λ r. ⌜ outcome r (now (ws .entry)) ≡ Rules.len settings (now (ws .entry)) ⌝ }
+{
+    let refusal = refusals::length_call_refusal(settings, ws);
+    if refusal != 0 {
+        return Reply::Refused(refusal);
+    }
+    Reply::Count(shards::len(ws, settings) as u64)
+}
+
+// The answer of a limiter without a rate: it grants only cost 0.
+fn closed(cost: u32) -> Reply
+    ensures { λ r. ⌜ r ≡ Rules.closed cost ⌝ }
+{
+    if cost == 0 {
+        Reply::Granted(Nanos(0))
+    } else {
+        Reply::Impossible
+    }
+}
+
+// What of the settings decides inside a shard.
+fn policy(settings: Settings, rate: Rate) -> Policy
+    requires { ⌜ limitRefusal (settings .limit) ≡ 0 ⌝ }
+    ensures { λ r. ⌜ r ≡ Rules.policyOf settings rate ⌝ }
+{
+    let eviction = settings.eviction;
+    let when_full = eviction.when_full;
+    let config = rate.config();
+    let idle_limit = settings.idle_limit();
+    Policy {
+        config,
+        idle_limit,
+        forget_debt: forgets(when_full),
+    }
+}
+
+// Whether a full ledger forgets a debt rather than turning a new key away.
+fn forgets(when_full: WhenFull) -> bool
+    ensures { λ r. ⌜ r ≡ Rules.forgets «when_full» ⌝ }
+{
+    match when_full {
+        WhenFull::RefuseNew => false,
+        WhenFull::ForgetDebt => true,
+    }
+}
+
+// A store's answer as the reply to a try: want of space is a wait too.
+fn try_reply(answer: Answer) -> Reply
+    ensures { λ r. ⌜ r ≡ Rules.tryReply answer ⌝ }
+{
+    match answer {
+        Answer::Decided(decision) => match decision {
+            BucketDecision::Allowed(wait) => Reply::Granted(wait),
+            BucketDecision::Denied(wait) => Reply::Retry(wait),
+        },
+        Answer::NoSpace(wait) => Reply::Retry(wait),
+    }
+}
+
+// A store's answer as the reply to a reservation.
+fn reserve_reply(answer: Answer) -> Reply
+    ensures { λ r. ⌜ r ≡ Rules.reserveReply answer ⌝ }
+{
+    match answer {
+        Answer::Decided(decision) => match decision {
+            BucketDecision::Allowed(wait) => Reply::Granted(wait),
+            BucketDecision::Denied(_) => Reply::Nothing,
+        },
+        Answer::NoSpace(_) => Reply::Nothing,
+    }
+}
+
+// A bucket's wait as the reply to a peek.
+fn wait_reply(wait: Nanos) -> Reply
+    ensures { λ r. ⌜ r ≡ Rules.waitReply (wait .0) ⌝ }
+{
+    if wait.0 == 0 {
+        Reply::Granted(Nanos(0))
+    } else {
+        Reply::Retry(wait)
+    }
+}
+
+// Whether a key was known, as a reply.
+fn known_reply(known: bool) -> Reply
+    ensures { λ r. ⌜ r ≡ Rules.knownReply known ⌝ }
+{
+    if known { Reply::Done } else { Reply::Nothing }
 }

@@ -7,3 +7,4 @@ pub mod DistinctLaws
 pub mod LayoutLaws
 pub mod OutcomeLaws
 pub mod ReadBack
+pub mod ZeroLaws

@@ -1,17 +1,15 @@
 -- Items written as rows of words and read back: the items come out as they were, with the count. Over any item and width.
-use Prim.Native.Nat.{ℕ, _+_, _*_}
+use Prim.Native.Nat.{ℕ, _*_}
 use native.Mathlib.Omega.{arith}
 use native.Mathlib.Nat.{mul-zero, mul-suc}
-use mathlib.Core.Path.{_≡_, refl, sym, _∙_}
+use mathlib.Core.Path.{_≡_, refl, sym}
 use mathlib.Core.List.{List, [], _∷_, map}
-use lib.ListN.{length, getD, drop, length-append, length-take, List·getD-eq-default}
+use lib.ListN.{length, getD, length-append}
 use lib.Seq.{take-at, drop-at}
 use Rattle.rows.specs.Parts.{part}
 use Rattle.rows.specs.Rows.{rows, unrow}
 use Rattle.rows.specs.Held.{Held}
 use Rattle.rows.specs.Layout.{heldIn}
-use Rattle.arith.proofs.Cases.{by-le}
-use Rattle.rows.proofs.RowLaws.{part-word}
 
 -- `write` gives the words of an item, w of them.
 module _ {A : Type 0} (write : A → List ℕ) (w : ℕ) (long : (x : A) → length (write x) ≡ w) where
@@ -37,10 +35,3 @@ module _ {A : Type 0} (write : A → List ℕ) (w : ℕ) (long : (x : A) → len
     held-of-written h cap at first ws full count rows-there =
         let items : map read (rows w cap (part first (w * cap) ws)) ≡ h .places = rw (rows-there, ← full) (rows-of-written (h .places)) in
         λ j. record { count = count j; places = items j }
-
--- A part of words that are all 0 is all 0: its own words are 0, and past its end 0 is read.
-pub zeros-part : (a n : ℕ) (ws : List ℕ) → ((i : ℕ) → getD ws i 0 ≡ 0) → (i : ℕ) → getD (part a n ws) i 0 ≡ 0
-zeros-part a n ws zeros i =
-    by-le n i
-    (λ past. List·getD-eq-default (part a n ws) 0 (omega (arith, length-take n (drop a ws))))
-    (λ inside. part-word a n ws i inside ∙ zeros (a + i))

@@ -6,6 +6,15 @@ use native.Mathlib.Omega.{arith}
 use Rattle.arith.proofs.Cases.{by-eq}
 use Rattle.rows.specs.Held.{sum}
 
+-- A sum over no places, and over one place more.
+pub sum-of-none : (f : ℕ → ℕ) → sum 0 f ≡ 0
+unfolding sum
+sum-of-none f = refl
+
+pub sum-next : (n : ℕ) (f : ℕ → ℕ) → sum (n + 1) f ≡ sum n f + f n
+unfolding sum
+sum-next n f = let next : n + 1 ≡ suc n = omega arith in rw next
+
 pub sum-same : (n : ℕ) (f g : ℕ → ℕ) → ((i : ℕ) → i < n → f i ≡ g i) → sum n f ≡ sum n g
 unfolding sum
 sum-same zero f g same = refl

@@ -8,7 +8,8 @@ use lib.Seq.{take-at, take-all, drop-at}
 use Rattle.rows.specs.Parts.{part}
 use Rattle.rows.specs.Rows.{unrow}
 use Rattle.rows.proofs.LayoutLaws.{held-count}
-use Rattle.rows.proofs.ReadBack.{written-length, held-of-written, zeros-part}
+use Rattle.rows.proofs.ReadBack.{written-length, held-of-written}
+use Rattle.rows.proofs.ZeroLaws.{zeros-part}
 use Rattle.settings.specs.Settings.{shardWords}
 use Rattle.ledger.specs.Model as Debts
 use Rattle.ledger.specs.Layout as Ledger

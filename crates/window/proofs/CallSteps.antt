@@ -24,9 +24,9 @@ use Rattle.store.specs.Model as Store
 use Rattle.store.proofs.StoreLaws.{ask-same-room, refund-same-room, remove-same-room}
 use Rattle.perkey.specs.declared.Reply.{Reply}
 use Rattle.perkey.specs.declared.Reply.the-variants.{Granted, Impossible, Nothing}
-use Rattle.perkey.specs.Memory.{shardAt, inShard}
+use Rattle.shards.specs.Memory.{shardAt, inShard}
 use Rattle.perkey.specs.Rules.{unlessTrivial, noWait, triedBy, reservedBy, requested, policyOf, tryReply, reserveReply, keyed, refundedBy}
-use Rattle.perkey.proofs.MemoryLaws as Memory
+use Rattle.shards.proofs.RefusalLaws.{keyed-not-refused, timed-not-refused, reserve-not-refused}
 use Rattle.perkey.specs.Calls.{Call, try, reserve, peek, available, len, refund, remove, rules, Answered, settingsOf, momentOf, ofKey, ofReturned, accepted}
 use Rattle.window.specs.Demands.{clock}
 use Rattle.window.proofs.GrantLaws.{Grant, bounded-nil}
@@ -129,11 +129,11 @@ module _ (s : Settings) (rate : Rate) (k : Identity) (a : Accepted (configOf rat
 
       accepted-stands : (c : Call) → refusalOf c ws ≡ 0 → Fair n c → After c
       accepted-stands (try s′ at id cost) none fair =
-          let sound = rw (fair .settings) at (Memory.timed-not-refused s′ (id .hash) ws at none .0 .sound) in
+          let sound = rw (fair .settings) at (timed-not-refused s′ (id .hash) ws at none .0 .sound) in
           rw (not-refused-is-ruled (try s′ at id cost) ws none, tried s′ at id cost ws (fair .settings))
           (any-request-stands Acquire tryReply try-grants (omega arith) at id cost ws gs sound (fair .alone) (standing-later s rate k n (at .0) ws (fair .later) v) Impossible refl)
       accepted-stands (reserve s′ at id cost longest) none fair =
-          let open′ = Memory.reserve-not-refused s′ (id .hash) ws at longest none in
+          let open′ = reserve-not-refused s′ (id .hash) ws at longest none in
           let sound = rw (fair .settings) at (open′ .0 .sound) in
           rw (not-refused-is-ruled (reserve s′ at id cost longest) ws none, reserved s′ at id cost longest ws (fair .settings))
           (any-request-stands (Reserve longest) reserveReply reserve-grants (open′ .2) at id cost ws gs sound (fair .alone) (standing-later s rate k n (at .0) ws (fair .later) v) Nothing refl)
@@ -141,14 +141,14 @@ module _ (s : Settings) (rate : Rate) (k : Identity) (a : Accepted (configOf rat
       accepted-stands (available s′ at id) none fair = rw (not-refused-is-ruled (available s′ at id) ws none) (standing-later s rate k n (at .0) ws (fair .later) v)
       accepted-stands (len s′) none fair = rw (not-refused-is-ruled (len s′) ws none) v
       accepted-stands (refund s′ id cost) none fair =
-          let sound = rw (fair .settings) at (Memory.keyed-not-refused s′ (id .hash) ws none .sound) in
+          let sound = rw (fair .settings) at (keyed-not-refused s′ (id .hash) ws none .sound) in
           let differs : id .hash ≡ k .hash → ⊥ = λ hash. fair .unreturned hash (fair .alone hash) in
           rw (not-refused-is-ruled (refund s′ id cost) ws none, refunding s′ id cost ws (fair .settings))
           (operation-stands s rate k (id .hash) n ws v (Store.refunded (configOf rate) id cost (shardAt s (id .hash) ws)) (refund-same-room (shardAt s (id .hash) ws) sound (configOf rate) id cost) gs
           (λ same b. invariant-keeps (configOf rate) (k .hash) (k .key) (moment n) _ _ (other-refund (configOf rate) (k .hash) (k .key) (moment n) (shardAt s (id .hash) ws) sound id differs cost) b)
           (λ apart. refl))
       accepted-stands (remove s′ id) none fair =
-          let sound = rw (fair .settings) at (Memory.keyed-not-refused s′ (id .hash) ws none .sound) in
+          let sound = rw (fair .settings) at (keyed-not-refused s′ (id .hash) ws none .sound) in
           let differs : id .hash ≡ k .hash → ⊥ = λ hash. fair .unreturned hash (fair .alone hash) in
           rw (not-refused-is-ruled (remove s′ id) ws none, fair .settings)
           (operation-stands s rate k (id .hash) n ws v (Store.removed id (shardAt s (id .hash) ws)) (remove-same-room (shardAt s (id .hash) ws) sound id) gs

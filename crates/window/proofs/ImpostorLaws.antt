@@ -26,8 +26,8 @@ use Rattle.store.specs.declared.Identity.{Identity}
 use Rattle.store.specs.Model as Store
 use Rattle.perkey.specs.declared.Reply.{Reply}
 use Rattle.perkey.specs.declared.Reply.the-variants.{Granted, Retry, Impossible, Count}
-use Rattle.perkey.specs.Memory.{shardAt}
-use Rattle.perkey.specs.Refusals as Refusals
+use Rattle.shards.specs.Memory.{shardAt}
+use Rattle.shards.specs.Refusals as Refusals
 use Rattle.perkey.specs.Rules as Rules
 use Rattle.perkey.specs.Rules.{codeOf, numberOf, noWait, tryReply}
 use Rattle.perkey.specs.Calls.{Call, try, reserve, peek, available, len, refund, remove, Implementation, rules, replies, accepted}

@@ -13,9 +13,9 @@ use Rattle.store.specs.Model.{holds}
 use Rattle.store.proofs.OwnBucketLaws.{own-bucket-decides}
 use Rattle.perkey.specs.declared.Reply.{Reply}
 use Rattle.perkey.specs.declared.Reply.the-variants.{Impossible, Nothing}
-use Rattle.perkey.specs.Memory.{shardAt}
+use Rattle.shards.specs.Memory.{shardAt}
 use Rattle.perkey.specs.Rules.{unlessTrivial, triedBy, reservedBy, requested, policyOf, tryReply, reserveReply}
-use Rattle.perkey.proofs.MemoryLaws.{timed-not-refused, reserve-not-refused}
+use Rattle.shards.proofs.RefusalLaws.{timed-not-refused, reserve-not-refused}
 use Rattle.perkey.specs.Calls.{Call, try, reserve, peek, available, len, refund, remove, rules, Answered, replies, Every}
 use Rattle.window.specs.Demands.{decidedBy, OwnBucket}
 use Rattle.perkey.proofs.CallLaws.{refusalOf, ruleOf, not-refused-is-ruled, accepted-not-refused}

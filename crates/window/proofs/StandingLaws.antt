@@ -15,8 +15,8 @@ use Rattle.shard_map.specs.Model as Shard
 use Rattle.ledger.specs.Model as Ledger
 use Rattle.store.specs.declared.Identity.{Identity}
 use Rattle.store.proofs.StoreLaws.{SameRoom}
-use Rattle.perkey.specs.Memory.{shardAt, inShard}
-use Rattle.perkey.proofs.MemoryLaws.{same-shard, shard-at-cap, shard-at-debt-cap, in-shard-length, in-shard-reads-back-for, in-shard-leaves-others}
+use Rattle.shards.specs.Memory.{shardAt, inShard}
+use Rattle.shards.proofs.MemoryLaws.{same-shard, shard-at-cap, shard-at-debt-cap, in-shard-length, in-shard-reads-back-for, in-shard-leaves-others}
 use Rattle.window.proofs.GrantLaws.{Grant}
 use Rattle.window.proofs.RequestLaws.{Invariant, invariant-later}
 

@@ -20,9 +20,11 @@ use Rattle.shard_map.specs.Model as Shard
 use Rattle.store.specs.declared.Identity.{Identity}
 use Rattle.perkey.specs.declared.Reply.{Reply}
 use Rattle.perkey.specs.declared.Reply.the-variants.{Done, Refused}
-use Rattle.perkey.specs.Refusals.{setUpRefusal}
+use Rattle.shards.specs.Refusals.{setUpRefusal}
 use Rattle.perkey.specs.Rules.{setUp, forgets, policyOf}
-use Rattle.perkey.proofs.MemoryLaws.{fresh-shards-are-empty, set-up-not-refused, unless-refused-accepts, unless-refused-refuses, fresh-sound}
+use Rattle.shards.proofs.MemoryLaws.{fresh-shards-are-empty, fresh-sound}
+use Rattle.shards.proofs.RefusalLaws.{set-up-not-refused}
+use Rattle.perkey.proofs.RefusedLaws.{unless-refused-accepts, unless-refused-refuses}
 use Rattle.perkey.specs.Calls.{Call, Implementation, rules, Answered, replies, accepted, Every}
 use Rattle.window.specs.Demands.{Demand2, SameSettings, clock, TimesNeverFall, NoSharedHash, NeverReturned, tokensOf, tokensUsable, Window, OwnBucket, Demand3}
 use Rattle.window.proofs.GrantLaws.{Grant, within, window-from-bound}
@@ -43,7 +45,7 @@ unfolding setUp
 set-up-done s ws done′ =
     by-eq (setUpRefusal s ws) 0
     (λ none. record {
-      settings = set-up-not-refused s ws none .0;
+      settings = set-up-not-refused s ws none .settings;
       words = ap (λ (o : Outcome Reply (List ℕ)). o .after) (unless-refused-accepts (setUpRefusal s ws) ws (outcome Done (replicate (wordsOf s) 0)) none);
     })
     (λ some.

@@ -19,7 +19,7 @@ use Rattle.store.specs.declared.Answer.the-variants.{Decided}
 use Rattle.store.specs.Model.{holds}
 use Rattle.perkey.specs.declared.Reply.{Reply}
 use Rattle.perkey.specs.declared.Reply.the-variants.{Done}
-use Rattle.perkey.specs.Memory.{shardAt}
+use Rattle.shards.specs.Memory.{shardAt}
 use Rattle.perkey.specs.Rules.{setUp, tryReply, reserveReply, bucketOf}
 use Rattle.perkey.specs.Calls.{Call, try, reserve, peek, available, len, refund, remove, Implementation, rules, Answered, replies, settingsOf, momentOf, ofKey, ofReturned, ofGrant, accepted, Every}
 

@@ -11,7 +11,7 @@ use Rattle.store.specs.declared.Answer.{Answer}
 use Rattle.store.specs.declared.Answer.the-variants.{Decided, NoSpace}
 use Rattle.perkey.specs.declared.Reply.{Reply}
 use Rattle.perkey.specs.declared.Reply.the-variants.{Impossible, Count}
-use Rattle.perkey.specs.Refusals.{lengthCallRefusal}
+use Rattle.shards.specs.Refusals.{lengthCallRefusal}
 use Rattle.perkey.specs.Rules.{unlessRefused, numberOf, noWait, tryReply, reserveReply}
 use Rattle.perkey.specs.Calls.{try, reserve, peek, available, len, refund, remove, Implementation, rules, settingsOf}
 

@@ -1,5 +1,5 @@
 -- The lent words of a whole store, and the part of one shard in them.
-use Prim.Native.Nat.{ℕ, _*_}
+use Prim.Native.Nat.{ℕ, _+_, _*_}
 use mathlib.Core.List.{List, _++_}
 use lib.ListN.{take, drop}
 use Rattle.rows.specs.Parts.{part}
@@ -24,6 +24,9 @@ shardAt s hash ws = shard (capOf s) (part (shardStart s hash) (shardWords (capOf
 abbrev pub inShard : {A : Type 0} → Settings → ℕ → List ℕ → Outcome A Shard → Outcome A (List ℕ)
 inShard s hash ws o = outcome (o .answer) (withPart (shardStart s hash) (shardWords (capOf s)) ws (wordsOf (o .after)))
 
--- The slot count of a shard, by its number.
+-- The word after a shard, by its number; its slot count.
+abbrev pub shardEnd : ℕ → ℕ → ℕ
+shardEnd cap i = i * shardWords cap + shardWords cap
+
 abbrev pub slotCount : ℕ → ℕ → List ℕ → ℕ
 slotCount cap i ws = shard cap (part (i * shardWords cap) (shardWords cap) ws) .slots .count

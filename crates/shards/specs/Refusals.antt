@@ -8,7 +8,7 @@ use Rattle.units.specs.declared.Nanos.{Nanos}
 use Rattle.settings.specs.declared.Settings.{Settings}
 use Rattle.settings.specs.Settings.{firstOf, settingsRefusal, shardCount, capOf, wordsOf}
 use Rattle.shard_map.specs.Model.{Shard}
-use Rattle.perkey.specs.Memory.{shardAt, slotCount}
+use Rattle.shards.specs.Memory.{shardAt, slotCount}
 
 -- The latest moment, and the longest wait that a reservation may ask for, in nanoseconds.
 abbrev pub latestMoment : ℕ

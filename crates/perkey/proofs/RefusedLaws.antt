@@ -1,0 +1,35 @@
+-- The two cases of a call: refused by number or not.
+use Prim.Native.Nat.{ℕ}
+use mathlib.Core.Path.{_≡_, sym, _∙_}
+use mathlib.Core.List.{List}
+use lib.ListN.{length, replicate}
+use Rattle.rows.specs.Outcome.{Outcome, outcome}
+use Rattle.settings.specs.declared.Settings.{Settings}
+use Rattle.shards.specs.Refusals.{setUpRefusal}
+use Rattle.shards.proofs.RefusalLaws.{set-up-not-refused}
+use Rattle.perkey.specs.declared.Reply.{Reply}
+use Rattle.perkey.specs.declared.Reply.the-variants.{Done, Refused}
+use Rattle.perkey.specs.Rules.{unlessRefused, setUp}
+use borrow.Author.Tests.{eq-eqb, ne-eqb}
+
+-- A call that is not refused gives what the rules give; one that is refused tells the number and changes no word.
+module _ (refusal : ℕ) (ws : List ℕ) (accepted : Outcome Reply (List ℕ)) where
+  pub unless-refused-accepts : refusal ≡ 0 → unlessRefused refusal ws accepted ≡ accepted
+  unfolding unlessRefused
+  unless-refused-accepts none = rw (eq-eqb _ _ none)
+
+  pub unless-refused-refuses : (refusal ≡ 0 → ⊥) → unlessRefused refusal ws accepted ≡ outcome (Refused refusal) ws
+  unfolding unlessRefused
+  unless-refused-refuses some = rw (ne-eqb _ _ some)
+
+-- Set-up and clear, as the code comes to them.
+module _ (s : Settings) (ws : List ℕ) {told : ℕ} (is : told ≡ setUpRefusal s ws) where
+  pub set-up-refusal-is-told : (told ≡ 0 → ⊥) → outcome (Refused told) ws ≡ setUp s ws
+  unfolding setUp
+  set-up-refusal-is-told some = rw is (sym (unless-refused-refuses (setUpRefusal s ws) ws _ (λ none. some (is ∙ none))))
+
+  pub set-up-zeroes : told ≡ 0 → outcome Done (replicate (length ws) 0) ≡ setUp s ws
+  unfolding setUp
+  set-up-zeroes none =
+      let accepted = sym is ∙ none in
+      rw (set-up-not-refused s ws accepted .size) (sym (unless-refused-accepts (setUpRefusal s ws) ws _ accepted))

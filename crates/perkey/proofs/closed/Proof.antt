@@ -1,0 +1,13 @@
+-- `closed` grants cost 0 alone.
+use Rattle.perkey.proofs.RuleLaws.{closed-grants-none, closed-grants-nothing-else}
+use Rattle.perkey.proofs.closed.Statement.{statement}
+use Rattle.perkey.proofs.closed.Tie as tie
+
+returns : tie.Need-returns
+returns c = closed-grants-none _ (c .if1 .taken)
+
+returns-2 : tie.Need-returns-2
+returns-2 c = closed-grants-nothing-else _ (c .if1 .left)
+
+pub closed-spec : {M : Type 1} → statement M
+closed-spec = tie.close (tie.spec returns returns-2)

@@ -1,0 +1,3 @@
+pub mod MemoryLaws
+pub mod RefusalLaws
+pub mod LendingLaws

@@ -1,0 +1,23 @@
+-- `set_up_refusal` tells what the settings are refused as, else whether the length is wrong.
+use mathlib.Core.Path.{sym, _∙_}
+use Rattle.shards.proofs.RefusalLaws.{first-is-told, second-is-told}
+use Rattle.settings.proofs.SettingsLaws.{accepted-parts}
+use borrow.Author.Needs.{needs}
+use Rattle.shards.proofs.refusals.set_up_refusal.Statement.{statement}
+use Rattle.shards.proofs.refusals.set_up_refusal.Tie as tie
+
+refusal-requires : tie.Need-refusal-requires
+refusal-requires c κs = search needs
+
+returns : tie.Need-returns
+returns c = first-is-told _ (c .before .refusal .ensures) (c .if1 .taken)
+
+length-refusal-requires : tie.Need-length-refusal-requires
+length-refusal-requires c κs = accepted-parts _ (sym (c .before .refusal .ensures) ∙ c .if1 .left) .1
+
+returns-2 : tie.Need-returns-2
+returns-2 c = second-is-told (c .before .before .refusal .ensures) (c .before .if1 .left) (c .length-refusal .ensures)
+
+pub set-up-refusal-spec : {M : Type 1} → statement M
+set-up-refusal-spec =
+    tie.close (tie.spec refusal-requires returns length-refusal-requires returns-2)
