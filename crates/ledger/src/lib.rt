@@ -1,7 +1,7 @@
 // The debts of keys that were evicted before their buckets were full, by the hash of the key. A key that comes back starts with its debt.
 // The debts lie in lent words: the count, the cursor, then two words for each of `cap` debts.
 ghost use mathlib.Core.Path.{_≡_};
-ghost use Prim.Native.Nat.{_<_, min};
+ghost use Prim.Native.Nat.{_<_};
 ghost use Rattle.rows.specs.declared.Place.the-variants.{Nowhere};
 ghost use Rattle.rows.specs.Outcome.{outcome};
 ghost use Rattle.bucket.specs.Bucket.{Accepted};
@@ -142,7 +142,7 @@ fn scan(ws: &mut [u64], cap: usize, at: Nanos) -> Choice
     requires { ⌜ Lent cap (now ws) × (0 < ledger cap (now ws) .debts .count) ⌝ }
     ensures { λ r. ⌜ outcome r (ledger cap (now (ws .exit))) ≡ Model.scan (at .0) (ledger cap (now (ws .entry))) ⌝ }
 {
-    let mut left = fewer(Eviction::LEDGER_SCAN, words::count(ws, cap));
+    let mut left = arith::fewer(Eviction::LEDGER_SCAN, words::count(ws, cap));
     let mut best = words::cursor(ws, cap);
     while 0 < left {
         let cursor = words::cursor(ws, cap);
@@ -267,11 +267,4 @@ pub fn pay_down(ws: &mut [u64], cap: usize, hash: u64, cost: u32, config: Bucket
         }
         Place::Nowhere => false,
     }
-}
-
-// The smaller of two counts.
-fn fewer(a: usize, b: usize) -> usize
-    ensures { λ r. ⌜ r ≡ min a b ⌝ }
-{
-    if a <= b { a } else { b }
 }
