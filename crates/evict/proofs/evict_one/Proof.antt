@@ -1,18 +1,18 @@
 -- `evict_one` is the walk and what follows from it. The loop holds that the looks left, made from here, give the walk from the start; where its two
 -- ways out meet, the place that it yields and the shard are the walk's own, and the rest goes by that place as the definition does.
-use Rattle.evict.specs.Evict.{walkFrom, walked}
-use Rattle.shard_map.specs.Layout.{shard, Lent}
-use Rattle.evict.specs.declared.Walk.{Walk}
-use Rattle.rows.specs.declared.Place.{Place}
-use Rattle.bucket.specs.declared.BucketConfig.{BucketConfig}
-use Rattle.units.specs.declared.Nanos.{Nanos}
-use native.Mathlib.Omega.{arith}
 use Prim.Native.Nat.{ℕ, _<_}
-use lib.ListN.{length}
-use mathlib.Core.List.{List}
 use mathlib.Core.Path.{_≡_, refl, sym, _∙_}
+use mathlib.Core.List.{List}
 use mathlib.Core.Logic.{⊎-elim}
+use native.Mathlib.Omega.{arith}
+use lib.ListN.{length}
+use Rattle.units.specs.declared.Nanos.{Nanos}
+use Rattle.bucket.specs.declared.BucketConfig.{BucketConfig}
+use Rattle.rows.specs.declared.Place.{Place}
+use Rattle.shard_map.specs.Layout.{shard, Lent}
 use Rattle.shard_map.proofs.ModelLaws.{lent-hand}
+use Rattle.evict.specs.declared.Walk.{Walk}
+use Rattle.evict.specs.Evict.{walkFrom, walked}
 use Rattle.evict.proofs.ModelLaws.{walk-start, walk-end, walk-turn, walk-ends-at-once, after-look, after-walk, evicted-at-once, evicted-noted}
 use borrow.Author.Needs.{needs}
 use Rattle.evict.proofs.evict_one.Statement.{statement}
