@@ -55,11 +55,7 @@ pub fn owed_by(ws: &[u64], cap: usize, hash: u64) -> OptionNanos
     ensures { λ r. ⌜ r ≡ Model.owedBy (ledger cap (now (ws .entry))) hash ⌝ }
 {
     match position(ws, cap, hash) {
-        Place::At(pos) => {
-            let debt = words::load(ws, cap, pos);
-            let settles = debt.settles;
-            OptionNanos::Some(settles)
-        }
+        Place::At(pos) => OptionNanos::Some(Nanos(words::settles_at(ws, cap, pos))),
         Place::Nowhere => OptionNanos::None,
     }
 }
@@ -87,8 +83,7 @@ pub fn take(ws: &mut [u64], cap: usize, hash: u64) -> OptionNanos
 {
     match position(ws, cap, hash) {
         Place::At(pos) => {
-            let debt = words::load(ws, cap, pos);
-            let settles = debt.settles;
+            let settles = Nanos(words::settles_at(ws, cap, pos));
             remove_at(ws, cap, pos);
             OptionNanos::Some(settles)
         }
