@@ -41,13 +41,13 @@ pub lent-sweep : {cap : ℕ} {ws : List ℕ} → Lent cap ws → 0 < shard cap w
 lent-sweep {cap} {ws} lent some = let held = sweep-below (shard cap ws) some in (held, lent-below lent held)
 
 -- The ledger's part of words that are lent is lent, in the form in which the code lends it.
-pub lent-ledger : {cap : ℕ} {ws : List ℕ} → Lent cap ws → LedgerLayout.Lent cap (part (3 + 6 * cap) (3 + 6 * cap + (2 + 2 * cap) - (3 + 6 * cap)) ws)
+pub lent-ledger : {cap : ℕ} {ws : List ℕ} → Lent cap ws → LedgerLayout.Lent cap (part (3 + 6 * cap) (length ws - (3 + 6 * cap)) ws)
 lent-ledger {cap} {ws} lent =
     let size = lent .size in
-    let long : 3 + 6 * cap + (2 + 2 * cap) - (3 + 6 * cap) ≡ 2 + 2 * cap = omega arith in
+    let long : length ws - (3 + 6 * cap) ≡ 2 + 2 * cap = omega arith in
     record {
-      size = part-length (3 + 6 * cap) (3 + 6 * cap + (2 + 2 * cap) - (3 + 6 * cap)) ws (omega arith) ∙ long;
-      sound = rw (ledger-lent cap ws) (lent .sound .ledger);
+      size = part-length (3 + 6 * cap) (length ws - (3 + 6 * cap)) ws (omega arith) ∙ long;
+      sound = rw (ledger-lent cap ws size) (lent .sound .ledger);
     }
 
 -- Words stay lent after a call that keeps their length and gives a sound shard: the shard alone, or an answer with it.
