@@ -2,11 +2,12 @@
 // The debts lie in lent words: the count, the cursor, then two words for each of `cap` debts.
 ghost use mathlib.Core.Path.{_≡_};
 ghost use Prim.Native.Nat.{_<_};
+ghost use lib.ListN.{length};
 ghost use Rattle.rows.specs.declared.Place.the-variants.{Nowhere};
 ghost use Rattle.rows.specs.Outcome.{outcome};
 ghost use Rattle.bucket.specs.Bucket.{Accepted};
 ghost use Rattle.ledger.specs.Model as Model;
-ghost use Rattle.ledger.specs.Layout.{ledger, Lent};
+ghost use Rattle.ledger.specs.Layout.{ledger, ledgerWords, Lent};
 use bucket::BucketConfig;
 use rows::Place;
 use settings::eviction::Eviction;
@@ -31,6 +32,14 @@ pub enum Choice {
 pub enum Recorded {
     Done,
     NoRoom(Nanos),
+}
+
+// How many debts are held. It asks for the length alone, so that a count that is too large can be told.
+pub fn len(ws: &[u64], cap: usize) -> usize
+    requires { ⌜ length (now ws) ≡ ledgerWords cap ⌝ }
+    ensures { λ r. ⌜ r ≡ ledger cap (now (ws .entry)) .debts .count ⌝ }
+{
+    words::count(ws, cap)
 }
 
 // The lowest place that has the hash.

@@ -147,6 +147,11 @@ module _ (cap : ℕ) (ws : List ℕ) where
   unfolding shard
   ledger-lent size = let e : length ws - (3 + 6 * cap) ≡ 2 + 2 * cap = omega arith in rw e
 
+  pub ledger-long : length ws ≡ shardWords cap → length (part (3 + 6 * cap) (length ws - (3 + 6 * cap)) ws) ≡ Ledger.ledgerWords cap
+  ledger-long size =
+      let n : length ws - (3 + 6 * cap) ≡ 2 + 2 * cap = omega arith in
+      part-length (3 + 6 * cap) (length ws - (3 + 6 * cap)) ws (omega arith) ∙ n
+
   pub ledger-back : (ys : List ℕ) → length ws ≡ shardWords cap → length ys ≡ length (part (3 + 6 * cap) (length ws - (3 + 6 * cap)) ws)
       → shard cap (putMid (3 + 6 * cap) (length ws - (3 + 6 * cap)) ws ys) ≡ withLedger (shard cap ws) (Ledger.ledger cap ys)
   unfolding shard

@@ -17,14 +17,13 @@ use Rattle.rows.specs.Held.{lowestFrom, removed}
 use Rattle.rows.specs.Parts.{part}
 use Rattle.rows.specs.Outcome.{Outcome, outcome}
 use Rattle.rows.proofs.LowestLaws.{lowest-hit, lowest-miss, lowest-end}
-use Rattle.rows.proofs.PartLaws.{part-length}
 use Rattle.rows.proofs.OutcomeLaws.{after-is}
 use Rattle.slot.specs.declared.Slot.{Slot}
 use Rattle.slot.specs.Slot.{isKey}
 use Rattle.ledger.specs.Layout as LedgerLayout
 use Rattle.shard_map.specs.Model.{Shard, Sound, noSlot, capOf, slotAt, withCount, withSlot, withSweep, handOf, sweepOf, placeOf, removeAt, insert, reclaimable, idleLookAt, idleLook, sweepIdle}
 use Rattle.shard_map.specs.Layout.{shard, Lent}
-use Rattle.shard_map.proofs.LayoutLaws.{cap-is, ledger-lent}
+use Rattle.shard_map.proofs.LayoutLaws.{cap-is, ledger-lent, ledger-long}
 use Rattle.shard_map.proofs.StepLaws.{hand-below, sweep-below, sweep-sound, sweep-idle-sound}
 
 -- Words that are lent have room for cap slots; a slot that is held, and the hand and the sweep where one is, stand below the cap.
@@ -42,13 +41,7 @@ lent-sweep {cap} {ws} lent some = let held = sweep-below (shard cap ws) some in 
 
 -- The ledger's part of words that are lent is lent, in the form in which the code lends it.
 pub lent-ledger : {cap : ℕ} {ws : List ℕ} → Lent cap ws → LedgerLayout.Lent cap (part (3 + 6 * cap) (length ws - (3 + 6 * cap)) ws)
-lent-ledger {cap} {ws} lent =
-    let size = lent .size in
-    let long : length ws - (3 + 6 * cap) ≡ 2 + 2 * cap = omega arith in
-    record {
-      size = part-length (3 + 6 * cap) (length ws - (3 + 6 * cap)) ws (omega arith) ∙ long;
-      sound = rw (ledger-lent cap ws size) (lent .sound .ledger);
-    }
+lent-ledger {cap} {ws} lent = record { size = ledger-long cap ws (lent .size); sound = rw (ledger-lent cap ws (lent .size)) (lent .sound .ledger) }
 
 -- Words stay lent after a call that keeps their length and gives a sound shard: the shard alone, or an answer with it.
 module _ {cap : ℕ} {ws ws′ : List ℕ} (lent : Lent cap ws) (same : length ws′ ≡ length ws) where

@@ -1,7 +1,9 @@
 // The ledger of a shard: the ledger's functions, lent the part of the shard's words that is its own.
 ghost use mathlib.Core.Path.{_≡_};
+ghost use lib.ListN.{length};
 ghost use Rattle.rows.specs.Outcome.{outcome};
 ghost use Rattle.bucket.specs.Bucket.{Accepted};
+ghost use Rattle.settings.specs.Settings.{shardWords};
 ghost use Rattle.ledger.specs.Model as Ledger;
 ghost use Rattle.shard_map.specs.Model as Model;
 ghost use Rattle.shard_map.specs.Layout.{shard, Lent};
@@ -10,6 +12,15 @@ use ledger::Debt;
 use ledger::Recorded;
 use units::Nanos;
 use units::OptionNanos;
+
+// How many debts are held. Like `shard_map::len`, it asks for the length alone.
+pub fn len(ws: &[u64], cap: usize) -> usize
+    requires { ⌜ length (now ws) ≡ shardWords cap ⌝ }
+    ensures { λ r. ⌜ r ≡ shard cap (now (ws .entry)) .ledger .debts .count ⌝ }
+{
+    let start = 3 + 6 * cap;
+    ledger::len(&ws[start..], cap)
+}
 
 // When the debt of the hash settles, if there is one.
 pub fn owed_by(ws: &[u64], cap: usize, hash: u64) -> OptionNanos
