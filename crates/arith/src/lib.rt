@@ -17,6 +17,13 @@ pub fn larger(a: u64, b: u64) -> u64
     if a <= b { b } else { a }
 }
 
+// The smaller of two counts.
+pub fn fewer(a: usize, b: usize) -> usize
+    ensures { λ r. ⌜ r ≡ min a b ⌝ }
+{
+    if a <= b { a } else { b }
+}
+
 // The difference, or 0 where b is larger.
 pub fn saturating_sub(a: u64, b: u64) -> u64
     ensures { λ r. ⌜ r ≡ a - b ⌝ }

@@ -1,7 +1,7 @@
 // The debts of keys that were evicted before their buckets were full, by the hash of the key. A key that comes back starts with its debt.
 // The debts lie in lent words: the count, the cursor, then two words for each of `cap` debts.
 ghost use mathlib.Core.Path.{_≡_};
-ghost use Prim.Native.Nat.{_<_, min};
+ghost use Prim.Native.Nat.{_<_};
 ghost use lib.ListN.{length};
 ghost use Rattle.rows.specs.declared.Place.the-variants.{Nowhere};
 ghost use Rattle.rows.specs.Outcome.{outcome};
@@ -64,11 +64,7 @@ pub fn owed_by(ws: &[u64], cap: usize, hash: u64) -> OptionNanos
     ensures { λ r. ⌜ r ≡ Model.owedBy (ledger cap (now (ws .entry))) hash ⌝ }
 {
     match position(ws, cap, hash) {
-        Place::At(pos) => {
-            let debt = words::load(ws, cap, pos);
-            let settles = debt.settles;
-            OptionNanos::Some(settles)
-        }
+        Place::At(pos) => OptionNanos::Some(Nanos(words::settles_at(ws, cap, pos))),
         Place::Nowhere => OptionNanos::None,
     }
 }
@@ -96,8 +92,7 @@ pub fn take(ws: &mut [u64], cap: usize, hash: u64) -> OptionNanos
 {
     match position(ws, cap, hash) {
         Place::At(pos) => {
-            let debt = words::load(ws, cap, pos);
-            let settles = debt.settles;
+            let settles = Nanos(words::settles_at(ws, cap, pos));
             remove_at(ws, cap, pos);
             OptionNanos::Some(settles)
         }
@@ -151,7 +146,7 @@ fn scan(ws: &mut [u64], cap: usize, at: Nanos) -> Choice
     requires { ⌜ Lent cap (now ws) × (0 < ledger cap (now ws) .debts .count) ⌝ }
     ensures { λ r. ⌜ outcome r (ledger cap (now (ws .exit))) ≡ Model.scan (at .0) (ledger cap (now (ws .entry))) ⌝ }
 {
-    let mut left = fewer(Eviction::LEDGER_SCAN, words::count(ws, cap));
+    let mut left = arith::fewer(Eviction::LEDGER_SCAN, words::count(ws, cap));
     let mut best = words::cursor(ws, cap);
     while 0 < left {
         let cursor = words::cursor(ws, cap);
@@ -276,11 +271,4 @@ pub fn pay_down(ws: &mut [u64], cap: usize, hash: u64, cost: u32, config: Bucket
         }
         Place::Nowhere => false,
     }
-}
-
-// The smaller of two counts.
-fn fewer(a: usize, b: usize) -> usize
-    ensures { λ r. ⌜ r ≡ min a b ⌝ }
-{
-    if a <= b { a } else { b }
 }

@@ -14,7 +14,7 @@ use Rattle.ledger.specs.Layout as Debts
 use Rattle.ledger.specs.Model as Ledger
 use Rattle.shard_map.specs.Layout as Layout
 use Rattle.shard_map.specs.Model as Shard
-use Rattle.shard_map.specs.Evict.{noted, walkFrom, walked, evicted}
+use Rattle.evict.specs.Evict.{noted, walkFrom, walked, evicted}
 use Rattle.store.specs.Model as Store
 use Rattle.shards.specs.Refusals as Refusals
 use Rattle.perkey.specs.Rules as Rules

@@ -1,7 +1,6 @@
 -- No two slots have the same hash and key: every operation keeps that, so lookup finds the one slot that a key has.
 use Prim.Native.Nat.{ℕ, _<_}
-use mathlib.Core.Path.{_≡_, refl, sym, _∙_, ap}
-use mathlib.Core.Bool.{Bool}
+use mathlib.Core.Path.{_≡_, sym, _∙_, ap}
 use native.Mathlib.Omega.{arith}
 use Rattle.units.specs.declared.Nanos.{Nanos}
 use Rattle.units.specs.declared.Millis.{Millis}
@@ -12,11 +11,8 @@ use Rattle.rows.proofs.LowestLaws.{one-passing-is-found}
 use Rattle.slot.specs.declared.Slot.{Slot}
 use Rattle.slot.specs.Slot.{isKey}
 use Rattle.slot.proofs.SlotLaws.{is-key-iff}
-use Rattle.ledger.proofs.DistinctLaws.{DistinctHashes, recorded-distinct}
 use Rattle.shard_map.specs.Model.{Shard, Sound, noSlot, capOf, slotAt, withSlot, placeOf, removeAt, insert, sweepIdle}
-use Rattle.shard_map.specs.Evict.{evicted}
 use Rattle.shard_map.proofs.StepLaws.{Holding, nowhere-holds-none, none-held-is-nowhere, removal-every, sweep-idle-keeps, sweep-idle-every}
-use Rattle.shard_map.proofs.WalkLaws.{Remarked, remarked-slots, evict-keeps-slots, evict-keeps-ledger, evict-every}
 
 -- The identity of a slot's key, and shards in which each key has one slot at most.
 abbrev pub identity : Slot → ℕ × ℕ
@@ -40,11 +36,6 @@ insert-distinct s slot room new d =
     appended-distinct noSlot identity (s .slots) slot room
     (λ i below same. nowhere-holds-none s (slot .hash) (slot .key) new i below (ap (λ (q : ℕ × ℕ). q .0) same) (ap (λ (q : ℕ × ℕ). q .1) same)) d
 
-remarked-distinct : (s t : Shard) → Remarked s t → DistinctKeys s → DistinctKeys t
-remarked-distinct s t r d =
-    let same : (i : ℕ) → identity (slotAt t i) ≡ identity (slotAt s i) = remarked-slots s t r identity (λ slot mark. refl) in
-    record { apart = λ i j bi bj e. d .apart i j (omega (arith, r .count)) (omega (arith, r .count)) (sym (same i) ∙ e ∙ same j) }
-
 -- A shard without a slot.
 pub empty-distinct : (s : Shard) → s .slots .count ≡ 0 → DistinctKeys s
 empty-distinct s none = record { apart = λ i j bi bj e. absurd (omega arith) }
@@ -53,15 +44,6 @@ empty-distinct s none = record { apart = λ i j bi bj e. absurd (omega arith) }
 pub sweep-idle-distinct : (c : BucketConfig) (at : Nanos) (limit : Millis) (n : ℕ) (s : Shard) → Sound s → DistinctKeys s → DistinctKeys (sweepIdle c at limit n s)
 sweep-idle-distinct c at limit n s u d =
     sweep-idle-keeps c at limit DistinctKeys (record { moves = λ t p e. e; drops = λ t p v below goes e. removal-distinct t p v e }) n s u d
-
-module _ (c : BucketConfig) (at : Nanos) (forget : Bool) (s : Shard) (u : Sound s) (some : 0 < s .slots .count) where
-  pub evict-distinct : DistinctKeys s → DistinctKeys (evicted c at forget s .after)
-  evict-distinct =
-      evict-keeps-slots c at forget s u some (Distinct noSlot identity) (record { remarks = λ t v r d. remarked-distinct t v r d; drops = λ t p v d. removal-distinct t p v d })
-
-  -- The debts that evictions leave have different hashes too.
-  pub evict-distinct-debts : DistinctHashes (s .ledger) → DistinctHashes (evicted c at forget s .after .ledger)
-  evict-distinct-debts = evict-keeps-ledger c at forget s u some DistinctHashes (λ l d v distinct. recorded-distinct l v distinct d (at .0) forget)
 
 -- The slot of a key is the one that lookup finds.
 pub distinct-slot-is-found : (s : Shard) (h k p : ℕ) → DistinctKeys s → Holding s h k p → placeOf s h k ≡ At p
@@ -72,8 +54,8 @@ distinct-slot-is-found s h k p d f =
     let own : (slotAt s j .hash ≡ h) × (slotAt s j .key ≡ k) = is-key-iff h k (slotAt s j) .0 passes in
     d .apart j p below (f .below) (λ i. ((own .0 ∙ sym (f .hash)) i, (own .1 ∙ sym (f .key)) i)))
 
--- A key that has no slot has none after a removal, an idle sweep or an eviction: so it is still new when it is inserted.
-abbrev NotKey : ℕ → ℕ → Slot → Type 0
+-- A key that has no slot has none after a removal or an idle sweep: so it is still new when it is inserted.
+abbrev pub NotKey : ℕ → ℕ → Slot → Type 0
 NotKey h k slot = slot .hash ≡ h → slot .key ≡ k → ⊥
 
 pub removal-finds-nothing-new : (s : Shard) (p h k : ℕ) → Sound s → placeOf s h k ≡ Nowhere → placeOf (removeAt s p) h k ≡ Nowhere
@@ -83,9 +65,3 @@ pub sweep-idle-finds-nothing-new : (c : BucketConfig) (at : Nanos) (limit : Mill
     → placeOf (sweepIdle c at limit n s) h k ≡ Nowhere
 sweep-idle-finds-nothing-new c at limit n s h k u new =
     none-held-is-nowhere (sweepIdle c at limit n s) h k (sweep-idle-every c at limit (NotKey h k) n s u (nowhere-holds-none s h k new))
-
-pub evict-finds-nothing-new : (c : BucketConfig) (at : Nanos) (forget : Bool) (s : Shard) (h k : ℕ) → Sound s → 0 < s .slots .count → placeOf s h k ≡ Nowhere
-    → placeOf (evicted c at forget s .after) h k ≡ Nowhere
-evict-finds-nothing-new c at forget s h k u some new =
-    none-held-is-nowhere (evicted c at forget s .after) h k
-    (evict-every c at forget s u some (NotKey h k) (λ slot mark other. other) (nowhere-holds-none s h k new))

@@ -143,20 +143,20 @@ module _ (cap : ℕ) (ws : List ℕ) (size : length ws ≡ shardWords cap) where
 
 -- The ledger's part of the words, in the form in which it is lent, and come back as other words.
 module _ (cap : ℕ) (ws : List ℕ) where
-  pub ledger-lent : Ledger.ledger cap (part (3 + 6 * cap) (3 + 6 * cap + (2 + 2 * cap) - (3 + 6 * cap)) ws) ≡ shard cap ws .ledger
+  pub ledger-lent : length ws ≡ shardWords cap → Ledger.ledger cap (part (3 + 6 * cap) (length ws - (3 + 6 * cap)) ws) ≡ shard cap ws .ledger
   unfolding shard
-  ledger-lent = let e : 3 + 6 * cap + (2 + 2 * cap) - (3 + 6 * cap) ≡ 2 + 2 * cap = omega arith in rw e
+  ledger-lent size = let e : length ws - (3 + 6 * cap) ≡ 2 + 2 * cap = omega arith in rw e
 
-  pub ledger-long : length ws ≡ shardWords cap → length (part (3 + 6 * cap) (3 + 6 * cap + (2 + 2 * cap) - (3 + 6 * cap)) ws) ≡ Ledger.ledgerWords cap
+  pub ledger-long : length ws ≡ shardWords cap → length (part (3 + 6 * cap) (length ws - (3 + 6 * cap)) ws) ≡ Ledger.ledgerWords cap
   ledger-long size =
-      let n : 3 + 6 * cap + (2 + 2 * cap) - (3 + 6 * cap) ≡ 2 + 2 * cap = omega arith in
-      part-length (3 + 6 * cap) (3 + 6 * cap + (2 + 2 * cap) - (3 + 6 * cap)) ws (omega arith) ∙ n
+      let n : length ws - (3 + 6 * cap) ≡ 2 + 2 * cap = omega arith in
+      part-length (3 + 6 * cap) (length ws - (3 + 6 * cap)) ws (omega arith) ∙ n
 
-  pub ledger-back : (ys : List ℕ) → length ws ≡ shardWords cap → length ys ≡ length (part (3 + 6 * cap) (3 + 6 * cap + (2 + 2 * cap) - (3 + 6 * cap)) ws)
-      → shard cap (putMid (3 + 6 * cap) (3 + 6 * cap + (2 + 2 * cap) - (3 + 6 * cap)) ws ys) ≡ withLedger (shard cap ws) (Ledger.ledger cap ys)
+  pub ledger-back : (ys : List ℕ) → length ws ≡ shardWords cap → length ys ≡ length (part (3 + 6 * cap) (length ws - (3 + 6 * cap)) ws)
+      → shard cap (putMid (3 + 6 * cap) (length ws - (3 + 6 * cap)) ws ys) ≡ withLedger (shard cap ws) (Ledger.ledger cap ys)
   unfolding shard
   ledger-back ys size same =
-      let n : 3 + 6 * cap + (2 + 2 * cap) - (3 + 6 * cap) ≡ 2 + 2 * cap = omega arith in
+      let n : length ws - (3 + 6 * cap) ≡ 2 + 2 * cap = omega arith in
       let room : 3 + 6 * cap + (2 + 2 * cap) ≤ length ws = omega arith in
       let long : length ys ≡ 2 + 2 * cap = (rw n at same) ∙ part-length (3 + 6 * cap) (2 + 2 * cap) ws room in
       let slots-kept = held-lent-after slotOf 6 cap 0 3 ws (lit< tt) (omega arith) (3 + 6 * cap) (2 + 2 * cap) ys room long (omega arith) in
@@ -167,8 +167,8 @@ module _ (cap : ℕ) (ws : List ℕ) where
 
   -- An answer that came with the ledger's words comes with the shard's.
   pub ledger-answered : {A : Type 0} {a : A} {o : Outcome A Debts.Ledger} (ys : List ℕ) → length ws ≡ shardWords cap
-      → length ys ≡ length (part (3 + 6 * cap) (3 + 6 * cap + (2 + 2 * cap) - (3 + 6 * cap)) ws) → outcome a (Ledger.ledger cap ys) ≡ o
-      → outcome a (shard cap (putMid (3 + 6 * cap) (3 + 6 * cap + (2 + 2 * cap) - (3 + 6 * cap)) ws ys)) ≡ inLedger (shard cap ws) o
+      → length ys ≡ length (part (3 + 6 * cap) (length ws - (3 + 6 * cap)) ws) → outcome a (Ledger.ledger cap ys) ≡ o
+      → outcome a (shard cap (putMid (3 + 6 * cap) (length ws - (3 + 6 * cap)) ws ys)) ≡ inLedger (shard cap ws) o
   ledger-answered ys size same gave = rw (ledger-back ys size same) (ap (λ o. inLedger (shard cap ws) o) gave)
 
 -- The words of the shard in words of the right length are those words.

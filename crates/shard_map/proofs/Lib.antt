@@ -1,6 +1,5 @@
 pub mod LayoutLaws
 pub mod StepLaws
-pub mod WalkLaws
 pub mod ModelLaws
 pub mod KeptLaws
 pub mod DistinctLaws

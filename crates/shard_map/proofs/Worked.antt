@@ -1,48 +1,40 @@
--- The sentences of the scope on the idle sweep and on eviction, each worked on a small shard. A slot's hash and key are the same small number, and its stamp
--- is moment 0; a free place is `noSlot`. Two parts come back each nanosecond.
+-- The sentences of the scope on the idle sweep, each worked on a small shard. A slot's hash and key are the same small number, and its stamp is moment 0;
+-- a free place is `noSlot`. Two parts come back each nanosecond.
 use Prim.Native.Nat.{ℕ}
 use mathlib.Core.Path.{_≡_, refl}
-use mathlib.Core.Bool.{true, false}
-use mathlib.Core.List.{List, [], _∷_, _++_}
+use mathlib.Core.List.{List, [], _∷_}
 use lib.ListN.{replicate}
-use Rattle.arith.specs.Arith.{ceilDiv}
 use Rattle.units.specs.declared.Nanos.{Nanos}
 use Rattle.units.specs.declared.Millis.{Millis}
 use Rattle.bucket.specs.declared.BucketConfig.{BucketConfig}
-use Rattle.bucket.specs.Bucket.{shortfallAt, waitAt}
-use Rattle.rows.specs.Held.{lowestFrom, removed}
-use Rattle.rows.specs.Outcome.{outcome}
+use Rattle.bucket.specs.Bucket.{shortfallAt}
+use Rattle.rows.specs.Held.{removed}
 use Rattle.slot.specs.declared.Slot.{Slot}
 use Rattle.ledger.specs.declared.Debt.{Debt}
 use Rattle.ledger.specs.Model as Ledger
-use Rattle.shard_map.specs.declared.evict.Room.the-variants.{Made, Refused}
 use Rattle.shard_map.specs.Model.{Shard, noSlot, removeAt, idleLookAt, idleLook, sweepIdle}
-use Rattle.shard_map.specs.Evict.{noted, walkFrom, walked, evicted}
 
-abbrev rate : BucketConfig
+abbrev pub rate : BucketConfig
 rate = record { capacity = 4; amount = 2; period = record { 0 = 10 }; initial = 4 }
 
-abbrev moment : ℕ → Nanos
+abbrev pub moment : ℕ → Nanos
 moment n = record { 0 = n }
 
 abbrev ms : ℕ → Millis
 ms n = record { 0 = n }
 
 -- A slot by its number, its shortfall, its mark and the millisecond of its last-seen.
-abbrev slot : ℕ → ℕ → ℕ → ℕ → Slot
+abbrev pub slot : ℕ → ℕ → ℕ → ℕ → Slot
 slot number shortfall mark seen = record { hash = number; key = number; bucket = record { shortfall = shortfall; stamp = moment 0 }; mark = mark; seen = ms seen }
 
 -- A ledger by its count, its cursor and what stands in all its places, and a shard by its count, its hand, its sweep, its places and its ledger.
-abbrev owing : ℕ → ℕ → Debt
-owing hash settles = record { hash = hash; settles = moment settles }
-
-abbrev ledger : ℕ → ℕ → List Debt → Ledger.Ledger
+abbrev pub ledger : ℕ → ℕ → List Debt → Ledger.Ledger
 ledger count cursor places = record { debts = record { count = count; places = places }; cursor = cursor }
 
-abbrev shard : ℕ → ℕ → ℕ → List Slot → Ledger.Ledger → Shard
+abbrev pub shard : ℕ → ℕ → ℕ → List Slot → Ledger.Ledger → Shard
 shard count hand sweep places l = record { slots = record { count = count; places = places }; hand = hand; sweep = sweep; ledger = l }
 
-abbrev noDebts : Ledger.Ledger
+abbrev pub noDebts : Ledger.Ledger
 noDebts = ledger 0 0 (Ledger.noDebt ∷ [])
 
 -- The idle sweep, with a limit of 2 ms, at 2 ms: by then 4,000,000 parts have come back.
@@ -75,71 +67,3 @@ an-idle-sweep-is-eight-looks = refl
 idle-sweep-ends-when-empty : sweptAtTwo 8 (shard 0 0 7 (noSlot ∷ []) noDebts) ≡ shard 0 0 7 (noSlot ∷ []) noDebts
 unfolding sweepIdle idleLook idleLookAt shortfallAt removeAt removed
 idle-sweep-ends-when-empty = refl
-
--- Eviction at moment 0, where a slot lacks its shortfall and recovers in half as many nanoseconds. The first full slot without the mark goes at once: the
--- walk has cleared the mark of the full one before it, has passed the unmarked one that is not full, and does not look at the last, which moves.
-full-and-unmarked-goes-at-once :
-    evicted rate (moment 0) false (shard 4 0 0 (slot 1 0 1 0 ∷ slot 2 8 0 0 ∷ slot 3 0 0 0 ∷ slot 4 0 1 0 ∷ []) noDebts)
-    ≡ outcome Made (shard 3 3 0 (slot 1 0 0 0 ∷ slot 2 8 0 0 ∷ slot 4 0 1 0 ∷ noSlot ∷ []) noDebts)
-unfolding evicted walked walkFrom noted shortfallAt removeAt removed
-full-and-unmarked-goes-at-once = refl
-
--- Else the first full one goes, though it was marked, and before one that is unmarked. Marks of any value are cleared.
-first-full-goes :
-    evicted rate (moment 0) false (shard 3 0 0 (slot 1 8 0 0 ∷ slot 2 0 7 0 ∷ slot 3 0 1 0 ∷ []) noDebts)
-    ≡ outcome Made (shard 2 2 0 (slot 1 8 0 0 ∷ slot 3 0 0 0 ∷ noSlot ∷ []) noDebts)
-unfolding evicted walked walkFrom noted shortfallAt waitAt ceilDiv removeAt removed
-first-full-goes = refl
-
--- Else the first unmarked one goes, and leaves its debt; the recovery is rounded up.
-first-unmarked-leaves-its-debt :
-    evicted rate (moment 0) false (shard 3 0 0 (slot 1 4 1 0 ∷ slot 2 7 0 0 ∷ slot 3 2 0 0 ∷ []) noDebts)
-    ≡ outcome Made (shard 2 2 0 (slot 1 4 0 0 ∷ slot 3 2 0 0 ∷ noSlot ∷ []) (ledger 1 0 (owing 2 4 ∷ [])))
-unfolding evicted walked walkFrom noted shortfallAt waitAt ceilDiv removeAt removed Ledger.recorded Ledger.recordedAt Ledger.placeOf Ledger.append lowestFrom
-first-unmarked-leaves-its-debt = refl
-
--- Else, all being marked, the first looked at goes. Here that is the last place: nothing moves, and the hand stands past the slots that are left.
-first-looked-at-leaves-its-debt :
-    evicted rate (moment 0) false (shard 3 2 0 (slot 1 4 1 0 ∷ slot 2 2 1 0 ∷ slot 3 8 1 0 ∷ []) noDebts)
-    ≡ outcome Made (shard 2 3 0 (slot 1 4 0 0 ∷ slot 2 2 0 0 ∷ noSlot ∷ []) (ledger 1 0 (owing 3 4 ∷ [])))
-unfolding evicted walked walkFrom noted shortfallAt waitAt ceilDiv removeAt removed Ledger.recorded Ledger.recordedAt Ledger.placeOf Ledger.append lowestFrom
-first-looked-at-leaves-its-debt = refl
-
--- Such a hand reads as the first place.
-hand-past-the-slots-reads-as-the-first :
-    evicted rate (moment 0) false (shard 2 3 0 (slot 1 0 0 0 ∷ slot 2 0 0 0 ∷ noSlot ∷ []) noDebts) ≡ outcome Made (shard 1 1 0 (slot 2 0 0 0 ∷ noSlot ∷ noSlot ∷ []) noDebts)
-unfolding evicted walked walkFrom noted shortfallAt removeAt removed
-hand-past-the-slots-reads-as-the-first = refl
-
--- Thirty-two looks, and no more: the full slot at the 33rd place is not seen, and the first looked at goes.
-an-eviction-is-thirty-two-looks :
-    evicted rate (moment 0) false (shard 33 0 0 (replicate 32 (slot 1 8 1 0) ++ slot 2 0 0 0 ∷ []) noDebts)
-    ≡ outcome Made (shard 32 1 0 (slot 2 0 0 0 ∷ replicate 31 (slot 1 8 0 0) ++ noSlot ∷ []) (ledger 1 0 (owing 1 4 ∷ [])))
-unfolding evicted walked walkFrom noted shortfallAt waitAt ceilDiv removeAt removed Ledger.recorded Ledger.recordedAt Ledger.placeOf Ledger.append lowestFrom
-an-eviction-is-thirty-two-looks = refl
-
--- The ledger is full of an unsettled debt: none goes. The slots stay, their marks cleared, and the hand and the ledger's cursor have moved.
-abbrev twoSlots : ℕ → ℕ → ℕ → ℕ → ℕ → ℕ → Shard
-twoSlots one two mark hand cursor settles = shard 2 hand 0 (slot 1 one mark 0 ∷ slot 2 two mark 0 ∷ []) (ledger 1 cursor (owing 9 settles ∷ []))
-
--- Both waits are a few nanoseconds; a millisecond is told.
-refusal-waits-a-millisecond : evicted rate (moment 0) false (twoSlots 8 4 1 0 0 3) ≡ outcome (Refused (moment 1000000)) (twoSlots 8 4 0 2 1 3)
-unfolding evicted walked walkFrom noted shortfallAt waitAt ceilDiv Ledger.recorded Ledger.recordedAt Ledger.placeOf Ledger.makeRoom Ledger.scan Ledger.scanFrom Ledger.dropChosen lowestFrom
-refusal-waits-a-millisecond = refl
-
--- The soonest recovery is 2 ms, that of the second slot, and the ledger's wait 3 ms; then the recovery is 3 ms and the ledger's wait 1.5 ms.
-refusal-waits-for-the-soonest-recovery :
-    evicted rate (moment 0) false (twoSlots 8000000 4000000 1 0 0 3000000) ≡ outcome (Refused (moment 2000000)) (twoSlots 8000000 4000000 0 2 1 3000000)
-unfolding evicted walked walkFrom noted shortfallAt waitAt ceilDiv Ledger.recorded Ledger.recordedAt Ledger.placeOf Ledger.makeRoom Ledger.scan Ledger.scanFrom Ledger.dropChosen lowestFrom
-refusal-waits-for-the-soonest-recovery = refl
-
-refusal-waits-for-the-ledger :
-    evicted rate (moment 0) false (twoSlots 8000000 6000000 1 0 0 1500000) ≡ outcome (Refused (moment 1500000)) (twoSlots 8000000 6000000 0 2 1 1500000)
-unfolding evicted walked walkFrom noted shortfallAt waitAt ceilDiv Ledger.recorded Ledger.recordedAt Ledger.placeOf Ledger.makeRoom Ledger.scan Ledger.scanFrom Ledger.dropChosen lowestFrom
-refusal-waits-for-the-ledger = refl
-
--- Where debts may be forgotten the ledger's debt gives way, and the first looked at goes.
-forgetting-makes-room :
-    evicted rate (moment 0) true (twoSlots 8 4 1 0 0 3) ≡ outcome Made (shard 1 1 0 (slot 2 4 0 0 ∷ noSlot ∷ []) (ledger 1 1 (owing 1 4 ∷ [])))
-unfolding evicted walked walkFrom noted shortfallAt waitAt ceilDiv removeAt removed Ledger.recorded Ledger.recordedAt Ledger.placeOf Ledger.makeRoom Ledger.scan Ledger.scanFrom Ledger.dropChosen Ledger.removeAt Ledger.append lowestFrom
-forgetting-makes-room = refl

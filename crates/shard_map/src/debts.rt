@@ -19,8 +19,7 @@ pub fn len(ws: &[u64], cap: usize) -> usize
     ensures { λ r. ⌜ r ≡ shard cap (now (ws .entry)) .ledger .debts .count ⌝ }
 {
     let start = 3 + 6 * cap;
-    let end = start + (2 + 2 * cap);
-    ledger::len(&ws[start..end], cap)
+    ledger::len(&ws[start..], cap)
 }
 
 // When the debt of the hash settles, if there is one.
@@ -29,8 +28,7 @@ pub fn owed_by(ws: &[u64], cap: usize, hash: u64) -> OptionNanos
     ensures { λ r. ⌜ r ≡ Ledger.owedBy (shard cap (now (ws .entry)) .ledger) hash ⌝ }
 {
     let start = 3 + 6 * cap;
-    let end = start + (2 + 2 * cap);
-    ledger::owed_by(&ws[start..end], cap, hash)
+    ledger::owed_by(&ws[start..], cap, hash)
 }
 
 // Takes out the debt of the hash, if there is one.
@@ -39,8 +37,7 @@ pub fn take(ws: &mut [u64], cap: usize, hash: u64) -> OptionNanos
     ensures { λ r. ⌜ outcome r (shard cap (now (ws .exit))) ≡ Model.inLedger (shard cap (now (ws .entry))) (Ledger.taken (shard cap (now (ws .entry)) .ledger) hash) ⌝ }
 {
     let start = 3 + 6 * cap;
-    let end = start + (2 + 2 * cap);
-    ledger::take(&mut ws[start..end], cap, hash)
+    ledger::take(&mut ws[start..], cap, hash)
 }
 
 // Records a debt.
@@ -49,8 +46,7 @@ pub fn record(ws: &mut [u64], cap: usize, debt: Debt, at: Nanos, forget: bool) -
     ensures { λ r. ⌜ outcome r (shard cap (now (ws .exit))) ≡ Model.inLedger (shard cap (now (ws .entry))) (Ledger.recorded (shard cap (now (ws .entry)) .ledger) debt (at .0) forget) ⌝ }
 {
     let start = 3 + 6 * cap;
-    let end = start + (2 + 2 * cap);
-    ledger::record(&mut ws[start..end], cap, debt, at, forget)
+    ledger::record(&mut ws[start..], cap, debt, at, forget)
 }
 
 // Drops settled debts among the next `budget` looks.
@@ -59,8 +55,7 @@ pub fn sweep(ws: &mut [u64], cap: usize, at: Nanos, budget: usize)
     ensures { λ _. ⌜ shard cap (now (ws .exit)) ≡ Model.withLedger (shard cap (now (ws .entry))) (Ledger.sweep (at .0) budget (shard cap (now (ws .entry)) .ledger)) ⌝ }
 {
     let start = 3 + 6 * cap;
-    let end = start + (2 + 2 * cap);
-    ledger::sweep(&mut ws[start..end], cap, at, budget);
+    ledger::sweep(&mut ws[start..], cap, at, budget);
 }
 
 // Pays tokens off the debt of the hash, if there is one.
@@ -69,6 +64,5 @@ pub fn pay_down(ws: &mut [u64], cap: usize, hash: u64, cost: u32, config: Bucket
     ensures { λ r. ⌜ outcome r (shard cap (now (ws .exit))) ≡ Model.inLedger (shard cap (now (ws .entry))) (Ledger.paidDown (shard cap (now (ws .entry)) .ledger) hash cost config) ⌝ }
 {
     let start = 3 + 6 * cap;
-    let end = start + (2 + 2 * cap);
-    ledger::pay_down(&mut ws[start..end], cap, hash, cost, config)
+    ledger::pay_down(&mut ws[start..], cap, hash, cost, config)
 }

@@ -14,8 +14,7 @@ use units::Millis;
 use units::Nanos;
 
 pub mod debts;
-pub mod evict;
-mod words;
+pub mod words;
 
 // The lowest place that has the hash and the key.
 pub fn position(ws: &[u64], cap: usize, hash: u64, key: u64) -> Place

@@ -1,4 +1,5 @@
 // The words of a shard, read and stored. No other function of the crate knows where a word lies, but for `debts`, which lends the ledger's part.
+// What is `pub` here is for `evict`, which does not know it either.
 ghost use mathlib.Core.Path.{_≡_};
 ghost use Prim.Native.Nat.{_<_};
 ghost use lib.ListN.{length};
@@ -20,7 +21,7 @@ pub(crate) fn count(ws: &[u64], cap: usize) -> usize
 }
 
 // The hand, read as 0 where it stands at or past the count.
-pub(crate) fn hand(ws: &[u64], cap: usize) -> usize
+pub fn hand(ws: &[u64], cap: usize) -> usize
     requires { ⌜ length (now ws) ≡ shardWords cap ⌝ }
     ensures { λ r. ⌜ r ≡ Model.handOf (shard cap (now (ws .entry))) ⌝ }
 {
@@ -81,7 +82,7 @@ pub(crate) fn set_count(ws: &mut [u64], cap: usize, count: usize)
 }
 
 // The next look of the hand begins at this place.
-pub(crate) fn set_hand(ws: &mut [u64], cap: usize, hand: usize)
+pub fn set_hand(ws: &mut [u64], cap: usize, hand: usize)
     requires { ⌜ length (now ws) ≡ shardWords cap ⌝ }
     ensures { λ _. ⌜ shard cap (now (ws .exit)) ≡ Model.withHand (shard cap (now (ws .entry))) hand ⌝ }
 {
@@ -114,7 +115,7 @@ pub(crate) fn put(ws: &mut [u64], cap: usize, i: usize, slot: Slot)
 }
 
 // The slot at a place loses its mark, and keeps the rest.
-pub(crate) fn clear_mark(ws: &mut [u64], cap: usize, i: usize)
+pub fn clear_mark(ws: &mut [u64], cap: usize, i: usize)
     requires { ⌜ (length (now ws) ≡ shardWords cap) × (i < cap) ⌝ }
     ensures { λ _. ⌜ shard cap (now (ws .exit)) ≡ Model.withSlot (shard cap (now (ws .entry))) i (withMark (Model.slotAt (shard cap (now (ws .entry))) i) 0) ⌝ }
 {

@@ -11,7 +11,8 @@ use Rattle.settings.specs.Eviction.{ttlSweep, ledgerScan}
 use Rattle.ledger.proofs.DistinctLaws.{DistinctHashes, sweep-distinct, taken-distinct, paid-distinct}
 use Rattle.shard_map.specs.Model.{Shard, Sound, placeOf}
 use Rattle.shard_map.proofs.StepLaws.{removal-ledger, insert-ledger, sweep-idle-ledger}
-use Rattle.shard_map.proofs.DistinctLaws.{DistinctKeys, removal-distinct, change-distinct, insert-distinct, sweep-idle-distinct, evict-distinct, evict-distinct-debts}
+use Rattle.shard_map.proofs.DistinctLaws.{DistinctKeys, removal-distinct, change-distinct, insert-distinct, sweep-idle-distinct}
+use Rattle.evict.proofs.DistinctLaws.{evict-distinct, evict-distinct-debts}
 use Rattle.store.specs.declared.Identity.{Identity}
 use Rattle.store.specs.declared.Policy.{Policy}
 use Rattle.store.specs.declared.Answer.{Answer}

@@ -21,13 +21,13 @@ use Rattle.rows.proofs.OutcomeLaws.{answer-is, after-is}
 use Rattle.slot.specs.declared.Slot.{Slot}
 use Rattle.slot.specs.Slot.{withBucket}
 use Rattle.ledger.specs.Model as Ledger
-use Rattle.shard_map.specs.declared.evict.Room.{Room}
-use Rattle.shard_map.specs.declared.evict.Room.the-variants.{Made, Refused}
 use Rattle.shard_map.specs.Model.{Shard, Sound, noSlot, capOf, slotAt, withSlot, inLedger, placeOf, removeAt, touchAt}
-use Rattle.shard_map.specs.Evict.{evicted}
 use Rattle.shard_map.specs.Layout.{shard, Lent}
 use Rattle.shard_map.proofs.StepLaws.{found-holds, change-sound}
 use Rattle.shard_map.proofs.ModelLaws.{lent-cap, lent-below, lent-after, lent-after-answer}
+use Rattle.evict.specs.declared.Room.{Room}
+use Rattle.evict.specs.declared.Room.the-variants.{Made, Refused}
+use Rattle.evict.specs.Evict.{evicted}
 use Rattle.store.specs.declared.Identity.{Identity}
 use Rattle.store.specs.declared.Policy.{Policy}
 use Rattle.store.specs.declared.Answer.the-variants.{Decided, NoSpace}

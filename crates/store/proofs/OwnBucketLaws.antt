@@ -17,8 +17,8 @@ use Rattle.ledger.specs.Model as Ledger
 use Rattle.ledger.proofs.KeptLaws.{worth}
 use Rattle.ledger.proofs.LookupLaws.{taken-tells}
 use Rattle.shard_map.specs.Model.{Shard, Sound, slotAt, placeOf}
-use Rattle.shard_map.specs.Evict.{minRefusalWait}
 use Rattle.shard_map.proofs.KeptLaws.{unpaid, restored-lacks-the-debt}
+use Rattle.evict.specs.Evict.{minRefusalWait}
 use Rattle.store.specs.declared.Identity.{Identity}
 use Rattle.store.specs.declared.Policy.{Policy}
 use Rattle.store.specs.declared.Answer.{Answer}

@@ -19,14 +19,16 @@ use Rattle.rows.specs.Outcome.{Outcome, outcome}
 use Rattle.settings.specs.Eviction.{ttlSweep, ledgerScan}
 use Rattle.ledger.specs.Model as Ledger
 use Rattle.ledger.proofs.StepLaws as LedgerSteps
-use Rattle.shard_map.specs.declared.evict.Room.{Room}
-use Rattle.shard_map.specs.declared.evict.Room.the-variants.{Made, Refused}
 use Rattle.shard_map.specs.Model.{Shard, Sound, capOf, withLedger, placeOf, sweepIdle}
-use Rattle.shard_map.specs.Evict.{minRefusalWait, evicted}
 use Rattle.shard_map.proofs.StepLaws.{ledger-sound, sweep-idle-sound, sweep-idle-cap, sweep-idle-ledger}
-use Rattle.shard_map.proofs.WalkLaws.{made-is-no-refusal, evict-cap, evict-ledger-cap, evict-sound, evict-made-leaves-room, evict-refusal}
-use Rattle.shard_map.proofs.KeptLaws.{Keeps, keeps-refl, keeps-trans, sweep-idle-keeps-held, ledger-sweep-keeps-held, evict-keeps-held}
-use Rattle.shard_map.proofs.DistinctLaws.{sweep-idle-finds-nothing-new, evict-finds-nothing-new}
+use Rattle.shard_map.proofs.KeptLaws.{Keeps, keeps-refl, keeps-trans, sweep-idle-keeps-held, ledger-sweep-keeps-held}
+use Rattle.shard_map.proofs.DistinctLaws.{sweep-idle-finds-nothing-new}
+use Rattle.evict.specs.declared.Room.{Room}
+use Rattle.evict.specs.declared.Room.the-variants.{Made, Refused}
+use Rattle.evict.specs.Evict.{minRefusalWait, evicted}
+use Rattle.evict.proofs.WalkLaws.{made-is-no-refusal, evict-cap, evict-ledger-cap, evict-sound, evict-made-leaves-room, evict-refusal}
+use Rattle.evict.proofs.KeptLaws.{evict-keeps-held}
+use Rattle.evict.proofs.DistinctLaws.{evict-finds-nothing-new}
 use Rattle.store.specs.declared.Policy.{Policy}
 use Rattle.store.specs.Model.{sweptIdle, swept, makeRoom}
 

@@ -21,10 +21,10 @@ use Rattle.settings.specs.Eviction.{ttlSweep, ledgerScan}
 use Rattle.slot.specs.declared.Slot.{Slot}
 use Rattle.slot.specs.Slot.{touched, withBucket, newSlot}
 use Rattle.ledger.specs.Model as Ledger
-use Rattle.shard_map.specs.declared.evict.Room.{Room}
-use Rattle.shard_map.specs.declared.evict.Room.the-variants.{Made, Refused}
 use Rattle.shard_map.specs.Model.{Shard, capOf, slotAt, withSlot, withLedger, inLedger, placeOf, removeAt, insert, sweepIdle}
-use Rattle.shard_map.specs.Evict.{evicted}
+use Rattle.evict.specs.declared.Room.{Room}
+use Rattle.evict.specs.declared.Room.the-variants.{Made, Refused}
+use Rattle.evict.specs.Evict.{evicted}
 use Rattle.store.specs.declared.Identity.{Identity}
 use Rattle.store.specs.declared.Policy.{Policy}
 use Rattle.store.specs.declared.Answer.{Answer}

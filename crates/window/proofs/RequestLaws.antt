@@ -16,10 +16,10 @@ use Rattle.rows.specs.Outcome.{Outcome}
 use Rattle.slot.specs.declared.Slot.{Slot}
 use Rattle.ledger.specs.Model as Ledger
 use Rattle.ledger.proofs.KeptLaws as Debts
-use Rattle.shard_map.specs.declared.evict.Room.the-variants.{Made}
 use Rattle.shard_map.specs.Model.{Shard, Sound, capOf, slotAt, withSlot, withLedger, placeOf, removeAt, insert}
 use Rattle.shard_map.proofs.StepLaws.{Holding}
 use Rattle.shard_map.proofs.KeptLaws.{weight, unpaid, count, held, weight-own, weight-other, hold-own, hold-other, empty-has-nothing, count-removed, held-removed, count-inserted, held-inserted, count-stored, held-stored, Keeps, keeps-trans, later-keeps-line, nowhere-weighs-nothing, nowhere-holds-the-debt, OneSlot, one-slot-is-all}
+use Rattle.evict.specs.declared.Room.the-variants.{Made}
 use Rattle.store.specs.declared.Answer.{Answer}
 use Rattle.store.specs.declared.Identity.{Identity}
 use Rattle.store.specs.declared.Policy.{Policy}

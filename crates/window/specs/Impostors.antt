@@ -5,8 +5,8 @@ use lib.ListN.{getD, set}
 use Rattle.rows.specs.Outcome.{outcome}
 use Rattle.bucket.specs.declared.BucketDecision.the-variants.{Allowed}
 use Rattle.settings.specs.Settings.{shardCount, capOf, shardWords}
-use Rattle.shard_map.specs.Evict.{minRefusalWait}
 use Rattle.shard_map.specs.Layout.{ledgerStart}
+use Rattle.evict.specs.Evict.{minRefusalWait}
 use Rattle.store.specs.declared.Answer.{Answer}
 use Rattle.store.specs.declared.Answer.the-variants.{Decided, NoSpace}
 use Rattle.perkey.specs.declared.Reply.{Reply}

@@ -1,4 +1,4 @@
--- `owed_by` goes by the place that `position` gives, as its definition does; a place that is given holds a debt, so it can be loaded.
+-- `owed_by` goes by the place that `position` gives, as its definition does; a place that is given holds a debt, so its moment can be read.
 use mathlib.Core.Path.{sym, _∙_}
 use Rattle.ledger.proofs.StepLaws.{found-owes, owed-where}
 use Rattle.ledger.proofs.ModelLaws.{lent-below}
@@ -12,8 +12,8 @@ position-requires c κs = search needs
 enum-known-pos : tie.Need-enum-known-pos
 enum-known-pos c = search needs
 
-load-requires : tie.Need-load-requires
-load-requires c κs =
+settles-at-requires : tie.Need-settles-at-requires
+settles-at-requires c κs =
     let pre′ = c .before .before .before .before .before .pre in
     let position′ = c .before .before .before .position in
     let pos′ = c .before .pos in
@@ -24,14 +24,14 @@ enum-told c = search needs
 
 returns : tie.Need-returns
 returns c =
-    let load′ = c .before .load in
-    let position′ = c .before .before .before .before .before .position in
-    let pos′ = c .before .before .before .pos in
-    rw (load′ .ensures) (owed-where _ _ (sym (position′ .ensures) ∙ pos′ .given .1))
+    let settles-at′ = c .settles-at in
+    let position′ = c .before .before .before .before .position in
+    let pos′ = c .before .before .pos in
+    rw (settles-at′ .ensures) (owed-where _ _ (sym (position′ .ensures) ∙ pos′ .given .1))
 
 returns-2 : tie.Need-returns-2
 returns-2 c = owed-where _ _ (sym (c .before .before .position .ensures) ∙ c .enum-told .given .1)
 
 pub owed-by-spec : {M : Type 1} → statement M
 owed-by-spec =
-    tie.close (tie.spec position-requires enum-known-pos load-requires enum-told returns returns-2)
+    tie.close (tie.spec position-requires enum-known-pos settles-at-requires enum-told returns returns-2)

@@ -12,8 +12,8 @@ position-requires c κs = search needs
 enum-known-pos : tie.Need-enum-known-pos
 enum-known-pos c = search needs
 
-load-requires : tie.Need-load-requires
-load-requires c κs =
+settles-at-requires : tie.Need-settles-at-requires
+settles-at-requires c κs =
     let pre′ = c .before .before .before .before .before .before .before .pre in
     let position′ = c .before .before .before .before .position in
     let pos′ = c .before .before .pos in
@@ -21,9 +21,9 @@ load-requires c κs =
 
 remove-at-requires : tie.Need-remove-at-requires
 remove-at-requires c κs =
-    let pre′ = c .before .before .before .before .before .before .before .before .before .before .pre in
-    let position′ = c .before .before .before .before .before .before .before .position in
-    let pos′ = c .before .before .before .before .before .pos in
+    let pre′ = c .before .before .before .before .before .before .before .before .before .pre in
+    let position′ = c .before .before .before .before .before .before .position in
+    let pos′ = c .before .before .before .before .pos in
     (pre′, found-owes _ _ _ (sym (position′ .ensures) ∙ pos′ .given .1) .below)
 
 enum-told : tie.Need-enum-told
@@ -35,10 +35,10 @@ same-length c = search needs
 returns : tie.Need-returns
 returns c =
     let remove-at′ = c .before .before .remove-at in
-    let load′ = c .before .before .before .before .before .load in
-    let position′ = c .before .before .before .before .before .before .before .before .before .before .position in
-    let pos′ = c .before .before .before .before .before .before .before .before .pos in
-    rw (remove-at′ .ensures, load′ .ensures) (taken-where _ _ (sym (position′ .ensures) ∙ pos′ .given .1))
+    let settles-at′ = c .before .before .before .before .settles-at in
+    let position′ = c .before .before .before .before .before .before .before .before .before .position in
+    let pos′ = c .before .before .before .before .before .before .before .pos in
+    rw (remove-at′ .ensures, settles-at′ .ensures) (taken-where _ _ (sym (position′ .ensures) ∙ pos′ .given .1))
 
 same-length-2 : tie.Need-same-length-2
 same-length-2 c = search needs
@@ -52,7 +52,7 @@ take-spec =
     (tie.spec
     position-requires
     enum-known-pos
-    load-requires
+    settles-at-requires
     remove-at-requires
     enum-told
     same-length

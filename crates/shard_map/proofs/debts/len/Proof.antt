@@ -10,15 +10,6 @@ mul-start c = search needs
 add-start : tie.Need-add-start
 add-start c = search needs
 
-mul-end : tie.Need-mul-end
-mul-end c = search needs
-
-add-end : tie.Need-add-end
-add-end c = search needs
-
-add-end-2 : tie.Need-add-end-2
-add-end-2 c = search needs
-
 mul-len : tie.Need-mul-len
 mul-len c = search needs
 
@@ -32,10 +23,10 @@ part-len-end : tie.Need-part-len-end
 part-len-end c = search needs
 
 len-requires : tie.Need-len-requires
-len-requires c κs = ledger-long _ _ (c .before .before .pre)
+len-requires c κs = ledger-long _ (c .before .before .args .ws .now) (c .before .before .pre)
 
 returns : tie.Need-returns
-returns c = rw ledger-lent at (c .len .ensures)
+returns c = rw (ledger-lent _ _ (c .before .before .before .pre)) at (c .len .ensures)
 
 pub len-spec : {M : Type 1} → statement M
 len-spec =
@@ -43,9 +34,6 @@ len-spec =
     (tie.spec
     mul-start
     add-start
-    mul-end
-    add-end
-    add-end-2
     mul-len
     sub-len
     part-len-start

@@ -11,15 +11,6 @@ mul-start c = search needs
 add-start : tie.Need-add-start
 add-start c = search needs
 
-mul-end : tie.Need-mul-end
-mul-end c = search needs
-
-add-end : tie.Need-add-end
-add-end c = search needs
-
-add-end-2 : tie.Need-add-end-2
-add-end-2 c = search needs
-
 mul-owed-by : tie.Need-mul-owed-by
 mul-owed-by c = search needs
 
@@ -36,7 +27,7 @@ owed-by-requires : tie.Need-owed-by-requires
 owed-by-requires c κs = lent-ledger (c .before .before .pre)
 
 returns : tie.Need-returns
-returns c = rw ledger-lent at (c .owed-by .ensures)
+returns c = rw (ledger-lent _ _ (c .before .before .before .pre .size)) at (c .owed-by .ensures)
 
 pub owed-by-spec : {M : Type 1} → statement M
 owed-by-spec =
@@ -44,9 +35,6 @@ owed-by-spec =
     (tie.spec
     mul-start
     add-start
-    mul-end
-    add-end
-    add-end-2
     mul-owed-by
     sub-owed-by
     part-owed-by-start

@@ -11,15 +11,6 @@ mul-start c = search needs
 add-start : tie.Need-add-start
 add-start c = search needs
 
-mul-end : tie.Need-mul-end
-mul-end c = search needs
-
-add-end : tie.Need-add-end
-add-end c = search needs
-
-add-end-2 : tie.Need-add-end-2
-add-end-2 c = search needs
-
 mul-pay-down : tie.Need-mul-pay-down
 mul-pay-down c = search needs
 
@@ -43,7 +34,8 @@ same-length c = search needs
 returns : tie.Need-returns
 returns c =
     let pay-down′ = c .before .before .pay-down in
-    ledger-answered _ _ _ (c .before .before .before .before .before .pre .0 .size) (pay-down′ .kept .0) (rw ledger-lent at (pay-down′ .ensures))
+    let size = c .before .before .before .before .before .pre .0 .size in
+    ledger-answered _ _ _ size (pay-down′ .kept .0) (rw (ledger-lent _ _ size) at (pay-down′ .ensures))
 
 pub pay-down-spec : {M : Type 1} → statement M
 pay-down-spec =
@@ -51,9 +43,6 @@ pay-down-spec =
     (tie.spec
     mul-start
     add-start
-    mul-end
-    add-end
-    add-end-2
     mul-pay-down
     sub-pay-down
     part-pay-down-start

@@ -11,15 +11,6 @@ mul-start c = search needs
 add-start : tie.Need-add-start
 add-start c = search needs
 
-mul-end : tie.Need-mul-end
-mul-end c = search needs
-
-add-end : tie.Need-add-end
-add-end c = search needs
-
-add-end-2 : tie.Need-add-end-2
-add-end-2 c = search needs
-
 mul-record : tie.Need-mul-record
 mul-record c = search needs
 
@@ -40,9 +31,9 @@ same-length c = search needs
 
 returns : tie.Need-returns
 returns c =
-    let pre′ = c .before .before .before .before .before .pre in
     let record′ = c .before .before .«record» in
-    ledger-answered _ _ _ (pre′ .size) (record′ .kept .0) (rw ledger-lent at (record′ .ensures))
+    let size = c .before .before .before .before .before .pre .size in
+    ledger-answered _ _ _ size (record′ .kept .0) (rw (ledger-lent _ _ size) at (record′ .ensures))
 
 pub record-spec : {M : Type 1} → statement M
 record-spec =
@@ -50,9 +41,6 @@ record-spec =
     (tie.spec
     mul-start
     add-start
-    mul-end
-    add-end
-    add-end-2
     mul-record
     sub-record
     part-record-start

@@ -11,15 +11,6 @@ mul-start c = search needs
 add-start : tie.Need-add-start
 add-start c = search needs
 
-mul-end : tie.Need-mul-end
-mul-end c = search needs
-
-add-end : tie.Need-add-end
-add-end c = search needs
-
-add-end-2 : tie.Need-add-end-2
-add-end-2 c = search needs
-
 mul-sweep : tie.Need-mul-sweep
 mul-sweep c = search needs
 
@@ -41,7 +32,8 @@ same-length c = search needs
 returns : tie.Need-returns
 returns c =
     let sweep′ = c .before .before .sweep in
-    rw (ledger-back _ _ _ (c .before .before .before .before .before .pre .size) (sweep′ .kept .0), sweep′ .ensures, ledger-lent)
+    let size = c .before .before .before .before .before .pre .size in
+    rw (ledger-back _ _ _ size (sweep′ .kept .0), sweep′ .ensures, ledger-lent _ _ size)
 
 pub sweep-spec : {M : Type 1} → statement M
 sweep-spec =
@@ -49,9 +41,6 @@ sweep-spec =
     (tie.spec
     mul-start
     add-start
-    mul-end
-    add-end
-    add-end-2
     mul-sweep
     sub-sweep
     part-sweep-start

@@ -11,15 +11,6 @@ mul-start c = search needs
 add-start : tie.Need-add-start
 add-start c = search needs
 
-mul-end : tie.Need-mul-end
-mul-end c = search needs
-
-add-end : tie.Need-add-end
-add-end c = search needs
-
-add-end-2 : tie.Need-add-end-2
-add-end-2 c = search needs
-
 mul-take : tie.Need-mul-take
 mul-take c = search needs
 
@@ -41,7 +32,8 @@ same-length c = search needs
 returns : tie.Need-returns
 returns c =
     let take′ = c .before .before .take in
-    ledger-answered _ _ _ (c .before .before .before .before .before .pre .size) (take′ .kept .0) (rw ledger-lent at (take′ .ensures))
+    let size = c .before .before .before .before .before .pre .size in
+    ledger-answered _ _ _ size (take′ .kept .0) (rw (ledger-lent _ _ size) at (take′ .ensures))
 
 pub take-spec : {M : Type 1} → statement M
 take-spec =
@@ -49,9 +41,6 @@ take-spec =
     (tie.spec
     mul-start
     add-start
-    mul-end
-    add-end
-    add-end-2
     mul-take
     sub-take
     part-take-start

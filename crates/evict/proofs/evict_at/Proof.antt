@@ -1,9 +1,9 @@
 -- `evict_at` removes the slot and stores the hand, as the definition does.
 use native.Mathlib.Omega.{arith}
 use Rattle.shard_map.proofs.ModelLaws.{lent-below}
 use borrow.Author.Needs.{needs}
-use Rattle.shard_map.proofs.evict.evict_at.Statement.{statement}
-use Rattle.shard_map.proofs.evict.evict_at.Tie as tie
+use Rattle.evict.proofs.evict_at.Statement.{statement}
+use Rattle.evict.proofs.evict_at.Tie as tie
 
 remove-at-requires : tie.Need-remove-at-requires
 remove-at-requires c κs = search needs

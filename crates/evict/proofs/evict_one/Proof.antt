@@ -1,21 +1,22 @@
 -- `evict_one` is the walk and what follows from it. The loop holds that the looks left, made from here, give the walk from the start; where its two
 -- ways out meet, the place that it yields and the shard are the walk's own, and the rest goes by that place as the definition does.
-use Rattle.shard_map.specs.Evict.{walkFrom, walked}
-use Rattle.shard_map.specs.Layout.{shard, Lent}
-use Rattle.shard_map.specs.declared.evict.Walk.{Walk}
-use Rattle.rows.specs.declared.Place.{Place}
-use Rattle.bucket.specs.declared.BucketConfig.{BucketConfig}
-use Rattle.units.specs.declared.Nanos.{Nanos}
-use native.Mathlib.Omega.{arith}
 use Prim.Native.Nat.{ℕ, _<_}
-use lib.ListN.{length}
-use mathlib.Core.List.{List}
 use mathlib.Core.Path.{_≡_, refl, sym, _∙_}
+use mathlib.Core.List.{List}
 use mathlib.Core.Logic.{⊎-elim}
-use Rattle.shard_map.proofs.ModelLaws.{lent-hand, walk-start, walk-end, walk-turn, walk-ends-at-once, after-look, after-walk, evicted-at-once, evicted-noted}
+use native.Mathlib.Omega.{arith}
+use lib.ListN.{length}
+use Rattle.units.specs.declared.Nanos.{Nanos}
+use Rattle.bucket.specs.declared.BucketConfig.{BucketConfig}
+use Rattle.rows.specs.declared.Place.{Place}
+use Rattle.shard_map.specs.Layout.{shard, Lent}
+use Rattle.shard_map.proofs.ModelLaws.{lent-hand}
+use Rattle.evict.specs.declared.Walk.{Walk}
+use Rattle.evict.specs.Evict.{walkFrom, walked}
+use Rattle.evict.proofs.ModelLaws.{walk-start, walk-end, walk-turn, walk-ends-at-once, after-look, after-walk, evicted-at-once, evicted-noted}
 use borrow.Author.Needs.{needs}
-use Rattle.shard_map.proofs.evict.evict_one.Statement.{statement}
-use Rattle.shard_map.proofs.evict.evict_one.Tie as tie
+use Rattle.evict.proofs.evict_one.Statement.{statement}
+use Rattle.evict.proofs.evict_one.Tie as tie
 
 -- The walk from here, with the looks that are left, is the walk from the start.
 record Walking (ws₀ : List ℕ) (cap : ℕ) (c : BucketConfig) (at : Nanos) (ws : List ℕ) (left : ℕ) (walk : Walk) : Type 0 where
@@ -33,8 +34,8 @@ abbrev μ-loop : tie.MeasureT-loop
 hand-requires : tie.Need-hand-requires Inv-loop μ-loop
 hand-requires c κs = search needs
 
-count-requires : tie.Need-count-requires Inv-loop μ-loop
-count-requires c κs = search needs
+len-requires : tie.Need-len-requires Inv-loop μ-loop
+len-requires c κs = search needs
 
 fewer-requires : tie.Need-fewer-requires Inv-loop μ-loop
 fewer-requires c κs = search needs
@@ -45,7 +46,7 @@ new-requires c κs = search needs
 loop-holds : tie.Need-loop-holds Inv-loop μ-loop
 loop-holds c =
     let pre′ = c .before .before .before .before .before .before .before .pre in
-    record { lent = pre′ .0; some = pre′ .2; long = refl; same = rw (c .new .ensures, c .before .fewer .ensures, c .before .before .count .ensures) (walk-start _ _ _) }
+    record { lent = pre′ .0; some = pre′ .2; long = refl; same = rw (c .new .ensures, c .before .fewer .ensures, c .before .before .len .ensures) (walk-start _ _ _) }
 
 hand-requires-2 : tie.Need-hand-requires-2 Inv-loop μ-loop
 hand-requires-2 c κs = search needs
@@ -148,7 +149,7 @@ evict-one-spec =
     Inv-loop
     μ-loop
     hand-requires
-    count-requires
+    len-requires
     fewer-requires
     new-requires
     loop-holds

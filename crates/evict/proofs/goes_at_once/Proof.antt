@@ -2,8 +2,8 @@
 use mathlib.Core.Path.{sym, _∙_}
 use mathlib.Core.Bool.{Bool·not-not}
 use borrow.Author.Needs.{needs}
-use Rattle.shard_map.proofs.evict.goes_at_once.Statement.{statement}
-use Rattle.shard_map.proofs.evict.goes_at_once.Tie as tie
+use Rattle.evict.proofs.goes_at_once.Statement.{statement}
+use Rattle.evict.proofs.goes_at_once.Tie as tie
 
 is-lossless-requires : tie.Need-is-lossless-requires
 is-lossless-requires c κs = search needs

@@ -1,7 +1,7 @@
 -- `first_of` goes by the place that was noted, as its definition does.
 use borrow.Author.Needs.{needs}
-use Rattle.shard_map.proofs.evict.first_of.Statement.{statement}
-use Rattle.shard_map.proofs.evict.first_of.Tie as tie
+use Rattle.evict.proofs.first_of.Statement.{statement}
+use Rattle.evict.proofs.first_of.Tie as tie
 
 enum-known-noted : tie.Need-enum-known-noted
 enum-known-noted c = search needs

@@ -1,18 +1,18 @@
 // Eviction of one slot from a full shard.
 ghost use mathlib.Core.Path.{_≡_};
-ghost use Prim.Native.Nat.{_≤_, _<_, _^_, min};
+ghost use Prim.Native.Nat.{_≤_, _<_, _^_};
 ghost use Rattle.rows.specs.Outcome.{outcome};
 ghost use Rattle.bucket.specs.Bucket.{Accepted};
 ghost use Rattle.shard_map.specs.Model as Model;
-ghost use Rattle.shard_map.specs.Evict as Evict;
 ghost use Rattle.shard_map.specs.Layout.{shard, Lent};
-use crate::debts;
-use crate::words;
+ghost use Rattle.evict.specs.Evict as Evict;
 use bucket::BucketConfig;
 use ledger::Debt;
 use ledger::Recorded;
 use rows::Place;
 use settings::eviction::Eviction;
+use shard_map::debts;
+use shard_map::words;
 use slot::Slot;
 use units::Nanos;
 
@@ -112,7 +112,7 @@ fn look(ws: &mut [u64], cap: usize, pos: usize) -> Slot
     requires { ⌜ Lent cap (now ws) × (pos < cap) ⌝ }
     ensures { λ r. ⌜ outcome r (shard cap (now (ws .exit))) ≡ outcome (Model.slotAt (shard cap (now (ws .entry))) pos) (Evict.looked (shard cap (now (ws .entry))) pos) ⌝ }
 {
-    let slot = words::load(ws, cap, pos);
+    let slot = shard_map::get(ws, cap, pos);
     words::clear_mark(ws, cap, pos);
     words::set_hand(ws, cap, pos + 1);
     slot
@@ -124,7 +124,7 @@ pub fn evict_one(ws: &mut [u64], cap: usize, config: BucketConfig, at: Nanos, fo
     ensures { λ r. ⌜ outcome r (shard cap (now (ws .exit))) ≡ Evict.evicted config at forget (shard cap (now (ws .entry))) ⌝ }
 {
     let first = words::hand(ws, cap);
-    let mut left = fewer(Eviction::CLOCK_SCAN, words::count(ws, cap));
+    let mut left = arith::fewer(Eviction::CLOCK_SCAN, shard_map::len(ws, cap));
     let mut walk = Walk::new();
     let victim = loop {
         if left == 0 {
@@ -152,7 +152,7 @@ fn evict_at(ws: &mut [u64], cap: usize, pos: usize)
     requires { ⌜ Lent cap (now ws) × (pos < shard cap (now ws) .slots .count) ⌝ }
     ensures { λ _. ⌜ shard cap (now (ws .exit)) ≡ Evict.evictAt (shard cap (now (ws .entry))) pos ⌝ }
 {
-    crate::remove_at(ws, cap, pos);
+    shard_map::remove_at(ws, cap, pos);
     words::set_hand(ws, cap, pos + 1);
 }
 
@@ -202,7 +202,7 @@ fn evict_limited(
     requires { ⌜ Lent cap (now ws) × Accepted config × (at .0 ≤ 2 ^ 62) × (pos < shard cap (now ws) .slots .count) ⌝ }
     ensures { λ r. ⌜ outcome r (shard cap (now (ws .exit))) ≡ Evict.evictLimited config at forget (shard cap (now (ws .entry))) pos (soonest .0) ⌝ }
 {
-    let slot = words::load(ws, cap, pos);
+    let slot = shard_map::get(ws, cap, pos);
     let recovers_in = slot.recovers_in(config, at);
     let debt = Debt {
         hash: slot.hash,
@@ -218,11 +218,4 @@ fn evict_limited(
             Room::Refused(Nanos(arith::larger(sooner, MIN_REFUSAL_WAIT)))
         }
     }
-}
-
-// The smaller of two counts.
-fn fewer(a: usize, b: usize) -> usize
-    ensures { λ r. ⌜ r ≡ min a b ⌝ }
-{
-    if a <= b { a } else { b }
 }

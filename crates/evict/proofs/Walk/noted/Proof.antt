@@ -1,9 +1,9 @@
 -- `Walk::noted` has one return for each case of its definition: a full slot, and one that is not full with and without the mark.
 use mathlib.Core.Path.{sym, _∙_}
-use Rattle.shard_map.proofs.ModelLaws.{noted-full, noted-unmarked, noted-marked}
+use Rattle.evict.proofs.ModelLaws.{noted-full, noted-unmarked, noted-marked}
 use borrow.Author.Needs.{needs}
-use Rattle.shard_map.proofs.evict.Walk.noted.Statement.{statement}
-use Rattle.shard_map.proofs.evict.Walk.noted.Tie as tie
+use Rattle.evict.proofs.Walk.noted.Statement.{statement}
+use Rattle.evict.proofs.Walk.noted.Tie as tie
 
 is-lossless-requires : tie.Need-is-lossless-requires
 is-lossless-requires c κs = search needs

@@ -1,14 +1,15 @@
 -- `evict_limited` goes by the ledger's answer, as its definition does. The moment of the debt fits 64 bits, since a recovery is below 2^63 ns.
 use native.Mathlib.Omega.{arith}
-use Rattle.shard_map.proofs.ModelLaws.{lent-below, after-record, debt-fits, limited-made, limited-refused}
+use Rattle.shard_map.proofs.ModelLaws.{lent-below}
+use Rattle.evict.proofs.ModelLaws.{after-record, debt-fits, limited-made, limited-refused}
 use borrow.Author.Needs.{needs}
-use Rattle.shard_map.proofs.evict.evict_limited.Statement.{statement}
-use Rattle.shard_map.proofs.evict.evict_limited.Tie as tie
+use Rattle.evict.proofs.evict_limited.Statement.{statement}
+use Rattle.evict.proofs.evict_limited.Tie as tie
 
-load-requires : tie.Need-load-requires
-load-requires c κs =
+get-requires : tie.Need-get-requires
+get-requires c κs =
     let pre′ = c .before .before .pre in
-    (pre′ .0 .size, lent-below (pre′ .0) (pre′ .3))
+    (pre′ .0, lent-below (pre′ .0) (pre′ .3))
 
 recovers-in-requires : tie.Need-recovers-in-requires
 recovers-in-requires c κs = search needs
@@ -49,10 +50,10 @@ returns c =
     let evict-at′ = c .before .before .evict-at in
     let pre′ = c .before .before .before .before .before .before .before .before .before .before .before .before .before .before .before .before .pre in
     let recovers-in′ = c .before .before .before .before .before .before .before .before .before .before .before .before .recovers-in in
-    let load′ = c .before .before .before .before .before .before .before .before .before .before .before .before .before .load in
+    let get′ = c .before .before .before .before .before .before .before .before .before .before .before .before .before .get in
     let record′ = c .before .before .before .before .before .before .before .before .«record» in
     let enum-told′ = c .before .before .before .before .enum-told in
-    let gave = rw (recovers-in′ .ensures, load′ .ensures) at (record′ .ensures) in
+    let gave = rw (recovers-in′ .ensures, get′ .ensures) at (record′ .ensures) in
     rw (evict-at′ .ensures) (limited-made (args′ .config) (args′ .at) (args′ .forget) (args′ .pos) (args′ .soonest .0) (pre′ .0) gave (enum-told′ .given .1))
 
 same-length-2 : tie.Need-same-length-2
@@ -65,17 +66,17 @@ returns-2 c =
     let smaller′ = c .before .smaller in
     let pre′ = c .before .before .before .before .before .before .before .before .before .before .before .before .before .before .before .pre in
     let recovers-in′ = c .before .before .before .before .before .before .before .before .before .before .before .recovers-in in
-    let load′ = c .before .before .before .before .before .before .before .before .before .before .before .before .load in
+    let get′ = c .before .before .before .before .before .before .before .before .before .before .before .before .get in
     let record′ = c .before .before .before .before .before .before .before .«record» in
     let wait′ = c .before .before .before .wait in
-    let gave = rw (recovers-in′ .ensures, load′ .ensures) at (record′ .ensures) in
+    let gave = rw (recovers-in′ .ensures, get′ .ensures) at (record′ .ensures) in
     rw (larger′ .ensures, smaller′ .ensures) (limited-refused (args′ .config) (args′ .at) (args′ .forget) (args′ .pos) (args′ .soonest .0) (pre′ .0) gave (wait′ .given .1))
 
 pub evict-limited-spec : {M : Type 1} → statement M
 evict-limited-spec =
     tie.close
     (tie.spec
-    load-requires
+    get-requires
     recovers-in-requires
     add-t15
     record-requires

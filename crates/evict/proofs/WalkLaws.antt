@@ -22,12 +22,12 @@ use Rattle.ledger.specs.declared.Recorded.{Recorded}
 use Rattle.ledger.specs.declared.Recorded.the-variants.{Done, NoRoom}
 use Rattle.ledger.specs.Model as Ledger
 use Rattle.ledger.proofs.RecordLaws.{recorded-sound, recorded-cap, Refusal, refusal}
-use Rattle.shard_map.specs.declared.evict.Walk.{Walk}
-use Rattle.shard_map.specs.declared.evict.Room.{Room}
-use Rattle.shard_map.specs.declared.evict.Room.the-variants.{Made, Refused}
+use Rattle.evict.specs.declared.Walk.{Walk}
+use Rattle.evict.specs.declared.Room.{Room}
+use Rattle.evict.specs.declared.Room.the-variants.{Made, Refused}
 use Rattle.shard_map.specs.Model.{Shard, Sound, noSlot, capOf, slotAt, withLedger, handOf, removeAt}
-use Rattle.shard_map.specs.Evict.{minRefusalWait, orPlace, placeOr, nothingNoted, noted, looked, goesAtOnce, holds, Walked, walkFrom, walked, evictAt, debtOf, evictOwing, evictLimited, evictNoted, evictWalked, evicted}
+use Rattle.evict.specs.Evict.{minRefusalWait, orPlace, placeOr, nothingNoted, noted, looked, goesAtOnce, holds, Walked, walkFrom, walked, evictAt, debtLeft, evictOwing, evictLimited, evictNoted, evictWalked, evicted}
 use Rattle.shard_map.proofs.StepLaws.{EverySlot, removal-every, hand-below, removal-count, removal-cap, removal-ledger, ledger-sound}
 
 -- A shard that is another but for the hand and the marks.
 pub record Remarked (s t : Shard) : Type 0 where
@@ -132,10 +132,10 @@ remarked-full c at s t p r f = record { below = omega (arith, r .count, f .below
 
 -- The debt of the slot at p is recorded in the ledger of its shard.
 abbrev pub debtRecorded : BucketConfig → Nanos → Bool → Shard → ℕ → Outcome Recorded Ledger.Ledger
-debtRecorded c at forget s p = Ledger.recorded (s .ledger) (debtOf c at (slotAt s p)) (at .0) forget
+debtRecorded c at forget s p = Ledger.recorded (s .ledger) (debtLeft c at (slotAt s p)) (at .0) forget
 
 pub debt-recorded-sound : (c : BucketConfig) (at : Nanos) (forget : Bool) (s : Shard) (p : ℕ) → Sound s → Sound (withLedger s (debtRecorded c at forget s p .after))
-debt-recorded-sound c at forget s p u = ledger-sound s _ u (recorded-sound (s .ledger) (debtOf c at (slotAt s p)) (at .0) forget (u .ledger))
+debt-recorded-sound c at forget s p u = ledger-sound s _ u (recorded-sound (s .ledger) (debtLeft c at (slotAt s p)) (at .0) forget (u .ledger))
 
 -- How an eviction ends, by the shard that the walk left: a full slot goes; a slot goes once its debt is in the ledger; or none goes, since the ledger had
 -- no room, and the wait told is at least a millisecond.
@@ -218,8 +218,8 @@ module _ (c : BucketConfig) (at : Nanos) (forget : Bool) (s : Shard) (u : Sound 
       go : {t : Shard} {o : Outcome Room Shard} → Sound t → Q (t .ledger) → Evicting c at forget t o → Q (o .after .ledger)
       go {t} v r (full-goes p f) = rw (removal-ledger t p) r
       go {t} v r (owing-goes p below done) =
-          rw (removal-ledger (withLedger t (debtRecorded c at forget t p .after)) p) (records (t .ledger) (debtOf c at (slotAt t p)) (v .ledger) r)
-      go {t} v r (none-goes p wait ledger-wait below told least) = records (t .ledger) (debtOf c at (slotAt t p)) (v .ledger) r
+          rw (removal-ledger (withLedger t (debtRecorded c at forget t p .after)) p) (records (t .ledger) (debtLeft c at (slotAt t p)) (v .ledger) r)
+      go {t} v r (none-goes p wait ledger-wait below told least) = records (t .ledger) (debtLeft c at (slotAt t p)) (v .ledger) r
 
   -- It leaves the same room for slots and for debts, no more slots than there were, and a sound shard.
   pub evict-cap : capOf (evicted c at forget s .after) ≡ capOf s

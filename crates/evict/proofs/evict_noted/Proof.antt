@@ -1,8 +1,8 @@
 -- `evict_noted` goes by the first full slot that the walk noted, as its definition does. What was noted is held, so it can be evicted.
-use Rattle.shard_map.proofs.ModelLaws.{chosen-held}
+use Rattle.evict.proofs.ModelLaws.{chosen-held}
 use borrow.Author.Needs.{needs}
-use Rattle.shard_map.proofs.evict.evict_noted.Statement.{statement}
-use Rattle.shard_map.proofs.evict.evict_noted.Tie as tie
+use Rattle.evict.proofs.evict_noted.Statement.{statement}
+use Rattle.evict.proofs.evict_noted.Tie as tie
 
 enum-known-full : tie.Need-enum-known-full
 enum-known-full c = search needs

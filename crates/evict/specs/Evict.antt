@@ -13,10 +13,10 @@ use Rattle.ledger.specs.declared.Debt.{Debt}
 use Rattle.ledger.specs.declared.Recorded.{Recorded}
 use Rattle.ledger.specs.declared.Recorded.the-variants.{Done, NoRoom}
 use Rattle.ledger.specs.Model as Ledger
-use Rattle.shard_map.specs.declared.evict.Walk.{Walk}
-use Rattle.shard_map.specs.declared.evict.Room.{Room}
-use Rattle.shard_map.specs.declared.evict.Room.the-variants.{Made, Refused}
+use Rattle.evict.specs.declared.Walk.{Walk}
+use Rattle.evict.specs.declared.Room.{Room}
+use Rattle.evict.specs.declared.Room.the-variants.{Made, Refused}
 use Rattle.shard_map.specs.Model.{Shard, slotAt, withSlot, withHand, withLedger, handOf, removeAt}
 
 -- The shortest wait that a key refused for space is told, in nanoseconds: one millisecond.
 abbrev pub minRefusalWait : ℕ
@@ -88,8 +88,8 @@ abbrev pub evictAt : Shard → ℕ → Shard
 evictAt s p = withHand (removeAt s p) (p + 1)
 
 -- The debt that a slot leaves: it settles when the bucket would be full.
-abbrev pub debtOf : BucketConfig → Nanos → Slot → Debt
-debtOf c at slot = record { hash = slot .hash; settles = record { 0 = at .0 + recovery c slot at } }
+abbrev pub debtLeft : BucketConfig → Nanos → Slot → Debt
+debtLeft c at slot = record { hash = slot .hash; settles = record { 0 = at .0 + recovery c slot at } }
 
 -- The slot at p goes once its debt is in the ledger. If there is no room for the debt it stays, and the wait is the shorter of the soonest
 -- recovery and the ledger's wait, but at least a millisecond.
@@ -100,8 +100,8 @@ evictOwing s p soonest l (NoRoom wait) = outcome (Refused (record { 0 = max (min
 abbrev pub evictLimited : BucketConfig → Nanos → Bool → Shard → ℕ → ℕ → Outcome Room Shard
 evictLimited c at forget s p soonest =
     evictOwing s p soonest
-    (Ledger.recorded (s .ledger) (debtOf c at (slotAt s p)) (at .0) forget .after)
-    (Ledger.recorded (s .ledger) (debtOf c at (slotAt s p)) (at .0) forget .answer)
+    (Ledger.recorded (s .ledger) (debtLeft c at (slotAt s p)) (at .0) forget .after)
+    (Ledger.recorded (s .ledger) (debtLeft c at (slotAt s p)) (at .0) forget .answer)
 
 -- Who goes: the slot at which the walk ended; else the first full one; else the first unmarked one, or the first looked at, leaving its debt.
 abbrev pub evictNoted : BucketConfig → Nanos → Bool → Shard → ℕ → Walk → Place → Outcome Room Shard

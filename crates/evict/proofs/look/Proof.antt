@@ -1,12 +1,10 @@
 -- `look` gives the slot as it was and makes the two stores of a look.
 use borrow.Author.Needs.{needs}
-use Rattle.shard_map.proofs.evict.look.Statement.{statement}
-use Rattle.shard_map.proofs.evict.look.Tie as tie
+use Rattle.evict.proofs.look.Statement.{statement}
+use Rattle.evict.proofs.look.Tie as tie
 
-load-requires : tie.Need-load-requires
-load-requires c κs =
-    let pre′ = c .before .before .pre in
-    (pre′ .0 .size, pre′ .1)
+get-requires : tie.Need-get-requires
+get-requires c κs = search needs
 
 clear-mark-requires : tie.Need-clear-mark-requires
 clear-mark-requires c κs =
@@ -26,10 +24,10 @@ returns : tie.Need-returns
 returns c =
     let set-hand′ = c .before .before .set-hand in
     let clear-mark′ = c .before .before .before .before .before .before .clear-mark in
-    let load′ = c .before .before .before .before .before .before .before .before .load in
-    simp (set-hand′ .ensures, clear-mark′ .ensures, load′ .ensures)
+    let get′ = c .before .before .before .before .before .before .before .before .get in
+    simp (set-hand′ .ensures, clear-mark′ .ensures, get′ .ensures)
 
 pub look-spec : {M : Type 1} → statement M
 look-spec =
     tie.close
-    (tie.spec load-requires clear-mark-requires add-set-hand set-hand-requires same-length returns)
+    (tie.spec get-requires clear-mark-requires add-set-hand set-hand-requires same-length returns)

@@ -1,0 +1,112 @@
+-- The two sums over all that a shard has of one hash (KeptLaws of the shard), across an eviction: where debts may not be forgotten, none is lost.
+use Prim.Native.Nat.{ℕ, _+_, _*_, _-_, _≤_, _<_}
+use mathlib.Core.Path.{_≡_, refl, ap}
+use mathlib.Core.Bool.{Bool, false}
+use native.Mathlib.Nat.{mul-le-mul-right}
+use native.Mathlib.Omega.{arith}
+use Rattle.arith.proofs.Cases.{by-eq}
+use Rattle.arith.proofs.DivisionLaws.{ceilDiv-reaches}
+use Rattle.units.specs.declared.Nanos.{Nanos}
+use Rattle.bucket.specs.declared.BucketConfig.{BucketConfig}
+use Rattle.bucket.specs.declared.BucketCore.{BucketCore}
+use Rattle.bucket.specs.Bucket.{Accepted, fullParts, shortfallAt, recoveryAt}
+use Rattle.bucket.proofs.BucketLaws.{shortfall-most, wait-for-lack}
+use Rattle.rows.specs.Outcome.{Outcome}
+use Rattle.rows.proofs.SumLaws.{sum-same}
+use Rattle.slot.specs.declared.Slot.{Slot}
+use Rattle.slot.specs.Slot.{withMark}
+use Rattle.ledger.specs.declared.Debt.{Debt}
+use Rattle.ledger.specs.declared.Recorded.the-variants.{Done, NoRoom}
+use Rattle.ledger.specs.Model as Ledger
+use Rattle.ledger.proofs.KeptLaws.{weigh, owed, one, weigh-own, weigh-other, record-adds-at-most, record-keeps-unsettled, refusal-keeps}
+use Rattle.shard_map.specs.Model.{Shard, Sound, slotAt, withLedger, removeAt}
+use Rattle.shard_map.proofs.StepLaws.{removal-ledger}
+use Rattle.shard_map.proofs.KeptLaws.{weight, hold, unpaid, overAll, Keeps, keeps-trans, weight-of-hash, hold-own, hold-other, count-removed, held-removed, unpaid-settled, full-slot-loses-nothing}
+use Rattle.evict.specs.declared.Room.{Room}
+use Rattle.evict.specs.Evict.{walked, debtLeft, evictAt, evicted}
+use Rattle.evict.proofs.WalkLaws.{Remarked, remarked-slots, remarked-sound, walk-kept, debtRecorded, debt-recorded-sound, Evicting, full-goes, owing-goes, none-goes, evict-cases}
+
+-- What does not look at marks is the same after a walk.
+all-remarked : (h : ℕ) (slotValue : Slot → ℕ) (debtValue : ℕ → ℕ) → ((slot : Slot) (mark : ℕ) → slotValue (withMark slot mark) ≡ slotValue slot) → (s t : Shard)
+    → Remarked s t → overAll h slotValue debtValue t ≡ overAll h slotValue debtValue s
+all-remarked h slotValue debtValue blind s t r =
+    let same : (i : ℕ) → i < s .slots .count → slotValue (slotAt t i) ≡ slotValue (slotAt s i) = λ i below. remarked-slots s t r slotValue blind i in
+    rw (r .count, r .ledger) (omega (arith, sum-same (s .slots .count) (λ i. slotValue (slotAt t i)) (λ i. slotValue (slotAt s i)) same))
+
+-- A debt lasts at least as long as the shortfall that it stands for.
+pub debt-lasts : (c : BucketConfig) (b : BucketCore) (at : Nanos) → Accepted c → shortfallAt c b at ≤ (at .0 + recoveryAt c b at - at .0) * c .amount
+debt-lasts c b at a =
+    let lack : ℕ = shortfallAt c b at + fullParts c - fullParts c in
+    omega (
+      arith,
+      ceilDiv-reaches lack (c .amount) (a .amount-least),
+      ap (λ (n : ℕ). n * c .amount) (wait-for-lack c b (c .capacity) at (λ e. omega (arith, a .capacity-least))),
+      mul-le-mul-right {m = recoveryAt c b at} {n = at .0 + recoveryAt c b at - at .0} (c .amount) (omega arith),
+    )
+
+module _ (c : BucketConfig) (h k : ℕ) where
+  -- The walk changes neither sum.
+  walk-keeps-held : (at : Nanos) (s t : Shard) → Remarked s t → Keeps c h k at s t
+  unfolding weight hold
+  walk-keeps-held at s t r = record {
+    fewer = omega (arith, all-remarked h (weight h k) one (λ slot mark. refl) s t r);
+    more = λ single. omega (arith, all-remarked h (hold c h at) (unpaid c at) (λ slot mark. refl) s t r);
+  }
+
+  -- The debt that a slot leaves counts no more than the slot, and holds what it held.
+  debt-counts-no-more : (at : Nanos) (slot : Slot) → weigh h one (debtLeft c at slot) ≤ weight h k slot
+  debt-counts-no-more at slot =
+      let d : Debt = debtLeft c at slot in
+      by-eq (slot .hash) h (λ own. omega (arith, weigh-own h one d own, weight-of-hash h k slot own)) (λ other. omega (arith, weigh-other h one d other))
+
+  debt-holds-as-much : (at : Nanos) (slot : Slot) → Accepted c → hold c h at slot ≤ weigh h (unpaid c at) (debtLeft c at slot)
+  debt-holds-as-much at slot a =
+      let d : Debt = debtLeft c at slot in
+      by-eq (slot .hash) h
+      (λ own. omega (arith, weigh-own h (unpaid c at) d own, hold-own c h at slot own, debt-lasts c (slot .bucket) at a, shortfall-most c (slot .bucket) at))
+      (λ other. omega (arith, hold-other c h at slot other))
+
+  -- A slot goes once its debt is recorded, where debts may not be forgotten; and a recording that is refused changes nothing.
+  owing-slot-loses-nothing : (at : Nanos) (forget : Bool) (s : Shard) (p : ℕ) → Accepted c → Sound s → forget ≡ false → p < s .slots .count
+      → debtRecorded c at forget s p .answer ≡ Done → Keeps c h k at s (evictAt (withLedger s (debtRecorded c at forget s p .after)) p)
+  owing-slot-loses-nothing at forget s p a u never below done =
+      let slot : Slot = slotAt s p in
+      let d : Debt = debtLeft c at slot in
+      let l : Ledger.Ledger = debtRecorded c at forget s p .after in
+      let v : Sound (withLedger s l) = debt-recorded-sound c at forget s p u in
+      record {
+        fewer = omega (arith, count-removed h k (withLedger s l) p v below, record-adds-at-most h one (s .ledger) (u .ledger) d (at .0) forget done, debt-counts-no-more at slot);
+        more = λ single.
+            let alone : owed h one (s .ledger) + weigh h one d ≤ 1 = omega (arith, count-removed h k s p u below, ap (owed h one) (removal-ledger s p), debt-counts-no-more at slot) in
+            omega (
+              arith,
+              held-removed c h at (withLedger s l) p v below,
+              record-keeps-unsettled h (unpaid c at) (s .ledger) (u .ledger) d (at .0) forget never (unpaid-settled c at) alone done,
+              debt-holds-as-much at slot a,
+            );
+      }
+
+  refusal-loses-nothing : (at : Nanos) (forget : Bool) (s : Shard) (p : ℕ) (wait : Nanos) → Sound s → debtRecorded c at forget s p .answer ≡ NoRoom wait
+      → Keeps c h k at s (withLedger s (debtRecorded c at forget s p .after))
+  refusal-loses-nothing at forget s p wait u told =
+      let d : Debt = debtLeft c at (slotAt s p) in
+      record {
+        fewer = omega (arith, refusal-keeps h one (s .ledger) (u .ledger) d (at .0) forget wait told);
+        more = λ single. omega (arith, refusal-keeps h (unpaid c at) (s .ledger) (u .ledger) d (at .0) forget wait told);
+      }
+
+  -- An eviction loses nothing, whether it makes room or is refused, where debts may not be forgotten.
+  pub evict-keeps-held : (at : Nanos) (forget : Bool) (s : Shard) → Accepted c → Sound s → 0 < s .slots .count → forget ≡ false → Keeps c h k at s (evicted c at forget s .after)
+  evict-keeps-held at forget s a u some never =
+      keeps-trans c h k at s (walked c at s .after) (evicted c at forget s .after) (walk-keeps-held at s (walked c at s .after) walk)
+      (go (remarked-sound s (walked c at s .after) walk u) (evict-cases c at forget s u some))
+    where
+      walk : Remarked s (walked c at s .after)
+      walk = walk-kept c at s u some .same
+
+      go : {t : Shard} {o : Outcome Room Shard} → Sound t → Evicting c at forget t o → Keeps c h k at t (o .after)
+      go {t} v (full-goes p f) =
+          let kept : Keeps c h k at t (removeAt t p) = full-slot-loses-nothing c h k at t p v (f .below) (f .full) in
+          record { fewer = kept .fewer; more = kept .more }
+      go {t} v (owing-goes p below done) = owing-slot-loses-nothing at forget t p a v never below done
+      go {t} v (none-goes p wait ledger-wait below told least) = refusal-loses-nothing at forget t p ledger-wait v told

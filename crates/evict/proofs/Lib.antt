@@ -1,0 +1,5 @@
+pub mod WalkLaws
+pub mod ModelLaws
+pub mod KeptLaws
+pub mod DistinctLaws
+pub mod Worked
