@@ -62,7 +62,7 @@ pub(crate) fn refused_rates() {
     rate(1, 0x4000_0000_0001, 0);
     rate(1, 1, 0);
     rate(1, 1, 65536);
-    line(b"closed", Limit::Closed.refusal());
+    line(b"closed", Limit::Closed.refusal() as u64);
 }
 
 fn rate(amount: u32, period: u64, burst: u32) {
@@ -72,20 +72,20 @@ fn rate(amount: u32, period: u64, burst: u32) {
         burst: OptionTokens::Some(burst),
         initial: OptionTokens::None,
     };
-    line(b"rate", rate.refusal());
+    line(b"rate", rate.refusal() as u64);
 }
 
 pub(crate) fn refused_sizes() {
-    line(b"keys 4096", open(4096, 1).refusal());
-    line(b"keys 4097", open(4097, 1).refusal());
-    line(b"shards 64", open(1, 64).refusal());
-    line(b"shards 65", open(1, 65).refusal());
+    line(b"keys 4096", open(4096, 1).refusal() as u64);
+    line(b"keys 4097", open(4097, 1).refusal() as u64);
+    line(b"shards 64", open(1, 64).refusal() as u64);
+    line(b"shards 65", open(1, 65).refusal() as u64);
     let idle = Settings {
         limit: Limit::Closed,
         eviction: Eviction::idle(Nanos(1)),
         shards: 1,
     };
-    line(b"idle alone", idle.refusal());
+    line(b"idle alone", idle.refusal() as u64);
 }
 
 pub(crate) fn idle_limits() {

@@ -31,7 +31,7 @@ pub enum Reply {
     // Tokens available, or keys with a slot.
     Count(u64),
     // Refused by number.
-    Refused(u64),
+    Refused(u32),
 }
 
 // Sets the store up in the lent words.

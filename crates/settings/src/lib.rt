@@ -31,7 +31,7 @@ pub struct Settings {
 
 impl Limit {
     // The number by which the rate is refused; 0 if it is accepted or there is none.
-    pub fn refusal(self) -> u64
+    pub fn refusal(self) -> u32
         ensures { λ r. ⌜ r ≡ limitRefusal self ⌝ }
     {
         match self {
@@ -54,7 +54,7 @@ impl Limit {
 
 impl Settings {
     // The number by which the settings are refused; 0 if they are accepted.
-    pub fn refusal(self) -> u64
+    pub fn refusal(self) -> u32
         ensures { λ r. ⌜ r ≡ settingsRefusal self ⌝ }
     {
         let limit = self.limit;
@@ -66,7 +66,7 @@ impl Settings {
     }
 
     // 4 if more keys or shards are asked for than there may be, else 0.
-    pub fn size_refusal(self) -> u64
+    pub fn size_refusal(self) -> u32
         ensures { λ r. ⌜ r ≡ sizeRefusal self ⌝ }
     {
         if 4096 < self.eviction.max_keys {

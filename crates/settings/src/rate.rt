@@ -64,7 +64,7 @@ impl Rate {
     }
 
     // The number by which the rate is refused; 0 if it is accepted.
-    pub fn refusal(self) -> u64
+    pub fn refusal(self) -> u32
         ensures { λ r. ⌜ r ≡ rateRefusal self ⌝ }
     {
         if self.amount < 1 {

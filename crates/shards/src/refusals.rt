@@ -15,7 +15,7 @@ pub const LATEST_MOMENT: u64 = 0x4000_0000_0000_0000;
 pub const LONGEST_MAX_WAIT: u64 = 0x4000_0000_0000;
 
 // 5 where the memory has not the length that the settings ask for.
-fn length_refusal(settings: Settings, ws: &[u64]) -> u64
+fn length_refusal(settings: Settings, ws: &[u64]) -> u32
     requires { ⌜ sizeRefusal settings ≡ 0 ⌝ }
     ensures { λ r. ⌜ r ≡ lengthRefusal settings (now (ws .entry)) ⌝ }
 {
@@ -23,7 +23,7 @@ fn length_refusal(settings: Settings, ws: &[u64]) -> u64
 }
 
 // Set-up and clear.
-pub fn set_up_refusal(settings: Settings, ws: &[u64]) -> u64
+pub fn set_up_refusal(settings: Settings, ws: &[u64]) -> u32
     ensures { λ r. ⌜ r ≡ setUpRefusal settings (now (ws .entry)) ⌝ }
 {
     let refusal = settings.refusal();
@@ -34,7 +34,7 @@ pub fn set_up_refusal(settings: Settings, ws: &[u64]) -> u64
 }
 
 // 5 where a count of a shard is over the cap.
-fn count_refusal(ws: &[u64], cap: usize) -> u64
+fn count_refusal(ws: &[u64], cap: usize) -> u32
     requires { ⌜ length (now ws) ≡ shardWords cap ⌝ }
     ensures { λ r. ⌜ r ≡ countRefusal cap (shard cap (now (ws .entry))) ⌝ }
 {
@@ -48,7 +48,7 @@ fn count_refusal(ws: &[u64], cap: usize) -> u64
 }
 
 // Refund and remove.
-pub fn keyed_refusal(settings: Settings, ws: &[u64], hash: u64) -> u64
+pub fn keyed_refusal(settings: Settings, ws: &[u64], hash: u64) -> u32
     ensures { λ r. ⌜ r ≡ keyedRefusal settings hash (now (ws .entry)) ⌝ }
 {
     let refusal = set_up_refusal(settings, ws);
@@ -62,14 +62,14 @@ pub fn keyed_refusal(settings: Settings, ws: &[u64], hash: u64) -> u64
 }
 
 // 6 for a moment that is too late.
-fn moment_refusal(at: Nanos) -> u64
+fn moment_refusal(at: Nanos) -> u32
     ensures { λ r. ⌜ r ≡ momentRefusal at ⌝ }
 {
     if LATEST_MOMENT < at.0 { 6 } else { 0 }
 }
 
 // Try, peek and available.
-pub fn timed_refusal(settings: Settings, ws: &[u64], hash: u64, at: Nanos) -> u64
+pub fn timed_refusal(settings: Settings, ws: &[u64], hash: u64, at: Nanos) -> u32
     ensures { λ r. ⌜ r ≡ timedRefusal settings hash at (now (ws .entry)) ⌝ }
 {
     let refusal = keyed_refusal(settings, ws, hash);
@@ -80,14 +80,14 @@ pub fn timed_refusal(settings: Settings, ws: &[u64], hash: u64, at: Nanos) -> u6
 }
 
 // 7 for a longest wait that is too long.
-fn wait_refusal(max_wait: Nanos) -> u64
+fn wait_refusal(max_wait: Nanos) -> u32
     ensures { λ r. ⌜ r ≡ waitRefusal «max_wait» ⌝ }
 {
     if LONGEST_MAX_WAIT < max_wait.0 { 7 } else { 0 }
 }
 
 // Reserve.
-pub fn reserve_refusal(settings: Settings, ws: &[u64], hash: u64, at: Nanos, max_wait: Nanos) -> u64
+pub fn reserve_refusal(settings: Settings, ws: &[u64], hash: u64, at: Nanos, max_wait: Nanos) -> u32
     ensures { λ r. ⌜ r ≡ reserveRefusal settings hash at «max_wait» (now (ws .entry)) ⌝ }
 {
     let refusal = timed_refusal(settings, ws, hash, at);
@@ -98,7 +98,7 @@ pub fn reserve_refusal(settings: Settings, ws: &[u64], hash: u64, at: Nanos, max
 }
 
 // 5 where the slot count of any shard is over the cap.
-fn slots_refusal(settings: Settings, ws: &[u64]) -> u64
+fn slots_refusal(settings: Settings, ws: &[u64]) -> u32
     requires { ⌜ setUpRefusal settings (now ws) ≡ 0 ⌝ }
     ensures { λ r. ⌜ r ≡ slotsRefusal settings (now (ws .entry)) ⌝ }
 {
@@ -115,7 +115,7 @@ fn slots_refusal(settings: Settings, ws: &[u64]) -> u64
 }
 
 // Length.
-pub fn length_call_refusal(settings: Settings, ws: &[u64]) -> u64
+pub fn length_call_refusal(settings: Settings, ws: &[u64]) -> u32
     ensures { λ r. ⌜ r ≡ lengthCallRefusal settings (now (ws .entry)) ⌝ }
 {
     let refusal = set_up_refusal(settings, ws);

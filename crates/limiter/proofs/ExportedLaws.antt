@@ -1,0 +1,53 @@
+-- What the flags of a settings struct say, off and on, and how an outcome of the rules is told.
+use Prim.Native.Nat.{ℕ}
+use mathlib.Core.Path.{_≡_, ap}
+use mathlib.Core.List.{List}
+use borrow.Author.Tests.{eq-eqb, ne-eqb}
+use Rattle.rows.specs.Outcome.{Outcome, outcome}
+use Rattle.units.specs.declared.OptionNanos.the-variants as nanos
+use Rattle.settings.specs.declared.Limit.the-variants.{Closed, Open}
+use Rattle.settings.specs.declared.eviction.WhenFull.the-variants.{RefuseNew, ForgetDebt}
+use Rattle.settings.specs.declared.rate.OptionTokens.the-variants as tokens
+use Rattle.perkey.specs.declared.Reply.{Reply}
+use Rattle.limiter.specs.declared.LimiterSettings.{LimiterSettings}
+use Rattle.limiter.specs.declared.LimiterReply.{LimiterReply}
+use Rattle.limiter.specs.Exported.{tokensOf, idleOf, whenFullOf, rateOf, limitOf, nanosOf, replyOf, told}
+
+module _ (flag n : ℕ) where
+  pub tokens-unset : flag ≡ 0 → tokens.None ≡ tokensOf flag n
+  unfolding tokensOf
+  tokens-unset off = rw (eq-eqb _ _ off)
+
+  pub tokens-set : (flag ≡ 0 → ⊥) → tokens.Some n ≡ tokensOf flag n
+  unfolding tokensOf
+  tokens-set on = rw (ne-eqb _ _ on)
+
+  pub idle-unset : flag ≡ 0 → nanos.None ≡ idleOf flag n
+  unfolding idleOf
+  idle-unset off = rw (eq-eqb _ _ off)
+
+  pub idle-set : (flag ≡ 0 → ⊥) → nanos.Some (nanosOf n) ≡ idleOf flag n
+  unfolding idleOf
+  idle-set on = rw (ne-eqb _ _ on)
+
+module _ (flag : ℕ) where
+  pub refuses-new : flag ≡ 0 → RefuseNew ≡ whenFullOf flag
+  unfolding whenFullOf
+  refuses-new off = rw (eq-eqb _ _ off)
+
+  pub forgets-debt : (flag ≡ 0 → ⊥) → ForgetDebt ≡ whenFullOf flag
+  unfolding whenFullOf
+  forgets-debt on = rw (ne-eqb _ _ on)
+
+module _ (s : LimiterSettings) where
+  pub has-rate : s .closed ≡ 0 → Open (rateOf s) ≡ limitOf s
+  unfolding limitOf
+  has-rate off = rw (eq-eqb _ _ off)
+
+  pub has-no-rate : (s .closed ≡ 0 → ⊥) → Closed ≡ limitOf s
+  unfolding limitOf
+  has-no-rate on = rw (ne-eqb _ _ on)
+
+-- An outcome of the rules, and the reply's code and number in its place.
+pub outcome-is-told : {r : Reply} {l : LimiterReply} {ws : List ℕ} {o : Outcome Reply (List ℕ)} → outcome r ws ≡ o → l ≡ replyOf r → outcome l ws ≡ told o
+outcome-is-told gave is = rw is (ap told gave)

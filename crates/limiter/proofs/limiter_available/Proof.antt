@@ -1,0 +1,21 @@
+-- `limiter_available` tells the outcome of the rule that perkey's operation gives.
+use Rattle.limiter.proofs.ExportedLaws.{outcome-is-told}
+use borrow.Author.Needs.{needs}
+use Rattle.limiter.proofs.limiter_available.Statement.{statement}
+use Rattle.limiter.proofs.limiter_available.Tie as tie
+
+accept-requires : tie.Need-accept-requires
+accept-requires c κs = search needs
+
+available-requires : tie.Need-available-requires
+available-requires c κs = search needs
+
+reply-requires : tie.Need-reply-requires
+reply-requires c κs = search needs
+
+returns : tie.Need-returns
+returns c = outcome-is-told (rw (c .before .before .accept .ensures) at (c .before .available .ensures)) (c .reply .ensures)
+
+pub limiter-available-spec : {M : Type 1} → statement M
+limiter-available-spec =
+    tie.close (tie.spec accept-requires available-requires reply-requires returns)

@@ -1,0 +1,24 @@
+-- `limiter_clear` tells the outcome of the rule that perkey's operation gives.
+use Rattle.limiter.proofs.ExportedLaws.{outcome-is-told}
+use borrow.Author.Needs.{needs}
+use Rattle.limiter.proofs.limiter_clear.Statement.{statement}
+use Rattle.limiter.proofs.limiter_clear.Tie as tie
+
+accept-requires : tie.Need-accept-requires
+accept-requires c κs = search needs
+
+clear-requires : tie.Need-clear-requires
+clear-requires c κs = search needs
+
+reply-requires : tie.Need-reply-requires
+reply-requires c κs = search needs
+
+same-length : tie.Need-same-length
+same-length c = search needs
+
+returns : tie.Need-returns
+returns c = outcome-is-told (rw (c .before .before .before .before .before .accept .ensures) at (c .before .before .before .clear .ensures)) (c .reply .ensures)
+
+pub limiter-clear-spec : {M : Type 1} → statement M
+limiter-clear-spec =
+    tie.close (tie.spec accept-requires clear-requires reply-requires same-length returns)

@@ -1,0 +1,24 @@
+-- `limiter_reserve` tells the outcome of the rule that perkey's operation gives.
+use Rattle.limiter.proofs.ExportedLaws.{outcome-is-told}
+use borrow.Author.Needs.{needs}
+use Rattle.limiter.proofs.limiter_reserve.Statement.{statement}
+use Rattle.limiter.proofs.limiter_reserve.Tie as tie
+
+accept-requires : tie.Need-accept-requires
+accept-requires c κs = search needs
+
+reserve-requires : tie.Need-reserve-requires
+reserve-requires c κs = search needs
+
+reply-requires : tie.Need-reply-requires
+reply-requires c κs = search needs
+
+same-length : tie.Need-same-length
+same-length c = search needs
+
+returns : tie.Need-returns
+returns c = outcome-is-told (rw (c .before .before .before .before .before .accept .ensures) at (c .before .before .before .reserve .ensures)) (c .reply .ensures)
+
+pub limiter-reserve-spec : {M : Type 1} → statement M
+limiter-reserve-spec =
+    tie.close (tie.spec accept-requires reserve-requires reply-requires same-length returns)

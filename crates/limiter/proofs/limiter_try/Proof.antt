@@ -1,0 +1,25 @@
+-- `limiter_try` tells the outcome of the rule that perkey's operation gives.
+use Rattle.limiter.proofs.ExportedLaws.{outcome-is-told}
+use borrow.Author.Needs.{needs}
+use Rattle.limiter.proofs.limiter_try.Statement.{statement}
+use Rattle.limiter.proofs.limiter_try.Tie as tie
+
+accept-requires : tie.Need-accept-requires
+accept-requires c κs = search needs
+
+try-acquire-with-cost-requires : tie.Need-try-acquire-with-cost-requires
+try-acquire-with-cost-requires c κs = search needs
+
+reply-requires : tie.Need-reply-requires
+reply-requires c κs = search needs
+
+same-length : tie.Need-same-length
+same-length c = search needs
+
+returns : tie.Need-returns
+returns c = outcome-is-told (rw (c .before .before .before .before .before .accept .ensures) at (c .before .before .before .try-acquire-with-cost .ensures)) (c .reply .ensures)
+
+pub limiter-try-spec : {M : Type 1} → statement M
+limiter-try-spec =
+    tie.close
+    (tie.spec accept-requires try-acquire-with-cost-requires reply-requires same-length returns)

@@ -1,0 +1,69 @@
+-- The limiter on plain numbers, as C and Rust call it: which settings the numbers of a settings struct are, and the two numbers that a reply is.
+use Prim.Native.Nat.{ℕ}
+use mathlib.Core.Bool.{cond}
+use mathlib.Core.List.{List}
+use lib.Dec.{eqb}
+use Rattle.rows.specs.Outcome.{Outcome, outcome}
+use Rattle.units.specs.declared.Nanos.{Nanos}
+use Rattle.units.specs.declared.OptionNanos.{OptionNanos}
+use Rattle.units.specs.declared.OptionNanos.the-variants as nanos
+use Rattle.settings.specs.declared.Limit.{Limit}
+use Rattle.settings.specs.declared.Limit.the-variants.{Closed, Open}
+use Rattle.settings.specs.declared.Settings.{Settings}
+use Rattle.settings.specs.declared.eviction.WhenFull.{WhenFull}
+use Rattle.settings.specs.declared.eviction.WhenFull.the-variants.{RefuseNew, ForgetDebt}
+use Rattle.settings.specs.declared.eviction.Eviction.{Eviction}
+use Rattle.settings.specs.declared.rate.OptionTokens.{OptionTokens}
+use Rattle.settings.specs.declared.rate.OptionTokens.the-variants as tokens
+use Rattle.settings.specs.declared.rate.Rate.{Rate}
+use Rattle.store.specs.declared.Identity.{Identity}
+use Rattle.perkey.specs.declared.Reply.{Reply}
+use Rattle.perkey.specs.Rules.{codeOf, numberOf}
+use Rattle.limiter.specs.declared.LimiterSettings.{LimiterSettings}
+use Rattle.limiter.specs.declared.LimiterReply.{LimiterReply}
+
+-- A flag of 0 means unset, RefuseNew, or a rate; any other number means set, ForgetDebt, or no rate.
+unfoldable pub tokensOf : ℕ → ℕ → OptionTokens
+tokensOf flag n = cond (eqb flag 0) tokens.None (tokens.Some n)
+
+unfoldable pub idleOf : ℕ → ℕ → OptionNanos
+idleOf flag n = cond (eqb flag 0) nanos.None (nanos.Some (record { 0 = n }))
+
+unfoldable pub whenFullOf : ℕ → WhenFull
+whenFullOf flag = cond (eqb flag 0) RefuseNew ForgetDebt
+
+abbrev pub rateOf : LimiterSettings → Rate
+rateOf s = record {
+  amount = s .amount;
+  period = record { 0 = s .period };
+  burst = tokensOf (s .«has_burst») (s .burst);
+  initial = tokensOf (s .«has_initial») (s .initial);
+}
+
+unfoldable pub limitOf : LimiterSettings → Limit
+limitOf s = cond (eqb (s .closed) 0) (Open (rateOf s)) Closed
+
+abbrev pub evictionOf : LimiterSettings → Eviction
+evictionOf s = record {
+  «max_keys» = s .«max_keys»;
+  «idle_ttl» = idleOf (s .«has_idle») (s .idle);
+  «when_full» = whenFullOf (s .«forget_debt»);
+}
+
+-- The settings that the numbers are.
+abbrev pub settingsOf : LimiterSettings → Settings
+settingsOf s = record { limit = limitOf s; eviction = evictionOf s; shards = s .shards }
+
+-- A moment or a wait in nanoseconds, and a key's identity.
+abbrev pub nanosOf : ℕ → Nanos
+nanosOf n = record { 0 = n }
+
+abbrev pub identityOf : ℕ → ℕ → Identity
+identityOf hash key = record { hash = hash; key = key }
+
+-- A reply is told as its code and the number beside it; the words are those that the rule leaves.
+abbrev pub replyOf : Reply → LimiterReply
+replyOf r = record { code = codeOf r; number = numberOf r }
+
+abbrev pub told : Outcome Reply (List ℕ) → Outcome LimiterReply (List ℕ)
+told o = outcome (replyOf (o .answer)) (o .after)
