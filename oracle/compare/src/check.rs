@@ -43,6 +43,9 @@ pub struct Difference {
     pub words: Vec<(usize, u64, u64)>,
 }
 
+/// What comes of a comparison.
+pub type Checked<T> = Result<T, Box<Difference>>;
+
 /// The memories that are lent to the library, and the count of branches.
 pub struct Bench {
     lent: Lent,
@@ -68,7 +71,7 @@ impl Bench {
     }
 
     /// Sets a store up three times, on memory that was used before, and loads it.
-    pub fn start(&mut self, start: &Start) -> Result<Trio, Difference> {
+    pub fn start(&mut self, start: &Start) -> Checked<Trio> {
         let settings = start.raw.meaning();
         let shape = Shape::of(&settings);
         self.hits.origin = if start.loaded.is_some() {
@@ -103,7 +106,7 @@ impl Bench {
     }
 
     /// One call of all three.
-    pub fn step(&mut self, trio: &mut Trio, step: &Step) -> Result<(), Difference> {
+    pub fn step(&mut self, trio: &mut Trio, step: &Step) -> Checked<()> {
         let rust = step.call.ask(&trio.limiter);
         let ruled = rules::answer(
             &step.raw.meaning(),
@@ -116,7 +119,7 @@ impl Bench {
     }
 
     /// One call on words of any content. The rules decide; where the Rust can hold the words, it is asked too.
-    pub fn aside(&mut self, aside: &Aside) -> Result<(), Difference> {
+    pub fn aside(&mut self, aside: &Aside) -> Checked<()> {
         self.hits.origin = Origin::Any;
         let settings = aside.raw.meaning();
         let step = Step {
@@ -166,13 +169,8 @@ impl Bench {
         Ok(())
     }
 
-    /// The end of a trace: every word of the three once more.
-    pub fn finish(&mut self, trio: &Trio, last: &Step) -> Result<(), Difference> {
-        trio.compare_all(last)
-    }
-
     /// Runs a trace anew; the first difference and the step where it shows.
-    fn replay(&mut self, start: &Start, steps: &[Step]) -> Option<(usize, Difference)> {
+    fn replay(&mut self, start: &Start, steps: &[Step]) -> Option<(usize, Box<Difference>)> {
         let mut trio = match self.start(start) {
             Ok(trio) => trio,
             Err(difference) => return Some((0, difference)),
@@ -180,7 +178,7 @@ impl Bench {
         let run = steps.iter().enumerate();
         run.map(|(at, step)| (at, self.step(&mut trio, step)))
             .find_map(|(at, done)| Some((at, done.err()?)))
-            .or_else(|| Some((steps.len(), self.finish(&trio, steps.last()?).err()?)))
+            .or_else(|| Some((steps.len(), trio.compare_all(steps.last()?).err()?)))
     }
 
     /// Leaves out calls of a trace that ends in a difference, in halves, quarters and so on, as long as a difference is left.
@@ -219,7 +217,7 @@ impl Trio {
         lent: &mut Lent,
         step: &Step,
         [ours, rust, ruled]: [Answer; 3],
-    ) -> Result<(), Difference> {
+    ) -> Checked<()> {
         self.calls += 1;
         let answers = || vec![("library", ours), ("Rust", rust), ("01's rules", ruled)];
         let same = lent.words() == self.words;
@@ -255,7 +253,7 @@ impl Trio {
     }
 
     /// The Rust's words of one shard against the rules'.
-    fn compare_shard(&self, step: &Step, shard: usize) -> Result<(), Difference> {
+    fn compare_shard(&self, step: &Step, shard: usize) -> Checked<()> {
         let width = self.shape.shard_words() as usize;
         let ruled = &self.words[shard * width..(shard + 1) * width];
         let its = self
@@ -276,7 +274,7 @@ impl Trio {
     }
 
     /// The Rust's words of all shards against the rules'.
-    fn compare_all(&self, step: &Step) -> Result<(), Difference> {
+    pub fn compare_all(&self, step: &Step) -> Checked<()> {
         (0..self.shape.shards as usize).try_for_each(|shard| self.compare_shard(step, shard))
     }
 }
@@ -311,18 +309,18 @@ fn differing(
     answers: Vec<(&'static str, Answer)>,
     ones: &[u64],
     others: &[u64],
-) -> Difference {
+) -> Box<Difference> {
     let pairs = ones.iter().zip(others).enumerate();
     let words = pairs
         .filter(|(_, (one, other))| one != other)
         .map(|(at, (&one, &other))| (at, one, other))
         .collect();
-    Difference {
+    Box::new(Difference {
         sides,
         step: *step,
         answers,
         words,
-    }
+    })
 }
 
 impl fmt::Display for Difference {

@@ -53,13 +53,14 @@ enum Kind {
     Any,
 }
 
-/// The traces of a round, and how many there are.
+/// The traces of a round.
 const ROUND: u64 = 452;
 
+/// The large ones come last in a round, so that a difference shows in a small store first.
 fn kind(trace: u64) -> Kind {
     match trace % ROUND {
-        0 => Kind::LargeGrown,
-        1 => Kind::LargeLoaded,
+        450 => Kind::LargeGrown,
+        451 => Kind::LargeLoaded,
         place => match place % 9 {
             0 => Kind::Grown,
             1 => Kind::Any,
@@ -70,7 +71,7 @@ fn kind(trace: u64) -> Kind {
 
 /// A trace that ended in a difference.
 struct Failed {
-    difference: Difference,
+    difference: Box<Difference>,
     text: String,
 }
 
@@ -117,15 +118,15 @@ impl Run {
             Kind::Any => self.asides(&mut random, 250),
             Kind::Grown => {
                 let plan = match random.below(10) {
-                    0..3 => Plan::crowded_small(&mut random),
+                    0..3 => Plan::crowded(&mut random),
                     3..5 => Plan::layered(&mut random),
                     _ => Plan::small(&mut random),
                 };
                 self.steps(&mut random, plan, false, 900)
             }
             Kind::LargeGrown => {
-                let plan = Plan::crowded(&mut random, LARGE[round % LARGE.len()]);
-                self.steps(&mut random, plan, false, 11_000)
+                let plan = Plan::large(&mut random, LARGE[round % LARGE.len()]);
+                self.steps(&mut random, plan, false, 12_000)
             }
             Kind::Loaded => {
                 let plan = Plan::small(&mut random);
@@ -179,8 +180,7 @@ impl Run {
             raw,
             call: call::Call::SetUp,
         });
-        self.bench
-            .finish(&trio, &last)
+        trio.compare_all(&last)
             .map_err(|difference| self.failed(&start, &steps, difference))
     }
 
@@ -213,7 +213,7 @@ impl Run {
     }
 
     /// The trace, shortened, for the oracle program.
-    fn failed(&mut self, start: &Start, steps: &[Step], difference: Difference) -> Failed {
+    fn failed(&mut self, start: &Start, steps: &[Step], difference: Box<Difference>) -> Failed {
         let steps = self.bench.shorten(start, steps);
         let settings = start.raw.meaning();
         let shape = oracle::refusals::Shape::of(&settings);
