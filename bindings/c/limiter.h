@@ -26,7 +26,7 @@ typedef struct limiter_settings {
     uint64_t max_keys;    /* the most keys that have a slot, over all shards: 0 to 4,096 */
     uint64_t shards;      /* the shards asked for: 0 to 64; 0 is taken as 1 and all others are rounded up to a power of two */
     uint64_t idle;        /* a full bucket that was idle for this long may be forgotten; read only if has_idle is set */
-    uint32_t closed;      /* set: there is no rate, nothing is granted; amount, period, burst and initial are not read */
+    uint32_t closed;      /* set: there is no rate and only a cost of 0 is granted; amount, period, burst and initial are not read */
     uint32_t amount;      /* tokens that come back in a period: 1 to 65,535 */
     uint32_t has_burst;   /* not set: the burst is the amount */
     uint32_t burst;       /* the most tokens in a bucket: 1 to 65,535 */

@@ -57,8 +57,8 @@ impl Key {
 
 /// A store on lent words.
 ///
-/// Moments are times since any start that the caller chooses, up to 2^62 ns (146 years). They may repeat and go back: a bucket is never
-/// given more for that.
+/// Moments are times since any start that the caller chooses, up to 2^62 ns (146 years). They may repeat and go back; before the moment of
+/// its last grant a bucket gets nothing back.
 #[derive(Debug)]
 pub struct Store<'a> {
     settings: Settings,

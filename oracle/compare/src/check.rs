@@ -182,27 +182,32 @@ impl Bench {
     }
 
     /// Leaves out calls of a trace that ends in a difference, in halves, quarters and so on, as long as a difference is left.
-    /// Stops after some seconds.
-    pub fn shorten(&mut self, start: &Start, steps: &[Step]) -> Vec<Step> {
-        let began = Instant::now();
-        let mut kept = steps.to_vec();
-        let mut chunk = kept.len() / 2;
-        while chunk > 0 && began.elapsed() < Duration::from_secs(8) {
+    /// Stops after some seconds. Gives the calls that are left and the difference that they end in.
+    pub fn shorten(
+        &mut self,
+        start: &Start,
+        steps: &[Step],
+        difference: Box<Difference>,
+    ) -> (Vec<Step>, Box<Difference>) {
+        let end = Instant::now() + Duration::from_secs(8);
+        let mut left = (steps.to_vec(), difference);
+        let mut chunk = steps.len().div_ceil(2);
+        while chunk > 0 && Instant::now() < end {
             let mut at = 0;
-            while at < kept.len() && began.elapsed() < Duration::from_secs(8) {
-                let mut fewer = kept[..at].to_vec();
-                fewer.extend_from_slice(&kept[(at + chunk).min(kept.len())..]);
+            while at < left.0.len() && Instant::now() < end {
+                let mut fewer = left.0.clone();
+                fewer.drain(at..(at + chunk).min(fewer.len()));
                 match self.replay(start, &fewer) {
-                    Some((place, _)) => {
+                    Some((place, difference)) => {
                         fewer.truncate(place + 1);
-                        kept = fewer;
+                        left = (fewer, difference);
                     }
                     None => at += chunk,
                 }
             }
             chunk /= 2;
         }
-        kept
+        left
     }
 }
 
@@ -328,6 +333,7 @@ impl fmt::Display for Difference {
         let settings = self.step.raw.meaning();
         writeln!(f, "{} differ", self.sides)?;
         writeln!(f, "  {settings:?}")?;
+        writeln!(f, "  given as {:?}", self.step.raw)?;
         writeln!(f, "  call: {}", self.step.call)?;
         for (who, answer) in &self.answers {
             writeln!(f, "  {who}: code {} number {}", answer.code, answer.number)?;
@@ -375,8 +381,29 @@ fn place(settings: &Settings, at: usize) -> String {
     format!("shard {shard} {name}")
 }
 
-/// The first line of a trace for the oracle program.
-pub fn set_line(settings: &Settings, words: usize) -> String {
+/// The first lines of a trace for the oracle program: set-up on so many words, and loading. Words that the Rust cannot hold stand in a
+/// comment.
+pub fn trace_head(settings: &Settings, len: usize, loaded: Option<&[u64]>) -> String {
+    let mut lines = vec![set_line(settings, len)];
+    let (limiter, accepted) = Limiter::set_up(*settings, len as u64);
+    match loaded {
+        Some(words) if accepted.code == 0 && limiter.load(words).is_ok() => {
+            let rows = words.chunks(len / limiter.shards()).enumerate();
+            let held = rows.filter(|(_, row)| row.iter().any(|&word| word != 0));
+            lines.extend(held.map(|(shard, row)| format!("load {shard} {}", spaced(row))));
+        }
+        Some(words) => lines.push(format!("# words {}", spaced(words))),
+        None => {}
+    }
+    lines.join("\n") + "\n"
+}
+
+fn spaced(words: &[u64]) -> String {
+    let words: Vec<String> = words.iter().map(u64::to_string).collect();
+    words.join(" ")
+}
+
+fn set_line(settings: &Settings, len: usize) -> String {
     let optional = |value: Option<u64>| value.map_or("-".to_string(), |value| value.to_string());
     let when_full = u8::from(matches!(settings.when_full, WhenFull::ForgetDebt));
     let rate = settings.rate.map_or("- 0 - -".to_string(), |rate| {
@@ -386,7 +413,7 @@ pub fn set_line(settings: &Settings, words: usize) -> String {
     });
     let idle = optional(settings.idle);
     format!(
-        "set {rate} {} {} {idle} {when_full} {words}",
+        "set {rate} {} {} {idle} {when_full} {len}",
         settings.max_keys, settings.shards
     )
 }

@@ -197,9 +197,9 @@ impl Run {
             call: aside.call,
         });
         self.bench.aside(aside).map_err(|difference| {
-            let mut text = format!("# one call on words of any content; the oracle program may not be able to load them\n# {:?}\n", aside.raw);
-            let _ = writeln!(text, "{}", check::set_line(&aside.raw.meaning(), aside.words.len()));
-            let _ = writeln!(text, "# words {:?}\n{}", aside.words, aside.call);
+            let settings = aside.raw.meaning();
+            let head = check::trace_head(&settings, aside.words.len(), Some(&aside.words));
+            let text = format!("{head}{}\ndump\n", aside.call);
             Failed { difference, text }
         })
     }
@@ -212,23 +212,12 @@ impl Run {
         }
     }
 
-    /// The trace, shortened, for the oracle program.
+    /// The trace, shortened, for the oracle program, and the difference that it ends in.
     fn failed(&mut self, start: &Start, steps: &[Step], difference: Box<Difference>) -> Failed {
-        let steps = self.bench.shorten(start, steps);
+        let (steps, difference) = self.bench.shorten(start, steps, difference);
         let settings = start.raw.meaning();
-        let shape = oracle::refusals::Shape::of(&settings);
-        let mut text = format!("{}\n", check::set_line(&settings, shape.words() as usize));
-        for (shard, row) in start
-            .loaded
-            .iter()
-            .flat_map(|words| words.chunks(shape.shard_words() as usize))
-            .enumerate()
-        {
-            if row.iter().any(|&word| word != 0) {
-                let row: Vec<String> = row.iter().map(u64::to_string).collect();
-                let _ = writeln!(text, "load {shard} {}", row.join(" "));
-            }
-        }
+        let words = oracle::refusals::Shape::of(&settings).words() as usize;
+        let mut text = check::trace_head(&settings, words, start.loaded.as_deref());
         for step in steps {
             let _ = writeln!(text, "{}", step.call);
         }
@@ -269,7 +258,7 @@ impl Run {
                 failed.text
             );
             match std::fs::write(&self.options.out, text) {
-                Ok(()) => println!("the calls since set-up, shortened: {}", self.options.out),
+                Ok(()) => println!("the calls since set-up that it takes: {}", self.options.out),
                 Err(fault) => println!("{}: {fault}", self.options.out),
             }
             return ExitCode::FAILURE;
