@@ -147,7 +147,7 @@ impl Plan {
         let turn = self.named;
         self.named += 1;
         let key = self.keys[turn / 2 % self.keys.len()];
-        if turn / (2 * self.shape.cap as usize) % 2 == 0 {
+        if (turn / (2 * self.shape.cap as usize)).is_multiple_of(2) {
             return Call::Try {
                 now,
                 key,
