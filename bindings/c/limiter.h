@@ -1,0 +1,115 @@
+/* The per-modem limiter store: C interface of liblimiter.a (`rt staticlib limiter`), x86-64.
+ *
+ * Every key (a modem) has a token bucket. The store says whether a request of so many tokens is answered now, later, or never. It has
+ * no memory, clock or hash of its own: each call is given the settings, the lent words, and the moment and the key where they matter.
+ *
+ * No argument is required to be sound. Settings of any content, any moment, hash, key and cost, and words of any content are safe:
+ * the call ends, touches nothing but the words, and either does what it says or refuses by number and changes no word. The
+ * pointer and length have to be those of 64-bit words that may be read and, unless const, written; no other call may use them
+ * at the same time.
+ *
+ * Give all calls on the same words the same settings; only then do the words mean what they should.
+ */
+#ifndef LIMITER_H
+#define LIMITER_H
+
+#include <stddef.h>
+#include <stdint.h>
+
+#ifdef __cplusplus
+extern "C" {
+#endif
+
+/* What a store is set up with. Times are in nanoseconds. A flag is set if it is not 0. */
+typedef struct limiter_settings {
+    uint64_t period;      /* the time in which `amount` tokens come back: 1 to 2^46 */
+    uint64_t max_keys;    /* the most keys that have a slot, over all shards: 0 to 4,096 */
+    uint64_t shards;      /* the shards asked for: 0 to 64; 0 is taken as 1 and all others are rounded up to a power of two */
+    uint64_t idle;        /* a full bucket that was idle for this long may be forgotten; read only if has_idle is set */
+    uint32_t closed;      /* set: there is no rate and only a cost of 0 is granted; amount, period, burst and initial are not read */
+    uint32_t amount;      /* tokens that come back in a period: 1 to 65,535 */
+    uint32_t has_burst;   /* not set: the burst is the amount */
+    uint32_t burst;       /* the most tokens in a bucket: 1 to 65,535 */
+    uint32_t has_initial; /* not set: a new bucket is full */
+    uint32_t initial;     /* the tokens in a new bucket, cut to the burst */
+    uint32_t has_idle;    /* not set: no key is forgotten for being idle */
+    uint32_t forget_debt; /* when slots and debts of a shard are full: not set, a new key is turned away; set, a debt is forgotten */
+} limiter_settings;
+
+/* An answer. */
+typedef struct limiter_reply {
+    uint64_t code;   /* one of the codes below, or LIMITER_REFUSED + n: refused as n */
+    uint64_t number; /* a wait in ns, tokens, or a count of keys, as the call says; else 0 */
+} limiter_reply;
+
+/* Codes. */
+enum {
+    LIMITER_DONE = 0,       /* granted, accepted, known, counted */
+    LIMITER_RETRY = 1,      /* not now; number is the wait in ns */
+    LIMITER_IMPOSSIBLE = 2, /* never: the cost is over the burst, or the limiter is closed */
+    LIMITER_NONE = 3,       /* no reservation; or the key is unknown */
+    LIMITER_REFUSED = 10    /* this and the number of a refusal */
+};
+
+/* Refusals: code - LIMITER_REFUSED. The lowest that applies is given. */
+enum {
+    LIMITER_BAD_AMOUNT = 1,   /* not 1 to 65,535 */
+    LIMITER_BAD_PERIOD = 2,   /* not 1 to 2^46 ns */
+    LIMITER_BAD_BURST = 3,    /* not 1 to 65,535 */
+    LIMITER_BAD_SIZES = 4,    /* max_keys over 4,096 or shards over 64 */
+    LIMITER_BAD_MEMORY = 5,   /* another length than limiter_words(s); or a count in the words is more than the shard can hold */
+    LIMITER_BAD_MOMENT = 6,   /* now is after 2^62 ns */
+    LIMITER_BAD_MAX_WAIT = 7  /* max_wait is over 2^46 ns */
+};
+
+/* How many words to lend for these settings: shards, rounded up to a power of two (0 as 1), times 5 + 8 x cap, where cap is max_keys over
+ * these shards, rounded up, at least 1. 0 for sizes that are refused. */
+static inline size_t limiter_words(limiter_settings s)
+{
+    uint64_t shards = 1, cap;
+    if (s.max_keys > 4096 || s.shards > 64)
+        return 0;
+    while (shards < s.shards)
+        shards *= 2;
+    cap = (s.max_keys + shards - 1) / shards;
+    return (size_t)(shards * (5 + 8 * (cap == 0 ? 1 : cap)));
+}
+
+/* In all calls below: `words` and `len` are the lent memory. `hash` and `key` together are a key's identity. The hash is the caller's, any
+ * 64-bit hash that is the same at every call; its bits 40 to 45 choose the shard. Keys with one hash share a remembered debt, so
+ * use a hash with a secret where strangers choose the keys. `now` is a moment in ns on a clock of the caller's, up to 2^62. */
+
+/* Makes the words an empty store. 0, or refused as 1 to 5. */
+limiter_reply limiter_set_up(limiter_settings s, uint64_t *words, size_t len);
+
+/* Takes `cost` tokens if they are there now. 0 granted; 1 retry after `number` ns; 2 impossible; or refused as 1 to 6. A retry with a
+ * new key can also mean that there is no room for it until then. */
+limiter_reply limiter_try(limiter_settings s, uint64_t *words, size_t len, uint64_t now, uint64_t hash, uint64_t key, uint32_t cost);
+
+/* Takes `cost` tokens if they will be there within `max_wait` ns. 0 granted, to be used after `number` ns; 3 none; or refused as 1 to 7. */
+limiter_reply limiter_reserve(limiter_settings s, uint64_t *words, size_t len, uint64_t now, uint64_t hash, uint64_t key, uint32_t cost,
+                              uint64_t max_wait);
+
+/* What the key's bucket would answer to a try, changing nothing. As limiter_try, but it says nothing of room. */
+limiter_reply limiter_peek(limiter_settings s, const uint64_t *words, size_t len, uint64_t now, uint64_t hash, uint64_t key,
+                           uint32_t cost);
+
+/* The tokens that the key has now. 0 with `number` tokens, or refused as 1 to 6. */
+limiter_reply limiter_available(limiter_settings s, const uint64_t *words, size_t len, uint64_t now, uint64_t hash, uint64_t key);
+
+/* Gives `cost` tokens back. 0 known, 3 unknown, or refused as 1 to 5. */
+limiter_reply limiter_refund(limiter_settings s, uint64_t *words, size_t len, uint64_t hash, uint64_t key, uint32_t cost);
+
+/* Forgets a key, and the debt that is remembered for its hash. 0 known, 3 unknown, or refused as 1 to 5. */
+limiter_reply limiter_remove(limiter_settings s, uint64_t *words, size_t len, uint64_t hash, uint64_t key);
+
+/* Forgets all keys and debts. 0, or refused as 1 to 5. */
+limiter_reply limiter_clear(limiter_settings s, uint64_t *words, size_t len);
+
+/* The number of keys that have a slot. 0 with `number` keys, or refused as 1 to 5. */
+limiter_reply limiter_length(limiter_settings s, const uint64_t *words, size_t len);
+
+#ifdef __cplusplus
+}
+#endif
+#endif

@@ -1,0 +1,133 @@
+//! The calls of a limiter.
+
+use core::fmt;
+
+use oracle::{Answer, Key, Limiter};
+
+/// One call, without its settings and memory.
+#[derive(Debug, Clone, Copy, PartialEq, Eq)]
+pub enum Call {
+    SetUp,
+    Try {
+        now: u64,
+        key: Key,
+        cost: u32,
+    },
+    Reserve {
+        now: u64,
+        key: Key,
+        cost: u32,
+        max_wait: u64,
+    },
+    Peek {
+        now: u64,
+        key: Key,
+        cost: u32,
+    },
+    Available {
+        now: u64,
+        key: Key,
+    },
+    Refund {
+        key: Key,
+        cost: u32,
+    },
+    Remove {
+        key: Key,
+    },
+    Clear,
+    Length,
+}
+
+/// The names of the calls, in the order of [`Call::index`].
+pub const NAMES: [&str; 9] = [
+    "set-up",
+    "try",
+    "reserve",
+    "peek",
+    "available",
+    "refund",
+    "remove",
+    "clear",
+    "length",
+];
+
+impl Call {
+    /// The call's place in [`NAMES`].
+    pub const fn index(&self) -> usize {
+        match self {
+            Self::SetUp => 0,
+            Self::Try { .. } => 1,
+            Self::Reserve { .. } => 2,
+            Self::Peek { .. } => 3,
+            Self::Available { .. } => 4,
+            Self::Refund { .. } => 5,
+            Self::Remove { .. } => 6,
+            Self::Clear => 7,
+            Self::Length => 8,
+        }
+    }
+
+    /// The key, if the call has one.
+    pub const fn key(&self) -> Option<Key> {
+        match *self {
+            Self::SetUp | Self::Clear | Self::Length => None,
+            Self::Try { key, .. }
+            | Self::Reserve { key, .. }
+            | Self::Peek { key, .. }
+            | Self::Available { key, .. }
+            | Self::Refund { key, .. }
+            | Self::Remove { key } => Some(key),
+        }
+    }
+
+    /// The Rust's answer. Set-up is not asked of a limiter that is there: it makes a new one.
+    pub fn ask(&self, limiter: &Limiter) -> Answer {
+        match *self {
+            Self::SetUp => unreachable!("a trace starts with set-up"),
+            Self::Try { now, key, cost } => limiter.try_(now, key, cost),
+            Self::Reserve {
+                now,
+                key,
+                cost,
+                max_wait,
+            } => limiter.reserve(now, key, cost, max_wait),
+            Self::Peek { now, key, cost } => limiter.peek(now, key, cost),
+            Self::Available { now, key } => limiter.available(now, key),
+            Self::Refund { key, cost } => limiter.refund(key, cost),
+            Self::Remove { key } => limiter.remove(key),
+            Self::Clear => limiter.clear(),
+            Self::Length => limiter.len(),
+        }
+    }
+}
+
+/// A line of the oracle program's traces (oracle/README.md).
+impl fmt::Display for Call {
+    fn fmt(&self, f: &mut fmt::Formatter<'_>) -> fmt::Result {
+        match *self {
+            Self::SetUp => write!(f, "set"),
+            Self::Try { now, key, cost } => write!(f, "try {now} {} {} {cost}", key.hash, key.key),
+            Self::Reserve {
+                now,
+                key,
+                cost,
+                max_wait,
+            } => {
+                write!(
+                    f,
+                    "reserve {now} {} {} {cost} {max_wait}",
+                    key.hash, key.key
+                )
+            }
+            Self::Peek { now, key, cost } => {
+                write!(f, "peek {now} {} {} {cost}", key.hash, key.key)
+            }
+            Self::Available { now, key } => write!(f, "available {now} {} {}", key.hash, key.key),
+            Self::Refund { key, cost } => write!(f, "refund {} {} {cost}", key.hash, key.key),
+            Self::Remove { key } => write!(f, "remove {} {}", key.hash, key.key),
+            Self::Clear => write!(f, "clear"),
+            Self::Length => write!(f, "length"),
+        }
+    }
+}

@@ -1,0 +1,199 @@
+//! Calls with settings, words and arguments of any content.
+
+use oracle::refusals::{
+    LATEST_MOMENT, LONGEST_PERIOD, LONGEST_WAIT, MOST_KEYS, MOST_SHARDS, Shape,
+};
+
+use super::{LARGE, Plan, SMALL};
+use crate::call::Call;
+use crate::library::RawSettings;
+use crate::random::Random;
+
+/// A call with any settings on any words.
+pub struct Aside {
+    pub raw: RawSettings,
+    pub words: Vec<u64>,
+    pub call: Call,
+}
+
+impl Aside {
+    /// Settings, words and arguments of any content, mostly near what is accepted.
+    pub fn any(random: &mut Random) -> Self {
+        let sizes = if random.below(200) == 0 {
+            random.pick(&LARGE)
+        } else {
+            random.pick(&SMALL[..13])
+        };
+        let closed = random.chance(10);
+        let mut plan = Plan::new(random, sizes, closed);
+        let mut words = match random.below(4) {
+            0 => vec![0; plan.shape.words() as usize],
+            _ => plan.contents(random),
+        };
+        damage(random, &mut words, plan.shape, plan.now);
+        plan.pace = 0;
+        let call = plan.any_call(random);
+        let mut aside = Self {
+            raw: RawSettings::of(&plan.settings, random),
+            words,
+            call,
+        };
+        if random.chance(40) {
+            aside.spoil(random);
+        }
+        if random.chance(2) {
+            aside
+                .words
+                .iter_mut()
+                .for_each(|word| *word = random.word());
+        }
+        aside
+    }
+
+    /// A call that differs from a sound one on `words` in one or more things, most of which are refused.
+    pub fn wrong(random: &mut Random, plan: &mut Plan, words: &[u64]) -> Self {
+        let call = plan.any_call(random);
+        let mut aside = Self {
+            raw: RawSettings::of(&plan.settings, random),
+            words: words.to_vec(),
+            call,
+        };
+        aside.spoil(random);
+        aside
+    }
+
+    /// Makes one thing wrong, or several.
+    fn spoil(&mut self, random: &mut Random) {
+        let times = random.pick(&[1, 1, 1, 2, 3, 6]);
+        for _ in 0..times {
+            self.spoil_one(random);
+        }
+    }
+
+    fn spoil_one(&mut self, random: &mut Random) {
+        let tokens = random.pick(&[0, 65_536, 70_000, u32::MAX]);
+        let any = random.word();
+        match random.below(10) {
+            0 => self.raw.amount = tokens,
+            1 => self.raw.period = random.pick(&[0, LONGEST_PERIOD + 1, u64::MAX, any]),
+            2 => (self.raw.has_burst, self.raw.burst) = (1, tokens),
+            3 => self.raw.max_keys = random.pick(&[MOST_KEYS + 1, 1_048_576, u64::MAX, any]),
+            4 => self.raw.shards = random.pick(&[MOST_SHARDS + 1, 1 << 32, u64::MAX, any]),
+            5 => self.resize(random),
+            6 | 7 => self.overfill(random),
+            8 => self.late(random),
+            _ => self.raw = other(random, &self.raw),
+        }
+    }
+
+    /// Another length than the right one.
+    fn resize(&mut self, random: &mut Random) {
+        let (len, any) = (self.words.len(), random.below(100) as usize);
+        let len = random.pick(&[0, 1, len.saturating_sub(1), len + 1, len / 2, any]);
+        self.words.resize(len, 7);
+    }
+
+    /// A count over the cap, in the key's shard or any other.
+    fn overfill(&mut self, random: &mut Random) {
+        if self.raw.max_keys > MOST_KEYS {
+            return;
+        }
+        let shape = Shape::of(&self.raw.meaning());
+        let own = self.call.key().map_or(0, |key| shape.shard_of(key.hash));
+        let shard = if random.chance(75) {
+            own
+        } else {
+            random.below(shape.shards)
+        };
+        let count = shard * shape.shard_words() + random.pick(&[0, 3 + 6 * shape.cap]);
+        let over = random.pick(&[shape.cap + 1, shape.cap + 2, u64::MAX, 1 << 63]);
+        if let Some(word) = self.words.get_mut(count as usize) {
+            *word = over;
+        }
+    }
+
+    /// A moment or a longest wait past its bound.
+    fn late(&mut self, random: &mut Random) {
+        let late = random.pick(&[LATEST_MOMENT + 1, u64::MAX]);
+        match &mut self.call {
+            Call::Reserve { max_wait, .. } if random.chance(60) => {
+                *max_wait = random.pick(&[LONGEST_WAIT + 1, u64::MAX])
+            }
+            Call::Try { now, .. }
+            | Call::Reserve { now, .. }
+            | Call::Peek { now, .. }
+            | Call::Available { now, .. } => {
+                *now = late;
+            }
+            _ => {}
+        }
+    }
+}
+
+impl Plan {
+    /// Any call, each kind as often as the others.
+    fn any_call(&mut self, random: &mut Random) -> Call {
+        let (now, key, cost) = (self.now, self.key(random), self.cost(random));
+        match random.below(10) {
+            0 => Call::SetUp,
+            1 | 2 => Call::Try { now, key, cost },
+            3 | 4 => Call::Reserve {
+                now,
+                key,
+                cost,
+                max_wait: self.max_wait(random),
+            },
+            5 => Call::Peek { now, key, cost },
+            6 => Call::Available { now, key },
+            7 => Call::Refund {
+                key,
+                cost: self.refund(random),
+            },
+            8 => Call::Remove { key },
+            _ => random.pick(&[Call::Clear, Call::Length]),
+        }
+    }
+}
+
+/// Another rate over the same sizes.
+fn other(random: &mut Random, raw: &RawSettings) -> RawSettings {
+    let sizes = (raw.max_keys.min(MOST_KEYS), raw.shards.min(MOST_SHARDS));
+    let closed = random.chance(20);
+    let settings = Plan::new(random, sizes, closed).settings;
+    RawSettings::of(&settings, random)
+}
+
+/// Damages words in ways that the Rust's memory cannot be damaged: items twice, words past a count, odd marks and counts.
+fn damage(random: &mut Random, words: &mut [u64], shape: Shape, now: u64) {
+    let any = random.word();
+    let numbers = [
+        0,
+        1,
+        2,
+        5,
+        shape.cap,
+        shape.cap + 1,
+        now,
+        now + 1,
+        1 << 62,
+        u64::MAX,
+        any,
+    ];
+    for _ in 0..random.pick(&[0, 1, 3, 20]) {
+        let shard = random.below(shape.shards) as usize * shape.shard_words() as usize;
+        let cap = shape.cap as usize;
+        let (one, other) = (
+            random.below(shape.cap) as usize,
+            random.below(shape.cap) as usize,
+        );
+        let (slots, debts) = (shard + 3, shard + 5 + 6 * cap);
+        match random.below(6) {
+            0 => words.copy_within(slots + 6 * one..slots + 6 * one + 2, slots + 6 * other),
+            1 => words[debts + 2 * one] = words[debts + 2 * other],
+            2 => words[slots + 6 * one + 4] = random.pick(&[2, 1 << 63, u64::MAX]),
+            3 => words[shard] = random.within(0, shape.cap),
+            4 => words[debts - 2] = random.within(0, shape.cap),
+            _ => words[shard + random.below(shape.shard_words()) as usize] = random.pick(&numbers),
+        }
+    }
+}

@@ -1,0 +1,173 @@
+//! Random settings, keys and moments of 01's domain.
+
+use oracle::refusals::{LATEST_MOMENT, LONGEST_PERIOD, Shape};
+use oracle::{Key, Rate};
+
+use super::{MS, SECOND};
+use crate::random::Random;
+
+/// A shape: max keys and asked shards.
+pub type Sizes = (u64, u64);
+
+/// Caps 1, 2, 3, 9 and 33, one shard to 64, also asked for by numbers that get rounded.
+pub const SMALL: [Sizes; 17] = [
+    (0, 0),
+    (1, 1),
+    (2, 1),
+    (3, 1),
+    (9, 1),
+    (33, 1),
+    (40, 1),
+    (2, 2),
+    (5, 3),
+    (18, 2),
+    (6, 4),
+    (66, 2),
+    (20, 7),
+    (16, 16),
+    (33, 32),
+    (64, 64),
+    (130, 64),
+];
+/// Shapes in which crowds are made: also some with more items than the looks of one call.
+pub const CROWDED: [Sizes; 10] = [
+    (1, 1),
+    (2, 1),
+    (3, 1),
+    (9, 1),
+    (9, 1),
+    (33, 1),
+    (40, 1),
+    (66, 2),
+    (5, 3),
+    (20, 2),
+];
+/// The largest shapes.
+pub const LARGE: [Sizes; 4] = [(4_096, 1), (4_096, 64), (4_096, 0), (4_095, 2)];
+
+/// A rate in 01's domain.
+pub fn rate(random: &mut Random) -> Rate {
+    let (amount, period, burst) = match random.below(10) {
+        0 | 1 => (2, SECOND, 4),
+        2 => (
+            random.within(1, 4),
+            random.within(1, 12),
+            random.within(1, 5),
+        ),
+        3 => (
+            random.within(60_000, 65_535),
+            SECOND,
+            random.some_size(65_535),
+        ),
+        4 => (
+            random.pick(&[1, 65_535]),
+            random.pick(&[1, LONGEST_PERIOD]),
+            random.pick(&[1, 65_535]),
+        ),
+        5 => (3, 10 * random.pick(&[1, MS, SECOND]), 4),
+        6 => (
+            random.some_size(65_535),
+            random.some_size(LONGEST_PERIOD),
+            random.some_size(65_535),
+        ),
+        7 => (
+            random.within(1, 3),
+            LONGEST_PERIOD - random.any_size(1 << 40),
+            random.within(1, 9),
+        ),
+        8 => (
+            random.within(1, 2_000),
+            random.within(MS, 5 * MS),
+            random.within(1, 6),
+        ),
+        _ => (
+            random.within(1, 10),
+            random.within(MS, 10 * SECOND),
+            random.within(1, 20),
+        ),
+    };
+    let initial = random.pick(&[0, 1, burst / 2, burst, burst + 1, u64::from(u32::MAX)]);
+    Rate {
+        amount: amount as u32,
+        period,
+        burst: random.chance(85).then_some(burst as u32),
+        initial: random.chance(35).then_some(initial as u32),
+    }
+}
+
+/// A rate whose bucket takes long to be full, with room for many different costs.
+pub fn slow_rate(random: &mut Random) -> Rate {
+    let (amount, period) = (random.within(1, 10), random.within(MS, 10 * SECOND));
+    let burst = random.within(30, 2_000);
+    Rate {
+        amount: amount as u32,
+        period,
+        burst: Some(burst as u32),
+        initial: None,
+    }
+}
+
+/// An idle time, or none.
+pub fn idle(random: &mut Random, full: u64) -> Option<u64> {
+    let any = random.any_size(u64::MAX);
+    let times = [
+        0,
+        1,
+        full,
+        full + 1,
+        full.saturating_sub(1),
+        3 * MS,
+        full.saturating_mul(3),
+        any,
+        u64::MAX,
+    ];
+    random.chance(55).then(|| random.pick(&times))
+}
+
+/// The keys of a trace: of a few shards, more than these hold, some with one hash. The key of only zeros is among them.
+pub fn keys(random: &mut Random, shape: Shape) -> Vec<Key> {
+    let shards: Vec<u64> = (0..random.within(1, 3))
+        .map(|_| random.below(shape.shards))
+        .collect();
+    let each = match shape.cap {
+        0..=100 => random.pick(&[
+            shape.cap,
+            shape.cap + 1,
+            2 * shape.cap + 1,
+            3 * shape.cap + 2,
+            4 * shape.cap,
+        ]),
+        _ => 3 * shape.cap,
+    };
+    let shared = random.pick(if shape.cap > 50 {
+        &[0, 0, 5, 5]
+    } else {
+        &[0, 20, 20, 60]
+    });
+    let mut keys: Vec<Key> = vec![Key { hash: 0, key: 0 }];
+    while (keys.len() as u64) < each * shards.len() as u64 {
+        let (next, any) = (keys.len() as u64, random.word());
+        let number = random.pick(&[next, 0, 1, any]);
+        if random.chance(shared) {
+            let hash = random.pick(&keys).hash;
+            keys.push(Key { hash, key: number });
+            continue;
+        }
+        // The shard's bits are chosen, the others not.
+        let (any, mask) = (random.word(), 63 << 40);
+        let hash = random.pick(&[any, next]) & !mask | random.pick(&shards) << 40;
+        keys.push(Key { hash, key: number });
+    }
+    keys
+}
+
+/// The moment at which a trace starts.
+pub fn start(random: &mut Random) -> u64 {
+    match random.below(6) {
+        0 => 0,
+        1 => LATEST_MOMENT - random.any_size(1 << 61),
+        2 => LATEST_MOMENT - random.any_size(SECOND),
+        3 => 10 * SECOND,
+        _ => random.any_size(LATEST_MOMENT),
+    }
+}
