@@ -7,4 +7,5 @@ pub mod GivenLaws
 pub mod CallSteps
 pub mod AppearsLaws
 pub mod Theorem
+pub mod CodeTheorem
 pub mod ImpostorLaws
