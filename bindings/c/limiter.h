@@ -5,8 +5,8 @@
  *
  * No argument is required to be sound. Settings of any content, any moment, hash, key and cost, and words of any content are safe:
  * the call ends, touches nothing but the words, and either does what it says or refuses by number and changes no word. The
- * pointer and length have to be those of 64-bit words that may be read and, unless const, written; no other call may use them
- * at the same time.
+ * pointer and length have to be those of 64-bit words that may be read and, unless const, written; while a call writes them no
+ * other may use them. Calls on const words may run side by side.
  *
  * Give all calls on the same words the same settings; only then do the words mean what they should.
  */
@@ -23,7 +23,7 @@ extern "C" {
 /* What a store is set up with. Times are in nanoseconds. A flag is set if it is not 0. */
 typedef struct limiter_settings {
     uint64_t period;      /* the time in which `amount` tokens come back: 1 to 2^46 */
-    uint64_t max_keys;    /* the most keys that have a slot, over all shards: 0 to 4,096 */
+    uint64_t max_keys;    /* the keys to make room for, 0 to 4,096; each shard has room for an equal share, rounded up, at least 1 */
     uint64_t shards;      /* the shards asked for: 0 to 64; 0 is taken as 1 and all others are rounded up to a power of two */
     uint64_t idle;        /* a full bucket that was idle for this long may be forgotten; read only if has_idle is set */
     uint32_t closed;      /* set: there is no rate and only a cost of 0 is granted; amount, period, burst and initial are not read */
@@ -33,7 +33,7 @@ typedef struct limiter_settings {
     uint32_t has_initial; /* not set: a new bucket is full */
     uint32_t initial;     /* the tokens in a new bucket, cut to the burst */
     uint32_t has_idle;    /* not set: no key is forgotten for being idle */
-    uint32_t forget_debt; /* when slots and debts of a shard are full: not set, a new key is turned away; set, a debt is forgotten */
+    uint32_t forget_debt; /* when a shard finds no room for a new key and its debts: not set, the key is turned away; set, a debt is forgotten */
 } limiter_settings;
 
 /* An answer. */
@@ -57,7 +57,8 @@ enum {
     LIMITER_BAD_PERIOD = 2,   /* not 1 to 2^46 ns */
     LIMITER_BAD_BURST = 3,    /* not 1 to 65,535 */
     LIMITER_BAD_SIZES = 4,    /* max_keys over 4,096 or shards over 64 */
-    LIMITER_BAD_MEMORY = 5,   /* another length than limiter_words(s); or a count in the words is more than the shard can hold */
+    LIMITER_BAD_MEMORY = 5,   /* another length than limiter_words(s); or a count in the words is more than the shard can hold,
+                                 at which set-up and clear do not look */
     LIMITER_BAD_MOMENT = 6,   /* now is after 2^62 ns */
     LIMITER_BAD_MAX_WAIT = 7  /* max_wait is over 2^46 ns */
 };
@@ -83,7 +84,7 @@ static inline size_t limiter_words(limiter_settings s)
 limiter_reply limiter_set_up(limiter_settings s, uint64_t *words, size_t len);
 
 /* Takes `cost` tokens if they are there now. 0 granted; 1 retry after `number` ns; 2 impossible; or refused as 1 to 6. A retry with a
- * new key can also mean that there is no room for it until then. */
+ * new key can also mean that there is no room for it: room is expected then. */
 limiter_reply limiter_try(limiter_settings s, uint64_t *words, size_t len, uint64_t now, uint64_t hash, uint64_t key, uint32_t cost);
 
 /* Takes `cost` tokens if they will be there within `max_wait` ns. 0 granted, to be used after `number` ns; 3 none; or refused as 1 to 7. */

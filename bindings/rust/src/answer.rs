@@ -5,10 +5,10 @@ use core::time::Duration;
 
 use crate::raw::Reply;
 
-/// The answer to a try.
+/// The answer to a try or a peek.
 #[derive(Debug, Clone, Copy, PartialEq, Eq)]
 pub enum Decision {
-    /// The tokens are taken.
+    /// The tokens are taken; to a peek, they are there.
     Acquired,
     /// Not now.
     Retry {
@@ -20,7 +20,7 @@ pub enum Decision {
 }
 
 impl Decision {
-    /// Whether the tokens are taken.
+    /// Whether the tokens are taken, or there.
     #[must_use]
     pub const fn is_acquired(self) -> bool {
         matches!(self, Self::Acquired)
@@ -48,7 +48,7 @@ pub enum Refusal {
     Burst = 3,
     /// More than 4,096 keys or 64 shards.
     Sizes = 4,
-    /// Another number of words than [`Settings::words`](crate::Settings::words), or words that no store has.
+    /// Another number of words than [`Settings::words`](crate::Settings::words), or a count in them that is more than a shard holds.
     Memory = 5,
     /// The moment is after 2^62 ns.
     Moment = 6,
@@ -90,11 +90,8 @@ impl fmt::Display for Refusal {
 
 impl core::error::Error for Refusal {}
 
-/// The reply of a call that is not refused.
-///
-/// # Panics
-///
-/// In this and the functions below: on a reply that bindings/c/limiter.h does not name, which the library never gives.
+/// The reply of a call that is not refused. The functions below panic on a reply that bindings/c/limiter.h does not name, which the library
+/// never gives.
 pub(crate) fn accepted(reply: Reply) -> Result<Reply, Refusal> {
     let refusal = |refusal: &Refusal| reply.code == 10 + u64::from(refusal.number());
     match Refusal::ALL.into_iter().find(refusal) {

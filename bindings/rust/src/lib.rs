@@ -95,11 +95,12 @@ impl<'a> Store<'a> {
         self.words
     }
 
-    /// Takes `cost` tokens for `key` if they are there now. A retry of a new key can also mean that there is no room for it until then.
+    /// Takes `cost` tokens for `key` if they are there now. A retry of a new key can also mean that there is no room for it: room is
+    /// expected then.
     ///
     /// # Errors
     ///
-    /// `now` after 2^62 ns; or, on resumed words, whatever set-up refuses.
+    /// `now` after 2^62 ns; or, on resumed words, whatever set-up refuses, or a count over what a shard holds.
     pub fn try_acquire(&mut self, now: Duration, key: Key, cost: u32) -> Result<Decision, Refusal> {
         let reply = raw::try_(
             self.settings.raw(),
@@ -175,7 +176,7 @@ impl<'a> Store<'a> {
     ///
     /// # Errors
     ///
-    /// On resumed words, whatever set-up refuses.
+    /// On resumed words, whatever set-up refuses, or a count over what a shard holds.
     pub fn refund(&mut self, key: Key, cost: u32) -> Result<bool, Refusal> {
         let reply = raw::refund(self.settings.raw(), self.words, key.hash, key.key, cost);
         Ok(answer::optional(reply)?.is_some())
@@ -185,7 +186,7 @@ impl<'a> Store<'a> {
     ///
     /// # Errors
     ///
-    /// On resumed words, whatever set-up refuses.
+    /// On resumed words, whatever set-up refuses, or a count over what a shard holds.
     pub fn remove(&mut self, key: Key) -> Result<bool, Refusal> {
         let reply = raw::remove(self.settings.raw(), self.words, key.hash, key.key);
         Ok(answer::optional(reply)?.is_some())
@@ -204,7 +205,7 @@ impl<'a> Store<'a> {
     ///
     /// # Errors
     ///
-    /// On resumed words, whatever set-up refuses.
+    /// On resumed words, whatever set-up refuses, or a count over what a shard holds.
     pub fn len(&self) -> Result<u64, Refusal> {
         answer::number(raw::length(self.settings.raw(), self.words))
     }

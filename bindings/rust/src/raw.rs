@@ -18,7 +18,17 @@ pub(crate) struct Settings {
     pub(crate) forget_debt: u32,
 }
 
-const _: () = assert!(size_of::<Settings>() == 64);
+// The order of the fields is that of crates/limiter/src/lib.rt.
+const _: () = {
+    use core::mem::offset_of;
+    assert!(size_of::<Settings>() == 64);
+    assert!(offset_of!(Settings, period) == 0 && offset_of!(Settings, max_keys) == 8);
+    assert!(offset_of!(Settings, shards) == 16 && offset_of!(Settings, idle) == 24);
+    assert!(offset_of!(Settings, closed) == 32 && offset_of!(Settings, amount) == 36);
+    assert!(offset_of!(Settings, has_burst) == 40 && offset_of!(Settings, burst) == 44);
+    assert!(offset_of!(Settings, has_initial) == 48 && offset_of!(Settings, initial) == 52);
+    assert!(offset_of!(Settings, has_idle) == 56 && offset_of!(Settings, forget_debt) == 60);
+};
 
 /// `limiter_reply`.
 #[repr(C)]
@@ -90,7 +100,7 @@ mod c {
 }
 
 /// A safe function for each C function. A call is safe with any arguments; the pointer and length are those of a slice that is
-/// borrowed for the call, for writing where the C function writes.
+/// borrowed for the call, for writing where the C function writes; calls that only read may run side by side.
 macro_rules! safe {
     ($($name:ident = $c:ident($words:ident: $slice:ty, $as:ident $(, $argument:ident: $type:ty)*);)+) => {$(
         pub(crate) fn $name(s: Settings, $words: $slice $(, $argument: $type)*) -> Reply {

@@ -7,15 +7,15 @@ use crate::raw;
 /// What a store is set up with. Any values can be given; [`Store::set_up`](crate::Store::set_up) refuses those that are out of range.
 #[derive(Debug, Clone, Copy, PartialEq, Eq)]
 pub struct Settings {
-    /// The rate that every key has. `None` is a closed limiter, which grants nothing.
+    /// The rate that every key has. `None` is a closed limiter, which grants a cost of 0 alone.
     pub rate: Option<Rate>,
-    /// The most keys that have a slot, over all shards: 0 to 4,096.
+    /// The keys to make room for, 0 to 4,096; each shard has room for an equal share, rounded up, at least 1.
     pub max_keys: u64,
     /// The shards asked for: 0 to 64; 0 is taken as 1, all others are rounded up to a power of two.
     pub shards: u64,
     /// A key whose bucket is full and that was idle for this long may be forgotten; `None`: never for that.
     pub idle: Option<Duration>,
-    /// What happens to a new key when the slots and debts of its shard are full.
+    /// What happens to a new key when its shard finds no room for it and the debts.
     pub when_full: WhenFull,
 }
 
@@ -32,13 +32,13 @@ pub struct Rate {
     pub initial: Option<u32>,
 }
 
-/// What happens to a new key when the slots and debts of its shard are full.
+/// What happens to a new key when its shard finds no room for it and the debts.
 #[derive(Debug, Clone, Copy, PartialEq, Eq, Default)]
 pub enum WhenFull {
-    /// It is turned away until there is room; every limit holds.
+    /// It is turned away, and told when room is expected; no debt is forgotten.
     #[default]
     RefuseNew,
-    /// A debt that settles soonest is forgotten; its key comes back with a fresh bucket.
+    /// Of the debts looked at the one that settles soonest is forgotten; its key comes back with a fresh bucket.
     ForgetDebt,
 }
 
@@ -88,7 +88,7 @@ impl Settings {
         }
     }
 
-    /// A store that grants nothing.
+    /// A store that grants a cost of 0 alone.
     #[must_use]
     pub const fn closed(max_keys: u64) -> Self {
         Self {

@@ -48,7 +48,7 @@ pub struct LimiterReply {
 pub extern "C" fn limiter_set_up(settings: LimiterSettings, ws: &mut [u64]) -> LimiterReply
     ensures { λ r. ⌜ outcome r (now (ws .exit)) ≡ Exported.told (Rules.setUp (Exported.settingsOf settings) (now (ws .entry))) ⌝ }
 {
-    reply(perkey::set_up(accept(settings), ws))
+    reply(perkey::set_up(settings_of(settings), ws))
 }
 
 #[no_mangle]
@@ -63,7 +63,7 @@ pub extern "C" fn limiter_try(
     ensures { λ r. ⌜ outcome r (now (ws .exit)) ≡ Exported.told (Rules.tryAcquire (Exported.settingsOf settings) (Exported.nanosOf at) (Exported.identityOf hash key) cost (now (ws .entry))) ⌝ }
 {
     reply(perkey::try_acquire_with_cost(
-        accept(settings),
+        settings_of(settings),
         ws,
         Nanos(at),
         Identity { hash, key },
@@ -84,7 +84,7 @@ pub extern "C" fn limiter_reserve(
     ensures { λ r. ⌜ outcome r (now (ws .exit)) ≡ Exported.told (Rules.reserve (Exported.settingsOf settings) (Exported.nanosOf at) (Exported.identityOf hash key) cost (Exported.nanosOf «max_wait») (now (ws .entry))) ⌝ }
 {
     reply(perkey::reserve(
-        accept(settings),
+        settings_of(settings),
         ws,
         Nanos(at),
         Identity { hash, key },
@@ -105,7 +105,7 @@ pub extern "C" fn limiter_peek(
     ensures { λ r. ⌜ outcome r (now (ws .entry)) ≡ Exported.told (Rules.peek (Exported.settingsOf settings) (Exported.nanosOf at) (Exported.identityOf hash key) cost (now (ws .entry))) ⌝ }
 {
     reply(perkey::peek(
-        accept(settings),
+        settings_of(settings),
         ws,
         Nanos(at),
         Identity { hash, key },
@@ -123,7 +123,7 @@ pub extern "C" fn limiter_available(
 ) -> LimiterReply
     ensures { λ r. ⌜ outcome r (now (ws .entry)) ≡ Exported.told (Rules.available (Exported.settingsOf settings) (Exported.nanosOf at) (Exported.identityOf hash key) (now (ws .entry))) ⌝ }
 {
-    reply(perkey::available(accept(settings), ws, Nanos(at), Identity { hash, key }))
+    reply(perkey::available(settings_of(settings), ws, Nanos(at), Identity { hash, key }))
 }
 
 #[no_mangle]
@@ -136,7 +136,7 @@ pub extern "C" fn limiter_refund(
 ) -> LimiterReply
     ensures { λ r. ⌜ outcome r (now (ws .exit)) ≡ Exported.told (Rules.refund (Exported.settingsOf settings) (Exported.identityOf hash key) cost (now (ws .entry))) ⌝ }
 {
-    reply(perkey::refund(accept(settings), ws, Identity { hash, key }, cost))
+    reply(perkey::refund(settings_of(settings), ws, Identity { hash, key }, cost))
 }
 
 #[no_mangle]
@@ -148,21 +148,21 @@ pub extern "C" fn limiter_remove(
 ) -> LimiterReply
     ensures { λ r. ⌜ outcome r (now (ws .exit)) ≡ Exported.told (Rules.remove (Exported.settingsOf settings) (Exported.identityOf hash key) (now (ws .entry))) ⌝ }
 {
-    reply(perkey::remove(accept(settings), ws, Identity { hash, key }))
+    reply(perkey::remove(settings_of(settings), ws, Identity { hash, key }))
 }
 
 #[no_mangle]
 pub extern "C" fn limiter_clear(settings: LimiterSettings, ws: &mut [u64]) -> LimiterReply
     ensures { λ r. ⌜ outcome r (now (ws .exit)) ≡ Exported.told (Rules.clear (Exported.settingsOf settings) (now (ws .entry))) ⌝ }
 {
-    reply(perkey::clear(accept(settings), ws))
+    reply(perkey::clear(settings_of(settings), ws))
 }
 
 #[no_mangle]
 pub extern "C" fn limiter_length(settings: LimiterSettings, ws: &[u64]) -> LimiterReply
     ensures { λ r. ⌜ outcome r (now (ws .entry)) ≡ Exported.told (Rules.len (Exported.settingsOf settings) (now (ws .entry))) ⌝ }
 {
-    reply(perkey::len(accept(settings), ws))
+    reply(perkey::len(settings_of(settings), ws))
 }
 
 // The code and the number of a reply.
@@ -190,7 +190,7 @@ fn reply(reply: Reply) -> LimiterReply
 }
 
 // The settings that the numbers are.
-fn accept(settings: LimiterSettings) -> Settings
+fn settings_of(settings: LimiterSettings) -> Settings
     ensures { λ r. ⌜ r ≡ Exported.settingsOf settings ⌝ }
 {
     Settings {

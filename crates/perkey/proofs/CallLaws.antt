@@ -22,7 +22,7 @@ use Rattle.store.specs.Model as Store
 use Rattle.perkey.specs.declared.Reply.{Reply}
 use Rattle.perkey.specs.declared.Reply.the-variants.{Impossible, Nothing, Count, Refused}
 use Rattle.shards.specs.Memory.{shardAt, slotCount}
-use Rattle.shards.specs.Refusals.{keyedRefusal, timedRefusal, reserveRefusal, lengthCallRefusal}
+use Rattle.shards.specs.Refusals.{keyedRefusal, timedRefusal, reserveRefusal, lenRefusal}
 use Rattle.perkey.specs.Rules as Rules
 use Rattle.perkey.proofs.RefusedLaws.{unless-refused-accepts, unless-refused-refuses}
 use Rattle.rows.specs.Held.{sum}
@@ -34,7 +34,7 @@ refusalOf (try s at id cost) ws = timedRefusal s (id .hash) at ws
 refusalOf (reserve s at id cost longest) ws = reserveRefusal s (id .hash) at longest ws
 refusalOf (peek s at id cost) ws = timedRefusal s (id .hash) at ws
 refusalOf (available s at id) ws = timedRefusal s (id .hash) at ws
-refusalOf (len s) ws = lengthCallRefusal s ws
+refusalOf (len s) ws = lenRefusal s ws
 refusalOf (refund s id cost) ws = keyedRefusal s (id .hash) ws
 refusalOf (remove s id) ws = keyedRefusal s (id .hash) ws
 

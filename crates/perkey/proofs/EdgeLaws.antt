@@ -27,6 +27,6 @@ unfolding ceilDiv rows unrow heldIn lowestFrom removed shortfallAt availableAt w
     Ledger.scanFrom Ledger.scan Ledger.dropChosen Ledger.makeRoom Ledger.recordedAt Ledger.recorded Ledger.paidDown
     Layout.shard Layout.wordsOf Shard.placeOf Shard.removeAt Shard.insert Shard.idleLookAt Shard.idleLook Shard.sweepIdle
     noted walkFrom walked evicted Store.makeRoom Store.known Store.new Store.withOrInsert Store.viewed Store.refunded
-    Refusals.lengthRefusal Refusals.countRefusal Refusals.momentRefusal
+    Refusals.memoryRefusal Refusals.countRefusal Refusals.momentRefusal
     Rules.unlessRefused Rules.setUp Rules.unlessTrivial Rules.tryAcquire Rules.available Rules.refund
 every-edge-holds = refl

@@ -29,7 +29,7 @@ use Rattle.store.specs.Model as Store
 use Rattle.perkey.specs.declared.Reply.{Reply}
 use Rattle.perkey.specs.declared.Reply.the-variants.{Granted, Retry, Impossible, Nothing, Done, Count, Refused}
 use Rattle.shards.specs.Memory.{shardAt, inShard, slotCount}
-use Rattle.shards.specs.Refusals.{setUpRefusal, keyedRefusal, timedRefusal, reserveRefusal, lengthCallRefusal}
+use Rattle.shards.specs.Refusals.{setUpRefusal, keyedRefusal, timedRefusal, reserveRefusal, lenRefusal}
 
 -- The desk's code of a reply: 0 granted, accepted, known or counted, 1 to be tried again, 2 impossible, 3 none or unknown, 10 + n refused as n.
 abbrev pub codeOf : Reply → ℕ
@@ -55,7 +55,7 @@ numberOf (Refused n) = 0
 unfoldable pub unlessRefused : ℕ → List ℕ → Outcome Reply (List ℕ) → Outcome Reply (List ℕ)
 unlessRefused refusal ws accepted = cond (eqb refusal 0) accepted (outcome (Refused refusal) ws)
 
--- What of the settings decides inside a shard.
+-- The settings that the store on one shard needs.
 abbrev pub forgets : WhenFull → Bool
 forgets RefuseNew = false
 forgets ForgetDebt = true
@@ -89,7 +89,7 @@ requested s rate id request cost at ws reply =
     let o = inShard s (id .hash) ws (Store.withOrInsert (policyOf s rate) id request cost at (shardAt s (id .hash) ws)) in
     outcome (reply (o .answer)) (o .after)
 
--- A cost of more than a full bucket is told so, and cost 0 is granted without a wait; neither touches a word.
+-- A cost of more than a full bucket has an answer of its own, and cost 0 is granted without a wait; neither touches a word.
 unfoldable pub unlessTrivial : Rate → ℕ → Reply → List ℕ → Outcome Reply (List ℕ) → Outcome Reply (List ℕ)
 unlessTrivial rate cost tooMuch ws asked =
     cond (ltb (configOf rate .capacity) cost) (outcome tooMuch ws)
@@ -150,7 +150,7 @@ knownReply false = Nothing
 abbrev pub keyed : Settings → Identity → List ℕ → Outcome Bool Shard → Outcome Reply (List ℕ)
 keyed s id ws o = outcome (knownReply (o .answer)) (inShard s (id .hash) ws o .after)
 
--- A refund; a closed limiter knows no key.
+-- A refund; to a refund on a closed limiter every key is unknown.
 abbrev pub refundedBy : Limit → Settings → Identity → ℕ → List ℕ → Outcome Reply (List ℕ)
 refundedBy Closed s id cost ws = outcome Nothing ws
 refundedBy (Open rate) s id cost ws = keyed s id ws (Store.refunded (configOf rate) id cost (shardAt s (id .hash) ws))
@@ -168,4 +168,4 @@ clear s ws = setUp s ws
 
 -- Length: the slots of all shards.
 unfoldable pub len : Settings → List ℕ → Outcome Reply (List ℕ)
-len s ws = unlessRefused (lengthCallRefusal s ws) ws (outcome (Count (sum (shardCount s) (λ i. slotCount (capOf s) i ws))) ws)
+len s ws = unlessRefused (lenRefusal s ws) ws (outcome (Count (sum (shardCount s) (λ i. slotCount (capOf s) i ws))) ws)

@@ -22,7 +22,7 @@ pub enum Reply {
     Granted(Nanos),
     // To be tried again after the wait.
     Retry(Nanos),
-    // The cost is more than a full bucket holds.
+    // The cost is more than a full bucket holds, or the limiter is closed.
     Impossible,
     // No reservation, or an unknown key.
     Nothing,
@@ -232,7 +232,7 @@ pub fn clear(settings: Settings, ws: &mut [u64]) -> Reply
 pub fn len(settings: Settings, ws: &[u64]) -> Reply
     ensures { λ r. ⌜ outcome r (now (ws .entry)) ≡ Rules.len settings (now (ws .entry)) ⌝ }
 {
-    let refusal = refusals::length_call_refusal(settings, ws);
+    let refusal = refusals::len_refusal(settings, ws);
     if refusal != 0 {
         return Reply::Refused(refusal);
     }
@@ -250,7 +250,7 @@ fn closed(cost: u32) -> Reply
     }
 }
 
-// What of the settings decides inside a shard.
+// The settings that the store on one shard needs.
 fn policy(settings: Settings, rate: Rate) -> Policy
     requires { ⌜ limitRefusal (settings .limit) ≡ 0 ⌝ }
     ensures { λ r. ⌜ r ≡ Rules.policyOf settings rate ⌝ }

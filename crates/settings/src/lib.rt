@@ -16,7 +16,7 @@ pub mod rate;
 // The shard counts that there are: the powers of two up to the largest number of shards that may be asked for.
 pub const SHARD_COUNTS: [usize; 7] = [1, 2, 4, 8, 16, 32, 64];
 
-// The rate, if there is one. A closed limiter has none, and grants nothing.
+// The rate, if there is one. A closed limiter has none, and grants cost 0 alone.
 pub enum Limit {
     Closed,
     Open(Rate),

@@ -16,9 +16,9 @@ use Rattle.shard_map.specs.Model as Shard
 use Rattle.shard_map.specs.Layout as Layout
 use Rattle.shard_map.proofs.LayoutLaws.{words-shard}
 use Rattle.shards.specs.Memory.{shardStart, shardAt, inShard, shardEnd, slotCount}
-use Rattle.shards.specs.Refusals.{lengthCallRefusal}
+use Rattle.shards.specs.Refusals.{lenRefusal}
 use Rattle.shards.proofs.MemoryLaws.{shard-fits, shard-ends}
-use Rattle.shards.proofs.RefusalLaws.{SetUp, length-call-not-refused}
+use Rattle.shards.proofs.RefusalLaws.{SetUp, len-not-refused}
 
 -- Settings that are set up ask for no more keys or shards than there may be.
 pub sizes-accepted : {s : Settings} {ws : List ℕ} → SetUp s ws → sizeRefusal s ≡ 0
@@ -59,7 +59,7 @@ module _ (s : Settings) (ws : List ℕ) {cap shards i : ℕ} where
   pub numbered-shard-ends : SetUp s ws → cap ≡ capOf s → shards ≡ shardCount s → i < shards → shardEnd cap i ≤ length ws
   numbered-shard-ends set-up is-cap are-shards below = rw is-cap (shard-ends s i ws (set-up .size) (rw are-shards at below))
 
-  pub counted-slots-few : lengthCallRefusal s ws ≡ 0 → cap ≡ capOf s → shards ≡ shardCount s → i < shards → slotCount cap i ws ≤ mostKeys
+  pub counted-slots-few : lenRefusal s ws ≡ 0 → cap ≡ capOf s → shards ≡ shardCount s → i < shards → slotCount cap i ws ≤ mostKeys
   counted-slots-few none is-cap are-shards below =
-      let call = length-call-not-refused s ws none in
+      let call = len-not-refused s ws none in
       rw is-cap (le-trans (call .1 i (rw are-shards at below)) (cap-most s (sizes-accepted (call .0))))

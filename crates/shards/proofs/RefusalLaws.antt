@@ -14,7 +14,7 @@ use Rattle.settings.specs.Settings.{firstOf, settingsRefusal, capOf, shardCount
 use Rattle.settings.proofs.SettingsLaws.{first-refusal-stands, no-refusal-hands-on, neither-refuses}
 use Rattle.shard_map.specs.Model as Shard
 use Rattle.shards.specs.Memory.{shardAt, slotCount}
-use Rattle.shards.specs.Refusals.{latestMoment, longestMaxWait, lengthRefusal, setUpRefusal, countRefusal, keyedRefusal, momentRefusal, timedRefusal, waitRefusal, reserveRefusal, mostSlots, slotsRefusal, lengthCallRefusal}
+use Rattle.shards.specs.Refusals.{latestMoment, longestMaxWait, memoryRefusal, setUpRefusal, countRefusal, keyedRefusal, momentRefusal, timedRefusal, waitRefusal, reserveRefusal, mostSlots, slotsRefusal, lenRefusal}
 use Rattle.shards.proofs.MemoryLaws.{shard-at-cap, shard-at-debt-cap, sound-shard}
 use borrow.Author.Tests.{le-ltb, lt-ltb, eq-eqb, ne-eqb}
 
@@ -27,16 +27,16 @@ within-bound bound number refusal rest none =
 
 -- A check refuses nothing just where what it looks at is right; here for each check, both ways. First the length of the memory.
 module _ (s : Settings) (ws : List ℕ) where
-  length-not-refused : lengthRefusal s ws ≡ 0 → length ws ≡ wordsOf s
-  unfolding lengthRefusal
+  length-not-refused : memoryRefusal s ws ≡ 0 → length ws ≡ wordsOf s
+  unfolding memoryRefusal
   length-not-refused none = by-eq (length ws) (wordsOf s) (λ same. same) (λ other. absurd (omega (arith, rw (ne-eqb _ _ other) at none)))
 
-  pub length-is-accepted : length ws ≡ wordsOf s → lengthRefusal s ws ≡ 0
-  unfolding lengthRefusal
+  pub length-is-accepted : length ws ≡ wordsOf s → memoryRefusal s ws ≡ 0
+  unfolding memoryRefusal
   length-is-accepted same = rw (eq-eqb _ _ same)
 
-  pub other-length-is-refused : (length ws ≡ wordsOf s → ⊥) → lengthRefusal s ws ≡ 5
-  unfolding lengthRefusal
+  pub other-length-is-refused : (length ws ≡ wordsOf s → ⊥) → memoryRefusal s ws ≡ 5
+  unfolding memoryRefusal
   other-length-is-refused other = rw (ne-eqb _ _ other)
 
 -- The two counts of a shard.
@@ -94,11 +94,11 @@ pub record SetUp (s : Settings) (ws : List ℕ) : Type 0 where
 module _ (s : Settings) (ws : List ℕ) where
   pub set-up-not-refused : setUpRefusal s ws ≡ 0 → SetUp s ws
   set-up-not-refused none =
-      let parts = neither-refuses (settingsRefusal s) (lengthRefusal s ws) none in
+      let parts = neither-refuses (settingsRefusal s) (memoryRefusal s ws) none in
       record { settings = parts .0; size = length-not-refused s ws (parts .1) }
 
   pub set-up-is-accepted : SetUp s ws → setUpRefusal s ws ≡ 0
-  set-up-is-accepted a = no-refusal-hands-on (settingsRefusal s) (lengthRefusal s ws) (a .settings) ∙ length-is-accepted s ws (a .size)
+  set-up-is-accepted a = no-refusal-hands-on (settingsRefusal s) (memoryRefusal s ws) (a .settings) ∙ length-is-accepted s ws (a .size)
 
 -- The slot counts of all shards: the largest bounds each, and is within the cap where each is.
 module _ (cap : ℕ) (ws : List ℕ) where
@@ -128,9 +128,9 @@ module _ (s : Settings) (ws : List ℕ) where
   shards-are-accepted within = rw (le-ltb _ _ within)
 
   -- A look at the length that is not refused: no shard has more slots than the cap.
-  pub length-call-not-refused : lengthCallRefusal s ws ≡ 0 → SetUp s ws × ((i : ℕ) → i < shardCount s → slotCount (capOf s) i ws ≤ capOf s)
+  pub len-not-refused : lenRefusal s ws ≡ 0 → SetUp s ws × ((i : ℕ) → i < shardCount s → slotCount (capOf s) i ws ≤ capOf s)
   unfolding slotsRefusal
-  length-call-not-refused none =
+  len-not-refused none =
       let parts = neither-refuses (setUpRefusal s ws) (slotsRefusal s ws) none in
       let most = within-bound (capOf s) (mostSlots (capOf s) (shardCount s) ws) 4 0 (parts .1) .0 in
       (set-up-not-refused s ws (parts .0), λ i below. le-trans (slot-count-within (capOf s) ws (shardCount s) i below) most)

@@ -18,12 +18,12 @@ abbrev pub longestMaxWait : ℕ
 longestMaxWait = 2 ^ 46
 
 -- 5 where the memory has not the length that the settings ask for.
-unfoldable pub lengthRefusal : Settings → List ℕ → ℕ
-lengthRefusal s ws = cond (eqb (length ws) (wordsOf s)) 0 5
+unfoldable pub memoryRefusal : Settings → List ℕ → ℕ
+memoryRefusal s ws = cond (eqb (length ws) (wordsOf s)) 0 5
 
 -- Set-up and clear: the settings, then the length.
 abbrev pub setUpRefusal : Settings → List ℕ → ℕ
-setUpRefusal s ws = firstOf (settingsRefusal s) (lengthRefusal s ws)
+setUpRefusal s ws = firstOf (settingsRefusal s) (memoryRefusal s ws)
 
 -- 5 where a count of a shard is over the cap.
 unfoldable pub countRefusal : ℕ → Shard → ℕ
@@ -55,5 +55,5 @@ mostSlots cap (suc n) ws = max (mostSlots cap n ws) (slotCount cap n ws)
 unfoldable pub slotsRefusal : Settings → List ℕ → ℕ
 slotsRefusal s ws = cond (ltb (capOf s) (mostSlots (capOf s) (shardCount s) ws)) 5 0
 
-abbrev pub lengthCallRefusal : Settings → List ℕ → ℕ
-lengthCallRefusal s ws = firstOf (setUpRefusal s ws) (slotsRefusal s ws)
+abbrev pub lenRefusal : Settings → List ℕ → ℕ
+lenRefusal s ws = firstOf (setUpRefusal s ws) (slotsRefusal s ws)

@@ -8,7 +8,7 @@ ghost use Rattle.bucket.specs.Bucket.{Accepted};
 ghost use Rattle.settings.specs.Settings.{sizeRefusal, capOf, shardCount, shardWords};
 ghost use Rattle.store.specs.Model as Store;
 ghost use Rattle.shards.specs.Memory.{shardStart, shardAt, inShard, shardEnd, slotCount};
-ghost use Rattle.shards.specs.Refusals.{keyedRefusal, lengthCallRefusal};
+ghost use Rattle.shards.specs.Refusals.{keyedRefusal, lenRefusal};
 use bucket::BucketConfig;
 use bucket::BucketCore;
 use bucket::Request;
@@ -112,7 +112,7 @@ pub(crate) fn slot_count(ws: &[u64], cap: usize, shard: usize) -> usize
 
 // The slots of all shards.
 pub fn len(ws: &[u64], settings: Settings) -> usize
-    requires { ⌜ lengthCallRefusal settings (now ws) ≡ 0 ⌝ }
+    requires { ⌜ lenRefusal settings (now ws) ≡ 0 ⌝ }
     ensures { λ r. ⌜ r ≡ sum (shardCount settings) (λ i. slotCount (capOf settings) i (now (ws .entry))) ⌝ }
 {
     let cap = settings.per_shard_cap();

@@ -1,9 +1,9 @@
-// The refusals by number, operation by operation. They are looked at in the order of their numbers, and the first tells; 0 is none.
+// The refusals by number, operation by operation. They are looked at in the order of their numbers, and the first that applies is given; 0 is none.
 ghost use mathlib.Core.Path.{_≡_};
 ghost use lib.ListN.{length};
 ghost use Rattle.settings.specs.Settings.{sizeRefusal, shardWords};
 ghost use Rattle.shard_map.specs.Layout.{shard};
-ghost use Rattle.shards.specs.Refusals.{lengthRefusal, setUpRefusal, countRefusal, keyedRefusal, momentRefusal, timedRefusal, waitRefusal, reserveRefusal, slotsRefusal, lengthCallRefusal};
+ghost use Rattle.shards.specs.Refusals.{memoryRefusal, setUpRefusal, countRefusal, keyedRefusal, momentRefusal, timedRefusal, waitRefusal, reserveRefusal, slotsRefusal, lenRefusal};
 use settings::Settings;
 use shard_map::debts;
 use units::Nanos;
@@ -15,9 +15,9 @@ pub const LATEST_MOMENT: u64 = 0x4000_0000_0000_0000;
 pub const LONGEST_MAX_WAIT: u64 = 0x4000_0000_0000;
 
 // 5 where the memory has not the length that the settings ask for.
-fn length_refusal(settings: Settings, ws: &[u64]) -> u32
+fn memory_refusal(settings: Settings, ws: &[u64]) -> u32
     requires { ⌜ sizeRefusal settings ≡ 0 ⌝ }
-    ensures { λ r. ⌜ r ≡ lengthRefusal settings (now (ws .entry)) ⌝ }
+    ensures { λ r. ⌜ r ≡ memoryRefusal settings (now (ws .entry)) ⌝ }
 {
     if ws.len() == settings.words() { 0 } else { 5 }
 }
@@ -30,7 +30,7 @@ pub fn set_up_refusal(settings: Settings, ws: &[u64]) -> u32
     if refusal != 0 {
         return refusal;
     }
-    length_refusal(settings, ws)
+    memory_refusal(settings, ws)
 }
 
 // 5 where a count of a shard is over the cap.
@@ -115,8 +115,8 @@ fn slots_refusal(settings: Settings, ws: &[u64]) -> u32
 }
 
 // Length.
-pub fn length_call_refusal(settings: Settings, ws: &[u64]) -> u32
-    ensures { λ r. ⌜ r ≡ lengthCallRefusal settings (now (ws .entry)) ⌝ }
+pub fn len_refusal(settings: Settings, ws: &[u64]) -> u32
+    ensures { λ r. ⌜ r ≡ lenRefusal settings (now (ws .entry)) ⌝ }
 {
     let refusal = set_up_refusal(settings, ws);
     if refusal != 0 {

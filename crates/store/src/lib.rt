@@ -25,7 +25,7 @@ pub struct Identity {
     pub key: u64,
 }
 
-// What of the settings decides inside a shard.
+// The settings that the store on one shard needs.
 pub struct Policy {
     pub config: BucketConfig,
     pub idle_limit: OptionMillis,

@@ -79,7 +79,7 @@ record Computed : Type 0 where
 computed : Computed
 unfolding ceilDiv rows heldIn lowestFrom sum shortfallAt availableAt waitAt asked takenOut lacking restored Rate.unlessWithin Rate.rateRefusal
     Settings.sizeRefusal Settings.firstOf Settings.doubledUpTo Debts.ledger Ledger.placeOf Ledger.owedBy Ledger.taken Layout.shard Layout.wordsOf
-    Shard.placeOf Shard.insert Store.known Store.makeRoom Store.new Store.withOrInsert Store.viewed Store.holds Refusals.lengthRefusal
+    Shard.placeOf Shard.insert Store.known Store.makeRoom Store.new Store.withOrInsert Store.viewed Store.holds Refusals.memoryRefusal
     Refusals.countRefusal Refusals.momentRefusal Refusals.mostSlots Refusals.slotsRefusal Rules.unlessRefused Rules.unlessTrivial Rules.tryAcquire
     Rules.len accepted replies TimesNeverFall firstDebts
 computed = record {
@@ -117,7 +117,7 @@ module _ (f : Implementation) (grants : f spendsAll fresh ≡ outcome (Granted n
   granted-twice = rw (grants, grants) refl
 
   unstored-grant-fails-demand3 : Demand3 f → ⊥
-  unfolding ceilDiv Rate.unlessWithin Rate.rateRefusal Settings.sizeRefusal Settings.firstOf Settings.doubledUpTo Refusals.lengthRefusal
+  unfolding ceilDiv Rate.unlessWithin Rate.rateRefusal Settings.sizeRefusal Settings.firstOf Settings.doubledUpTo Refusals.memoryRefusal
       Rules.unlessRefused Rules.setUp replies NoSharedHash
   unstored-grant-fails-demand3 demand =
       let same = demand .0 (roomFor 1) twoPerSecond fresh refl refl refl (spendsAll ∷ spendsAll ∷ []) (λ _. refl, (λ _. refl, tt)) in

@@ -1,5 +1,7 @@
 -- What the contracts of the code say of an implementation. `Post` is the contract of an operation as the check of its code reads it: of the arguments at
--- entry, the result, and the arguments at exit. An implementation is as the contracts say where every call's answer and words meet the contract of its operation.
+-- entry, the result, and the arguments at exit. The check makes it from the `ensures` in crates/perkey/src/lib.rt.
+-- An implementation is as the contracts say where every call's answer and words meet the contract of its operation, and every look leaves the words: they are
+-- lent to it as `&[u64]`, to read only. The code is such on the numbers that it can be given.
 use Prim.Native.Nat.{ℕ}
 use mathlib.Core.Path.{_≡_}
 use mathlib.Core.List.{List}
@@ -21,7 +23,7 @@ use Rattle.perkey.proofs.remove.Reads as Remove
 abbrev pub lentAt : ℕ × ℕ → ℕ → List ℕ → RefT (List ℕ)
 lentAt ptr name ws = record { ptr = ptr; name = name; now = ws }
 
--- A look is lent words as `&[u64]`, which it cannot change.
+-- For some lifetimes and some place of the lent words, by which no contract tells answers apart.
 pub record Contracts (κs : Lfts 1) (ptr : ℕ × ℕ) (name : ℕ) (f : Implementation) : Type 0 where
   pub tries : (s : Settings) (at : Nanos) (id : Identity) (cost : ℕ) (ws : List ℕ)
       → Try.Post κs (s, (lentAt ptr name ws, (at, (id, (cost, tt))))) (f (try s at id cost) ws .answer) (s, (lentAt ptr name (f (try s at id cost) ws .after), (at, (id, (cost, tt)))))
@@ -29,7 +31,7 @@ pub record Contracts (κs : Lfts 1) (ptr : ℕ × ℕ) (name : ℕ) (f : Impleme
       → Reserve.Post κs (s, (lentAt ptr name ws, (at, (id, (cost, (longest, tt)))))) (f (reserve s at id cost longest) ws .answer) (s, (lentAt ptr name (f (reserve s at id cost longest) ws .after), (at, (id, (cost, (longest, tt))))))
   pub peeks : (s : Settings) (at : Nanos) (id : Identity) (cost : ℕ) (ws : List ℕ)
       → Peek.Post κs (s, (lentAt ptr name ws, (at, (id, (cost, tt))))) (f (peek s at id cost) ws .answer) (s, (lentAt ptr name ws, (at, (id, (cost, tt))))) × (f (peek s at id cost) ws .after ≡ ws)
-  pub looks : (s : Settings) (at : Nanos) (id : Identity) (ws : List ℕ)
+  pub availables : (s : Settings) (at : Nanos) (id : Identity) (ws : List ℕ)
       → Available.Post κs (s, (lentAt ptr name ws, (at, (id, tt)))) (f (available s at id) ws .answer) (s, (lentAt ptr name ws, (at, (id, tt)))) × (f (available s at id) ws .after ≡ ws)
   pub counts : (s : Settings) (ws : List ℕ)
       → Len.Post κs (s, (lentAt ptr name ws, tt)) (f (len s) ws .answer) (s, (lentAt ptr name ws, tt)) × (f (len s) ws .after ≡ ws)

@@ -11,7 +11,7 @@ use Rattle.store.specs.declared.Answer.{Answer}
 use Rattle.store.specs.declared.Answer.the-variants.{Decided, NoSpace}
 use Rattle.perkey.specs.declared.Reply.{Reply}
 use Rattle.perkey.specs.declared.Reply.the-variants.{Impossible, Count}
-use Rattle.shards.specs.Refusals.{lengthCallRefusal}
+use Rattle.shards.specs.Refusals.{lenRefusal}
 use Rattle.perkey.specs.Rules.{unlessRefused, numberOf, noWait, tryReply, reserveReply}
 use Rattle.perkey.specs.Calls.{try, reserve, peek, available, len, refund, remove, Implementation, rules, settingsOf}
 
@@ -58,6 +58,6 @@ inventedLength (try s at id cost) ws = rules (try s at id cost) ws
 inventedLength (reserve s at id cost longest) ws = rules (reserve s at id cost longest) ws
 inventedLength (peek s at id cost) ws = rules (peek s at id cost) ws
 inventedLength (available s at id) ws = rules (available s at id) ws
-inventedLength (len s) ws = unlessRefused (lengthCallRefusal s ws) ws (outcome (Count (numberOf (rules (len s) ws .answer) + 1)) ws)
+inventedLength (len s) ws = unlessRefused (lenRefusal s ws) ws (outcome (Count (numberOf (rules (len s) ws .answer) + 1)) ws)
 inventedLength (refund s id cost) ws = rules (refund s id cost) ws
 inventedLength (remove s id) ws = rules (remove s id) ws

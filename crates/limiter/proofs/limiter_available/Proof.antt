@@ -4,8 +4,8 @@ use borrow.Author.Needs.{needs}
 use Rattle.limiter.proofs.limiter_available.Statement.{statement}
 use Rattle.limiter.proofs.limiter_available.Tie as tie
 
-accept-requires : tie.Need-accept-requires
-accept-requires c κs = search needs
+settings-of-requires : tie.Need-settings-of-requires
+settings-of-requires c κs = search needs
 
 available-requires : tie.Need-available-requires
 available-requires c κs = search needs
@@ -14,8 +14,8 @@ reply-requires : tie.Need-reply-requires
 reply-requires c κs = search needs
 
 returns : tie.Need-returns
-returns c = outcome-is-told (rw (c .before .before .accept .ensures) at (c .before .available .ensures)) (c .reply .ensures)
+returns c = outcome-is-told (rw (c .before .before .settings-of .ensures) at (c .before .available .ensures)) (c .reply .ensures)
 
 pub limiter-available-spec : {M : Type 1} → statement M
 limiter-available-spec =
-    tie.close (tie.spec accept-requires available-requires reply-requires returns)
+    tie.close (tie.spec settings-of-requires available-requires reply-requires returns)

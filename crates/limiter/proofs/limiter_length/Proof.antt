@@ -4,8 +4,8 @@ use borrow.Author.Needs.{needs}
 use Rattle.limiter.proofs.limiter_length.Statement.{statement}
 use Rattle.limiter.proofs.limiter_length.Tie as tie
 
-accept-requires : tie.Need-accept-requires
-accept-requires c κs = search needs
+settings-of-requires : tie.Need-settings-of-requires
+settings-of-requires c κs = search needs
 
 len-requires : tie.Need-len-requires
 len-requires c κs = search needs
@@ -14,7 +14,7 @@ reply-requires : tie.Need-reply-requires
 reply-requires c κs = search needs
 
 returns : tie.Need-returns
-returns c = outcome-is-told (rw (c .before .before .accept .ensures) at (c .before .len .ensures)) (c .reply .ensures)
+returns c = outcome-is-told (rw (c .before .before .settings-of .ensures) at (c .before .len .ensures)) (c .reply .ensures)
 
 pub limiter-length-spec : {M : Type 1} → statement M
-limiter-length-spec = tie.close (tie.spec accept-requires len-requires reply-requires returns)
+limiter-length-spec = tie.close (tie.spec settings-of-requires len-requires reply-requires returns)

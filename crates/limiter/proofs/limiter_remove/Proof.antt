@@ -4,8 +4,8 @@ use borrow.Author.Needs.{needs}
 use Rattle.limiter.proofs.limiter_remove.Statement.{statement}
 use Rattle.limiter.proofs.limiter_remove.Tie as tie
 
-accept-requires : tie.Need-accept-requires
-accept-requires c κs = search needs
+settings-of-requires : tie.Need-settings-of-requires
+settings-of-requires c κs = search needs
 
 remove-requires : tie.Need-remove-requires
 remove-requires c κs = search needs
@@ -17,8 +17,8 @@ same-length : tie.Need-same-length
 same-length c = search needs
 
 returns : tie.Need-returns
-returns c = outcome-is-told (rw (c .before .before .before .before .before .accept .ensures) at (c .before .before .before .remove .ensures)) (c .reply .ensures)
+returns c = outcome-is-told (rw (c .before .before .before .before .before .settings-of .ensures) at (c .before .before .before .remove .ensures)) (c .reply .ensures)
 
 pub limiter-remove-spec : {M : Type 1} → statement M
 limiter-remove-spec =
-    tie.close (tie.spec accept-requires remove-requires reply-requires same-length returns)
+    tie.close (tie.spec settings-of-requires remove-requires reply-requires same-length returns)

@@ -4,8 +4,8 @@ use borrow.Author.Needs.{needs}
 use Rattle.limiter.proofs.limiter_set_up.Statement.{statement}
 use Rattle.limiter.proofs.limiter_set_up.Tie as tie
 
-accept-requires : tie.Need-accept-requires
-accept-requires c κs = search needs
+settings-of-requires : tie.Need-settings-of-requires
+settings-of-requires c κs = search needs
 
 set-up-requires : tie.Need-set-up-requires
 set-up-requires c κs = search needs
@@ -17,8 +17,8 @@ same-length : tie.Need-same-length
 same-length c = search needs
 
 returns : tie.Need-returns
-returns c = outcome-is-told (rw (c .before .before .before .before .before .accept .ensures) at (c .before .before .before .set-up .ensures)) (c .reply .ensures)
+returns c = outcome-is-told (rw (c .before .before .before .before .before .settings-of .ensures) at (c .before .before .before .set-up .ensures)) (c .reply .ensures)
 
 pub limiter-set-up-spec : {M : Type 1} → statement M
 limiter-set-up-spec =
-    tie.close (tie.spec accept-requires set-up-requires reply-requires same-length returns)
+    tie.close (tie.spec settings-of-requires set-up-requires reply-requires same-length returns)

@@ -4,8 +4,8 @@ use borrow.Author.Needs.{needs}
 use Rattle.limiter.proofs.limiter_try.Statement.{statement}
 use Rattle.limiter.proofs.limiter_try.Tie as tie
 
-accept-requires : tie.Need-accept-requires
-accept-requires c κs = search needs
+settings-of-requires : tie.Need-settings-of-requires
+settings-of-requires c κs = search needs
 
 try-acquire-with-cost-requires : tie.Need-try-acquire-with-cost-requires
 try-acquire-with-cost-requires c κs = search needs
@@ -17,9 +17,9 @@ same-length : tie.Need-same-length
 same-length c = search needs
 
 returns : tie.Need-returns
-returns c = outcome-is-told (rw (c .before .before .before .before .before .accept .ensures) at (c .before .before .before .try-acquire-with-cost .ensures)) (c .reply .ensures)
+returns c = outcome-is-told (rw (c .before .before .before .before .before .settings-of .ensures) at (c .before .before .before .try-acquire-with-cost .ensures)) (c .reply .ensures)
 
 pub limiter-try-spec : {M : Type 1} → statement M
 limiter-try-spec =
     tie.close
-    (tie.spec accept-requires try-acquire-with-cost-requires reply-requires same-length returns)
+    (tie.spec settings-of-requires try-acquire-with-cost-requires reply-requires same-length returns)

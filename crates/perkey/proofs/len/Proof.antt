@@ -6,21 +6,21 @@ use borrow.Author.Needs.{needs}
 use Rattle.perkey.proofs.len.Statement.{statement}
 use Rattle.perkey.proofs.len.Tie as tie
 
-length-call-refusal-requires : tie.Need-length-call-refusal-requires
-length-call-refusal-requires c κs = search needs
+len-refusal-requires : tie.Need-len-refusal-requires
+len-refusal-requires c κs = search needs
 
 returns : tie.Need-returns
 returns c =
     let args′ = c .before .before .before .args in
-    refusal-is-told (len (args′ .settings)) (args′ .ws .now) (c .before .length-call-refusal .ensures) (c .if1 .taken)
+    refusal-is-told (len (args′ .settings)) (args′ .ws .now) (c .before .len-refusal .ensures) (c .if1 .taken)
 
 len-requires : tie.Need-len-requires
-len-requires c κs = sym (c .before .length-call-refusal .ensures) ∙ c .if1 .left
+len-requires c κs = sym (c .before .len-refusal .ensures) ∙ c .if1 .left
 
 returns-2 : tie.Need-returns-2
 returns-2 c =
     let args′ = c .before .before .before .before .args in
-    rule-is-told (len (args′ .settings)) (args′ .ws .now) (c .before .before .length-call-refusal .ensures) (c .before .if1 .left) (rw (c .len .ensures))
+    rule-is-told (len (args′ .settings)) (args′ .ws .now) (c .before .before .len-refusal .ensures) (c .before .if1 .left) (rw (c .len .ensures))
 
 pub len-spec : {M : Type 1} → statement M
-len-spec = tie.close (tie.spec length-call-refusal-requires returns len-requires returns-2)
+len-spec = tie.close (tie.spec len-refusal-requires returns len-requires returns-2)

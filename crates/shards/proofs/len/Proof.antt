@@ -5,7 +5,7 @@ use native.Mathlib.Omega.{arith}
 use mathlib.Core.List.{List}
 use mathlib.Core.Path.{_≡_, sym}
 use Rattle.shards.proofs.LendingLaws.{numbered-shard-ends, counted-slots-few}
-use Rattle.shards.proofs.RefusalLaws.{length-call-not-refused}
+use Rattle.shards.proofs.RefusalLaws.{len-not-refused}
 use Rattle.shards.specs.Memory.{slotCount}
 use Rattle.settings.proofs.SettingsLaws.{shards-most}
 use Rattle.rows.proofs.SumLaws.{sum-of-none, sum-next}
@@ -38,7 +38,7 @@ loop-holds c = record { counted = sym (sum-of-none _); few = omega arith; within
 slot-count-requires : tie.Need-slot-count-requires Inv-loop μ-loop
 slot-count-requires c κs =
     let args′ = c .before .before .before .before .before .args in
-    numbered-shard-ends (args′ .settings) (args′ .ws .now) (length-call-not-refused (args′ .settings) (args′ .ws .now) (c .before .before .before .before .before .pre) .0) (c .before .before .before .per-shard-cap .ensures) (c .before .before .shard-count .ensures) (c .loop-test .taken)
+    numbered-shard-ends (args′ .settings) (args′ .ws .now) (len-not-refused (args′ .settings) (args′ .ws .now) (c .before .before .before .before .before .pre) .0) (c .before .before .before .per-shard-cap .ensures) (c .before .before .shard-count .ensures) (c .loop-test .taken)
 
 add-total : tie.Need-add-total Inv-loop μ-loop
 add-total c =

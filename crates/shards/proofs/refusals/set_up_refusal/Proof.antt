@@ -12,12 +12,12 @@ refusal-requires c κs = search needs
 returns : tie.Need-returns
 returns c = first-is-told _ (c .before .refusal .ensures) (c .if1 .taken)
 
-length-refusal-requires : tie.Need-length-refusal-requires
-length-refusal-requires c κs = accepted-parts _ (sym (c .before .refusal .ensures) ∙ c .if1 .left) .1
+memory-refusal-requires : tie.Need-memory-refusal-requires
+memory-refusal-requires c κs = accepted-parts _ (sym (c .before .refusal .ensures) ∙ c .if1 .left) .1
 
 returns-2 : tie.Need-returns-2
-returns-2 c = second-is-told (c .before .before .refusal .ensures) (c .before .if1 .left) (c .length-refusal .ensures)
+returns-2 c = second-is-told (c .before .before .refusal .ensures) (c .before .if1 .left) (c .memory-refusal .ensures)
 
 pub set-up-refusal-spec : {M : Type 1} → statement M
 set-up-refusal-spec =
-    tie.close (tie.spec refusal-requires returns length-refusal-requires returns-2)
+    tie.close (tie.spec refusal-requires returns memory-refusal-requires returns-2)

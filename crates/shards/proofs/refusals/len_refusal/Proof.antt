@@ -1,9 +1,9 @@
--- `length_call_refusal` tells what set-up would be refused as, else whether a shard has too many slots.
+-- `len_refusal` tells what set-up would be refused as, else whether a shard has too many slots.
 use mathlib.Core.Path.{sym, _∙_}
 use Rattle.shards.proofs.RefusalLaws.{first-is-told, second-is-told}
 use borrow.Author.Needs.{needs}
-use Rattle.shards.proofs.refusals.length_call_refusal.Statement.{statement}
-use Rattle.shards.proofs.refusals.length_call_refusal.Tie as tie
+use Rattle.shards.proofs.refusals.len_refusal.Statement.{statement}
+use Rattle.shards.proofs.refusals.len_refusal.Tie as tie
 
 set-up-refusal-requires : tie.Need-set-up-refusal-requires
 set-up-refusal-requires c κs = search needs
@@ -17,6 +17,6 @@ slots-refusal-requires c κs = sym (c .before .set-up-refusal .ensures) ∙ c .i
 returns-2 : tie.Need-returns-2
 returns-2 c = second-is-told (c .before .before .set-up-refusal .ensures) (c .before .if1 .left) (c .slots-refusal .ensures)
 
-pub length-call-refusal-spec : {M : Type 1} → statement M
-length-call-refusal-spec =
+pub len-refusal-spec : {M : Type 1} → statement M
+len-refusal-spec =
     tie.close (tie.spec set-up-refusal-requires returns slots-refusal-requires returns-2)
