@@ -1,0 +1,93 @@
+-- `decimal::put` stores the digits, the last one first: at each test of the loop those of `rest` are still to be stored, before place i.
+use Prim.Native.Nat.{ℕ, _-_, _≤_}
+use native.Mathlib.Omega.{arith}
+use mathlib.Core.List.{List}
+use mathlib.Core.Path.{_≡_, refl, _∙_}
+use lib.ListN.{length, length-set}
+use lib.Seq.{sets}
+use Rattle.decimal.specs.Decimal.{digitsOf}
+use Rattle.decimal.proofs.DecimalLaws.{lastDigits, few-digits, all-to-store, last-digit-first, all-is-written}
+use borrow.Author.Needs.{needs}
+use Rattle.decimal.proofs.put.Statement.{statement}
+use Rattle.decimal.proofs.put.Tie as tie
+
+-- Storing the digits of `rest` in front of place i leaves what storing all digits leaves.
+record Writing (out₀ out : List ℕ) (place n i rest : ℕ) : Type 0 where
+  same : length out ≡ length out₀
+  begun : place ≤ i
+  inside : i ≤ length out₀
+  keeps : sets out place (lastDigits (i - place) rest) ≡ sets out₀ place (digitsOf n)
+
+abbrev Inv-loop : tie.InvT-loop
+Inv-loop out₀ at n end i₀ rest₀ out i rest = Writing out₀ out at n i rest
+
+abbrev μ-loop : tie.MeasureT-loop
+μ-loop out₀ at n end i₀ rest₀ out i rest = i
+
+width-requires : tie.Need-width-requires Inv-loop μ-loop
+width-requires c κs = search needs
+
+add-end : tie.Need-add-end Inv-loop μ-loop
+add-end c = record { fits = omega (arith, few-digits 20 (c .before .before .args .n), c .width .ensures) }
+
+loop-holds : tie.Need-loop-holds Inv-loop μ-loop
+loop-holds c =
+    let args′ = c .before .before .args in
+    let width′ = c .width in
+    record {
+      same = refl;
+      begun = omega arith;
+      inside = omega (arith, few-digits 20 (args′ .n), width′ .ensures);
+      keeps = all-to-store (args′ .out .now) _ _ _ (width′ .ensures);
+    }
+
+sub-i : tie.Need-sub-i Inv-loop μ-loop
+sub-i c = search needs
+
+add-out : tie.Need-add-out Inv-loop μ-loop
+add-out c = search needs
+
+cast-out : tie.Need-cast-out Inv-loop μ-loop
+cast-out c = search needs
+
+slice-write-out : tie.Need-slice-write-out Inv-loop μ-loop
+slice-write-out c = search needs
+
+loop-less : tie.Need-loop-less Inv-loop μ-loop
+loop-less c = search needs
+
+loop-again : tie.Need-loop-again Inv-loop μ-loop
+loop-again c =
+    let loop′ = c .before .loop in
+    record {
+      same = simp length-set (loop′ .inv .same);
+      begun = omega arith;
+      inside = omega arith;
+      keeps = last-digit-first (loop′ .out) _ (loop′ .i) _ (omega arith) ∙ loop′ .inv .keeps;
+    }
+
+same-length : tie.Need-same-length Inv-loop μ-loop
+same-length c = search needs
+
+returns : tie.Need-returns Inv-loop μ-loop
+returns c =
+    let loop′ = c .before .loop in
+    all-is-written _ _ _ _ _ (loop′ .i) (loop′ .rest) (c .before .before .width .ensures) (omega arith) (loop′ .inv .keeps)
+
+pub put-spec : {M : Type 1} → statement M
+put-spec =
+    tie.close
+    (tie.spec
+    Inv-loop
+    μ-loop
+    width-requires
+    add-end
+    loop-holds
+    sub-i
+    add-out
+    cast-out
+    slice-write-out
+    loop-less
+    loop-again
+    same-length
+    returns)

@@ -1,0 +1,43 @@
+-- Numbers as decimal digits. Lists of numbers below 256 stand for strings of bytes.
+use Prim.Native.Nat.{ℕ, zero, suc, _+_, _*_, _-_, _/_, _%_}
+use mathlib.Core.Bool.{Bool, true, false, cond}
+use mathlib.Core.List.{List, [], _∷_, _++_}
+use lib.Dec.{leb, ltb}
+use lib.ListN.{length}
+use lib.Seq.{sets}
+use Rattle.rows.specs.Outcome.{Outcome, outcome}
+use Rattle.decimal.specs.declared.OptionNumber.{OptionNumber}
+use Rattle.decimal.specs.declared.OptionNumber.the-variants.{None, Some}
+
+-- A decimal digit: a byte from 48 to 57.
+unfoldable pub isDigit : ℕ → Bool
+isDigit b = cond (leb 48 b) (leb b 57) false
+
+unfoldable pub allDigits : List ℕ → Bool
+allDigits [] = true
+allDigits (b ∷ bs) = cond (isDigit b) (allDigits bs) false
+
+-- The number that digits are, highest first, after digits that were n.
+unfoldable pub decimalFrom : ℕ → List ℕ → ℕ
+decimalFrom n [] = n
+decimalFrom n (b ∷ bs) = decimalFrom (10 * n + (b - 48)) bs
+
+-- The number that a field is: 1 to 20 digits, zeros in front allowed, that make no more than `most`. Anything else is no number.
+unfoldable pub numberOf : ℕ → List ℕ → OptionNumber
+numberOf most bs =
+    cond (leb 1 (length bs))
+    (cond (leb (length bs) 20) (cond (allDigits bs) (cond (leb (decimalFrom 0 bs) most) (Some (decimalFrom 0 bs)) None) None) None)
+    None
+
+-- The digits of a number, highest first, with no zero in front; of 0 the one digit 0. At most `left` of them: a number with more is cut in front.
+unfoldable pub digitsFrom : ℕ → ℕ → List ℕ
+digitsFrom zero n = []
+digitsFrom (suc left) n = cond (ltb n 10) ((48 + n) ∷ []) (digitsFrom left (n / 10) ++ ((48 + n % 10) ∷ []))
+
+-- The digits of a number of 64 bits: 20 are enough.
+abbrev pub digitsOf : ℕ → List ℕ
+digitsOf n = digitsFrom 20 n
+
+-- The digits of a number stored from a place on, and the place after them.
+abbrev pub written : ℕ → ℕ → List ℕ → Outcome ℕ (List ℕ)
+written place n bytes = outcome (place + length (digitsOf n)) (sets bytes place (digitsOf n))
