@@ -1,0 +1,4 @@
+pub mod FieldLaws
+pub mod ReadingLaws
+pub mod LineLaws
+pub mod PrintLaws

@@ -1,0 +1,70 @@
+-- `fields::number` fails where no field is left or the reading has failed; else the field up to its end is read as a number.
+use native.Mathlib.Omega.{arith}
+use Rattle.desk_lines.proofs.FieldLaws.{field-ends-inside}
+use Rattle.desk_lines.proofs.ReadingLaws.{number-is-taken, no-number-is-taken, no-field-is-taken}
+use borrow.Author.Needs.{needs}
+use Rattle.desk_lines.proofs.fields.number.Statement.{statement}
+use Rattle.desk_lines.proofs.fields.number.Tie as tie
+
+read-requires : tie.Need-read-requires
+read-requires c κs = search needs
+
+returns : tie.Need-returns
+returns c =
+    let args′ = c .before .before .before .args in
+    no-field-is-taken (args′ .line .now) (args′ .rest) (args′ .most) (c .read .ensures) (c .before .if1 .taken)
+
+end-requires : tie.Need-end-requires
+end-requires c κs = search needs
+
+sub-number : tie.Need-sub-number
+sub-number c = search needs
+
+part-number-start : tie.Need-part-number-start
+part-number-start c = search needs
+
+part-number-end : tie.Need-part-number-end
+part-number-end c =
+    let args′ = c .before .before .before .before .args in
+    rw (c .end .ensures) (field-ends-inside (args′ .line .now) (args′ .rest .at) (c .before .before .if1 .left))
+
+number-requires : tie.Need-number-requires
+number-requires c κs = search needs
+
+add-read : tie.Need-add-read
+add-read c =
+    let args′ = c .before .before .before .before .before .before .args in
+    record { fits = omega (arith, c .before .before .end .ensures, field-ends-inside (args′ .line .now) (args′ .rest .at) (c .before .before .before .before .if1 .left)) }
+
+read-requires-2 : tie.Need-read-requires-2
+read-requires-2 c κs = search needs
+
+returns-2 : tie.Need-returns-2
+returns-2 c =
+    let args′ = c .before .before .before .before .before .before .before .args in
+    number-is-taken (args′ .line .now) (args′ .rest) (args′ .most) (c .before .before .before .before .if2 .taken) (c .before .before .before .before .before .if1 .left) (c .before .before .before .end .ensures) (c .before .number .ensures) (c .read2 .ensures)
+
+read-requires-3 : tie.Need-read-requires-3
+read-requires-3 c κs = search needs
+
+returns-3 : tie.Need-returns-3
+returns-3 c =
+    let args′ = c .before .before .before .before .args in
+    no-number-is-taken (args′ .line .now) (args′ .rest) (args′ .most) (c .read3 .ensures) (c .before .if2 .left)
+
+pub number-spec : {M : Type 1} → statement M
+number-spec =
+    tie.close
+    (tie.spec
+    read-requires
+    returns
+    end-requires
+    sub-number
+    part-number-start
+    part-number-end
+    number-requires
+    add-read
+    read-requires-2
+    returns-2
+    read-requires-3
+    returns-3)

@@ -1,0 +1,33 @@
+-- A line's bytes as fields, parted by one space each.
+use Prim.Native.Nat.{ℕ, zero, suc, _+_}
+use mathlib.Core.Bool.{cond}
+use mathlib.Core.List.{List, [], _∷_}
+use lib.Dec.{eqb, leb}
+use lib.ListN.{length, drop}
+
+-- A space.
+abbrev pub space : ℕ
+space = 32
+
+-- A byte in front of the first field.
+abbrev pub onFirst : ℕ → List (List ℕ) → List (List ℕ)
+onFirst b [] = (b ∷ []) ∷ []
+onFirst b (f ∷ fs) = (b ∷ f) ∷ fs
+
+-- Every space ends a field, and the end of the bytes ends the last one; so there is always one field more than there are spaces, and fields can be empty.
+unfoldable pub fields : List ℕ → List (List ℕ)
+fields [] = [] ∷ []
+fields (b ∷ bs) = cond (eqb b space) ([] ∷ fields bs) (onFirst b (fields bs))
+
+-- How many bytes stand before the first space.
+unfoldable pub untilSpace : List ℕ → ℕ
+untilSpace [] = 0
+untilSpace (b ∷ bs) = cond (eqb b space) 0 (suc (untilSpace bs))
+
+-- Where the first field from a place on ends.
+abbrev pub fieldEnd : List ℕ → ℕ → ℕ
+fieldEnd line from = from + untilSpace (drop from line)
+
+-- The fields that are left from a place on: none past the end of the line, where the last field has been taken.
+unfoldable pub fieldsFrom : List ℕ → ℕ → List (List ℕ)
+fieldsFrom line from = cond (leb from (length line)) (fields (drop from line)) []

@@ -1,0 +1,110 @@
+// The fields of a line, taken one after the other.
+ghost use mathlib.Core.Path.{_≡_};
+ghost use Prim.Native.Nat.{_≤_};
+ghost use lib.ListN.{length};
+ghost use Rattle.desk_lines.specs.Fields.{fieldEnd};
+ghost use Rattle.desk_lines.specs.Lines as Lines;
+ghost use Rattle.desk_lines.specs.Places.{readingAt, numberRead, numberAt, idleAt};
+use crate::Idle;
+use crate::Number;
+use crate::Rest;
+use decimal::OptionNumber;
+use units::Nanos;
+use units::OptionNanos;
+
+// Where the field that begins at a place ends: at the first space from there on, or at the end of the line.
+pub(crate) fn end(line: &[u8], from: usize) -> usize
+    requires { ⌜ from ≤ length (now line) ⌝ }
+    ensures { λ r. ⌜ r ≡ fieldEnd (now (line .entry)) from ⌝ }
+{
+    let mut i = from;
+    while i < line.len() {
+        if line[i] == 32 {
+            break;
+        }
+        i += 1;
+    }
+    i
+}
+
+// A field's number, if it was one, and the place of the next field.
+fn read(number: OptionNumber, next: usize) -> Number
+    ensures { λ r. ⌜ r ≡ numberRead next number ⌝ }
+{
+    match number {
+        OptionNumber::None => Number {
+            value: 0,
+            rest: Rest { at: 0, good: false },
+        },
+        OptionNumber::Some(value) => Number {
+            value,
+            rest: Rest {
+                at: next,
+                good: true,
+            },
+        },
+    }
+}
+
+// The next field as a number of at most `most`.
+pub(crate) fn number(line: &[u8], rest: Rest, most: u64) -> Number
+    ensures { λ r. ⌜ numberAt (now (line .entry)) r ≡ Lines.taken most (readingAt (now (line .entry)) rest) ⌝ }
+{
+    let at = rest.at;
+    if line.len() < at {
+        return read(OptionNumber::None, 0);
+    }
+    if rest.good {
+        let end = end(line, at);
+        return read(decimal::number(&line[at..end], most), end + 1);
+    }
+    read(OptionNumber::None, 0)
+}
+
+// Whether the next field is the one byte `-`.
+fn is_dash(line: &[u8], rest: Rest) -> bool
+    ensures { λ r. ⌜ r ≡ Lines.dashNext (readingAt (now (line .entry)) rest) ⌝ }
+{
+    let at = rest.at;
+    if line.len() <= at {
+        return false;
+    }
+    if line[at] != 45 {
+        return false;
+    }
+    if rest.good {
+        return end(line, at) == at + 1;
+    }
+    false
+}
+
+// The next field as an idle time.
+pub(crate) fn idle(line: &[u8], rest: Rest) -> Idle
+    ensures { λ r. ⌜ idleAt (now (line .entry)) r ≡ Lines.takenIdle (readingAt (now (line .entry)) rest) ⌝ }
+{
+    if is_dash(line, rest) {
+        return Idle {
+            value: OptionNanos::None,
+            rest: Rest {
+                at: rest.at + 2,
+                good: true,
+            },
+        };
+    }
+    let number = number(line, rest, u64::MAX);
+    let rest = number.rest;
+    Idle {
+        value: OptionNanos::Some(Nanos(number.value)),
+        rest,
+    }
+}
+
+// Whether no field is left, and none failed.
+pub(crate) fn is_finished(line: &[u8], rest: Rest) -> bool
+    ensures { λ r. ⌜ r ≡ Lines.isFinished (readingAt (now (line .entry)) rest) ⌝ }
+{
+    if rest.good {
+        return line.len() < rest.at;
+    }
+    false
+}
