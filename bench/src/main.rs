@@ -24,10 +24,14 @@ fn main() -> ExitCode {
     let rounds = number("--rounds").unwrap_or(21);
     let calls = number("--calls").unwrap_or(100_000);
     let only = word("--only").unwrap_or_default();
-    println!("rounds {rounds}, calls a round {calls} (fewer where a shard holds more than 256 keys)");
+    println!(
+        "rounds {rounds}, calls a round {calls} (fewer where a shard holds more than 256 keys)"
+    );
     println!();
-    println!("| scenario | ours, ns | middle half | Rust, ns | middle half | ours / Rust |");
-    println!("|---|---:|---:|---:|---:|---:|");
+    println!(
+        "| scenario | ours, ns | middle half | Rust, ns | middle half | ours / Rust | middle half |"
+    );
+    println!("|---|---:|---:|---:|---:|---:|---:|");
     let all = scenario::all(calls);
     for scenario in all.iter().filter(|scenario| scenario.name.contains(&only)) {
         if let Err(difference) = compare(scenario, rounds) {
@@ -43,35 +47,57 @@ fn main() -> ExitCode {
 
 /// Times both sides in turn and prints a line of the table.
 fn compare(scenario: &Scenario, rounds: usize) -> Result<(), String> {
-    let (mut ours, mut rust) = (Vec::new(), Vec::new());
+    let (mut ours, mut rust, mut ratios) = (Vec::new(), Vec::new(), Vec::new());
     for _ in 0..rounds {
-        let (nanos, our_sums) = round::<Store>(scenario);
-        ours.push(nanos);
-        let (nanos, rust_sums) = round::<Limiter>(scenario);
-        rust.push(nanos);
+        let (our_nanos, our_sums) = round::<Store>(scenario);
+        let (rust_nanos, rust_sums) = round::<Limiter>(scenario);
         if our_sums != rust_sums {
-            return Err(format!("sums of codes and numbers: ours {our_sums:?}, Rust {rust_sums:?}"));
+            return Err(format!(
+                "sums of codes and numbers: ours {our_sums:?}, Rust {rust_sums:?}"
+            ));
         }
+        if rust_sums[1].0 != scenario.code * scenario.timed.len() as u64 {
+            return Err(format!("not every timed call got code {}", scenario.code));
+        }
+        ours.push(our_nanos);
+        rust.push(rust_nanos);
+        ratios.push(our_nanos / rust_nanos);
     }
-    let (ours, rust) = (Times::of(ours), Times::of(rust));
+    print_line(
+        &scenario.name,
+        &Times::of(ours),
+        &Times::of(rust),
+        &Times::of(ratios),
+    );
+    Ok(())
+}
+
+/// A line of the table. The ratio is that of two rounds side by side, so that it suffers less from what others do to the machine.
+fn print_line(name: &str, ours: &Times, rust: &Times, ratio: &Times) {
     println!(
-        "| {} | {:.1} | {:.1} to {:.1} | {:.1} | {:.1} to {:.1} | {:.2} |",
-        scenario.name,
+        "| {name} | {:.1} | {:.1} to {:.1} | {:.1} | {:.1} to {:.1} | {:.2} | {:.2} to {:.2} |",
         ours.median,
         ours.low,
         ours.high,
         rust.median,
         rust.low,
         rust.high,
-        ours.median / rust.median
+        ratio.median,
+        ratio.low,
+        ratio.high
     );
-    Ok(())
 }
 
 /// What is in every number above: the driver, and for the Rust the setting of its clock.
 fn print_overheads(scenario: &Scenario, rounds: usize) {
-    println!("driver alone: {:.1} ns a call", alone::<Nobody>(scenario, rounds));
-    println!("driver and setting the Rust's clock: {:.1} ns a call", alone::<ClockOnly>(scenario, rounds));
+    println!(
+        "driver alone: {:.1} ns a call",
+        alone::<Nobody>(scenario, rounds)
+    );
+    println!(
+        "driver and setting the Rust's clock: {:.1} ns a call",
+        alone::<ClockOnly>(scenario, rounds)
+    );
     println!();
 }
 
@@ -84,7 +110,10 @@ fn print_memory() {
     println!("|---|---:|---:|---:|");
     for (max_keys, shards) in scenario::SIZES {
         let bytes = memory::per_key(max_keys, shards);
-        println!("| {max_keys} keys, shards {shards} | {:.1} | {:.1} | {:.1} |", bytes.ours, bytes.slots, bytes.ledgers);
+        println!(
+            "| {max_keys} keys, shards {shards} | {:.1} | {:.1} | {:.1} |",
+            bytes.ours, bytes.slots, bytes.ledgers
+        );
     }
 }
 

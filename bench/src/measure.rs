@@ -19,7 +19,10 @@ const THREAD_CPU: i32 = 3;
 
 /// The nanoseconds that this thread has run. Others on the machine do not count, but for the caches they share.
 fn cpu_nanos() -> f64 {
-    let mut time = Timespec { seconds: 0, nanos: 0 };
+    let mut time = Timespec {
+        seconds: 0,
+        nanos: 0,
+    };
     // SAFETY: `time` is a timespec that lives through the call.
     let failed = unsafe { clock_gettime(THREAD_CPU, &raw mut time) };
     assert_eq!(failed, 0, "the thread's clock can be read");
@@ -47,6 +50,10 @@ impl Times {
     pub fn of(mut nanos: Vec<f64>) -> Self {
         nanos.sort_by(f64::total_cmp);
         let at = |part: usize| nanos[(nanos.len() - 1) * part / 4];
-        Self { median: at(2), low: at(1), high: at(3) }
+        Self {
+            median: at(2),
+            low: at(1),
+            high: at(3),
+        }
     }
 }

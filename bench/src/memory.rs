@@ -37,10 +37,22 @@ pub struct Bytes {
 }
 
 pub fn per_key(max_keys: usize, shards: usize) -> Bytes {
-    let setup = Setup { amount: 1, burst: 1_000, max_keys, shards, idle: None, forget_debt: true };
+    let setup = Setup {
+        amount: 1,
+        burst: 1_000,
+        max_keys,
+        shards,
+        idle: None,
+        forget_debt: true,
+    };
     let keys = scenario::fitting(&setup, max_keys);
-    let full: Vec<Call> = keys.iter().map(|&key| scenario::try_(0, key, 1_000)).collect();
-    let flood = (1 << 32..).take(20 * max_keys).map(|n| scenario::try_(1, scenario::key(n), 1_000));
+    let full: Vec<Call> = keys
+        .iter()
+        .map(|&key| scenario::try_(0, key, 1_000))
+        .collect();
+    let flood = (1 << 32..)
+        .take(20 * max_keys)
+        .map(|n| scenario::try_(1, scenario::key(n), 1_000));
     let flood: Vec<Call> = flood.collect();
     Bytes {
         ours: held_by::<Store>(&setup, &[&full]) / max_keys as f64,

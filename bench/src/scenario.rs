@@ -46,6 +46,8 @@ pub struct Scenario {
     pub setup: Setup,
     pub before: Vec<Call>,
     pub timed: Vec<Call>,
+    /// The code that every timed call is answered with: 0 granted or known, 1 retry.
+    pub code: u64,
 }
 
 const MS: u64 = 1_000_000;
@@ -62,7 +64,11 @@ const BASE: Setup = Setup {
 
 /// Every scenario; `calls` is the length of the quick ones' traces.
 pub fn all(calls: usize) -> Vec<Scenario> {
-    let mut all = vec![hot_granted(calls, None), hot_granted(calls, Some(1)), hot_denied(calls)];
+    let mut all = vec![
+        hot_granted(calls, None),
+        hot_granted(calls, Some(1)),
+        hot_denied(calls),
+    ];
     for (max_keys, shards) in SIZES {
         all.push(known(calls, max_keys, shards));
     }
@@ -94,6 +100,7 @@ fn hot_granted(calls: usize, idle: Option<u64>) -> Scenario {
         setup: Setup { idle, ..BASE },
         before: Vec::new(),
         timed: timed.collect(),
+        code: 0,
     }
 }
 
@@ -105,12 +112,17 @@ fn hot_denied(calls: usize) -> Scenario {
         setup: BASE,
         before: vec![try_(0, key(7), 100)],
         timed: timed.collect(),
+        code: 1,
     }
 }
 
 /// Known keys in random order, a call every microsecond.
 fn known(calls: usize, max_keys: usize, shards: usize) -> Scenario {
-    let setup = Setup { max_keys, shards, ..BASE };
+    let setup = Setup {
+        max_keys,
+        shards,
+        ..BASE
+    };
     let keys = fitting(&setup, max_keys);
     let mut random = Random(1);
     let calls = fewer(calls, &setup, 4);
@@ -121,6 +133,7 @@ fn known(calls: usize, max_keys: usize, shards: usize) -> Scenario {
         setup,
         before: keys.iter().map(|&key| try_(0, key, 1)).collect(),
         timed,
+        code: 0,
     }
 }
 
@@ -133,26 +146,52 @@ fn flood(
     idle: Option<u64>,
 ) -> Scenario {
     // Nothing settles meanwhile: a bucket takes 1,000 seconds to be full.
-    let setup = Setup { amount: 1, burst: 1_000, max_keys, shards, idle, forget_debt };
+    let setup = Setup {
+        amount: 1,
+        burst: 1_000,
+        max_keys,
+        shards,
+        idle,
+        forget_debt,
+    };
     let (before, timed) = new_keys(fewer(calls, &setup, 8), &setup, 1_000, 1_000);
-    let rule = if forget_debt { "ForgetDebt" } else { "RefuseNew" };
+    let rule = if forget_debt {
+        "ForgetDebt"
+    } else {
+        "RefuseNew"
+    };
     Scenario {
-        name: format!("new keys, all owe, {rule}, {max_keys} keys, {}{}", over(shards), with_idle(idle)),
+        name: format!(
+            "new keys, all owe, {rule}, {max_keys} keys, {}{}",
+            over(shards),
+            with_idle(idle)
+        ),
         setup,
         before,
         timed,
+        code: u64::from(!forget_debt),
     }
 }
 
 /// Always new keys, a millisecond apart, each of which takes a token that is back by the time the hand comes round.
 fn trickle(calls: usize, max_keys: usize, shards: usize, idle: Option<u64>) -> Scenario {
-    let setup = Setup { max_keys, shards, idle, ..BASE };
+    let setup = Setup {
+        max_keys,
+        shards,
+        idle,
+        ..BASE
+    };
     let (before, timed) = new_keys(fewer(calls, &setup, 8), &setup, MS, 1);
     Scenario {
-        name: format!("new keys, recovered, RefuseNew, {max_keys} keys, {}{}", over(shards), with_idle(idle)),
+        name: format!(
+            "new keys, recovered, RefuseNew, {max_keys} keys, {}{}",
+            over(shards),
+            with_idle(idle)
+        ),
         setup,
         before,
         timed,
+        code: 0,
     }
 }
 
@@ -167,7 +206,11 @@ fn new_keys(calls: usize, setup: &Setup, step: u64, cost: u32) -> (Vec<Call>, Ve
 
 /// A token back to known keys in random order. All have spent their whole burst.
 fn refunds(calls: usize, max_keys: usize, shards: usize) -> Scenario {
-    let setup = Setup { max_keys, shards, ..BASE };
+    let setup = Setup {
+        max_keys,
+        shards,
+        ..BASE
+    };
     let keys = fitting(&setup, max_keys);
     let mut random = Random(2);
     let calls = fewer(calls, &setup, 4);
@@ -177,12 +220,17 @@ fn refunds(calls: usize, max_keys: usize, shards: usize) -> Scenario {
         setup,
         before: keys.iter().map(|&key| try_(0, key, 100)).collect(),
         timed,
+        code: 0,
     }
 }
 
 /// A known key is removed and comes back, in random order, a microsecond apart.
 fn removals(calls: usize, max_keys: usize, shards: usize) -> Scenario {
-    let setup = Setup { max_keys, shards, ..BASE };
+    let setup = Setup {
+        max_keys,
+        shards,
+        ..BASE
+    };
     let keys = fitting(&setup, max_keys);
     let mut random = Random(3);
     let calls = fewer(calls, &setup, 4);
@@ -196,6 +244,7 @@ fn removals(calls: usize, max_keys: usize, shards: usize) -> Scenario {
         setup,
         before: keys.iter().map(|&key| try_(0, key, 1)).collect(),
         timed,
+        code: 0,
     }
 }
 
@@ -222,21 +271,39 @@ pub fn fitting(setup: &Setup, count: usize) -> Vec<Key> {
 }
 
 pub fn try_(now: u64, key: Key, cost: u32) -> Call {
-    Call { now, key, cost, op: Op::Try }
+    Call {
+        now,
+        key,
+        cost,
+        op: Op::Try,
+    }
 }
 
 fn refund(key: Key, cost: u32) -> Call {
-    Call { now: 0, key, cost, op: Op::Refund }
+    Call {
+        now: 0,
+        key,
+        cost,
+        op: Op::Refund,
+    }
 }
 
 fn remove(key: Key) -> Call {
-    Call { now: 0, key, cost: 0, op: Op::Remove }
+    Call {
+        now: 0,
+        key,
+        cost: 0,
+        op: Op::Remove,
+    }
 }
 
 /// The key of this number, hashed by FNV-1a.
 pub fn key(number: u64) -> Key {
     let mix = |hash: u64, byte: u8| (hash ^ u64::from(byte)).wrapping_mul(1_099_511_628_211);
-    let hash = number.to_le_bytes().into_iter().fold(14_695_981_039_346_656_037, mix);
+    let hash = number
+        .to_le_bytes()
+        .into_iter()
+        .fold(14_695_981_039_346_656_037, mix);
     Key { hash, key: number }
 }
 

@@ -50,8 +50,17 @@ impl Side for Limiter {
             Some(idle) => Eviction::new(setup.max_keys, Duration::from_nanos(idle)),
             None => Eviction::capacity(setup.max_keys),
         };
-        let when_full = if setup.forget_debt { WhenFull::ForgetDebt } else { WhenFull::RefuseNew };
-        Self::new(setup.amount, setup.burst, eviction.with_when_full(when_full), setup.shards)
+        let when_full = if setup.forget_debt {
+            WhenFull::ForgetDebt
+        } else {
+            WhenFull::RefuseNew
+        };
+        Self::new(
+            setup.amount,
+            setup.burst,
+            eviction.with_when_full(when_full),
+            setup.shards,
+        )
     }
 
     #[inline]

@@ -8,6 +8,12 @@ pub struct HashTable<T> {
     raw: RawTable<T>,
 }
 
+impl<T> Default for HashTable<T> {
+    fn default() -> Self {
+        Self::new()
+    }
+}
+
 impl<T> HashTable<T> {
     /// An empty table.
     #[must_use]
