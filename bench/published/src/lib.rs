@@ -1,0 +1,85 @@
+//! The published store and limiter, called without the refusals that the oracle puts in front.
+
+#[path = "../../../oracle/src/key.rs"]
+mod key;
+// Much of the published text, and of the oracle's beside it, has no caller here.
+#[allow(dead_code)]
+#[path = "../../../oracle/src/throttle/mod.rs"]
+mod throttle;
+
+use core::time::Duration;
+use std::sync::Arc;
+
+use clock_lib::ManualClock;
+
+// The published files name each other from the crate's root.
+#[allow(unused_imports)]
+use throttle::{decision, error, eviction, perkey, store};
+
+use decision::Decision;
+use perkey::PerKey;
+
+pub use eviction::{Eviction, WhenFull};
+pub use key::Key;
+
+/// An answer's code and number, as the library numbers them.
+pub type Answer = (u64, u64);
+
+/// The published limiter and the clock that it reads.
+pub struct Limiter {
+    published: PerKey<Key, Arc<ManualClock>>,
+    clock: Arc<ManualClock>,
+}
+
+impl Limiter {
+    /// A limiter of `amount` tokens a second, at most `burst`.
+    #[must_use]
+    pub fn new(amount: u32, burst: u32, eviction: Eviction, shards: usize) -> Self {
+        let clock = Arc::new(ManualClock::new());
+        let published = PerKey::<Key>::builder()
+            .rate(amount, Duration::from_secs(1))
+            .burst(burst)
+            .eviction(eviction)
+            .shards(shards)
+            .clock(Arc::clone(&clock))
+            .build();
+        Self { published, clock }
+    }
+
+    /// Sets the clock; a call then reads it.
+    #[inline]
+    pub fn set_clock(&self, now: u64) {
+        self.clock.set(now);
+    }
+
+    #[inline]
+    pub fn try_(&self, now: u64, key: Key, cost: u32) -> Answer {
+        self.set_clock(now);
+        match self.published.decision(&key, cost) {
+            Decision::Acquired => (0, 0),
+            Decision::Retry { after } => (1, nanos(after)),
+            Decision::Impossible => (2, 0),
+        }
+    }
+
+    #[inline]
+    pub fn refund(&self, key: Key, cost: u32) -> Answer {
+        known(self.published.refund_known(&key, cost))
+    }
+
+    #[inline]
+    pub fn remove(&self, key: Key) -> Answer {
+        known(self.published.remove(&key))
+    }
+}
+
+/// A wait of the store fits 64 bits.
+#[inline]
+fn nanos(wait: Duration) -> u64 {
+    wait.as_secs() * 1_000_000_000 + u64::from(wait.subsec_nanos())
+}
+
+#[inline]
+const fn known(known: bool) -> Answer {
+    (if known { 0 } else { 3 }, 0)
+}

@@ -1,0 +1,72 @@
+//! Bytes held, by a global allocator that counts them.
+
+use std::alloc::{GlobalAlloc, Layout, System};
+use std::sync::atomic::{AtomicUsize, Ordering};
+
+use published::Limiter;
+
+use crate::library::Store;
+use crate::scenario::{self, Call, Setup};
+use crate::sides::{Side, drive};
+
+/// The system's allocator, counting what is held.
+pub struct Counting;
+
+static HELD: AtomicUsize = AtomicUsize::new(0);
+
+// SAFETY: every call goes on to the system's allocator as it stands.
+unsafe impl GlobalAlloc for Counting {
+    unsafe fn alloc(&self, layout: Layout) -> *mut u8 {
+        HELD.fetch_add(layout.size(), Ordering::Relaxed);
+        // SAFETY: see above.
+        unsafe { System.alloc(layout) }
+    }
+
+    unsafe fn dealloc(&self, at: *mut u8, layout: Layout) {
+        HELD.fetch_sub(layout.size(), Ordering::Relaxed);
+        // SAFETY: see above.
+        unsafe { System.dealloc(at, layout) }
+    }
+}
+
+/// Bytes for each key of ours and of the Rust's, with full slots, and with full slots and ledgers.
+pub struct Bytes {
+    pub ours: f64,
+    pub slots: f64,
+    pub ledgers: f64,
+}
+
+pub fn per_key(max_keys: usize, shards: usize) -> Bytes {
+    let setup = Setup {
+        amount: 1,
+        burst: 1_000,
+        max_keys,
+        shards,
+        idle: None,
+        forget_debt: true,
+    };
+    let keys = scenario::fitting(&setup, max_keys);
+    let full: Vec<Call> = keys
+        .iter()
+        .map(|&key| scenario::try_(0, key, 1_000))
+        .collect();
+    let flood = (1 << 32..)
+        .take(20 * max_keys)
+        .map(|n| scenario::try_(1, scenario::key(n), 1_000));
+    let flood: Vec<Call> = flood.collect();
+    Bytes {
+        ours: held_by::<Store>(&setup, &[&full]) / max_keys as f64,
+        slots: held_by::<Limiter>(&setup, &[&full]) / max_keys as f64,
+        ledgers: held_by::<Limiter>(&setup, &[&full, &flood]) / max_keys as f64,
+    }
+}
+
+/// The bytes that a side holds after some calls.
+fn held_by<S: Side>(setup: &Setup, calls: &[&[Call]]) -> f64 {
+    let before = HELD.load(Ordering::Relaxed);
+    let mut side = S::new(setup);
+    for calls in calls {
+        drive(&mut side, calls);
+    }
+    (HELD.load(Ordering::Relaxed) - before) as f64
+}
