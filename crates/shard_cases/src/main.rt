@@ -4,12 +4,12 @@
 // but for `position`, which the oracle has not, and an eviction from an empty shard, which the program skips.
 use bucket::BucketConfig;
 use libc::STDIN_FILENO;
-use scan::Line;
+use line::Line;
 use units::Nanos;
 
+mod line;
 mod operations;
 mod print;
-mod scan;
 mod sound;
 
 // The most places of a shard that the cases have, and how many words it takes.
@@ -50,7 +50,7 @@ fn run(text: &[u8], words: &mut [u64]) {
 
 // Runs one line.
 fn step(text: &[u8], words: &mut [u64], state: State) -> State {
-    let line = scan::read_line(text, state.at);
+    let line = line::read_line(text, state.at);
     let cap = state.cap;
     let config = state.config;
     let next = State {

@@ -1,8 +1,8 @@
 // The operations on a shard, one function each. Each prints the code and the number of its answer.
 ghost use Rattle.bucket.specs.Bucket.{Accepted};
 ghost use Rattle.shard_map.specs.Layout.{Lent};
+use crate::line::Line;
 use crate::print;
-use crate::scan::Line;
 use bucket::BucketConfig;
 use evict::Room;
 use ledger::Debt;

@@ -1,4 +1,4 @@
-// Decimal numbers, read from a text in which any other bytes part them.
+// Decimal numbers, read from the text of recorded cases, in which any other bytes part them. For test programs alone.
 
 // A number, and where the reading stands after it and the bytes that part it from the next.
 pub struct Number {
@@ -6,35 +6,8 @@ pub struct Number {
     pub at: usize,
 }
 
-// An operation and its arguments, and where the reading stands after them.
-pub struct Line {
-    pub operation: u64,
-    pub a: u64,
-    pub b: u64,
-    pub c: u64,
-    pub d: u64,
-    pub at: usize,
-}
-
-// The next five numbers.
-pub(crate) fn read_line(text: &[u8], at: usize) -> Line {
-    let operation = read_number(text, at);
-    let a = read_number(text, operation.at);
-    let b = read_number(text, a.at);
-    let c = read_number(text, b.at);
-    let d = read_number(text, c.at);
-    Line {
-        operation: operation.value,
-        a: a.value,
-        b: b.value,
-        c: c.value,
-        d: d.value,
-        at: d.at,
-    }
-}
-
 // The next number; 0 at the end of the text.
-pub(crate) fn read_number(text: &[u8], from: usize) -> Number {
+pub fn read_number(text: &[u8], from: usize) -> Number {
     let mut at = from;
     let mut value: u64 = 0;
     while at < text.len() {
@@ -51,7 +24,7 @@ pub(crate) fn read_number(text: &[u8], from: usize) -> Number {
 }
 
 // The first place from here on that has a digit, or the end of the text.
-pub(crate) fn skip_blanks(text: &[u8], from: usize) -> usize {
+pub fn skip_blanks(text: &[u8], from: usize) -> usize {
     let mut at = from;
     while at < text.len() {
         if is_digit(text[at]) {

@@ -1,9 +1,9 @@
--- `scan::read_number` reads bytes below the length of the text, and ends there.
+-- `read_number` reads bytes below the length of the text, and ends there.
 use Prim.Native.Nat.{_-_}
 use lib.ListN.{length}
 use borrow.Author.Needs.{needs}
-use Rattle.shard_cases.proofs.scan.read_number.Statement.{statement}
-use Rattle.shard_cases.proofs.scan.read_number.Tie as tie
+use Rattle.scan.proofs.read_number.Statement.{statement}
+use Rattle.scan.proofs.read_number.Tie as tie
 
 abbrev Inv-loop : tie.InvT-loop
 Inv-loop text from at₀ value₀ at value = Unit {0}

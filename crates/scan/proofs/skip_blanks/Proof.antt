@@ -1,9 +1,9 @@
--- `scan::skip_blanks` reads bytes below the length of the text, and ends there.
+-- `skip_blanks` reads bytes below the length of the text, and ends there.
 use Prim.Native.Nat.{_-_}
 use lib.ListN.{length}
 use borrow.Author.Needs.{needs}
-use Rattle.shard_cases.proofs.scan.skip_blanks.Statement.{statement}
-use Rattle.shard_cases.proofs.scan.skip_blanks.Tie as tie
+use Rattle.scan.proofs.skip_blanks.Statement.{statement}
+use Rattle.scan.proofs.skip_blanks.Tie as tie
 
 abbrev Inv-loop : tie.InvT-loop
 Inv-loop text from at₀ at = Unit {0}
