@@ -126,9 +126,9 @@ unfolding is usable
 unnamed-unusable k t u id m cost e =
     by-test (eqb (id .hash) (k .hash)) (λ h. rw (h, rw h at e)) (λ h. rw h)
 
-unnamed-granted : (k : Identity) (t u : ℕ) (id : Identity) (m cost : ℕ) → is k id ≡ false → (reply : Reply)
-    → ofGrant (λ wait. usable k t u id (m + wait) cost) 0 reply ≡ 0
-unnamed-granted k t u id m cost e (Granted wait) = unnamed-unusable k t u id (m + wait .0) cost e
+unnamed-granted : (k : Identity) (t u : ℕ) (id : Identity) (m : ℕ → ℕ) (cost : ℕ) → is k id ≡ false → (reply : Reply)
+    → ofGrant (λ wait. usable k t u id (m wait) cost) 0 reply ≡ 0
+unnamed-granted k t u id m cost e (Granted wait) = unnamed-unusable k t u id (m (wait .0)) cost e
 unnamed-granted k t u id m cost e (Retry wait) = refl
 unnamed-granted k t u id m cost e Impossible = refl
 unnamed-granted k t u id m cost e Nothing = refl
@@ -137,8 +137,8 @@ unnamed-granted k t u id m cost e (Count n) = refl
 unnamed-granted k t u id m cost e (Refused n) = refl
 
 unnamed-tokens : (k : Identity) (t u : ℕ) (c : Call) (reply : Reply) → names k c ≡ false → tokensOf k t u c reply ≡ 0
-unnamed-tokens k t u (try s at id cost) reply e = unnamed-granted k t u id (at .0) cost e reply
-unnamed-tokens k t u (reserve s at id cost longest) reply e = unnamed-granted k t u id (at .0) cost e reply
+unnamed-tokens k t u (try s at id cost) reply e = unnamed-granted k t u id (λ wait. at .0) cost e reply
+unnamed-tokens k t u (reserve s at id cost longest) reply e = unnamed-granted k t u id (λ wait. at .0 + wait) cost e reply
 unnamed-tokens k t u (peek s at id cost) reply e = refl
 unnamed-tokens k t u (available s at id) reply e = refl
 unnamed-tokens k t u (len s) reply e = refl

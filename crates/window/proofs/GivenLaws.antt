@@ -1,6 +1,6 @@
 -- The grants of a list of calls to one key, one call at a time, and that their sums are the tokens that demand 3 counts.
 use Prim.Native.Nat.{ℕ, _+_}
-use mathlib.Core.Path.{_≡_, refl}
+use mathlib.Core.Path.{_≡_, refl, ap, _∙_}
 use mathlib.Core.Bool.{cond}
 use mathlib.Core.List.{List, _∷_}
 use native.Mathlib.Omega.{arith}
@@ -17,6 +17,7 @@ use Rattle.perkey.specs.declared.Reply.the-variants.{Granted, Retry, Impossible
 use Rattle.perkey.specs.Rules.{tryReply, reserveReply}
 use Rattle.perkey.specs.Calls.{Call, try, reserve, peek, available, len, refund, remove, ofGrant}
 use Rattle.window.specs.Demands.{usable, tokensOf}
+use Rattle.window.proofs.TryLaws.{WaitsNone, Prompt}
 use Rattle.window.proofs.GrantLaws.{Grant, within}
 use Rattle.window.proofs.BucketKept.{grantsOfAnswer}
 
@@ -93,11 +94,22 @@ module _ (k : Identity) (t u : ℕ) (gs : List Grant) where
   request-within id at cost (Count n) = rw (same-either-way k id gs) (omega arith)
   request-within id at cost (Refused n) = rw (same-either-way k id gs) (omega arith)
 
-  pub given-within : (c : Call) (reply : Reply) → within t u (given k c reply gs) ≡ tokensOf k t u c reply + within t u gs
-  given-within (try s at id cost) reply = request-within id at cost reply
-  given-within (reserve s at id cost longest) reply = request-within id at cost reply
-  given-within (peek s at id cost) reply = omega arith
-  given-within (available s at id) reply = omega arith
-  given-within (len s) reply = omega arith
-  given-within (refund s id cost) reply = omega arith
-  given-within (remove s id) reply = omega arith
+  -- Tokens without a wait count at the call's own moment.
+  prompt-tokens : (id : Identity) (at : Nanos) (cost : ℕ) (reply : Reply) → WaitsNone reply
+      → ofGrant (λ wait. usable k t u id (at .0 + wait) cost) 0 reply ≡ ofGrant (λ wait. usable k t u id (at .0) cost) 0 reply
+  prompt-tokens id at cost (Granted wait) none = ap (λ (m : ℕ). usable k t u id m cost) (omega (arith, none))
+  prompt-tokens id at cost (Retry wait) none = refl
+  prompt-tokens id at cost Impossible none = refl
+  prompt-tokens id at cost Nothing none = refl
+  prompt-tokens id at cost Done none = refl
+  prompt-tokens id at cost (Count n) none = refl
+  prompt-tokens id at cost (Refused n) none = refl
+
+  pub given-within : (c : Call) (reply : Reply) → Prompt c reply → within t u (given k c reply gs) ≡ tokensOf k t u c reply + within t u gs
+  given-within (try s at id cost) reply prompt = request-within id at cost reply ∙ ap (λ (n : ℕ). n + within t u gs) (prompt-tokens id at cost reply prompt)
+  given-within (reserve s at id cost longest) reply prompt = request-within id at cost reply
+  given-within (peek s at id cost) reply prompt = omega arith
+  given-within (available s at id) reply prompt = omega arith
+  given-within (len s) reply prompt = omega arith
+  given-within (refund s id cost) reply prompt = omega arith
+  given-within (remove s id) reply prompt = omega arith

@@ -3,6 +3,7 @@ pub mod BucketKept
 pub mod RequestLaws
 pub mod OwnBucket
 pub mod StandingLaws
+pub mod TryLaws
 pub mod GivenLaws
 pub mod CallSteps
 pub mod AppearsLaws
