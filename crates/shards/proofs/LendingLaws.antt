@@ -15,7 +15,8 @@ use Rattle.settings.proofs.SettingsLaws.{accepted-parts, cap-most}
 use Rattle.shard_map.specs.Model as Shard
 use Rattle.shard_map.specs.Layout as Layout
 use Rattle.shard_map.proofs.LayoutLaws.{words-shard}
-use Rattle.shards.specs.Memory.{shardStart, shardAt, inShard, shardEnd, slotCount}
+use Rattle.shards.specs.declared.Part.{Part}
+use Rattle.shards.specs.Memory.{shardStart, shardAt, partOf, inShard, shardEnd, slotCount}
 use Rattle.shards.specs.Refusals.{lenRefusal}
 use Rattle.shards.proofs.MemoryLaws.{shard-fits, shard-ends}
 use Rattle.shards.proofs.RefusalLaws.{SetUp, len-not-refused}
@@ -24,35 +25,35 @@ use Rattle.shards.proofs.RefusalLaws.{SetUp, len-not-refused}
 pub sizes-accepted : {s : Settings} {ws : List ℕ} → SetUp s ws → sizeRefusal s ≡ 0
 sizes-accepted {s} set-up = accepted-parts s (set-up .settings) .1
 
--- The words from a start to an end.
-abbrev between : ℕ → ℕ → List ℕ → List ℕ
-between start end ws = part start (end - start) ws
+-- The part of a key's shard: it lies in the words, and its words are those of the shard.
+module _ {s : Settings} (hash : ℕ) {ws : List ℕ} (part′ : Part) (set-up : SetUp s ws) (is : part′ ≡ partOf s hash) where
+  abbrev lentWords : List ℕ
+  lentWords = part (part′ .start) (part′ .end - part′ .start) ws
 
--- The start and the end of a shard's part.
-module _ {s : Settings} (hash : ℕ) {ws : List ℕ} {start end : ℕ} (set-up : SetUp s ws)
-    (starts : start ≡ shardStart s hash) (ends : end ≡ shardStart s hash + shardWords (capOf s)) where
-  pub lent-bounds : (start ≤ end) × (end ≤ length ws)
-  lent-bounds = (rw (starts, ends) (le-add-right _ _), rw ends (shard-fits s hash ws (set-up .size)))
+  pub lent-bounds : (part′ .start ≤ part′ .end) × (part′ .end ≤ length ws)
+  lent-bounds = rw is (le-add-right _ _, shard-fits s hash ws (set-up .size))
 
-  lent-words : end - start ≡ shardWords (capOf s)
-  lent-words = rw (starts, ends) (omega arith)
+  lent-is-part : lentWords ≡ part (shardStart s hash) (shardWords (capOf s)) ws
+  lent-is-part = let long : shardStart s hash + shardWords (capOf s) - shardStart s hash ≡ shardWords (capOf s) = omega arith in rw (is, long)
 
-  module _ {cap : ℕ} (is-cap : cap ≡ capOf s) where
-    pub lent-length : length (between start end ws) ≡ shardWords cap
-    lent-length = rw (lent-words, starts, is-cap) (part-length (shardStart s hash) (shardWords (capOf s)) ws (shard-fits s hash ws (set-up .size)))
+  pub lent-length : length lentWords ≡ shardWords (part′ .cap)
+  lent-length = rw (lent-is-part, is) (part-length (shardStart s hash) (shardWords (capOf s)) ws (shard-fits s hash ws (set-up .size)))
 
-    pub lent-shard : Layout.shard cap (between start end ws) ≡ shardAt s hash ws
-    lent-shard = rw (lent-words, starts, is-cap)
+  pub lent-shard : Layout.shard (part′ .cap) lentWords ≡ shardAt s hash ws
+  lent-shard = rw (lent-is-part, is)
 
-    pub lent-of-sound : Shard.Sound (shardAt s hash ws) → Layout.Lent cap (between start end ws)
-    lent-of-sound sound = record { size = lent-length; sound = rw lent-shard sound }
+  pub lent-of-sound : Shard.Sound (shardAt s hash ws) → Layout.Lent (part′ .cap) lentWords
+  lent-of-sound sound = record { size = lent-length; sound = rw lent-shard sound }
 
-    -- Other words have come back in its place, with an answer: that is the operation on the shard.
-    pub lent-answered : {A : Type 0} {a : A} (f : Shard.Shard → Outcome A Shard.Shard) (ys : List ℕ) → length ys ≡ length (between start end ws)
-        → outcome a (Layout.shard cap ys) ≡ f (Layout.shard cap (between start end ws)) → outcome a (putMid start (end - start) ws ys) ≡ inShard s hash ws (f (shardAt s hash ws))
-    lent-answered {a = a} f ys same gave =
-        let words = words-shard (capOf s) ys (same ∙ lent-length ∙ ap shardWords is-cap) in
-        rw (lent-words, starts) (rw words at (ap (inShard s hash ws) (rw (lent-shard, is-cap) at gave)))
+  -- Other words have come back in its place, with an answer: that is the operation on the shard.
+  pub lent-answered : {A : Type 0} {a : A} (f : Shard.Shard → Outcome A Shard.Shard) (ys : List ℕ) → length ys ≡ length lentWords
+      → outcome a (Layout.shard (part′ .cap) ys) ≡ f (Layout.shard (part′ .cap) lentWords)
+      → outcome a (putMid (part′ .start) (part′ .end - part′ .start) ws ys) ≡ inShard s hash ws (f (shardAt s hash ws))
+  lent-answered f ys same gave =
+      let long : shardStart s hash + shardWords (capOf s) - shardStart s hash ≡ shardWords (capOf s) = omega arith in
+      let caps : part′ .cap ≡ capOf s = ap (λ (p : Part). p .cap) is in
+      let words = words-shard (capOf s) ys (same ∙ lent-length ∙ ap shardWords caps) in
+      rw (is, long) (rw words at (ap (inShard s hash ws) (rw (lent-shard, caps) at gave)))
 
 -- Shard by shard: the part of a shard that there is lies in the memory, and its slots are no more than the keys that may be asked for.
 module _ (s : Settings) (ws : List ℕ) {cap shards i : ℕ} where

@@ -8,6 +8,7 @@ use Rattle.settings.specs.declared.Settings.{Settings}
 use Rattle.settings.specs.Settings.{capOf, shardWords, shardOf}
 use Rattle.shard_map.specs.Model.{Shard}
 use Rattle.shard_map.specs.Layout.{shard, wordsOf}
+use Rattle.shards.specs.declared.Part.{Part}
 
 -- The words with other words in the place of a part.
 abbrev pub withPart : ℕ → ℕ → List ℕ → List ℕ → List ℕ
@@ -19,6 +20,10 @@ shardStart s hash = shardOf s hash * shardWords (capOf s)
 
 abbrev pub shardAt : Settings → ℕ → List ℕ → Shard
 shardAt s hash ws = shard (capOf s) (part (shardStart s hash) (shardWords (capOf s)) ws)
+
+-- Its part of the words: where it begins, the word after it, and the places of the shard.
+abbrev pub partOf : Settings → ℕ → Part
+partOf s hash = record { start = shardStart s hash; end = shardStart s hash + shardWords (capOf s); cap = capOf s }
 
 -- What an operation on the shard of a hash gives, and all words after it: the other shards stay as they are.
 abbrev pub inShard : {A : Type 0} → Settings → ℕ → List ℕ → Outcome A Shard → Outcome A (List ℕ)

@@ -1,13 +1,13 @@
 // The shards of a store, side by side in the lent words. An operation on a key is lent the part of its key's shard alone.
 ghost use mathlib.Core.Path.{_≡_};
-ghost use Prim.Native.Nat.{_+_, _≤_, _^_};
+ghost use Prim.Native.Nat.{_≤_, _^_};
 ghost use lib.ListN.{length, replicate};
 ghost use Rattle.rows.specs.Held.{sum};
 ghost use Rattle.rows.specs.Outcome.{outcome};
 ghost use Rattle.bucket.specs.Bucket.{Accepted};
-ghost use Rattle.settings.specs.Settings.{sizeRefusal, capOf, shardCount, shardWords};
+ghost use Rattle.settings.specs.Settings.{sizeRefusal, capOf, shardCount};
 ghost use Rattle.store.specs.Model as Store;
-ghost use Rattle.shards.specs.Memory.{shardStart, shardAt, inShard, shardEnd, slotCount};
+ghost use Rattle.shards.specs.Memory.{shardAt, partOf, inShard, shardEnd, slotCount};
 ghost use Rattle.shards.specs.Refusals.{keyedRefusal, lenRefusal};
 use bucket::BucketConfig;
 use bucket::BucketCore;
@@ -20,20 +20,26 @@ use units::Nanos;
 
 pub mod refusals;
 
-// The word at which the shard of a hash begins.
-pub(crate) fn shard_start(settings: Settings, hash: u64) -> usize
-    requires { ⌜ sizeRefusal settings ≡ 0 ⌝ }
-    ensures { λ r. ⌜ r ≡ shardStart settings hash ⌝ }
-{
-    settings.shard_index(hash) * (5 + 8 * settings.per_shard_cap())
+// Where the shard of a key lies in the lent words, and how many places it has.
+pub struct Part {
+    pub start: usize,
+    pub end: usize,
+    pub cap: usize,
 }
 
-// The word after it.
-pub(crate) fn shard_end(settings: Settings, hash: u64) -> usize
+// The part of the shard of a hash.
+pub(crate) fn part_of(settings: Settings, hash: u64) -> Part
     requires { ⌜ sizeRefusal settings ≡ 0 ⌝ }
-    ensures { λ r. ⌜ r ≡ shardStart settings hash + shardWords (capOf settings) ⌝ }
+    ensures { λ r. ⌜ r ≡ partOf settings hash ⌝ }
 {
-    shard_start(settings, hash) + (5 + 8 * settings.per_shard_cap())
+    let cap = settings.per_shard_cap();
+    let words = 5 + 8 * cap;
+    let start = settings.shard_index(hash) * words;
+    Part {
+        start,
+        end: start + words,
+        cap,
+    }
 }
 
 // Runs a request on a key's bucket.
@@ -49,10 +55,10 @@ pub fn with_or_insert(
     requires { ⌜ (keyedRefusal settings (id .hash) (now ws) ≡ 0) × Accepted (policy .config) × (cost ≤ policy .config .capacity) × (at .0 ≤ 2 ^ 62) ⌝ }
     ensures { λ r. ⌜ outcome r (now (ws .exit)) ≡ inShard settings (id .hash) (now (ws .entry)) (Store.withOrInsert policy id request cost at (shardAt settings (id .hash) (now (ws .entry)))) ⌝ }
 {
-    let cap = settings.per_shard_cap();
-    let start = shard_start(settings, id.hash);
-    let end = shard_end(settings, id.hash);
-    store::with_or_insert(&mut ws[start..end], cap, policy, id, request, cost, at)
+    let part = part_of(settings, id.hash);
+    let start = part.start;
+    let end = part.end;
+    store::with_or_insert(&mut ws[start..end], part.cap, policy, id, request, cost, at)
 }
 
 // The bucket that a key has, or would have if it came in now.
@@ -66,10 +72,10 @@ pub fn view(
     requires { ⌜ (keyedRefusal settings (id .hash) (now ws) ≡ 0) × Accepted config ⌝ }
     ensures { λ r. ⌜ r ≡ Store.viewed config id at (shardAt settings (id .hash) (now (ws .entry))) ⌝ }
 {
-    let cap = settings.per_shard_cap();
-    let start = shard_start(settings, id.hash);
-    let end = shard_end(settings, id.hash);
-    store::view(&ws[start..end], cap, config, id, at)
+    let part = part_of(settings, id.hash);
+    let start = part.start;
+    let end = part.end;
+    store::view(&ws[start..end], part.cap, config, id, at)
 }
 
 // Gives tokens back to a key. Tells whether it had a slot or a debt.
@@ -83,10 +89,10 @@ pub fn refund(
     requires { ⌜ (keyedRefusal settings (id .hash) (now ws) ≡ 0) × Accepted config ⌝ }
     ensures { λ r. ⌜ outcome r (now (ws .exit)) ≡ inShard settings (id .hash) (now (ws .entry)) (Store.refunded config id cost (shardAt settings (id .hash) (now (ws .entry)))) ⌝ }
 {
-    let cap = settings.per_shard_cap();
-    let start = shard_start(settings, id.hash);
-    let end = shard_end(settings, id.hash);
-    store::refund(&mut ws[start..end], cap, config, id, cost)
+    let part = part_of(settings, id.hash);
+    let start = part.start;
+    let end = part.end;
+    store::refund(&mut ws[start..end], part.cap, config, id, cost)
 }
 
 // Forgets a key. Tells whether it had a slot or a debt.
@@ -94,10 +100,10 @@ pub fn remove(ws: &mut [u64], settings: Settings, id: Identity) -> bool
     requires { ⌜ keyedRefusal settings (id .hash) (now ws) ≡ 0 ⌝ }
     ensures { λ r. ⌜ outcome r (now (ws .exit)) ≡ inShard settings (id .hash) (now (ws .entry)) (Store.removed id (shardAt settings (id .hash) (now (ws .entry)))) ⌝ }
 {
-    let cap = settings.per_shard_cap();
-    let start = shard_start(settings, id.hash);
-    let end = shard_end(settings, id.hash);
-    store::remove(&mut ws[start..end], cap, id)
+    let part = part_of(settings, id.hash);
+    let start = part.start;
+    let end = part.end;
+    store::remove(&mut ws[start..end], part.cap, id)
 }
 
 // The slot count of one shard, by its number.

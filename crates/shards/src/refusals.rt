@@ -55,10 +55,10 @@ pub fn keyed_refusal(settings: Settings, ws: &[u64], hash: u64) -> u32
     if refusal != 0 {
         return refusal;
     }
-    let cap = settings.per_shard_cap();
-    let start = crate::shard_start(settings, hash);
-    let end = crate::shard_end(settings, hash);
-    count_refusal(&ws[start..end], cap)
+    let part = crate::part_of(settings, hash);
+    let start = part.start;
+    let end = part.end;
+    count_refusal(&ws[start..end], part.cap)
 }
 
 // 6 for a moment that is too late.

@@ -7,57 +7,51 @@ use borrow.Author.Needs.{needs}
 use Rattle.shards.proofs.with_or_insert.Statement.{statement}
 use Rattle.shards.proofs.with_or_insert.Tie as tie
 
-per-shard-cap-requires : tie.Need-per-shard-cap-requires
-per-shard-cap-requires c κs = search needs
-
-shard-start-requires : tie.Need-shard-start-requires
-shard-start-requires c κs =
-    let args′ = c .before .before .args in
-    sizes-accepted (keyed-not-refused (args′ .settings) (args′ .id .hash) (args′ .ws .now) (c .before .before .pre .0) .set-up)
-
-shard-end-requires : tie.Need-shard-end-requires
-shard-end-requires c κs =
-    let args′ = c .before .before .before .args in
-    sizes-accepted (keyed-not-refused (args′ .settings) (args′ .id .hash) (args′ .ws .now) (c .before .before .before .pre .0) .set-up)
+part-of-requires : tie.Need-part-of-requires
+part-of-requires c κs =
+    let args′ = c .before .args in
+    sizes-accepted (keyed-not-refused (args′ .settings) (args′ .id .hash) (args′ .ws .now) (c .before .pre .0) .set-up)
 
 mul-with-or-insert : tie.Need-mul-with-or-insert
 mul-with-or-insert c =
-    let args′ = c .before .before .before .before .args in
-    record { fits = omega (arith, lent-bounds (args′ .id .hash) (keyed-not-refused (args′ .settings) (args′ .id .hash) (args′ .ws .now) (c .before .before .before .before .pre .0) .set-up) (c .before .shard-start .ensures) (c .shard-end .ensures)) }
+    let args′ = c .before .before .args in
+    let bounds = lent-bounds (args′ .id .hash) _ (keyed-not-refused (args′ .settings) (args′ .id .hash) (args′ .ws .now) (c .before .before .pre .0) .set-up) (c .part-of .ensures) in record { fits = omega (arith, bounds) }
 
 sub-with-or-insert : tie.Need-sub-with-or-insert
-sub-with-or-insert c = search needs
+sub-with-or-insert c =
+    let args′ = c .before .before .args in
+    lent-bounds (args′ .id .hash) _ (keyed-not-refused (args′ .settings) (args′ .id .hash) (args′ .ws .now) (c .before .before .pre .0) .set-up) (c .part-of .ensures) .0
 
 part-with-or-insert-start : tie.Need-part-with-or-insert-start
-part-with-or-insert-start c = search needs
+part-with-or-insert-start c =
+    let args′ = c .before .before .args in
+    lent-bounds (args′ .id .hash) _ (keyed-not-refused (args′ .settings) (args′ .id .hash) (args′ .ws .now) (c .before .before .pre .0) .set-up) (c .part-of .ensures) .0
 
 part-with-or-insert-end : tie.Need-part-with-or-insert-end
 part-with-or-insert-end c =
-    let args′ = c .before .before .before .before .args in
-    lent-bounds (args′ .id .hash) (keyed-not-refused (args′ .settings) (args′ .id .hash) (args′ .ws .now) (c .before .before .before .before .pre .0) .set-up) (c .before .shard-start .ensures) (c .shard-end .ensures) .1
+    let args′ = c .before .before .args in
+    lent-bounds (args′ .id .hash) _ (keyed-not-refused (args′ .settings) (args′ .id .hash) (args′ .ws .now) (c .before .before .pre .0) .set-up) (c .part-of .ensures) .1
 
 with-or-insert-requires : tie.Need-with-or-insert-requires
 with-or-insert-requires c κs =
-    let args′ = c .before .before .before .before .before .args in
-    let start′ = c .before .before .before .before .before in
-    (lent-of-sound (args′ .id .hash) (keyed-not-refused (args′ .settings) (args′ .id .hash) (args′ .ws .now) (start′ .pre .0) .set-up) (c .before .before .shard-start .ensures) (c .before .shard-end .ensures) (c .before .before .before .per-shard-cap .ensures) (keyed-not-refused (args′ .settings) (args′ .id .hash) (args′ .ws .now) (start′ .pre .0) .sound), start′ .pre .1, start′ .pre .2, start′ .pre .3)
+    let args′ = c .before .before .before .args in
+    let start′ = c .before .before .before in
+    (lent-of-sound (args′ .id .hash) _ (keyed-not-refused (args′ .settings) (args′ .id .hash) (args′ .ws .now) (start′ .pre .0) .set-up) (c .before .part-of .ensures) (keyed-not-refused (args′ .settings) (args′ .id .hash) (args′ .ws .now) (start′ .pre .0) .sound), start′ .pre .1, start′ .pre .2, start′ .pre .3)
 
 same-length : tie.Need-same-length
 same-length c = search needs
 
 returns : tie.Need-returns
 returns c =
-    let args′ = c .before .before .before .before .before .before .before .before .args in
+    let args′ = c .before .before .before .before .before .before .args in
     let with-or-insert′ = c .before .before .with-or-insert in
-    lent-answered (args′ .id .hash) (keyed-not-refused (args′ .settings) (args′ .id .hash) (args′ .ws .now) (c .before .before .before .before .before .before .before .before .pre .0) .set-up) (c .before .before .before .before .before .shard-start .ensures) (c .before .before .before .before .shard-end .ensures) (c .before .before .before .before .before .before .per-shard-cap .ensures) (Store.withOrInsert _ _ _ _ _) _ (with-or-insert′ .kept .0) (with-or-insert′ .ensures)
+    lent-answered (args′ .id .hash) _ (keyed-not-refused (args′ .settings) (args′ .id .hash) (args′ .ws .now) (c .before .before .before .before .before .before .pre .0) .set-up) (c .before .before .before .before .part-of .ensures) (Store.withOrInsert _ _ _ _ _) _ (with-or-insert′ .kept .0) (with-or-insert′ .ensures)
 
 pub with-or-insert-spec : {M : Type 1} → statement M
 with-or-insert-spec =
     tie.close
     (tie.spec
-    per-shard-cap-requires
-    shard-start-requires
-    shard-end-requires
+    part-of-requires
     mul-with-or-insert
     sub-with-or-insert
     part-with-or-insert-start
