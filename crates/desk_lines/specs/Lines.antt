@@ -1,4 +1,5 @@
--- The lines of the desk program: which call a line's bytes are, or that they are malformed.
+-- The lines of the desk program: which call a line's bytes are, or that they are malformed, whichever line it is. That `s` is the first line and no other is the
+-- program's rule.
 use Prim.Native.Nat.{ℕ, _-_, _^_}
 use mathlib.Core.Bool.{Bool, true, false, cond}
 use mathlib.Core.List.{List, [], _∷_}
@@ -44,7 +45,7 @@ pub data Reading : Type 0 where
   failed : Reading
   left : List (List ℕ) → Reading
 
--- A field that was taken, and how the reading stands then. Once the reading has failed the field is 0 or none, and no line comes of it.
+-- A field that was taken, and how the reading stands then. Once the reading has failed the field is 0, and no line comes of it.
 pub record Taken (A : Type 0) : Type 0 where
   pub value : A
   pub rest : Reading
@@ -166,6 +167,6 @@ lineOfFields ([] ∷ fs) = Malformed
 lineOfFields ((letter ∷ []) ∷ fs) = lineOfLetter letter (left fs)
 lineOfFields ((letter ∷ b ∷ bs) ∷ fs) = Malformed
 
--- The line that some bytes are, without their end. More bytes than a line may have are malformed.
+-- The line that some bytes are, without the LF. More bytes than a line may have are malformed.
 unfoldable pub lineOf : List ℕ → Line
 lineOf bytes = cond (leb (length bytes) longestLine) (lineOfFields (fields bytes)) Malformed

@@ -28,7 +28,7 @@ pub(crate) fn end(line: &[u8], from: usize) -> usize
 }
 
 // A field's number, if it was one, and the place of the next field.
-fn read(number: OptionNumber, next: usize) -> Number
+fn number_read(number: OptionNumber, next: usize) -> Number
     ensures { λ r. ⌜ r ≡ numberRead next number ⌝ }
 {
     match number {
@@ -52,13 +52,13 @@ pub(crate) fn number(line: &[u8], rest: Rest, most: u64) -> Number
 {
     let at = rest.at;
     if line.len() < at {
-        return read(OptionNumber::None, 0);
+        return number_read(OptionNumber::None, 0);
     }
     if rest.good {
         let end = end(line, at);
-        return read(decimal::number(&line[at..end], most), end + 1);
+        return number_read(decimal::number(&line[at..end], most), end + 1);
     }
-    read(OptionNumber::None, 0)
+    number_read(OptionNumber::None, 0)
 }
 
 // Whether the next field is the one byte `-`.

@@ -69,7 +69,7 @@ pub struct RateRead {
 // The most bytes that a line may have before its end.
 pub const LONGEST_LINE: usize = 100;
 
-// The line that the bytes are, without their end.
+// The line that the bytes are, without the LF.
 pub fn read(line: &[u8]) -> Line
     ensures { λ r. ⌜ r ≡ Lines.lineOf (now (line .entry)) ⌝ }
 {

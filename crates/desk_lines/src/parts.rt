@@ -1,4 +1,4 @@
-// The parts of a line that are more than one field.
+// The parts of a line that are more than a number.
 ghost use mathlib.Core.Path.{_≡_};
 ghost use Rattle.desk_lines.specs.Lines as Lines;
 ghost use Rattle.desk_lines.specs.Places.{readingAt, requestAt, rateAt};

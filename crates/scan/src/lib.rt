@@ -6,7 +6,7 @@ pub struct Number {
     pub at: usize,
 }
 
-// The next number; 0 at the end of the text.
+// The number that begins here, 0 where no digit stands.
 pub fn read_number(text: &[u8], from: usize) -> Number {
     let mut at = from;
     let mut value: u64 = 0;
@@ -19,12 +19,12 @@ pub fn read_number(text: &[u8], from: usize) -> Number {
     }
     Number {
         value,
-        at: skip_blanks(text, at),
+        at: skip_to_digit(text, at),
     }
 }
 
 // The first place from here on that has a digit, or the end of the text.
-pub fn skip_blanks(text: &[u8], from: usize) -> usize {
+pub fn skip_to_digit(text: &[u8], from: usize) -> usize {
     let mut at = from;
     while at < text.len() {
         if is_digit(text[at]) {

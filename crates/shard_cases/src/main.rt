@@ -34,7 +34,7 @@ fn main() {
 // Runs the cases, a line a turn. A line has a byte at least, so no more turns are needed than there are bytes.
 fn run(text: &[u8], words: &mut [u64]) {
     let mut state = State {
-        at: scan::skip_blanks(text, 0),
+        at: scan::skip_to_digit(text, 0),
         cap: 1,
         config: configured(1, 1, 1, 1),
     };

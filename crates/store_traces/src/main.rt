@@ -1,4 +1,4 @@
-// Runs recorded traces on the operations. Standard input has lines of numbers: an operation and six arguments, 0 for those that it has not, or 0 and
+// Runs recorded traces on the operations. Standard input has lines of numbers: an operation, how many words it is lent and five arguments, 0 for those that it has not; or 0 and
 // the twelve numbers of settings. Each call prints the code and the number of the reply, and a hash of all words after it. The gate compares the lines with the
 // file `stdout`, whose replies and words are those of the Rust oracle (oracle/record-store-traces).
 use libc::STDIN_FILENO;
@@ -11,7 +11,7 @@ mod digest;
 mod line;
 mod operations;
 
-// The most words that a store of the traces has.
+// The most words that a store of the traces may have. A call that is lent more is not run, and prints nothing.
 const MOST_WORDS: usize = 1024;
 
 // Where the reading stands, and the settings of the store.
@@ -29,10 +29,11 @@ fn main() {
 
 // Runs the traces, a line a turn. A line has a byte at least, so no more turns are needed than there are bytes.
 fn run(text: &[u8], words: &mut [u64]) {
+    // Past the end of the text every number is 0.
     let none = line::read_settings(text, text.len());
     let settings = none.settings;
     let mut state = State {
-        at: scan::skip_blanks(text, 0),
+        at: scan::skip_to_digit(text, 0),
         settings,
     };
     let mut turns = text.len();

@@ -22,6 +22,8 @@ const REMOVE: u64 = 7;
 
 const CLEAR: u64 = 8;
 
+// 9, and any other number, is a look at the length.
+
 // Runs a call that changes words; the others are passed on.
 pub(crate) fn run(operation: u64, ws: &mut [u64], s: LimiterSettings, c: Call) -> LimiterReply {
     if operation == SET_UP {

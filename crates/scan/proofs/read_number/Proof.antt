@@ -35,8 +35,8 @@ loop-less c = search needs
 loop-again : tie.Need-loop-again Inv-loop μ-loop
 loop-again c = tt
 
-skip-blanks-requires : tie.Need-skip-blanks-requires Inv-loop μ-loop
-skip-blanks-requires c κs = search needs
+skip-to-digit-requires : tie.Need-skip-to-digit-requires Inv-loop μ-loop
+skip-to-digit-requires c κs = search needs
 
 returns : tie.Need-returns Inv-loop μ-loop
 returns c = search needs
@@ -55,5 +55,5 @@ read-number-spec =
     add-at
     loop-less
     loop-again
-    skip-blanks-requires
+    skip-to-digit-requires
     returns)

@@ -11,8 +11,8 @@ Inv-loop text words₀ state₀ turns₀ words state turns = length words ≡ le
 abbrev μ-loop : tie.MeasureT-loop
 μ-loop text words₀ state₀ turns₀ words state turns = turns
 
-skip-blanks-requires : tie.Need-skip-blanks-requires Inv-loop μ-loop
-skip-blanks-requires c κs = search needs
+skip-to-digit-requires : tie.Need-skip-to-digit-requires Inv-loop μ-loop
+skip-to-digit-requires c κs = search needs
 
 configured-requires : tie.Need-configured-requires Inv-loop μ-loop
 configured-requires c κs = search needs
@@ -50,7 +50,7 @@ run-spec =
     (tie.spec
     Inv-loop
     μ-loop
-    skip-blanks-requires
+    skip-to-digit-requires
     configured-requires
     loop-holds
     step-requires

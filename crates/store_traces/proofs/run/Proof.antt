@@ -14,8 +14,8 @@ abbrev μ-loop : tie.MeasureT-loop
 read-settings-requires : tie.Need-read-settings-requires Inv-loop μ-loop
 read-settings-requires c κs = search needs
 
-skip-blanks-requires : tie.Need-skip-blanks-requires Inv-loop μ-loop
-skip-blanks-requires c κs = search needs
+skip-to-digit-requires : tie.Need-skip-to-digit-requires Inv-loop μ-loop
+skip-to-digit-requires c κs = search needs
 
 loop-holds : tie.Need-loop-holds Inv-loop μ-loop
 loop-holds c = search needs
@@ -51,7 +51,7 @@ run-spec =
     Inv-loop
     μ-loop
     read-settings-requires
-    skip-blanks-requires
+    skip-to-digit-requires
     loop-holds
     step-requires
     sub-turns

@@ -6,13 +6,13 @@ use borrow.Author.Needs.{needs}
 use Rattle.desk_lines.proofs.fields.number.Statement.{statement}
 use Rattle.desk_lines.proofs.fields.number.Tie as tie
 
-read-requires : tie.Need-read-requires
-read-requires c κs = search needs
+number-read-requires : tie.Need-number-read-requires
+number-read-requires c κs = search needs
 
 returns : tie.Need-returns
 returns c =
     let args′ = c .before .before .before .args in
-    no-field-is-taken (args′ .line .now) (args′ .rest) (args′ .most) (c .read .ensures) (c .before .if1 .taken)
+    no-field-is-taken (args′ .line .now) (args′ .rest) (args′ .most) (c .number-read .ensures) (c .before .if1 .taken)
 
 end-requires : tie.Need-end-requires
 end-requires c κs = search needs
@@ -31,40 +31,40 @@ part-number-end c =
 number-requires : tie.Need-number-requires
 number-requires c κs = search needs
 
-add-read : tie.Need-add-read
-add-read c =
+add-number-read : tie.Need-add-number-read
+add-number-read c =
     let args′ = c .before .before .before .before .before .before .args in
     record { fits = omega (arith, c .before .before .end .ensures, field-ends-inside (args′ .line .now) (args′ .rest .at) (c .before .before .before .before .if1 .left)) }
 
-read-requires-2 : tie.Need-read-requires-2
-read-requires-2 c κs = search needs
+number-read-requires-2 : tie.Need-number-read-requires-2
+number-read-requires-2 c κs = search needs
 
 returns-2 : tie.Need-returns-2
 returns-2 c =
     let args′ = c .before .before .before .before .before .before .before .args in
-    number-is-taken (args′ .line .now) (args′ .rest) (args′ .most) (c .before .before .before .before .if2 .taken) (c .before .before .before .before .before .if1 .left) (c .before .before .before .end .ensures) (c .before .number .ensures) (c .read2 .ensures)
+    number-is-taken (args′ .line .now) (args′ .rest) (args′ .most) (c .before .before .before .before .if2 .taken) (c .before .before .before .before .before .if1 .left) (c .before .before .before .end .ensures) (c .before .number .ensures) (c .number-read2 .ensures)
 
-read-requires-3 : tie.Need-read-requires-3
-read-requires-3 c κs = search needs
+number-read-requires-3 : tie.Need-number-read-requires-3
+number-read-requires-3 c κs = search needs
 
 returns-3 : tie.Need-returns-3
 returns-3 c =
     let args′ = c .before .before .before .before .args in
-    no-number-is-taken (args′ .line .now) (args′ .rest) (args′ .most) (c .read3 .ensures) (c .before .if2 .left)
+    no-number-is-taken (args′ .line .now) (args′ .rest) (args′ .most) (c .number-read3 .ensures) (c .before .if2 .left)
 
 pub number-spec : {M : Type 1} → statement M
 number-spec =
     tie.close
     (tie.spec
-    read-requires
+    number-read-requires
     returns
     end-requires
     sub-number
     part-number-start
     part-number-end
     number-requires
-    add-read
-    read-requires-2
+    add-number-read
+    number-read-requires-2
     returns-2
-    read-requires-3
+    number-read-requires-3
     returns-3)

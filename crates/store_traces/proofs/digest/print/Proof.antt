@@ -6,10 +6,10 @@ use Rattle.store_traces.proofs.digest.print.Statement.{statement}
 use Rattle.store_traces.proofs.digest.print.Tie as tie
 
 abbrev Inv-loop : tie.InvT-loop
-Inv-loop ws hash₀ i₀ t4 hash i = Unit {0}
+Inv-loop ws digest₀ i₀ t4 digest i = Unit {0}
 
 abbrev μ-loop : tie.MeasureT-loop
-μ-loop ws hash₀ i₀ t4 hash i = length ws - i
+μ-loop ws digest₀ i₀ t4 digest i = length ws - i
 
 loop-holds : tie.Need-loop-holds Inv-loop μ-loop
 loop-holds c = tt

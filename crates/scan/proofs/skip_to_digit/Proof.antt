@@ -1,9 +1,9 @@
--- `skip_blanks` reads bytes below the length of the text, and ends there.
+-- `skip_to_digit` reads bytes below the length of the text, and ends there.
 use Prim.Native.Nat.{_-_}
 use lib.ListN.{length}
 use borrow.Author.Needs.{needs}
-use Rattle.scan.proofs.skip_blanks.Statement.{statement}
-use Rattle.scan.proofs.skip_blanks.Tie as tie
+use Rattle.scan.proofs.skip_to_digit.Statement.{statement}
+use Rattle.scan.proofs.skip_to_digit.Tie as tie
 
 abbrev Inv-loop : tie.InvT-loop
 Inv-loop text from at₀ at = Unit {0}
@@ -35,8 +35,8 @@ returns c = search needs
 returns-2 : tie.Need-returns-2 Inv-loop μ-loop
 returns-2 c = search needs
 
-pub skip-blanks-spec : {M : Type 1} → statement M
-skip-blanks-spec =
+pub skip-to-digit-spec : {M : Type 1} → statement M
+skip-to-digit-spec =
     tie.close
     (tie.spec
     Inv-loop
