@@ -1,26 +1,26 @@
 -- How replies are told, how many words the store is lent, and how the run stands after line 1.
-use Prim.Native.Nat.{ℕ, _+_, _-_, _≤_, min}
+use Prim.Native.Nat.{ℕ, _-_, _≤_, _<_, min}
 use native.Mathlib.Omega.{arith}
 use native.Mathlib.Nat.{min-le-right}
-use mathlib.Core.Path.{_≡_, refl, sym, ap}
+use mathlib.Core.Path.{_≡_, sym, ap, _∙_}
 use mathlib.Core.Bool.{Bool, true, false, cond}
 use mathlib.Core.List.{List, _++_}
 use lib.Dec.{eqb}
-use lib.ListN.{length, take, drop, length-append}
+use lib.ListN.{length, take, drop, length-take}
 use borrow.Author.Tests.{eq-eqb, ne-eqb}
 use borrow.Rule.Slice.PartMut.{putMid}
 use Rattle.rows.specs.Outcome.{Outcome, outcome}
 use Rattle.settings.specs.declared.Settings.{Settings}
-use Rattle.settings.specs.Settings.{sizeRefusal, wordsOf}
+use Rattle.settings.specs.Settings.{settingsRefusal, sizeRefusal, wordsOf}
+use Rattle.settings.proofs.SettingsLaws.{no-refusal-hands-on}
+use Rattle.shards.specs.Refusals.{setUpRefusal}
+use Rattle.shards.proofs.RefusalLaws.{other-length-is-refused}
+use Rattle.perkey.proofs.RefusedLaws.{set-up-refusal-is-told}
 use Rattle.perkey.specs.declared.Reply.{Reply}
 use Rattle.desk.specs.declared.answer.Told.{Told}
 use Rattle.desk.specs.declared.answer.Stage.{Stage}
 use Rattle.desk.specs.declared.answer.Stage.the-variants.{Open, Ended}
-use Rattle.desk_lines.specs.Fields.{space}
-use Rattle.desk_lines.specs.Printed.{lineFeed, printedField, printed, writtenOver}
-use Rattle.desk_lines.proofs.PrintLaws.{field-short}
-use Rattle.rows.proofs.OutcomeLaws.{answer-is}
-use Rattle.desk.specs.Desk.{toldOf, told, storeSize, stageAfter, inStore, servedFirst, servedNext}
+use Rattle.desk.specs.Desk.{toldOf, told, storeSize, stageAfter, inStore, setUp, servedFirst, servedNext}
 
 -- An outcome of the rules, and what its reply is told as.
 pub outcome-is-told : {r : Reply} {t : Told} {ws : List ℕ} {o : Outcome Reply (List ℕ)} → outcome r ws ≡ o → t ≡ toldOf r → outcome t ws ≡ told o
@@ -68,17 +68,13 @@ pub next-served : (s : Settings) {t : Told} {memory : List ℕ} {o : Outcome Tol
     → outcome (record { told = t; stage = Open s }) memory ≡ servedNext s o
 next-served s gave = ap (servedNext s) gave
 
--- A printed line ends where there was room for the longest.
-pub printed-ends : (number code wait at : ℕ) (bytes : List ℕ) {place end : ℕ} {bytes′ : List ℕ} → outcome place bytes′ ≡ writtenOver (printed number code wait) at bytes → at + 63 ≤ end → place ≤ end
-printed-ends number code wait at bytes gave room =
-    let second = printedField code space ++ printedField wait lineFeed in
-    omega (
-      arith,
-      answer-is gave,
-      room,
-      field-short number space,
-      field-short code space,
-      field-short wait lineFeed,
-      length-append (printedField number space) second,
-      length-append (printedField code space) (printedField wait lineFeed),
-    )
+-- Settings that need more words than the memory has are refused as 5, and the run ends.
+pub too-large-is-refused-5 : (s : Settings) (memory : List ℕ) → settingsRefusal s ≡ 0 → length memory < wordsOf s
+    → setUp s memory .answer ≡ record { told = record { code = 15; wait = 0 }; stage = Ended }
+too-large-is-refused-5 s memory accepted more =
+    let size = storeSize s (length memory) in
+    let lent = take size memory in
+    let other : length lent ≡ wordsOf s → ⊥ = λ same. omega (arith, same, more, size-fits s (length memory), length-take size memory) in
+    let refusal : 5 ≡ setUpRefusal s lent = sym (no-refusal-hands-on _ _ accepted ∙ other-length-is-refused s lent other) in
+    sym (rw (ends s 15 (λ none. omega (arith, none)))
+    (ap (λ (o : Outcome Reply (List ℕ)). servedFirst s (told o) .answer) (set-up-refusal-is-told s lent refusal (λ none. omega (arith, none)))))

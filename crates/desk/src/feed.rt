@@ -3,6 +3,7 @@
 ghost use mathlib.Core.Path.{_≡_};
 ghost use Prim.Native.Nat.{_+_, _≤_};
 ghost use lib.ListN.{length};
+ghost use Rattle.desk.specs.Feeding.{LineEnds, Answered, placeFor, keptOf, movedToStart};
 use crate::answer;
 use crate::answer::Stage;
 use desk_lines::LONGEST_LINE;
@@ -82,7 +83,7 @@ fn whole_lines(input: &[u8], end: usize, output: &mut [u8], memory: &mut [u64], 
 // Answers the line that begins where the feed stands and ends before `stop`, and prints its answer.
 fn answer_line(input: &[u8], stop: usize, output: &mut [u8], memory: &mut [u64], feed: Feed) -> Feed
     requires { ⌜ (feed .at ≤ stop) × (stop ≤ length (now input)) × (feed .put ≤ length (now output)) × (63 ≤ length (now output)) ⌝ }
-    ensures { λ r. ⌜ (r .at ≡ stop + 1) × (r .put ≤ length (now (output .entry))) ⌝ }
+    ensures { λ r. ⌜ Answered feed stop (now (input .entry)) (now (memory .entry)) (now (output .entry)) r (now (memory .exit)) (now (output .exit)) ⌝ }
 {
     let at = feed.at;
     let stage = feed.stage;
@@ -102,7 +103,7 @@ fn answer_line(input: &[u8], stop: usize, output: &mut [u8], memory: &mut [u64],
 // The place for the next line that is printed. Where there is no room after what is printed, that is written first.
 fn make_room(output: &[u8], put: usize) -> usize
     requires { ⌜ (put ≤ length (now output)) × (63 ≤ length (now output)) ⌝ }
-    ensures { λ r. ⌜ r + 63 ≤ length (now (output .entry)) ⌝ }
+    ensures { λ r. ⌜ (r ≡ placeFor (length (now (output .entry))) put) × (r + 63 ≤ length (now (output .entry))) ⌝ }
 {
     if output.len() - put < print::LONGEST {
         io::write_all(STDOUT_FILENO, &output[0..put]);
@@ -139,7 +140,7 @@ fn has_ended(feed: Feed) -> bool {
 // The place of the first LF from a place on, `end` if there is none before it.
 fn line_end(input: &[u8], from: usize, end: usize) -> usize
     requires { ⌜ (from ≤ end) × (end ≤ length (now input)) ⌝ }
-    ensures { λ r. ⌜ (from ≤ r) × (r ≤ end) ⌝ }
+    ensures { λ r. ⌜ LineEnds (now (input .entry)) from end r ⌝ }
 {
     let mut i = from;
     while i < end {
@@ -164,7 +165,7 @@ fn read_more(input: &mut [u8], held: usize) -> usize
 // enough of a longer one: it is malformed by that.
 fn keep_rest(input: &mut [u8], from: usize, end: usize) -> usize
     requires { ⌜ (from ≤ end) × (end ≤ length (now input)) ⌝ }
-    ensures { λ r. ⌜ r ≤ length (now (input .entry)) ⌝ }
+    ensures { λ r. ⌜ (r ≡ keptOf from end) × (now (input .exit) ≡ movedToStart from r (now (input .entry))) ⌝ }
 {
     let kept = arith::fewer(end - from, LONGEST_LINE + 1);
     let mut i: usize = 0;

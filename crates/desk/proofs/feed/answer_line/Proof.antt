@@ -1,5 +1,6 @@
-use mathlib.Core.Path.{refl}
-use Rattle.desk.proofs.DeskLaws.{printed-ends}
+use mathlib.Core.Path.{ap, refl}
+use Rattle.desk.specs.Feeding.{stageOf}
+use Rattle.desk.proofs.FeedingLaws.{printed-ends, told-printed}
 use borrow.Author.Needs.{needs}
 use Rattle.desk.proofs.feed.answer_line.Statement.{statement}
 use Rattle.desk.proofs.feed.answer_line.Tie as tie
@@ -38,7 +39,17 @@ same-length-2 : tie.Need-same-length-2
 same-length-2 c = search needs
 
 returns : tie.Need-returns
-returns c = (refl, printed-ends _ _ _ _ _ (c .before .before .line .ensures) (c .before .before .before .before .make-room .ensures))
+returns c =
+    let make-room′ = c .before .before .before .before .make-room in
+    let line′ = c .before .before .line in
+    let gave = rw (c .before .before .before .before .before .before .before .before .before .before .before .read .ensures) at (c .before .before .before .before .before .before .before .before .before .serve .ensures) in
+    record {
+      leaves = ap stageOf gave;
+      counts = c .before .before .before .before .before .before .before .before .before .before .before .before .before .wrapping-add-u64 .ensures;
+      prints = told-printed _ _ _ _ _ gave (make-room′ .ensures .0) (line′ .ensures);
+      fits = printed-ends _ _ _ _ _ (line′ .ensures) (make-room′ .ensures .1);
+      moves = refl;
+    }
 
 pub answer-line-spec : {M : Type 1} → statement M
 answer-line-spec =

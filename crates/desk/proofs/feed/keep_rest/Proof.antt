@@ -1,12 +1,15 @@
-use Prim.Native.Nat.{_+_, _-_, _≤_}
-use mathlib.Core.Path.{_≡_}
+use Prim.Native.Nat.{ℕ, _+_, _-_, _≤_}
+use native.Mathlib.Omega.{arith}
+use mathlib.Core.Path.{refl, ap, _∙_, _≡_}
 use lib.ListN.{length}
+use Rattle.desk.proofs.FeedingLaws.{copied-further, nothing-moved}
+use Rattle.desk.specs.Feeding.{movedToStart}
 use borrow.Author.Needs.{needs}
 use Rattle.desk.proofs.feed.keep_rest.Statement.{statement}
 use Rattle.desk.proofs.feed.keep_rest.Tie as tie
 
 abbrev Inv-loop : tie.InvT-loop
-Inv-loop input₀ from end kept i₀ input i = (length input ≡ length input₀) × (from + kept ≤ end)
+Inv-loop input₀ from end kept i₀ input i = (length input ≡ length input₀) × (from + kept ≤ end) × (i ≤ kept) × (input ≡ movedToStart from i input₀)
 
 abbrev μ-loop : tie.MeasureT-loop
 μ-loop input₀ from end kept i₀ input i = kept - i
@@ -21,7 +24,9 @@ fewer-requires : tie.Need-fewer-requires Inv-loop μ-loop
 fewer-requires c κs = search needs
 
 loop-holds : tie.Need-loop-holds Inv-loop μ-loop
-loop-holds c = search needs
+loop-holds c =
+    let args′ = c .before .before .args in
+    (refl, omega arith, omega arith, nothing-moved (args′ .input .now) (args′ .from))
 
 add-input : tie.Need-add-input Inv-loop μ-loop
 add-input c = search needs
@@ -39,13 +44,21 @@ loop-less : tie.Need-loop-less Inv-loop μ-loop
 loop-less c = search needs
 
 loop-again : tie.Need-loop-again Inv-loop μ-loop
-loop-again c = search needs
+loop-again c =
+    let loop′ = c .before .before .loop in
+    let args′ = c .before .before .before .before .before .args in
+    (search needs, loop′ .inv .1, omega arith, rw (loop′ .inv .3) (copied-further (args′ .input .now) (args′ .from) (loop′ .i) (omega (arith, c .before .loop-test .taken, loop′ .inv .1, c .before .before .before .before .before .pre .1))))
 
 same-length : tie.Need-same-length Inv-loop μ-loop
 same-length c = search needs
 
 returns : tie.Need-returns Inv-loop μ-loop
-returns c = search needs
+returns c =
+    let loop′ = c .before .loop in
+    let fewer′ = c .before .before .fewer in
+    let args′ = c .before .before .before .before .args in
+    let all : loop′ .i ≡ fewer′ .result = omega (arith, c .loop-test .left, loop′ .inv .2) in
+    (fewer′ .ensures, loop′ .inv .3 ∙ ap (λ (k : ℕ). movedToStart (args′ .from) k (args′ .input .now)) all)
 
 pub keep-rest-spec : {M : Type 1} → statement M
 keep-rest-spec =

@@ -1,16 +1,20 @@
-use Prim.Native.Nat.{_-_, _≤_}
+use Prim.Native.Nat.{ℕ, _<_, _-_, _≤_}
+use native.Mathlib.Omega.{arith}
+use mathlib.Core.Path.{_≡_}
+use lib.ListN.{getD}
+use Rattle.desk.proofs.FeedingLaws.{none-further}
 use borrow.Author.Needs.{needs}
 use Rattle.desk.proofs.feed.line_end.Statement.{statement}
 use Rattle.desk.proofs.feed.line_end.Tie as tie
 
 abbrev Inv-loop : tie.InvT-loop
-Inv-loop input from end i₀ i = (from ≤ i) × (i ≤ end)
+Inv-loop input from end i₀ i = (from ≤ i) × (i ≤ end) × ((j : ℕ) → from ≤ j → j < i → getD input j 0 ≡ 10 → ⊥)
 
 abbrev μ-loop : tie.MeasureT-loop
 μ-loop input from end i₀ i = end - i
 
 loop-holds : tie.Need-loop-holds Inv-loop μ-loop
-loop-holds c = search needs
+loop-holds c = (omega arith, c .pre .0, λ j after below. absurd (omega (arith, after, below)))
 
 shared-slice-read-if1 : tie.Need-shared-slice-read-if1 Inv-loop μ-loop
 shared-slice-read-if1 c = search needs
@@ -22,13 +26,19 @@ loop-less : tie.Need-loop-less Inv-loop μ-loop
 loop-less c = search needs
 
 loop-again : tie.Need-loop-again Inv-loop μ-loop
-loop-again c = search needs
+loop-again c =
+    let args′ = c .before .before .before .before .args in
+    (omega arith, omega arith, none-further (args′ .input .now) (args′ .from) _ (c .before .before .before .loop .inv .2) (c .if1 .left))
 
 returns : tie.Need-returns Inv-loop μ-loop
-returns c = search needs
+returns c =
+    let loop′ = c .before .loop in
+    record { begins = loop′ .inv .0; within = loop′ .inv .1; none-before = loop′ .inv .2; is-feed = λ below. absurd (omega (arith, below, c .loop-test .left)) }
 
 returns-2 : tie.Need-returns-2 Inv-loop μ-loop
-returns-2 c = search needs
+returns-2 c =
+    let loop′ = c .before .before .before .loop in
+    record { begins = loop′ .inv .0; within = loop′ .inv .1; none-before = loop′ .inv .2; is-feed = λ below. c .if1 .taken }
 
 pub line-end-spec : {M : Type 1} → statement M
 line-end-spec =
