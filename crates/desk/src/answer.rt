@@ -158,10 +158,8 @@ fn reserved(settings: Settings, request: Request, max_wait: Nanos, ws: &mut [u64
 fn identity(key: u64) -> Identity
     ensures { λ r. ⌜ r ≡ Desk.identityOf key ⌝ }
 {
-    Identity {
-        hash: hash::key_hash(key),
-        key,
-    }
+    let hash = hash::key_hash(key);
+    Identity { hash, key }
 }
 
 // What a malformed line is told.

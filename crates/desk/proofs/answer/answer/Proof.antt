@@ -1,3 +1,4 @@
+-- `answer` has a case for each line, and each is the rule's outcome, told.
 use Rattle.desk.proofs.DeskLaws.{outcome-is-told}
 use borrow.Author.Needs.{needs}
 use Rattle.desk.proofs.answer.answer.Statement.{statement}

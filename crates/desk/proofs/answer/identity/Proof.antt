@@ -1,3 +1,4 @@
+-- `identity` has the hash that `key_hash` gives.
 use borrow.Author.Needs.{needs}
 use Rattle.desk.proofs.answer.identity.Statement.{statement}
 use Rattle.desk.proofs.answer.identity.Tie as tie

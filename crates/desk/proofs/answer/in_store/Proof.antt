@@ -1,3 +1,4 @@
+-- `in_store` lends the words of the store, and puts back what the call leaves in them.
 use Rattle.desk.proofs.DeskLaws.{size-fits, lent-answered}
 use Rattle.desk.specs.Desk.{answered}
 use borrow.Author.Needs.{needs}

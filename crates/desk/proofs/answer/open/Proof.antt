@@ -1,3 +1,4 @@
+-- `open` has a case for each line: only a set-up opens the desk.
 use borrow.Author.Needs.{needs}
 use Rattle.desk.proofs.answer.open.Statement.{statement}
 use Rattle.desk.proofs.answer.open.Tie as tie

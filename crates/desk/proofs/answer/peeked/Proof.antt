@@ -1,3 +1,4 @@
+-- `peeked` tells the outcome of the rule that perkey's peek gives.
 use Rattle.desk.proofs.DeskLaws.{outcome-is-told}
 use borrow.Author.Needs.{needs}
 use Rattle.desk.proofs.answer.peeked.Statement.{statement}

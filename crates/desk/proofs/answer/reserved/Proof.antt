@@ -1,3 +1,4 @@
+-- `reserved` tells the outcome of the rule that perkey's reserve gives.
 use Rattle.desk.proofs.DeskLaws.{outcome-is-told}
 use borrow.Author.Needs.{needs}
 use Rattle.desk.proofs.answer.reserved.Statement.{statement}

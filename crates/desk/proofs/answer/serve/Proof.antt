@@ -1,3 +1,4 @@
+-- `serve` has a case for each stage of the run.
 use Rattle.desk.proofs.DeskLaws.{next-served}
 use borrow.Author.Needs.{needs}
 use Rattle.desk.proofs.answer.serve.Statement.{statement}

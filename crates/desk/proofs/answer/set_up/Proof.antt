@@ -1,3 +1,4 @@
+-- `set_up` lends the words of the store to perkey's set-up, and the run goes on if that accepts.
 use Rattle.desk.proofs.DeskLaws.{size-fits, lent-answered, outcome-is-told, first-served}
 use Rattle.perkey.specs.Rules as Rules
 use borrow.Author.Needs.{needs}

@@ -1,3 +1,4 @@
+-- `stage_after` has a case for code 0 and one for the others.
 use Rattle.desk.proofs.DeskLaws.{opens, ends}
 use Rattle.desk.proofs.answer.stage_after.Statement.{statement}
 use Rattle.desk.proofs.answer.stage_after.Tie as tie

@@ -1,3 +1,4 @@
+-- `store_size` is 0 where the sizes are refused, else the fewer of two counts.
 use mathlib.Core.Path.{_∙_, sym}
 use Rattle.desk.proofs.DeskLaws.{no-size, size-is}
 use borrow.Author.Needs.{needs}

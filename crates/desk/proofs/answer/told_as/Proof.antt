@@ -1,3 +1,4 @@
+-- `told_as` has a case for each reply.
 use borrow.Author.Needs.{needs}
 use Rattle.desk.proofs.answer.told_as.Statement.{statement}
 use Rattle.desk.proofs.answer.told_as.Tie as tie

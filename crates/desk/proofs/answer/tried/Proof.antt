@@ -1,3 +1,4 @@
+-- `tried` tells the outcome of the rule that perkey's try gives.
 use Rattle.desk.proofs.DeskLaws.{outcome-is-told}
 use borrow.Author.Needs.{needs}
 use Rattle.desk.proofs.answer.tried.Statement.{statement}

@@ -1,3 +1,4 @@
+-- `unopened` is what a malformed line is told, and the end.
 use borrow.Author.Needs.{needs}
 use Rattle.desk.proofs.answer.unopened.Statement.{statement}
 use Rattle.desk.proofs.answer.unopened.Tie as tie

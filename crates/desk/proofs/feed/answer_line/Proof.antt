@@ -1,3 +1,4 @@
+-- `answer_line` reads, answers and prints a line, each as the callee's contract says.
 use mathlib.Core.Path.{ap, refl}
 use Rattle.desk.specs.Feeding.{stageOf}
 use Rattle.desk.proofs.FeedingLaws.{printed-ends, told-printed}

@@ -1,3 +1,4 @@
+-- `keep_rest` copies byte after byte: those copied are the first of the rest, those further on are as they were.
 use Prim.Native.Nat.{ℕ, _+_, _-_, _≤_}
 use native.Mathlib.Omega.{arith}
 use mathlib.Core.Path.{refl, ap, _∙_, _≡_}

@@ -1,3 +1,4 @@
+-- `line_end` has passed no line feed, and stops at the first.
 use Prim.Native.Nat.{ℕ, _<_, _-_, _≤_}
 use native.Mathlib.Omega.{arith}
 use mathlib.Core.Path.{_≡_}

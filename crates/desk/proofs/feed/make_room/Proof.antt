@@ -1,3 +1,4 @@
+-- `make_room` has a case for too little room and one for enough.
 use Rattle.desk.proofs.FeedingLaws.{place-at-start, place-after}
 use borrow.Author.Needs.{needs}
 use Rattle.desk.proofs.feed.make_room.Statement.{statement}

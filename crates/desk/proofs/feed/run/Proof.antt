@@ -1,3 +1,4 @@
+-- `run` keeps the lengths of its buffers and what is held within them, and ends since a turn is taken off with each read.
 use Prim.Native.Nat.{_≤_}
 use mathlib.Core.Path.{_≡_}
 use lib.ListN.{length}

@@ -1,3 +1,4 @@
+-- `whole_lines` moves on with each line, and no further than the end.
 use Prim.Native.Nat.{_-_, _≤_}
 use mathlib.Core.Path.{_≡_}
 use lib.ListN.{length}
