@@ -1,8 +1,11 @@
 -- Where a printed line goes and ends, what is printed for a line, the search for a line feed, and the copy of a line's beginning.
 use Prim.Native.Nat.{ℕ, suc, _+_, _-_, _≤_, _<_}
 use native.Mathlib.Omega.{arith}
+use native.Mathlib.Nat.{le-refl}
 use mathlib.Core.Path.{_≡_, refl, sym, ap, subst, _∙_}
+use mathlib.Core.Bool.{Bool, true, false}
 use mathlib.Core.List.{List, _++_}
+use lib.Dec.{T}
 use lib.ListN.{length, getD, set, drop, length-append, length-drop}
 use lib.Seq.{paste-zero, paste-suc, drop-paste, getD-drop}
 use borrow.Author.Tests.{lt-ltb, le-ltb}
@@ -13,7 +16,8 @@ use Rattle.desk_lines.specs.Fields.{space}
 use Rattle.desk_lines.specs.Printed.{lineFeed, printedField, printed, writtenOver}
 use Rattle.desk_lines.proofs.PrintLaws.{field-short}
 use Rattle.desk.specs.declared.answer.Served.{Served}
-use Rattle.desk.specs.Feeding.{placeFor, printedFor, movedToStart}
+use Rattle.desk.specs.declared.feed.Feed.{Feed}
+use Rattle.desk.specs.Feeding.{LineEnds, Answered, SomeAnswered, hasEnded, placeFor, printedFor, movedToStart}
 
 module _ (size put : ℕ) where
   pub place-at-start : size - put < 63 → 0 ≡ placeFor size put
@@ -73,3 +77,22 @@ copied-further input from n inside =
 
 pub nothing-moved : (input : List ℕ) (from : ℕ) → input ≡ movedToStart from 0 input
 nothing-moved input from = paste-zero input 0 (drop from input)
+
+-- At the end of what has been read no line feed is left.
+pub nothing-left : (input : List ℕ) (at end : ℕ) → at ≤ end → end ≤ at → LineEnds input at end end
+nothing-left input at end within past =
+    record { begins = within; within = le-refl end; none-before = λ i after below. absurd (omega (arith, past, after, below)); is-feed = λ below. absurd (omega (arith, below)) }
+
+-- Lines answered so far: none at first, and one more after another.
+pub none-yet : (f : Feed) (end : ℕ) (input memory output : List ℕ) → SomeAnswered f end input memory output f memory output
+none-yet f end input memory output = record { count = 0; lines = (refl, refl, refl) }
+
+pub one-more : {f g r : Feed} {end stop : ℕ} {input memory memory₁ memory₂ output output₁ output₂ : List ℕ}
+    → SomeAnswered f end input memory output g memory₁ output₁ → hasEnded (g .stage) ≡ false → LineEnds input (g .at) end stop → stop < end
+    → Answered g stop input memory₁ output₁ r memory₂ output₂ → SomeAnswered f end input memory output r memory₂ output₂
+one-more {g = g} {stop = stop} {memory₁ = memory₁} {output₁ = output₁} some goes-on ends is-whole is-answered =
+    record { count = suc (some .count); lines = record { feed = g; memory = memory₁; output = output₁; stop = stop; others = some .lines; goes-on = goes-on; ends = ends; is-whole = is-whole; is-answered = is-answered } }
+
+-- A run that was found to have ended does not go on.
+pub ended-is-over : {A : Type 0} {b told : Bool} → told ≡ b → told ≡ true → b ≡ false → A
+ended-is-over is ended goes-on = let e : true ≡ false = sym ended ∙ is ∙ goes-on in absurd (subst T e tt)

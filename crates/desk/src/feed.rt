@@ -1,9 +1,10 @@
 // The lines of standard input, answered one by one, and what is printed for them. Every whole line that has been read is answered, and its
 // answer written, before more is read.
 ghost use mathlib.Core.Path.{_≡_};
+ghost use mathlib.Core.Bool.{false};
 ghost use Prim.Native.Nat.{_+_, _≤_};
 ghost use lib.ListN.{length};
-ghost use Rattle.desk.specs.Feeding.{LineEnds, Answered, placeFor, keptOf, movedToStart};
+ghost use Rattle.desk.specs.Feeding.{LineEnds, Answered, AllAnswered, placeFor, hasEnded, keptOf, movedToStart};
 use crate::answer;
 use crate::answer::Stage;
 use desk_lines::LONGEST_LINE;
@@ -63,8 +64,8 @@ fn last_line(input: &[u8], held: usize, output: &mut [u8], memory: &mut [u64], f
 
 // Answers the lines that end among the first `end` bytes of the input, from its start on. None is answered once the run has ended.
 fn whole_lines(input: &[u8], end: usize, output: &mut [u8], memory: &mut [u64], feed: Feed) -> Feed
-    requires { ⌜ (feed .at ≤ end) × (end ≤ length (now input)) × (feed .put ≤ length (now output)) × (63 ≤ length (now output)) ⌝ }
-    ensures { λ r. ⌜ (r .at ≤ end) × (r .put ≤ length (now (output .entry))) ⌝ }
+    requires { ⌜ (feed .at ≤ end) × (end ≤ length (now input)) × (feed .put ≤ length (now output)) × (63 ≤ length (now output)) × (hasEnded (feed .stage) ≡ false) ⌝ }
+    ensures { λ r. ⌜ AllAnswered feed end (now (input .entry)) (now (memory .entry)) (now (output .entry)) r (now (memory .exit)) (now (output .exit)) ⌝ }
 {
     let mut feed = feed;
     while feed.at < end {
@@ -115,7 +116,7 @@ fn make_room(output: &[u8], put: usize) -> usize
 // Writes what is printed. The rest of the input stands at its start then.
 fn written(output: &[u8], feed: Feed) -> Feed
     requires { ⌜ feed .put ≤ length (now output) ⌝ }
-    ensures { λ r. ⌜ (r .at ≡ 0) × (r .put ≡ 0) ⌝ }
+    ensures { λ r. ⌜ (r .stage ≡ feed .stage) × (r .number ≡ feed .number) × (r .at ≡ 0) × (r .put ≡ 0) ⌝ }
 {
     let put = feed.put;
     let stage = feed.stage;
@@ -128,7 +129,9 @@ fn written(output: &[u8], feed: Feed) -> Feed
     }
 }
 
-fn has_ended(feed: Feed) -> bool {
+fn has_ended(feed: Feed) -> bool
+    ensures { λ r. ⌜ r ≡ hasEnded (feed .stage) ⌝ }
+{
     let stage = feed.stage;
     match stage {
         Stage::First => false,

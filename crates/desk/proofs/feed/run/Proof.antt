@@ -1,13 +1,15 @@
 -- `run` keeps the lengths of its buffers and what is held within them, and ends since a turn is taken off with each read.
 use Prim.Native.Nat.{_≤_}
-use mathlib.Core.Path.{_≡_}
+use mathlib.Core.Bool.{false}
+use mathlib.Core.Path.{sym, _∙_, _≡_}
 use lib.ListN.{length}
+use Rattle.desk.specs.Feeding.{hasEnded}
 use borrow.Author.Needs.{needs}
 use Rattle.desk.proofs.feed.run.Statement.{statement}
 use Rattle.desk.proofs.feed.run.Tie as tie
 
 abbrev Inv-loop : tie.InvT-loop
-Inv-loop input₀ output₀ memory₀ feed₀ held₀ turns₀ input output memory feed held turns = (length input ≡ length input₀) × (length output ≡ length output₀) × (length memory ≡ length memory₀) × (feed .at ≡ 0) × (feed .put ≤ length output₀) × (held ≤ length input₀)
+Inv-loop input₀ output₀ memory₀ feed₀ held₀ turns₀ input output memory feed held turns = (length input ≡ length input₀) × (length output ≡ length output₀) × (length memory ≡ length memory₀) × (feed .at ≡ 0) × (feed .put ≤ length output₀) × (held ≤ length input₀) × (hasEnded (feed .stage) ≡ false)
 
 abbrev μ-loop : tie.MeasureT-loop
 μ-loop input₀ output₀ memory₀ feed₀ held₀ turns₀ input output memory feed held turns = turns
@@ -64,7 +66,7 @@ loop-less : tie.Need-loop-less Inv-loop μ-loop
 loop-less c = search needs
 
 loop-again : tie.Need-loop-again Inv-loop μ-loop
-loop-again c = search needs
+loop-again c = (search needs, search needs, search needs, search needs, search needs, search needs, sym (c .before .has-ended .ensures) ∙ c .if2 .left)
 
 same-length-7 : tie.Need-same-length-7 Inv-loop μ-loop
 same-length-7 c = search needs
