@@ -5,6 +5,9 @@ ghost use lib.ListN.{length};
 ghost use Rattle.rows.specs.Outcome.{outcome};
 ghost use Rattle.desk_lines.specs.Printed.{printedField, printed, writtenOver};
 
+// The most bytes of a printed line: three numbers of 20 digits, and a byte after each.
+pub const LONGEST: usize = 63;
+
 // Writes a number and the byte after it from a place on. Tells the place after them.
 fn field(out: &mut [u8], at: usize, n: u64, after: u8) -> usize
     requires { ⌜ at + 21 ≤ length (now out) ⌝ }
@@ -15,8 +18,7 @@ fn field(out: &mut [u8], at: usize, n: u64, after: u8) -> usize
     end + 1
 }
 
-// Writes a line's number, a code and a wait from a place on. Tells the place after them. A printed line has at most 63 bytes: three numbers of 20 digits, and a
-// byte after each.
+// Writes a line's number, a code and a wait from a place on. Tells the place after them.
 pub fn line(out: &mut [u8], at: usize, number: u64, code: u64, wait: u64) -> usize
     requires { ⌜ at + 63 ≤ length (now out) ⌝ }
     ensures { λ r. ⌜ outcome r (now (out .exit)) ≡ writtenOver (printed number code wait) at (now (out .entry)) ⌝ }

@@ -1,0 +1,38 @@
+-- `make_room` has a case for too little room and one for enough.
+use Rattle.desk.proofs.FeedingLaws.{place-at-start, place-after}
+use borrow.Author.Needs.{needs}
+use Rattle.desk.proofs.feed.make_room.Statement.{statement}
+use Rattle.desk.proofs.feed.make_room.Tie as tie
+
+sub-if1 : tie.Need-sub-if1
+sub-if1 c = search needs
+
+sub-write-all : tie.Need-sub-write-all
+sub-write-all c = search needs
+
+part-write-all-start : tie.Need-part-write-all-start
+part-write-all-start c = search needs
+
+part-write-all-end : tie.Need-part-write-all-end
+part-write-all-end c = search needs
+
+write-all-requires : tie.Need-write-all-requires
+write-all-requires c κs = search needs
+
+returns : tie.Need-returns
+returns c = (place-at-start _ _ (c .before .before .if1 .taken), search needs)
+
+returns-2 : tie.Need-returns-2
+returns-2 c = (place-after _ _ (c .if1 .left), search needs)
+
+pub make-room-spec : {M : Type 1} → statement M
+make-room-spec =
+    tie.close
+    (tie.spec
+    sub-if1
+    sub-write-all
+    part-write-all-start
+    part-write-all-end
+    write-all-requires
+    returns
+    returns-2)
