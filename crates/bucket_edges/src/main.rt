@@ -7,7 +7,6 @@ fn main() {
     shapes::sizes();
     shapes::refused_rates();
     shapes::refused_sizes();
-    shapes::idle_limits();
     shapes::looks();
     shapes::configs();
     buckets::tries();

@@ -1,4 +1,4 @@
-// Settings: shards, cap and words; refusals; idle limits.
+// Settings: shards, cap and words; refusals.
 use libc::STDOUT_FILENO;
 use settings::Limit;
 use settings::Settings;
@@ -7,7 +7,6 @@ use settings::eviction::WhenFull;
 use settings::rate::OptionTokens;
 use settings::rate::Rate;
 use units::Nanos;
-use units::OptionMillis;
 
 // Two tokens a second, up to four.
 fn two_per_second() -> Rate {
@@ -45,8 +44,9 @@ pub(crate) fn sizes() {
 
 fn size(max_keys: usize, shards: usize) {
     let settings = open(max_keys, shards);
-    line(b"shards", settings.shard_count() as u64);
-    line(b"cap", settings.per_shard_cap() as u64);
+    let shape = settings.shape();
+    line(b"shards", shape.shards as u64);
+    line(b"cap", shape.cap as u64);
     if settings.size_refusal() == 0 {
         line(b"words", settings.words() as u64);
     }
@@ -86,28 +86,6 @@ pub(crate) fn refused_sizes() {
         shards: 1,
     };
     line(b"idle alone", idle.refusal() as u64);
-}
-
-pub(crate) fn idle_limits() {
-    idle(1);
-    idle(2000000000);
-    idle(2000000001);
-    idle(u64::MAX);
-}
-
-fn idle(ttl: u64) {
-    let settings = Settings {
-        limit: Limit::Open(two_per_second()),
-        eviction: Eviction::new(4, Nanos(ttl)),
-        shards: 1,
-    };
-    let limit = settings.limit;
-    if limit.refusal() == 0 {
-        match settings.idle_limit() {
-            OptionMillis::Some(ms) => line(b"idle limit", ms.0),
-            OptionMillis::None => line(b"idle limit none", 0),
-        }
-    }
 }
 
 // The look counts.

@@ -169,23 +169,9 @@ pub extern "C" fn limiter_length(settings: LimiterSettings, ws: &[u64]) -> Limit
 fn reply(reply: Reply) -> LimiterReply
     ensures { λ r. ⌜ r ≡ Exported.replyOf reply ⌝ }
 {
-    match reply {
-        Reply::Granted(wait) => LimiterReply {
-            code: 0,
-            number: wait.0,
-        },
-        Reply::Retry(wait) => LimiterReply {
-            code: 1,
-            number: wait.0,
-        },
-        Reply::Impossible => LimiterReply { code: 2, number: 0 },
-        Reply::Nothing => LimiterReply { code: 3, number: 0 },
-        Reply::Done => LimiterReply { code: 0, number: 0 },
-        Reply::Count(number) => LimiterReply { code: 0, number },
-        Reply::Refused(refusal) => LimiterReply {
-            code: 10 + (refusal as u64),
-            number: 0,
-        },
+    LimiterReply {
+        code: reply.code(),
+        number: reply.number(),
     }
 }
 

@@ -21,6 +21,11 @@ use Rattle.store.specs.declared.Answer.the-variants.{Decided, NoSpace}
 use Rattle.store.specs.Model as Store
 use Rattle.perkey.specs.declared.Reply.{Reply}
 use Rattle.perkey.specs.declared.Reply.the-variants.{Impossible, Nothing, Count, Refused}
+use Rattle.shards.specs.declared.Part.{Part}
+use Rattle.shards.specs.declared.lending.Lending.{Lending}
+use Rattle.shards.specs.declared.lending.Lending.the-variants as Lending
+use Rattle.shards.specs.Lending.{lentUnless}
+use Rattle.shards.proofs.LendingLaws.{refused-number, lent-part}
 use Rattle.shards.specs.Memory.{shardAt, slotCount}
 use Rattle.shards.specs.Refusals.{keyedRefusal, timedRefusal, reserveRefusal, lenRefusal}
 use Rattle.perkey.specs.Rules as Rules
@@ -70,6 +75,14 @@ refusal-is-told c ws is some = rw is (sym (refused-is-told c ws (λ none. some (
 
 pub rule-is-told : (c : Call) (ws : List ℕ) {told : ℕ} {o : Outcome Reply (List ℕ)} → told ≡ refusalOf c ws → told ≡ 0 → o ≡ ruleOf c ws → o ≡ rules c ws
 rule-is-told c ws is none gave = gave ∙ sym (not-refused-is-ruled c ws (sym is ∙ none))
+
+-- The same by what the call was lent.
+module _ (c : Call) (ws : List ℕ) {lending : Lending} (part′ : Part) (is : lending ≡ lentUnless (refusalOf c ws) part′) where
+  pub unlent-is-told : {told : ℕ} → lending ≡ Lending.Refused told → outcome (Refused told) ws ≡ rules c ws
+  unlent-is-told gave = let number = refused-number (refusalOf c ws) part′ is gave in refusal-is-told c ws (number .0) (number .1)
+
+  pub lent-is-ruled : {p : Part} {o : Outcome Reply (List ℕ)} → lending ≡ Lending.Lent p → o ≡ ruleOf c ws → o ≡ rules c ws
+  lent-is-ruled gave is-rule = is-rule ∙ sym (not-refused-is-ruled c ws (lent-part (refusalOf c ws) part′ is gave .0))
 
 -- No rule answers with a number of a refusal.
 closed-not-numbered : (cost : ℕ) → numbered (Rules.closed cost) ≡ false

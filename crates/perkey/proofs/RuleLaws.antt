@@ -1,6 +1,6 @@
 -- The rules case by case, as the code comes to them, and what a call that is not refused may ask of its shard.
 use Prim.Native.Nat.{ℕ, _≤_, _<_, _^_}
-use mathlib.Core.Path.{_≡_, ap, _∙_}
+use mathlib.Core.Path.{_≡_, sym, ap, _∙_}
 use mathlib.Core.Bool.{Bool}
 use mathlib.Core.List.{List}
 use Rattle.rows.specs.Outcome.{Outcome, outcome}
@@ -14,16 +14,21 @@ use Rattle.settings.specs.declared.Limit.the-variants.{Open}
 use Rattle.settings.specs.declared.Settings.{Settings}
 use Rattle.settings.specs.declared.rate.Rate.{Rate}
 use Rattle.settings.specs.Rate.{burstOf, configOf}
-use Rattle.settings.specs.Settings.{limitRefusal}
+use Rattle.settings.specs.Settings.{idleLimit}
 use Rattle.settings.proofs.RateLaws.{accepted-rate}
 use Rattle.settings.proofs.SettingsLaws.{accepted-parts, neither-refuses}
 use Rattle.store.specs.declared.Identity.{Identity}
 use Rattle.store.specs.declared.Policy.{Policy}
 use Rattle.store.specs.declared.Answer.{Answer}
 use Rattle.store.specs.Model as Store
-use Rattle.shard_map.specs.Model.{Shard}
-use Rattle.shards.specs.Memory.{shardAt, inShard}
+use Rattle.store.proofs.ModelLaws.{ask-with-slot, ask-without-slot}
+use Rattle.rows.specs.declared.Place.{Place}
+use Rattle.rows.specs.declared.Place.the-variants.{At, Nowhere}
+use Rattle.shard_map.specs.Model.{Shard, Sound, placeOf}
+use Rattle.shards.specs.declared.Part.{Part}
+use Rattle.shards.specs.Memory.{Placed, partOf, shardIn, shardAt, inPart, inShard}
 use Rattle.shards.specs.Refusals.{keyedRefusal, momentRefusal, timedRefusal, waitRefusal, reserveRefusal}
+use Rattle.shards.proofs.LendingLaws.{accepted-part, found-place-below}
 use Rattle.shards.proofs.RefusalLaws.{keyed-not-refused, timed-not-refused}
 use Rattle.perkey.specs.declared.Reply.{Reply}
 use Rattle.perkey.specs.declared.Reply.the-variants.{Granted, Retry, Impossible, Nothing}
@@ -69,6 +74,15 @@ abbrev Answers : Settings → Identity → ℕ → Nanos → List ℕ → Policy
 Answers s id cost at ws policy request answer ws′ =
     outcome answer ws′ ≡ inShard s (id .hash) ws (Store.withOrInsert policy id request cost at (shardAt s (id .hash) ws))
 
+-- So a known key's answer is one, and so is a new key's.
+module _ (s : Settings) (id : Identity) (cost : ℕ) (at : Nanos) (ws : List ℕ) (policy : Policy) (request : Request) {part′ : Part} (is-part : part′ ≡ partOf s (id .hash))
+    {place : Place} (is-place : place ≡ placeOf (shardIn part′ ws) (id .hash) (id .key)) {answer : Answer} {ws′ : List ℕ} where
+  pub known-answers : (i : ℕ) → place ≡ At i → outcome answer ws′ ≡ inPart part′ ws (Store.known policy request cost at (shardIn part′ ws) i) → Answers s id cost at ws policy request answer ws′
+  known-answers i found gave = (rw is-part at gave) ∙ ap (inShard s (id .hash) ws) (ask-with-slot policy id request cost at (shardAt s (id .hash) ws) i (rw is-part at (sym is-place ∙ found)))
+
+  pub new-answers : place ≡ Nowhere → outcome answer ws′ ≡ inPart part′ ws (Store.new policy id request cost at (shardIn part′ ws)) → Answers s id cost at ws policy request answer ws′
+  new-answers missed gave = (rw is-part at gave) ∙ ap (inShard s (id .hash) ws) (ask-without-slot policy id request cost at (shardAt s (id .hash) ws) (rw is-part at (sym is-place ∙ missed)))
+
 -- What it makes of the reply and of all words, for a request of something that a full bucket holds.
 module _ (s : Settings) (id : Identity) (cost : ℕ) (at : Nanos) (ws : List ℕ) {policy : Policy} {answer : Answer} {told : Reply} {ws′ : List ℕ} where
   request-is-told : (rate : Rate) (request : Request) (reply : Answer → Reply) (tooMuch : Reply) → policy ≡ policyOf s rate → cost ≤ burstOf rate → (cost ≡ 0 → ⊥)
@@ -100,26 +114,40 @@ module _ (s : Settings) (rate : Rate) (at : Nanos) (id : Identity) (cost : ℕ) 
   unfolding peekedAt
   peek-of-bucket within = rw (le-ltb _ _ within)
 
--- A call at a moment that is not refused: its key's shard is sound and the moment is not too late; a rate that it has is accepted.
-module _ (s : Settings) (hash : ℕ) (ws : List ℕ) where
-  pub rate-is-accepted : (rate : Rate) → keyedRefusal s hash ws ≡ 0 → s .limit ≡ Open rate → Accepted (configOf rate)
-  rate-is-accepted rate none is =
-      accepted-rate rate (rw is at (accepted-parts s (keyed-not-refused s hash ws none .set-up .settings) .0))
+-- The idle limit by which the store sweeps is that of the settings.
+pub sweeps-by-the-idle-limit : (s : Settings) (rate : Rate) → s .limit ≡ Open rate → Store.idleLimitIn (policyOf s rate) ≡ idleLimit s
+sweeps-by-the-idle-limit s rate is = rw is
 
-  module _ (at : Nanos) (none : timedRefusal s hash at ws ≡ 0) where
-    pub timed-is-keyed : keyedRefusal s hash ws ≡ 0
-    timed-is-keyed = neither-refuses (keyedRefusal s hash ws) (momentRefusal at) none .0
+-- A call that is not refused: its part is placed and its shard sound; a rate that it has is accepted.
+module _ (s : Settings) (hash : ℕ) (ws : List ℕ) {part′ : Part} (is-part : part′ ≡ partOf s hash) where
+  pub refund-may-be-asked : (rate : Rate) {config : BucketConfig} → keyedRefusal s hash ws ≡ 0 → s .limit ≡ Open rate → config ≡ configOf rate
+      → Placed part′ ws × Sound (shardIn part′ ws) × Accepted config
+  refund-may-be-asked rate none is is-config =
+      let call = keyed-not-refused s hash ws none in
+      let lent = accepted-part s hash ws call is-part in
+      (lent .0, lent .1, rw is-config (accepted-rate rate (rw is at (accepted-parts s (call .set-up .settings) .0))))
 
-    pub limit-is-accepted : limitRefusal (s .limit) ≡ 0
-    limit-is-accepted = accepted-parts s (timed-not-refused s hash ws at none .0 .set-up .settings) .0
+  pub removal-may-be-asked : keyedRefusal s hash ws ≡ 0 → Placed part′ ws × Sound (shardIn part′ ws)
+  removal-may-be-asked none = accepted-part s hash ws (keyed-not-refused s hash ws none) is-part
 
-    pub request-may-be-asked : (rate : Rate) {policy : Policy} {cost : ℕ} → s .limit ≡ Open rate → policy ≡ policyOf s rate → cost ≤ burstOf rate
-        → (keyedRefusal s hash ws ≡ 0) × Accepted (policy .config) × (cost ≤ policy .config .capacity) × (at .0 ≤ 2 ^ 62)
-    request-may-be-asked rate is is-policy within =
-        (timed-is-keyed, rw is-policy (rate-is-accepted rate timed-is-keyed is), rw is-policy within, timed-not-refused s hash ws at none .1)
+  -- At a moment, which is not too late either.
+  module _ (at : Nanos) (none : timedRefusal s hash at ws ≡ 0) (rate : Rate) (is : s .limit ≡ Open rate) where
+    pub bucket-may-be-viewed : {config : BucketConfig} → config ≡ configOf rate → Placed part′ ws × Sound (shardIn part′ ws) × Accepted config
+    bucket-may-be-viewed is-config = refund-may-be-asked rate (neither-refuses (keyedRefusal s hash ws) (momentRefusal at) none .0) is is-config
 
-    pub bucket-may-be-viewed : (rate : Rate) {config : BucketConfig} → s .limit ≡ Open rate → config ≡ configOf rate → (keyedRefusal s hash ws ≡ 0) × Accepted config
-    bucket-may-be-viewed rate is is-config = (timed-is-keyed, rw is-config (rate-is-accepted rate timed-is-keyed is))
+    pub request-may-be-asked : {policy : Policy} {cost : ℕ} → policy ≡ policyOf s rate → cost ≤ burstOf rate
+        → Placed part′ ws × Sound (shardIn part′ ws) × Accepted (policy .config) × (cost ≤ policy .config .capacity) × (at .0 ≤ 2 ^ 62)
+    request-may-be-asked is-policy within =
+        let viewed = bucket-may-be-viewed (ap (λ (p : Policy). p .config) is-policy) in
+        (viewed .0, viewed .1, viewed .2, rw is-policy within, timed-not-refused s hash ws at none .1)
 
-  pub reserve-is-timed : (at longest : Nanos) → reserveRefusal s hash at longest ws ≡ 0 → timedRefusal s hash at ws ≡ 0
-  reserve-is-timed at longest none = neither-refuses (timedRefusal s hash at ws) (waitRefusal longest) none .0
+    -- A known key's place stands below the cap.
+    pub known-may-be-asked : (id : Identity) {policy : Policy} {cost : ℕ} {place : Place} (i : ℕ) → policy ≡ policyOf s rate → cost ≤ burstOf rate
+        → place ≡ placeOf (shardIn part′ ws) (id .hash) (id .key) → place ≡ At i
+        → Placed part′ ws × Sound (shardIn part′ ws) × Accepted (policy .config) × (cost ≤ policy .config .capacity) × (i < part′ .cap)
+    known-may-be-asked id i is-policy within is-place found =
+        let asked = request-may-be-asked is-policy within in
+        (asked .0, asked .1, asked .2, asked .3, found-place-below (asked .0) (id .hash) (id .key) i (asked .1) (sym is-place ∙ found))
+
+pub reserve-is-timed : (s : Settings) (hash : ℕ) (ws : List ℕ) (at longest : Nanos) → reserveRefusal s hash at longest ws ≡ 0 → timedRefusal s hash at ws ≡ 0
+reserve-is-timed s hash ws at longest none = neither-refuses (timedRefusal s hash at ws) (waitRefusal longest) none .0

@@ -1,4 +1,4 @@
--- The edges of the scope that are theorems, as a table: a row has its settings, its calls and what they come to. One test goes over all rows.
+-- The edges of document 01 that are theorems, as a table: a row has its settings, its calls and what they come to. One test goes over all rows.
 use Prim.Native.Nat.{ℕ}
 use mathlib.Core.Bool.{Bool, true, false, _&&_}
 use mathlib.Core.List.{List, [], _∷_}
@@ -20,7 +20,7 @@ use Rattle.perkey.specs.declared.Reply.{Reply}
 use Rattle.perkey.specs.Rules.{codeOf, numberOf, setUp}
 use Rattle.perkey.specs.Calls.{Call, try, available, refund, rules}
 
--- Rates by amount, period and burst, with the initial tokens unset. Two tokens a second, up to four, is the rate that the scope calls R; the last has
+-- Rates by amount, period and burst, with the initial tokens unset. Two tokens a second, up to four, is the rate that document 01 calls R; the last has
 -- its burst unset.
 abbrev pub rateOf : ℕ → ℕ → ℕ → Rate
 rateOf amount period burst = record { amount = amount; period = record { 0 = period }; burst = Some burst; initial = None }

@@ -19,7 +19,7 @@ use Rattle.settings.specs.declared.eviction.WhenFull.{WhenFull}
 use Rattle.settings.specs.declared.eviction.WhenFull.the-variants.{RefuseNew, ForgetDebt}
 use Rattle.settings.specs.declared.rate.Rate.{Rate}
 use Rattle.settings.specs.Rate.{configOf}
-use Rattle.settings.specs.Settings.{shardCount, capOf, wordsOf, idleLimit}
+use Rattle.settings.specs.Settings.{shardCount, capOf, wordsOf}
 use Rattle.store.specs.declared.Identity.{Identity}
 use Rattle.store.specs.declared.Policy.{Policy}
 use Rattle.store.specs.declared.Answer.{Answer}
@@ -61,7 +61,7 @@ forgets RefuseNew = false
 forgets ForgetDebt = true
 
 abbrev pub policyOf : Settings → Rate → Policy
-policyOf s rate = record { config = configOf rate; «idle_limit» = idleLimit s; «forget_debt» = forgets (s .eviction .«when_full») }
+policyOf s rate = record { config = configOf rate; «idle_ttl» = s .eviction .«idle_ttl»; «forget_debt» = forgets (s .eviction .«when_full») }
 
 -- Set-up and clear zero all words.
 unfoldable pub setUp : Settings → List ℕ → Outcome Reply (List ℕ)

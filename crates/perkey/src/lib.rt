@@ -1,20 +1,26 @@
 // The limiter: its nine operations, on settings, arguments and lent words of any kind. A call that is refused by number changes no word.
 ghost use mathlib.Core.Path.{_≡_};
 ghost use Rattle.rows.specs.Outcome.{outcome};
-ghost use Rattle.settings.specs.Settings.{limitRefusal};
-ghost use Rattle.shards.specs.Refusals.{keyedRefusal, timedRefusal, reserveRefusal};
+ghost use Rattle.shards.specs.Memory.{partOf};
+ghost use Rattle.shards.specs.Refusals.{keyedRefusal, timedRefusal};
 ghost use Rattle.perkey.specs.Rules as Rules;
 use bucket::BucketDecision;
 use bucket::Request;
+use rows::Place;
 use settings::Limit;
 use settings::Settings;
 use settings::eviction::WhenFull;
 use settings::rate::Rate;
+use shards::Part;
+use shards::lending;
+use shards::lending::Lending;
 use shards::refusals;
 use store::Answer;
 use store::Identity;
 use store::Policy;
 use units::Nanos;
+
+pub mod codes;
 
 // What an operation answers.
 pub enum Reply {
@@ -56,16 +62,26 @@ pub fn try_acquire_with_cost(
 ) -> Reply
     ensures { λ r. ⌜ outcome r (now (ws .exit)) ≡ Rules.tryAcquire settings at id cost (now (ws .entry)) ⌝ }
 {
-    let refusal = refusals::timed_refusal(settings, ws, id.hash, at);
+    let refusal = settings.refusal();
     if refusal != 0 {
         return Reply::Refused(refusal);
     }
-    decide(settings, ws, at, id, cost)
+    match lending::lend(settings.shape(), ws, id.hash, refusals::moment_refusal(at)) {
+        Lending::Refused(refusal) => Reply::Refused(refusal),
+        Lending::Lent(part) => decide(settings, ws, part, at, id, cost),
+    }
 }
 
 // A try that is not refused. No state is made for a cost that can never be granted, nor for cost 0.
-fn decide(settings: Settings, ws: &mut [u64], at: Nanos, id: Identity, cost: u32) -> Reply
-    requires { ⌜ timedRefusal settings (id .hash) at (now ws) ≡ 0 ⌝ }
+fn decide(
+    settings: Settings,
+    ws: &mut [u64],
+    part: Part,
+    at: Nanos,
+    id: Identity,
+    cost: u32,
+) -> Reply
+    requires { ⌜ (timedRefusal settings (id .hash) at (now ws) ≡ 0) × (part ≡ partOf settings (id .hash)) ⌝ }
     ensures { λ r. ⌜ outcome r (now (ws .exit)) ≡ Rules.triedBy (settings .limit) settings at id cost (now (ws .entry)) ⌝ }
 {
     let limit = settings.limit;
@@ -79,7 +95,13 @@ fn decide(settings: Settings, ws: &mut [u64], at: Nanos, id: Identity, cost: u32
                 return Reply::Granted(Nanos(0));
             }
             let policy = policy(settings, rate);
-            try_reply(shards::with_or_insert(ws, settings, policy, id, Request::Acquire, cost, at))
+            let request = Request::Acquire;
+            match shards::position(ws, part, id) {
+                Place::At(pos) => {
+                    try_reply(shards::known(ws, part, policy, pos, request, cost, at))
+                }
+                Place::Nowhere => try_reply(shards::new(ws, part, policy, id, request, cost, at)),
+            }
         }
     }
 }
@@ -95,23 +117,31 @@ pub fn reserve(
 ) -> Reply
     ensures { λ r. ⌜ outcome r (now (ws .exit)) ≡ Rules.reserve settings at id cost «max_wait» (now (ws .entry)) ⌝ }
 {
-    let refusal = refusals::reserve_refusal(settings, ws, id.hash, at, max_wait);
+    let refusal = settings.refusal();
     if refusal != 0 {
         return Reply::Refused(refusal);
     }
-    reserve_within(settings, ws, at, id, cost, max_wait)
+    let further = refusals::first_of(
+        refusals::moment_refusal(at),
+        refusals::wait_refusal(max_wait),
+    );
+    match lending::lend(settings.shape(), ws, id.hash, further) {
+        Lending::Refused(refusal) => Reply::Refused(refusal),
+        Lending::Lent(part) => reserve_within(settings, ws, part, at, id, cost, max_wait),
+    }
 }
 
-// A reservation that is not refused.
+// A reservation that is not refused. That its longest wait is within bounds is not needed any more.
 fn reserve_within(
     settings: Settings,
     ws: &mut [u64],
+    part: Part,
     at: Nanos,
     id: Identity,
     cost: u32,
     max_wait: Nanos,
 ) -> Reply
-    requires { ⌜ timedRefusal settings (id .hash) at (now ws) ≡ 0 ⌝ }
+    requires { ⌜ (timedRefusal settings (id .hash) at (now ws) ≡ 0) × (part ≡ partOf settings (id .hash)) ⌝ }
     ensures { λ r. ⌜ outcome r (now (ws .exit)) ≡ Rules.reservedBy (settings .limit) settings at id cost «max_wait» (now (ws .entry)) ⌝ }
 {
     let limit = settings.limit;
@@ -125,33 +155,36 @@ fn reserve_within(
                 return Reply::Granted(Nanos(0));
             }
             let policy = policy(settings, rate);
-            reserve_reply(shards::with_or_insert(
-                ws,
-                settings,
-                policy,
-                id,
-                Request::Reserve(max_wait),
-                cost,
-                at,
-            ))
+            let request = Request::Reserve(max_wait);
+            match shards::position(ws, part, id) {
+                Place::At(pos) => {
+                    reserve_reply(shards::known(ws, part, policy, pos, request, cost, at))
+                }
+                Place::Nowhere => {
+                    reserve_reply(shards::new(ws, part, policy, id, request, cost, at))
+                }
+            }
         }
     }
 }
 
-// What a try would answer, taking nothing.
+// What the key's own bucket would answer to a try, taking nothing. It says nothing of space.
 pub fn peek(settings: Settings, ws: &[u64], at: Nanos, id: Identity, cost: u32) -> Reply
     ensures { λ r. ⌜ outcome r (now (ws .entry)) ≡ Rules.peek settings at id cost (now (ws .entry)) ⌝ }
 {
-    let refusal = refusals::timed_refusal(settings, ws, id.hash, at);
+    let refusal = settings.refusal();
     if refusal != 0 {
         return Reply::Refused(refusal);
     }
-    look(settings, ws, at, id, cost)
+    match lending::lend(settings.shape(), ws, id.hash, refusals::moment_refusal(at)) {
+        Lending::Refused(refusal) => Reply::Refused(refusal),
+        Lending::Lent(part) => look(settings, ws, part, at, id, cost),
+    }
 }
 
 // A peek that is not refused: the wait of the bucket that the key has, or would have if it came in now.
-fn look(settings: Settings, ws: &[u64], at: Nanos, id: Identity, cost: u32) -> Reply
-    requires { ⌜ timedRefusal settings (id .hash) at (now ws) ≡ 0 ⌝ }
+fn look(settings: Settings, ws: &[u64], part: Part, at: Nanos, id: Identity, cost: u32) -> Reply
+    requires { ⌜ (timedRefusal settings (id .hash) at (now ws) ≡ 0) × (part ≡ partOf settings (id .hash)) ⌝ }
     ensures { λ r. ⌜ r ≡ Rules.peekedBy (settings .limit) settings at id cost (now (ws .entry)) ⌝ }
 {
     let limit = settings.limit;
@@ -162,7 +195,7 @@ fn look(settings: Settings, ws: &[u64], at: Nanos, id: Identity, cost: u32) -> R
             if config.capacity < cost {
                 return Reply::Impossible;
             }
-            let bucket = shards::view(ws, settings, config, id, at);
+            let bucket = shards::view(ws, part, config, id, at);
             wait_reply(bucket.time_until_at(config, cost, at))
         }
     }
@@ -172,16 +205,19 @@ fn look(settings: Settings, ws: &[u64], at: Nanos, id: Identity, cost: u32) -> R
 pub fn available(settings: Settings, ws: &[u64], at: Nanos, id: Identity) -> Reply
     ensures { λ r. ⌜ outcome r (now (ws .entry)) ≡ Rules.available settings at id (now (ws .entry)) ⌝ }
 {
-    let refusal = refusals::timed_refusal(settings, ws, id.hash, at);
+    let refusal = settings.refusal();
     if refusal != 0 {
         return Reply::Refused(refusal);
     }
-    Reply::Count(tokens(settings, ws, at, id))
+    match lending::lend(settings.shape(), ws, id.hash, refusals::moment_refusal(at)) {
+        Lending::Refused(refusal) => Reply::Refused(refusal),
+        Lending::Lent(part) => Reply::Count(tokens(settings, ws, part, at, id)),
+    }
 }
 
 // The tokens of the same bucket; none where there is no rate.
-fn tokens(settings: Settings, ws: &[u64], at: Nanos, id: Identity) -> u64
-    requires { ⌜ timedRefusal settings (id .hash) at (now ws) ≡ 0 ⌝ }
+fn tokens(settings: Settings, ws: &[u64], part: Part, at: Nanos, id: Identity) -> u64
+    requires { ⌜ (timedRefusal settings (id .hash) at (now ws) ≡ 0) × (part ≡ partOf settings (id .hash)) ⌝ }
     ensures { λ r. ⌜ r ≡ Rules.availableBy (settings .limit) settings at id (now (ws .entry)) ⌝ }
 {
     let limit = settings.limit;
@@ -189,7 +225,7 @@ fn tokens(settings: Settings, ws: &[u64], at: Nanos, id: Identity) -> u64
         Limit::Closed => 0,
         Limit::Open(rate) => {
             let config = rate.config();
-            let bucket = shards::view(ws, settings, config, id, at);
+            let bucket = shards::view(ws, part, config, id, at);
             bucket.available_at(config, at) as u64
         }
     }
@@ -199,14 +235,25 @@ fn tokens(settings: Settings, ws: &[u64], at: Nanos, id: Identity) -> u64
 pub fn refund(settings: Settings, ws: &mut [u64], id: Identity, cost: u32) -> Reply
     ensures { λ r. ⌜ outcome r (now (ws .exit)) ≡ Rules.refund settings id cost (now (ws .entry)) ⌝ }
 {
-    let refusal = refusals::keyed_refusal(settings, ws, id.hash);
+    let refusal = settings.refusal();
     if refusal != 0 {
         return Reply::Refused(refusal);
     }
+    match lending::lend(settings.shape(), ws, id.hash, 0) {
+        Lending::Refused(refusal) => Reply::Refused(refusal),
+        Lending::Lent(part) => give_back(settings, ws, part, id, cost),
+    }
+}
+
+// A refund that is not refused. To a closed limiter every key is unknown.
+fn give_back(settings: Settings, ws: &mut [u64], part: Part, id: Identity, cost: u32) -> Reply
+    requires { ⌜ (keyedRefusal settings (id .hash) (now ws) ≡ 0) × (part ≡ partOf settings (id .hash)) ⌝ }
+    ensures { λ r. ⌜ outcome r (now (ws .exit)) ≡ Rules.refundedBy (settings .limit) settings id cost (now (ws .entry)) ⌝ }
+{
     let limit = settings.limit;
     match limit {
         Limit::Closed => Reply::Nothing,
-        Limit::Open(rate) => known_reply(shards::refund(ws, settings, rate.config(), id, cost)),
+        Limit::Open(rate) => known_reply(shards::refund(ws, part, rate.config(), id, cost)),
     }
 }
 
@@ -214,11 +261,14 @@ pub fn refund(settings: Settings, ws: &mut [u64], id: Identity, cost: u32) -> Re
 pub fn remove(settings: Settings, ws: &mut [u64], id: Identity) -> Reply
     ensures { λ r. ⌜ outcome r (now (ws .exit)) ≡ Rules.remove settings id (now (ws .entry)) ⌝ }
 {
-    let refusal = refusals::keyed_refusal(settings, ws, id.hash);
+    let refusal = settings.refusal();
     if refusal != 0 {
         return Reply::Refused(refusal);
     }
-    known_reply(shards::remove(ws, settings, id))
+    match lending::lend(settings.shape(), ws, id.hash, 0) {
+        Lending::Refused(refusal) => Reply::Refused(refusal),
+        Lending::Lent(part) => known_reply(shards::remove(ws, part, id)),
+    }
 }
 
 // Forgets every key.
@@ -252,16 +302,15 @@ fn closed(cost: u32) -> Reply
 
 // The settings that the store on one shard needs.
 fn policy(settings: Settings, rate: Rate) -> Policy
-    requires { ⌜ limitRefusal (settings .limit) ≡ 0 ⌝ }
     ensures { λ r. ⌜ r ≡ Rules.policyOf settings rate ⌝ }
 {
     let eviction = settings.eviction;
     let when_full = eviction.when_full;
+    let idle_ttl = eviction.idle_ttl;
     let config = rate.config();
-    let idle_limit = settings.idle_limit();
     Policy {
         config,
-        idle_limit,
+        idle_ttl,
         forget_debt: forgets(when_full),
     }
 }

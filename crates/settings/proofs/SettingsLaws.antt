@@ -10,7 +10,8 @@ use Rattle.arith.specs.Arith.{ceilDiv}
 use Rattle.arith.proofs.Cases.{by-le, by-eq}
 use Rattle.arith.proofs.DivisionLaws.{ceilDiv-least}
 use Rattle.settings.specs.declared.Settings.{Settings}
-use Rattle.settings.specs.Settings.{mostKeys, mostShards, limitRefusal, sizeRefusal, firstOf, settingsRefusal, shardCount, capOf, shardWords, wordsOf, shardOf, idleLimitMillis}
+use Rattle.settings.specs.declared.Shape.{Shape}
+use Rattle.settings.specs.Settings.{mostKeys, mostShards, limitRefusal, sizeRefusal, firstOf, settingsRefusal, shardCount, capOf, shardWords, wordsOf, wordsIn, shapeOf, shardOf, ShapeOfAccepted, idleLimitMillis}
 use Rattle.settings.proofs.ShardLaws.{PowerOfTwo, doubled-is-power}
 
 -- The check of the size, outcome by outcome.
@@ -90,6 +91,21 @@ module _ (s : Settings) where
   -- So the words of a store are few enough to be counted in 64 bits.
   pub words-most : sizeRefusal s ≡ 0 → wordsOf s ≤ mostShards * shardWords mostKeys
   words-most accepted = mul-le-mul {m₂ = shardWords mostKeys} (shards-most s) (omega (arith, cap-most accepted))
+
+-- The shape of settings of an accepted size.
+pub shape-of-accepted : (s : Settings) {shape : Shape} → sizeRefusal s ≡ 0 → shape ≡ shapeOf s → ShapeOfAccepted shape
+shape-of-accepted s accepted is = record { settings = s; accepted = accepted; is = is }
+
+-- What holds of such a shape by itself.
+module _ {shape : Shape} (a : ShapeOfAccepted shape) where
+  pub accepted-shards-least : 1 ≤ shape .shards
+  accepted-shards-least = rw (a .is) (shards-least (a .settings))
+
+  pub accepted-cap-most : shape .cap ≤ mostKeys
+  accepted-cap-most = rw (a .is) (cap-most (a .settings) (a .accepted))
+
+  pub accepted-words-most : wordsIn shape ≤ mostShards * shardWords mostKeys
+  accepted-words-most = rw (a .is) (words-most (a .settings) (a .accepted))
 
 -- The idle limit of no span at all is 1.
 pub no-span-limit : idleLimitMillis 0 ≡ 1

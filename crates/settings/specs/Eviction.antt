@@ -1,4 +1,4 @@
--- The bounds that the builders of `Eviction` make. Each starts from RefuseNew; the others change one field.
+-- The bounds that the builders of `Eviction` make. `capacity`, `idle` and `new` start from RefuseNew; the with builders change one field.
 use Prim.Native.Nat.{ℕ}
 use Rattle.units.specs.declared.Nanos.{Nanos}
 use Rattle.units.specs.declared.OptionNanos.{OptionNanos}

@@ -1,10 +1,13 @@
 -- The settings of a whole store: refusals, shards, places per shard, words, and the idle limit.
 use Prim.Native.Nat.{ℕ, zero, suc, _+_, _*_, _-_, _/_, _^_, max}
+use mathlib.Core.Path.{_≡_}
 use mathlib.Core.Bool.{cond}
 use lib.Dec.{leb, ltb, eqb}
 use lib.Bits.{bitAnd}
 use Rattle.arith.specs.Arith.{ceilDiv}
 use Rattle.units.specs.Units.{nanosPerMilli}
+use Rattle.units.specs.declared.Nanos.{Nanos}
+use Rattle.units.specs.declared.Millis.{Millis}
 use Rattle.units.specs.declared.OptionNanos.{OptionNanos}
 use Rattle.units.specs.declared.OptionNanos.the-variants as nanos
 use Rattle.units.specs.declared.OptionMillis.{OptionMillis}
@@ -12,6 +15,7 @@ use Rattle.units.specs.declared.OptionMillis.the-variants as millis
 use Rattle.settings.specs.declared.Limit.{Limit}
 use Rattle.settings.specs.declared.Limit.the-variants.{Closed, Open}
 use Rattle.settings.specs.declared.Settings.{Settings}
+use Rattle.settings.specs.declared.Shape.{Shape}
 use Rattle.settings.specs.Rate.{rateRefusal, configOf, timeToFull}
 
 -- The most keys and shards that may be asked for.
@@ -55,13 +59,29 @@ capOf s = max (ceilDiv (s .eviction .«max_keys») (shardCount s)) 1
 abbrev pub shardWords : ℕ → ℕ
 shardWords cap = 5 + 8 * cap
 
+-- The shards, and the keys that each holds: how the words are divided.
+abbrev pub shapeOf : Settings → Shape
+shapeOf s = record { shards = shardCount s; cap = capOf s }
+
 -- The words of the whole store.
+abbrev pub wordsIn : Shape → ℕ
+wordsIn shape = shape .shards * shardWords (shape .cap)
+
 abbrev pub wordsOf : Settings → ℕ
-wordsOf s = shardCount s * shardWords (capOf s)
+wordsOf s = wordsIn (shapeOf s)
 
 -- The shard of a hash: as many of its bits, from bit 40 on (counted from 0), as the shard count needs.
+abbrev pub indexIn : Shape → ℕ → ℕ
+indexIn shape hash = bitAnd (hash / 2 ^ 40) (shape .shards - 1)
+
 abbrev pub shardOf : Settings → ℕ → ℕ
-shardOf s hash = bitAnd (hash / 2 ^ 40) (shardCount s - 1)
+shardOf s hash = indexIn (shapeOf s) hash
+
+-- A shape that settings of an accepted size come to; nothing that is counted in it is large.
+pub record ShapeOfAccepted (shape : Shape) : Type 0 where
+  pub settings : Settings
+  pub accepted : sizeRefusal settings ≡ 0
+  pub is : shape ≡ shapeOf settings
 
 -- No idle time counts as shorter than a bucket needs to be full; a closed limiter has no bucket.
 abbrev pub leastIdle : Limit → ℕ
@@ -72,11 +92,14 @@ leastIdle (Open rate) = timeToFull (configOf rate)
 abbrev pub idleLimitMillis : ℕ → ℕ
 idleLimitMillis span = ceilDiv span nanosPerMilli + 1
 
--- The idle limit for an idle time and the least that counts.
+-- The idle limit for an idle time and the least that counts; none where no idle time is set.
+abbrev pub idleLimitFor : Nanos → ℕ → Millis
+idleLimitFor ttl least = record { 0 = idleLimitMillis (max (ttl .0) least) }
+
 abbrev pub idleLimitOf : OptionNanos → ℕ → OptionMillis
 idleLimitOf nanos.None least = millis.None
-idleLimitOf (nanos.Some ttl) least = millis.Some (record { 0 = idleLimitMillis (max (ttl .0) least) })
+idleLimitOf (nanos.Some ttl) least = millis.Some (idleLimitFor ttl least)
 
--- The idle limit of settings; none where no idle time is set.
+-- The idle limit of settings.
 abbrev pub idleLimit : Settings → OptionMillis
 idleLimit s = idleLimitOf (s .eviction .«idle_ttl») (leastIdle (s .limit))

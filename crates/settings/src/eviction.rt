@@ -7,8 +7,8 @@ use units::OptionNanos;
 // The cap on keys where none is named. It is more than this store accepts.
 pub const DEFAULT_MAX_KEYS: usize = 1048576;
 
-// What happens to a new key when its shard and the shard's ledger are both full: it is turned away, or of the debts looked at the one that settles
-// soonest is forgotten.
+// What happens to a new key when its shard and the shard's ledger are both full, no slot looked at has a full bucket and no debt looked at has settled:
+// it is turned away, or of the debts looked at the one that settles soonest is forgotten.
 pub enum WhenFull {
     RefuseNew,
     ForgetDebt,

@@ -1,13 +1,14 @@
 // What a limiter is set to: the rate, the bounds on its memory, and what follows from them for the store: how many shards it has, how many keys
 // each holds, how many words it is lent, and after how long an idle key may go. A settings record may hold anything; `refusal` says whether it is accepted.
 ghost use mathlib.Core.Path.{_≡_};
-ghost use Rattle.settings.specs.Settings.{limitRefusal, sizeRefusal, settingsRefusal, shardCount, capOf, wordsOf, shardOf, leastIdle, idleLimit, idleLimitMillis};
+ghost use Rattle.bucket.specs.Bucket.{Accepted};
+ghost use Rattle.settings.specs.Rate.{timeToFull};
+ghost use Rattle.settings.specs.Settings.{limitRefusal, sizeRefusal, settingsRefusal, shardCount, shapeOf, ShapeOfAccepted, wordsIn, wordsOf, indexIn, idleLimitFor, idleLimitMillis};
 use crate::eviction::Eviction;
 use crate::rate::Rate;
+use bucket::BucketConfig;
 use units::Millis;
 use units::Nanos;
-use units::OptionMillis;
-use units::OptionNanos;
 
 pub mod decision;
 pub mod eviction;
@@ -29,6 +30,12 @@ pub struct Settings {
     pub shards: usize,
 }
 
+// How the lent words are divided: so many shards, each with places for so many keys.
+pub struct Shape {
+    pub shards: usize,
+    pub cap: usize,
+}
+
 impl Limit {
     // The number by which the rate is refused; 0 if it is accepted or there is none.
     pub fn refusal(self) -> u32
@@ -37,17 +44,6 @@ impl Limit {
         match self {
             Limit::Closed => 0,
             Limit::Open(rate) => rate.refusal(),
-        }
-    }
-
-    // The shortest idle time that counts: how long a bucket takes to be full.
-    pub fn least_idle(self) -> Nanos
-        requires { ⌜ limitRefusal self ≡ 0 ⌝ }
-        ensures { λ r. ⌜ r .0 ≡ leastIdle self ⌝ }
-    {
-        match self {
-            Limit::Closed => Nanos(0),
-            Limit::Open(rate) => rate::time_to_full(rate.config()),
         }
     }
 }
@@ -79,7 +75,7 @@ impl Settings {
     }
 
     // The number of shards: the first count of the table that is at least the number asked for, else the last.
-    pub fn shard_count(self) -> usize
+    fn shard_count(self) -> usize
         ensures { λ r. ⌜ r ≡ shardCount self ⌝ }
     {
         let asked = self.shards;
@@ -93,13 +89,14 @@ impl Settings {
         SHARD_COUNTS[6]
     }
 
-    // The keys that a shard holds.
-    pub fn per_shard_cap(self) -> usize
-        ensures { λ r. ⌜ r ≡ capOf self ⌝ }
+    // The shards, and an equal share of the keys for each. This takes a division, so a call on a key works it out once.
+    pub fn shape(self) -> Shape
+        ensures { λ r. ⌜ r ≡ shapeOf self ⌝ }
     {
         let shards = self.shard_count();
         let share = arith::div_ceil(self.eviction.max_keys as u64, shards as u64);
-        arith::larger(share, 1) as usize
+        let cap = arith::larger(share, 1) as usize;
+        Shape { shards, cap }
     }
 
     // The words that the store is lent.
@@ -107,33 +104,35 @@ impl Settings {
         requires { ⌜ sizeRefusal self ≡ 0 ⌝ }
         ensures { λ r. ⌜ r ≡ wordsOf self ⌝ }
     {
-        self.shard_count() * (5 + 8 * self.per_shard_cap())
+        self.shape().words()
+    }
+}
+
+impl Shape {
+    // The words of all shards.
+    pub fn words(self) -> usize
+        requires { ⌜ ShapeOfAccepted self ⌝ }
+        ensures { λ r. ⌜ r ≡ wordsIn self ⌝ }
+    {
+        self.shards * (5 + 8 * self.cap)
     }
 
     // The shard that a hash belongs to.
     pub fn shard_index(self, hash: u64) -> usize
-        ensures { λ r. ⌜ r ≡ shardOf self hash ⌝ }
+        requires { ⌜ ShapeOfAccepted self ⌝ }
+        ensures { λ r. ⌜ r ≡ indexIn self hash ⌝ }
     {
-        ((hash >> 40) & ((self.shard_count() - 1) as u64)) as usize
+        ((hash >> 40) & ((self.shards - 1) as u64)) as usize
     }
+}
 
-    // The idle limit: the idle time or the time to be full, whichever is longer, rounded up to milliseconds, and 1 more.
-    pub fn idle_limit(self) -> OptionMillis
-        requires { ⌜ limitRefusal (self .limit) ≡ 0 ⌝ }
-        ensures { λ r. ⌜ r ≡ idleLimit self ⌝ }
-    {
-        let eviction = self.eviction;
-        let idle_ttl = eviction.idle_ttl;
-        let limit = self.limit;
-        match idle_ttl {
-            OptionNanos::None => OptionMillis::None,
-            OptionNanos::Some(ttl) => {
-                let least = limit.least_idle();
-                let span = arith::larger(ttl.0, least.0);
-                OptionMillis::Some(idle_limit_millis(Nanos(span)))
-            }
-        }
-    }
+// The idle limit for an idle time: that time or the time to be full, whichever is longer, rounded up to milliseconds, and 1 more.
+pub fn idle_limit(ttl: Nanos, config: BucketConfig) -> Millis
+    requires { ⌜ Accepted config ⌝ }
+    ensures { λ r. ⌜ r ≡ idleLimitFor ttl (timeToFull config) ⌝ }
+{
+    let least = rate::time_to_full(config);
+    idle_limit_millis(Nanos(arith::larger(ttl.0, least.0)))
 }
 
 // A span as an idle limit: the milliseconds that it takes, rounded up, and 1 more.

@@ -2,24 +2,25 @@
 use Prim.Native.Nat.{ℕ, _+_, _*_, _≤_, _<_}
 use native.Mathlib.Omega.{arith}
 use native.Mathlib.Nat.{mul-le-mul-right, le-trans}
-use mathlib.Core.Path.{_≡_, ap, sym, _∙_}
+use mathlib.Core.Path.{_≡_, refl, ap, sym, _∙_}
 use mathlib.Core.List.{List}
 use lib.ListN.{length, getD, replicate, length-replicate, getD-replicate, List·getD-eq-default}
 use borrow.Rule.Slice.PartMut.{same-len-mid}
 use Rattle.arith.proofs.Cases.{by-le}
 use Rattle.rows.specs.Parts.{part}
-use Rattle.rows.specs.Outcome.{Outcome, outcome}
+use Rattle.rows.specs.Outcome.{Outcome}
 use Rattle.rows.proofs.PartLaws.{part-length, part-back, part-kept-below, part-kept-above}
 use Rattle.rows.proofs.ZeroLaws.{zeros-part}
 use Rattle.settings.specs.declared.Settings.{Settings}
-use Rattle.settings.specs.Settings.{sizeRefusal, mostKeys, mostShards, capOf, shardWords, wordsOf, shardOf, shardCount}
+use Rattle.settings.specs.declared.Shape.{Shape}
+use Rattle.settings.specs.Settings.{sizeRefusal, mostKeys, mostShards, capOf, shardWords, wordsOf, shapeOf, ShapeOfAccepted, shardOf, shardCount}
 use Rattle.settings.proofs.SettingsLaws.{shard-below, cap-least, words-most}
 use Rattle.ledger.specs.Model as Ledger
 use Rattle.shard_map.specs.Model as Shard
 use Rattle.shard_map.specs.Layout as Layout
 use Rattle.shard_map.proofs.LayoutLaws.{cap-is}
 use Rattle.shard_map.proofs.ReadBack.{Empty, words-length, shard-of-words, debt-cap-is, zeros-empty}
-use Rattle.shards.specs.Memory.{withPart, shardStart, shardEnd, shardAt, inShard}
+use Rattle.shards.specs.Memory.{withPart, partStart, partOf, Placed, shardEnd, shardAt, inShard}
 
 -- Parts of w words each, by number: a part ends before one of a higher number begins.
 part-ends : (i j w : ℕ) → i < j → i * w + w ≤ j * w
@@ -34,12 +35,18 @@ other-part-kept w i j ws new fits same other =
     (λ before. part-kept-below (i * w) w ws new fits same (j * w) w (part-ends j i w before))
 
 -- The part of a hash's shard lies within memory of the length that the settings ask for.
-pub shard-fits : (s : Settings) (hash : ℕ) (ws : List ℕ) → length ws ≡ wordsOf s → shardStart s hash + shardWords (capOf s) ≤ length ws
+pub shard-fits : (s : Settings) (hash : ℕ) (ws : List ℕ) → length ws ≡ wordsOf s → partStart (shapeOf s) hash + shardWords (capOf s) ≤ length ws
 shard-fits s hash ws size = rw size (part-ends (shardOf s hash) (shardCount s) (shardWords (capOf s)) (shard-below s hash))
 
+pub part-placed : (s : Settings) (hash : ℕ) (ws : List ℕ) → length ws ≡ wordsOf s → Placed (partOf s hash) ws
+part-placed s hash ws size = record { ends = refl; within = shard-fits s hash ws size }
+
 -- It ends at a small number if the sizes are accepted.
-pub shard-start-most : (s : Settings) (hash : ℕ) → sizeRefusal s ≡ 0 → shardStart s hash + shardWords (capOf s) ≤ mostShards * shardWords mostKeys
+shard-start-most : (s : Settings) (hash : ℕ) → sizeRefusal s ≡ 0 → partStart (shapeOf s) hash + shardWords (capOf s) ≤ mostShards * shardWords mostKeys
 shard-start-most s hash accepted = le-trans (part-ends (shardOf s hash) (shardCount s) (shardWords (capOf s)) (shard-below s hash)) (words-most s accepted)
+
+pub part-ends-early : {shape : Shape} (hash : ℕ) → ShapeOfAccepted shape → partStart shape hash + shardWords (shape .cap) ≤ mostShards * shardWords mostKeys
+part-ends-early hash shaped = rw (shaped .is) (shard-start-most (shaped .settings) hash (shaped .accepted))
 
 -- So does the part of a shard by its number.
 pub shard-ends : (s : Settings) (i : ℕ) (ws : List ℕ) → length ws ≡ wordsOf s → i < shardCount s → shardEnd (capOf s) i ≤ length ws
@@ -59,14 +66,14 @@ module _ {A : Type 0} (s : Settings) (hash : ℕ) (ws : List ℕ) (o : Outcome A
   -- The memory keeps its length.
   pub in-shard-length : length (inShard s hash ws o .after) ≡ wordsOf s
   in-shard-length =
-      same-len-mid (shardStart s hash) (shardWords (capOf s)) ws (Layout.wordsOf (o .after))
-      (new-length ∙ sym (part-length (shardStart s hash) (shardWords (capOf s)) ws (shard-fits s hash ws size)))
+      same-len-mid (partStart (shapeOf s) hash) (shardWords (capOf s)) ws (Layout.wordsOf (o .after))
+      (new-length ∙ sym (part-length (partStart (shapeOf s) hash) (shardWords (capOf s)) ws (shard-fits s hash ws size)))
       ∙ size
 
   -- The shard of the hash is the one that the operation leaves.
   pub in-shard-reads-back : shardAt s hash (inShard s hash ws o .after) ≡ o .after
   in-shard-reads-back =
-      ap (Layout.shard (capOf s)) (part-back (shardStart s hash) (shardWords (capOf s)) ws (Layout.wordsOf (o .after)) (shard-fits s hash ws size) new-length)
+      ap (Layout.shard (capOf s)) (part-back (partStart (shapeOf s) hash) (shardWords (capOf s)) ws (Layout.wordsOf (o .after)) (shard-fits s hash ws size) new-length)
       ∙ shard-of-words (capOf s) (o .after) room debt-room
 
   -- So it is for every hash of that shard.
@@ -75,7 +82,7 @@ module _ {A : Type 0} (s : Settings) (hash : ℕ) (ws : List ℕ) (o : Outcome A
 
   -- A hash of another shard: its words, and so its shard, stay as they are.
   module _ (other : ℕ) (apart : shardOf s other ≡ shardOf s hash → ⊥) where
-    pub in-shard-leaves-other-words : part (shardStart s other) (shardWords (capOf s)) (inShard s hash ws o .after) ≡ part (shardStart s other) (shardWords (capOf s)) ws
+    pub in-shard-leaves-other-words : part (partStart (shapeOf s) other) (shardWords (capOf s)) (inShard s hash ws o .after) ≡ part (partStart (shapeOf s) other) (shardWords (capOf s)) ws
     in-shard-leaves-other-words =
         other-part-kept (shardWords (capOf s)) (shardOf s hash) (shardOf s other) ws (Layout.wordsOf (o .after)) (shard-fits s hash ws size) new-length apart
 
@@ -92,7 +99,7 @@ zeros-read n i =
 -- In memory as set-up leaves it every shard is empty.
 pub fresh-shards-are-empty : (s : Settings) (hash : ℕ) → Empty (shardAt s hash (replicate (wordsOf s) 0))
 fresh-shards-are-empty s hash =
-    zeros-empty (capOf s) _ (zeros-part (shardStart s hash) (shardWords (capOf s)) (replicate (wordsOf s) 0) (zeros-read (wordsOf s)))
+    zeros-empty (capOf s) _ (zeros-part (partStart (shapeOf s) hash) (shardWords (capOf s)) (replicate (wordsOf s) 0) (zeros-read (wordsOf s)))
 
 module _ (s : Settings) (hash : ℕ) (ws : List ℕ) where
   -- The shard of a hash has the cap's room for slots and debts.

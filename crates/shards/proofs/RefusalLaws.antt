@@ -2,7 +2,7 @@
 use Prim.Native.Nat.{ℕ, zero, suc, _+_, _≤_, _<_}
 use native.Mathlib.Omega.{arith}
 use native.Mathlib.Nat.{le-trans, lt-of-lt-of-le, max-le, le-max-left, le-max-right}
-use mathlib.Core.Path.{_≡_, sym, _∙_}
+use mathlib.Core.Path.{_≡_, sym, ap, _∙_}
 use mathlib.Core.Bool.{cond}
 use mathlib.Core.List.{List}
 use lib.Dec.{ltb}
@@ -26,16 +26,16 @@ within-bound bound number refusal rest none =
     (λ over. absurd (omega (arith, rw (lt-ltb bound number over) at none)))
 
 -- A check refuses nothing just where what it looks at is right; here for each check, both ways. First the length of the memory.
-module _ (s : Settings) (ws : List ℕ) where
-  length-not-refused : memoryRefusal s ws ≡ 0 → length ws ≡ wordsOf s
+module _ (words : ℕ) (ws : List ℕ) where
+  pub length-not-refused : memoryRefusal words ws ≡ 0 → length ws ≡ words
   unfolding memoryRefusal
-  length-not-refused none = by-eq (length ws) (wordsOf s) (λ same. same) (λ other. absurd (omega (arith, rw (ne-eqb _ _ other) at none)))
+  length-not-refused none = by-eq (length ws) words (λ same. same) (λ other. absurd (omega (arith, rw (ne-eqb _ _ other) at none)))
 
-  pub length-is-accepted : length ws ≡ wordsOf s → memoryRefusal s ws ≡ 0
+  pub length-is-accepted : length ws ≡ words → memoryRefusal words ws ≡ 0
   unfolding memoryRefusal
   length-is-accepted same = rw (eq-eqb _ _ same)
 
-  pub other-length-is-refused : (length ws ≡ wordsOf s → ⊥) → memoryRefusal s ws ≡ 5
+  pub other-length-is-refused : (length ws ≡ words → ⊥) → memoryRefusal words ws ≡ 5
   unfolding memoryRefusal
   other-length-is-refused other = rw (ne-eqb _ _ other)
 
@@ -94,11 +94,11 @@ pub record SetUp (s : Settings) (ws : List ℕ) : Type 0 where
 module _ (s : Settings) (ws : List ℕ) where
   pub set-up-not-refused : setUpRefusal s ws ≡ 0 → SetUp s ws
   set-up-not-refused none =
-      let parts = neither-refuses (settingsRefusal s) (memoryRefusal s ws) none in
-      record { settings = parts .0; size = length-not-refused s ws (parts .1) }
+      let parts = neither-refuses (settingsRefusal s) (memoryRefusal (wordsOf s) ws) none in
+      record { settings = parts .0; size = length-not-refused (wordsOf s) ws (parts .1) }
 
   pub set-up-is-accepted : SetUp s ws → setUpRefusal s ws ≡ 0
-  set-up-is-accepted a = no-refusal-hands-on (settingsRefusal s) (memoryRefusal s ws) (a .settings) ∙ length-is-accepted s ws (a .size)
+  set-up-is-accepted a = no-refusal-hands-on (settingsRefusal s) (memoryRefusal (wordsOf s) ws) (a .settings) ∙ length-is-accepted (wordsOf s) ws (a .size)
 
 -- The slot counts of all shards: the largest bounds each, and is within the cap where each is.
 module _ (cap : ℕ) (ws : List ℕ) where
@@ -174,9 +174,31 @@ module _ (s : Settings) (hash : ℕ) (ws : List ℕ) where
       reserve-is-accepted a early short =
           no-refusal-hands-on (timedRefusal s hash at ws) (waitRefusal longest) (timed-is-accepted a early) ∙ wait-is-accepted longest short
 
+-- Of three refusals in a row the first that there is stands, however they are taken together.
+pub refusals-in-a-row : (a b c : ℕ) → firstOf (firstOf a b) c ≡ firstOf a (firstOf b c)
+refusals-in-a-row a b c =
+    by-eq a 0
+    (λ none. ap (λ (n : ℕ). firstOf n c) (no-refusal-hands-on a b none) ∙ sym (no-refusal-hands-on a (firstOf b c) none))
+    (λ some. ap (λ (n : ℕ). firstOf n c) (first-refusal-stands a b some) ∙ first-refusal-stands a c some ∙ sym (first-refusal-stands a (firstOf b c) some))
+
+-- No refusal after one changes nothing.
+pub no-further-refusal : (a : ℕ) → firstOf a 0 ≡ a
+no-further-refusal a = by-eq a 0 (λ none. no-refusal-hands-on a 0 none ∙ sym none) (λ some. first-refusal-stands a 0 some)
+
 -- The refusals as the code comes to them: the first that is not 0 is told, else what the next check tells.
 pub first-is-told : {told first : ℕ} (second : ℕ) → told ≡ first → (told ≡ 0 → ⊥) → told ≡ firstOf first second
 first-is-told {first = first} second is some = is ∙ sym (first-refusal-stands first second (λ none. some (is ∙ none)))
 
 pub second-is-told : {checked first told second : ℕ} → checked ≡ first → checked ≡ 0 → told ≡ second → told ≡ firstOf first second
 second-is-told {first = first} {second = second} is none then = then ∙ sym (no-refusal-hands-on first second (sym is ∙ none))
+
+-- So a refusal of the settings is that of every operation on a key.
+module _ (s : Settings) (hash : ℕ) (ws : List ℕ) {told : ℕ} (is : told ≡ settingsRefusal s) (some : told ≡ 0 → ⊥) where
+  pub settings-refuse-keyed : told ≡ keyedRefusal s hash ws
+  settings-refuse-keyed = first-is-told _ (first-is-told _ is some) some
+
+  pub settings-refuse-timed : (at : Nanos) → told ≡ timedRefusal s hash at ws
+  settings-refuse-timed at = first-is-told _ settings-refuse-keyed some
+
+  pub settings-refuse-reserve : (at longest : Nanos) → told ≡ reserveRefusal s hash at longest ws
+  settings-refuse-reserve at longest = first-is-told _ (settings-refuse-timed at) some

@@ -1,2 +1,3 @@
 pub mod Memory
 pub mod Refusals
+pub mod Lending

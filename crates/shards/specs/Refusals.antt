@@ -6,9 +6,10 @@ use lib.Dec.{ltb, eqb}
 use lib.ListN.{length}
 use Rattle.units.specs.declared.Nanos.{Nanos}
 use Rattle.settings.specs.declared.Settings.{Settings}
-use Rattle.settings.specs.Settings.{firstOf, settingsRefusal, shardCount, capOf, wordsOf}
+use Rattle.settings.specs.declared.Shape.{Shape}
+use Rattle.settings.specs.Settings.{firstOf, settingsRefusal, shardCount, capOf, wordsIn, wordsOf}
 use Rattle.shard_map.specs.Model.{Shard}
-use Rattle.shards.specs.Memory.{shardAt, slotCount}
+use Rattle.shards.specs.Memory.{partIn, shardIn, shardAt, slotCount}
 
 -- The latest moment, and the longest wait that a reservation may ask for, in nanoseconds.
 abbrev pub latestMoment : ℕ
@@ -17,17 +18,21 @@ latestMoment = 2 ^ 62
 abbrev pub longestMaxWait : ℕ
 longestMaxWait = 2 ^ 46
 
--- 5 where the memory has not the length that the settings ask for.
-unfoldable pub memoryRefusal : Settings → List ℕ → ℕ
-memoryRefusal s ws = cond (eqb (length ws) (wordsOf s)) 0 5
+-- 5 where the memory has not the length that is asked for.
+unfoldable pub memoryRefusal : ℕ → List ℕ → ℕ
+memoryRefusal words ws = cond (eqb (length ws) words) 0 5
 
 -- Set-up and clear: the settings, then the length.
 abbrev pub setUpRefusal : Settings → List ℕ → ℕ
-setUpRefusal s ws = firstOf (settingsRefusal s) (memoryRefusal s ws)
+setUpRefusal s ws = firstOf (settingsRefusal s) (memoryRefusal (wordsOf s) ws)
 
 -- 5 where a count of a shard is over the cap.
 unfoldable pub countRefusal : ℕ → Shard → ℕ
 countRefusal cap s = cond (ltb cap (s .slots .count)) 5 (cond (ltb cap (s .ledger .debts .count)) 5 0)
+
+-- In memory of a shape: the length, then the counts of the shard of a hash.
+abbrev pub shapeRefusal : Shape → ℕ → List ℕ → ℕ
+shapeRefusal shape hash ws = firstOf (memoryRefusal (wordsIn shape) ws) (countRefusal (shape .cap) (shardIn (partIn shape hash) ws))
 
 -- Refund and remove: as set-up, then the counts of the key's shard.
 abbrev pub keyedRefusal : Settings → ℕ → List ℕ → ℕ

@@ -1,23 +1,27 @@
 // The shards of a store, side by side in the lent words. An operation on a key is lent the part of its key's shard alone.
 ghost use mathlib.Core.Path.{_≡_};
-ghost use Prim.Native.Nat.{_≤_, _^_};
+ghost use Prim.Native.Nat.{_≤_, _<_, _^_};
 ghost use lib.ListN.{length, replicate};
 ghost use Rattle.rows.specs.Held.{sum};
 ghost use Rattle.rows.specs.Outcome.{outcome};
 ghost use Rattle.bucket.specs.Bucket.{Accepted};
-ghost use Rattle.settings.specs.Settings.{sizeRefusal, capOf, shardCount};
+ghost use Rattle.settings.specs.Settings.{ShapeOfAccepted, capOf, shardCount};
+ghost use Rattle.shard_map.specs.Model.{Sound, placeOf};
 ghost use Rattle.store.specs.Model as Store;
-ghost use Rattle.shards.specs.Memory.{shardAt, partOf, inShard, shardEnd, slotCount};
-ghost use Rattle.shards.specs.Refusals.{keyedRefusal, lenRefusal};
+ghost use Rattle.shards.specs.Memory.{Placed, shardIn, partIn, inPart, shardEnd, slotCount};
+ghost use Rattle.shards.specs.Refusals.{lenRefusal};
 use bucket::BucketConfig;
 use bucket::BucketCore;
 use bucket::Request;
+use rows::Place;
 use settings::Settings;
+use settings::Shape;
 use store::Answer;
 use store::Identity;
 use store::Policy;
 use units::Nanos;
 
+pub mod lending;
 pub mod refusals;
 
 // Where the shard of a key lies in the lent words, and how many places it has.
@@ -28,79 +32,98 @@ pub struct Part {
 }
 
 // The part of the shard of a hash.
-pub(crate) fn part_of(settings: Settings, hash: u64) -> Part
-    requires { ⌜ sizeRefusal settings ≡ 0 ⌝ }
-    ensures { λ r. ⌜ r ≡ partOf settings hash ⌝ }
+pub(crate) fn part_of(shape: Shape, hash: u64) -> Part
+    requires { ⌜ ShapeOfAccepted shape ⌝ }
+    ensures { λ r. ⌜ r ≡ partIn shape hash ⌝ }
 {
-    let cap = settings.per_shard_cap();
-    let words = 5 + 8 * cap;
-    let start = settings.shard_index(hash) * words;
+    let words = 5 + 8 * shape.cap;
+    let start = shape.shard_index(hash) * words;
     Part {
         start,
         end: start + words,
-        cap,
+        cap: shape.cap,
     }
 }
 
-// Runs a request on a key's bucket.
-pub fn with_or_insert(
+// The place of a key's slot.
+pub fn position(ws: &[u64], part: Part, id: Identity) -> Place
+    requires { ⌜ Placed part (now ws) × Sound (shardIn part (now ws)) ⌝ }
+    ensures { λ r. ⌜ r ≡ placeOf (shardIn part (now (ws .entry))) (id .hash) (id .key) ⌝ }
+{
+    let start = part.start;
+    let end = part.end;
+    shard_map::position(&ws[start..end], part.cap, id.hash, id.key)
+}
+
+// Runs a request on the bucket of a known key, by its place.
+pub fn known(
     ws: &mut [u64],
-    settings: Settings,
+    part: Part,
+    policy: Policy,
+    pos: usize,
+    request: Request,
+    cost: u32,
+    at: Nanos,
+) -> Answer
+    requires { ⌜ Placed part (now ws) × Sound (shardIn part (now ws)) × Accepted (policy .config) × (cost ≤ policy .config .capacity) × (pos < part .cap) ⌝ }
+    ensures { λ r. ⌜ outcome r (now (ws .exit)) ≡ inPart part (now (ws .entry)) (Store.known policy request cost at (shardIn part (now (ws .entry))) pos) ⌝ }
+{
+    let start = part.start;
+    let end = part.end;
+    store::known(
+        &mut ws[start..end],
+        part.cap,
+        policy,
+        pos,
+        request,
+        cost,
+        at,
+    )
+}
+
+// Runs a request on the bucket that a new key gets.
+pub fn new(
+    ws: &mut [u64],
+    part: Part,
     policy: Policy,
     id: Identity,
     request: Request,
     cost: u32,
     at: Nanos,
 ) -> Answer
-    requires { ⌜ (keyedRefusal settings (id .hash) (now ws) ≡ 0) × Accepted (policy .config) × (cost ≤ policy .config .capacity) × (at .0 ≤ 2 ^ 62) ⌝ }
-    ensures { λ r. ⌜ outcome r (now (ws .exit)) ≡ inShard settings (id .hash) (now (ws .entry)) (Store.withOrInsert policy id request cost at (shardAt settings (id .hash) (now (ws .entry)))) ⌝ }
+    requires { ⌜ Placed part (now ws) × Sound (shardIn part (now ws)) × Accepted (policy .config) × (cost ≤ policy .config .capacity) × (at .0 ≤ 2 ^ 62) ⌝ }
+    ensures { λ r. ⌜ outcome r (now (ws .exit)) ≡ inPart part (now (ws .entry)) (Store.new policy id request cost at (shardIn part (now (ws .entry)))) ⌝ }
 {
-    let part = part_of(settings, id.hash);
     let start = part.start;
     let end = part.end;
-    store::with_or_insert(&mut ws[start..end], part.cap, policy, id, request, cost, at)
+    store::new(&mut ws[start..end], part.cap, policy, id, request, cost, at)
 }
 
 // The bucket that a key has, or would have if it came in now.
-pub fn view(
-    ws: &[u64],
-    settings: Settings,
-    config: BucketConfig,
-    id: Identity,
-    at: Nanos,
-) -> BucketCore
-    requires { ⌜ (keyedRefusal settings (id .hash) (now ws) ≡ 0) × Accepted config ⌝ }
-    ensures { λ r. ⌜ r ≡ Store.viewed config id at (shardAt settings (id .hash) (now (ws .entry))) ⌝ }
+pub fn view(ws: &[u64], part: Part, config: BucketConfig, id: Identity, at: Nanos) -> BucketCore
+    requires { ⌜ Placed part (now ws) × Sound (shardIn part (now ws)) × Accepted config ⌝ }
+    ensures { λ r. ⌜ r ≡ Store.viewed config id at (shardIn part (now (ws .entry))) ⌝ }
 {
-    let part = part_of(settings, id.hash);
     let start = part.start;
     let end = part.end;
     store::view(&ws[start..end], part.cap, config, id, at)
 }
 
 // Gives tokens back to a key. Tells whether it had a slot or a debt.
-pub fn refund(
-    ws: &mut [u64],
-    settings: Settings,
-    config: BucketConfig,
-    id: Identity,
-    cost: u32,
-) -> bool
-    requires { ⌜ (keyedRefusal settings (id .hash) (now ws) ≡ 0) × Accepted config ⌝ }
-    ensures { λ r. ⌜ outcome r (now (ws .exit)) ≡ inShard settings (id .hash) (now (ws .entry)) (Store.refunded config id cost (shardAt settings (id .hash) (now (ws .entry)))) ⌝ }
+pub fn refund(ws: &mut [u64], part: Part, config: BucketConfig, id: Identity, cost: u32) -> bool
+    requires { ⌜ Placed part (now ws) × Sound (shardIn part (now ws)) × Accepted config ⌝ }
+    ensures { λ r. ⌜ outcome r (now (ws .exit)) ≡ inPart part (now (ws .entry)) (Store.refunded config id cost (shardIn part (now (ws .entry)))) ⌝ }
 {
-    let part = part_of(settings, id.hash);
     let start = part.start;
     let end = part.end;
     store::refund(&mut ws[start..end], part.cap, config, id, cost)
 }
 
 // Forgets a key. Tells whether it had a slot or a debt.
-pub fn remove(ws: &mut [u64], settings: Settings, id: Identity) -> bool
-    requires { ⌜ keyedRefusal settings (id .hash) (now ws) ≡ 0 ⌝ }
-    ensures { λ r. ⌜ outcome r (now (ws .exit)) ≡ inShard settings (id .hash) (now (ws .entry)) (Store.removed id (shardAt settings (id .hash) (now (ws .entry)))) ⌝ }
+pub fn remove(ws: &mut [u64], part: Part, id: Identity) -> bool
+    requires { ⌜ Placed part (now ws) × Sound (shardIn part (now ws)) ⌝ }
+    ensures { λ r. ⌜ outcome r (now (ws .exit)) ≡ inPart part (now (ws .entry)) (Store.removed id (shardIn part (now (ws .entry)))) ⌝ }
 {
-    let part = part_of(settings, id.hash);
     let start = part.start;
     let end = part.end;
     store::remove(&mut ws[start..end], part.cap, id)
@@ -111,8 +134,9 @@ pub(crate) fn slot_count(ws: &[u64], cap: usize, shard: usize) -> usize
     requires { ⌜ shardEnd cap shard ≤ length (now ws) ⌝ }
     ensures { λ r. ⌜ r ≡ slotCount cap shard (now (ws .entry)) ⌝ }
 {
-    let start = shard * (5 + 8 * cap);
-    let end = start + (5 + 8 * cap);
+    let words = 5 + 8 * cap;
+    let start = shard * words;
+    let end = start + words;
     shard_map::len(&ws[start..end], cap)
 }
 
@@ -121,12 +145,11 @@ pub fn len(ws: &[u64], settings: Settings) -> usize
     requires { ⌜ lenRefusal settings (now ws) ≡ 0 ⌝ }
     ensures { λ r. ⌜ r ≡ sum (shardCount settings) (λ i. slotCount (capOf settings) i (now (ws .entry))) ⌝ }
 {
-    let cap = settings.per_shard_cap();
-    let shards = settings.shard_count();
+    let shape = settings.shape();
     let mut total: usize = 0;
     let mut i: usize = 0;
-    while i < shards {
-        total += slot_count(ws, cap, i);
+    while i < shape.shards {
+        total += slot_count(ws, shape.cap, i);
         i += 1;
     }
     total

@@ -1,5 +1,4 @@
 pub mod RoomLaws
 pub mod StoreLaws
 pub mod OwnBucketLaws
-pub mod DistinctLaws
 pub mod ModelLaws

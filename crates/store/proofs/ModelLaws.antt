@@ -31,7 +31,7 @@ use Rattle.evict.specs.Evict.{evicted}
 use Rattle.store.specs.declared.Identity.{Identity}
 use Rattle.store.specs.declared.Policy.{Policy}
 use Rattle.store.specs.declared.Answer.the-variants.{Decided, NoSpace}
-use Rattle.store.specs.Model.{tracks, askedAt, known, sweptIdle, swept, makeRoom, joined, new, withOrInsert, hasDebt, refunded, removed}
+use Rattle.store.specs.Model.{tracks, idleLimitIn, askedAt, known, sweptIdle, swept, makeRoom, joined, new, withOrInsert, hasDebt, refunded, removed}
 use Rattle.store.proofs.RoomLaws.{swept-idle-sound, swept-sound, room-sound, room-made-leaves-room}
 use Rattle.store.proofs.StoreLaws.{roomFor, debt-taken-sound, refused-took-nothing}
 
@@ -44,7 +44,7 @@ found-below-cap {cap} {ws} h k i lent e = lent-below lent (found-held (shard cap
 
 -- A known key, store by store: the slot is touched in its place, read back, and put there again with the bucket that was asked.
 pub known-by-stores : (p : Policy) (request : Request) (cost : ℕ) (at : Nanos) (s : Shard) (i : ℕ) {t : Shard} {slot : Slot} → i < capOf s
-    → t ≡ touchAt s i (millisOf at) (tracks (p .«idle_limit»)) → slot ≡ slotAt t i
+    → t ≡ touchAt s i (millisOf at) (tracks (p .«idle_ttl»)) → slot ≡ slotAt t i
     → outcome (Decided (askedAt p slot request cost at .decision)) (withSlot t i (withBucket slot (askedAt p slot request cost at .bucket)))
     ≡ known p request cost at s i
 unfolding known
@@ -66,8 +66,8 @@ module _ {cap : ℕ} {ws ws′ : List ℕ} (lent : Lent cap ws) (same : length w
   pub lent-after-store : (i : ℕ) (slot : Slot) → shard cap ws′ ≡ withSlot (shard cap ws) i slot → Lent cap ws′
   lent-after-store i slot gave = lent-after lent same gave (change-sound (shard cap ws) i slot (lent .sound))
 
-  pub lent-after-idle-sweep : (p : Policy) (at : Nanos) → shard cap ws′ ≡ sweptIdle p at (shard cap ws) (p .«idle_limit») → Lent cap ws′
-  lent-after-idle-sweep p at gave = lent-after lent same gave (swept-idle-sound p at (shard cap ws) (lent .sound) (p .«idle_limit»))
+  pub lent-after-idle-sweep : (p : Policy) (at : Nanos) → shard cap ws′ ≡ sweptIdle p at (shard cap ws) (idleLimitIn p) → Lent cap ws′
+  lent-after-idle-sweep p at gave = lent-after lent same gave (swept-idle-sound p at (shard cap ws) (lent .sound) (idleLimitIn p))
 
   pub lent-after-sweeps : (p : Policy) (at : Nanos) → shard cap ws′ ≡ swept p at (shard cap ws) → Lent cap ws′
   lent-after-sweeps p at gave = lent-after lent same gave (swept-sound p at (shard cap ws) (lent .sound))

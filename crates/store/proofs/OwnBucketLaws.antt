@@ -37,11 +37,7 @@ module _ (c : BucketConfig) (id : Identity) (at : Nanos) (s : Shard) where
   unfolding viewed
   view-without-slot e = rw e
 
--- What a key holds: something where it has a slot; without one, whatever its hash owes.
-pub slot-holds : (id : Identity) (s : Shard) (i : ℕ) → placeOf s (id .hash) (id .key) ≡ At i → holds id s ≡ true
-unfolding holds
-slot-holds id s i e = rw e
-
+-- A key without a slot holds something exactly where its hash owes.
 pub without-slot-holds-debt : (id : Identity) (s : Shard) → placeOf s (id .hash) (id .key) ≡ Nowhere → holds id s ≡ hasDebt (Ledger.owedBy (s .ledger) (id .hash))
 unfolding holds
 without-slot-holds-debt id s e = rw e

@@ -14,32 +14,24 @@ use Rattle.units.specs.declared.OptionMillis.{OptionMillis}
 use Rattle.units.specs.declared.OptionMillis.the-variants as millis
 use Rattle.bucket.specs.declared.BucketConfig.{BucketConfig}
 use Rattle.bucket.specs.Bucket.{Accepted}
-use Rattle.rows.specs.declared.Place.the-variants.{Nowhere}
 use Rattle.rows.specs.Outcome.{Outcome, outcome}
 use Rattle.settings.specs.Eviction.{ttlSweep, ledgerScan}
 use Rattle.ledger.specs.Model as Ledger
 use Rattle.ledger.proofs.StepLaws as LedgerSteps
-use Rattle.shard_map.specs.Model.{Shard, Sound, capOf, withLedger, placeOf, sweepIdle}
+use Rattle.shard_map.specs.Model.{Shard, Sound, capOf, withLedger, sweepIdle}
 use Rattle.shard_map.proofs.StepLaws.{ledger-sound, sweep-idle-sound, sweep-idle-cap, sweep-idle-ledger}
 use Rattle.shard_map.proofs.KeptLaws.{Keeps, keeps-refl, keeps-trans, sweep-idle-keeps-held, ledger-sweep-keeps-held}
-use Rattle.shard_map.proofs.DistinctLaws.{sweep-idle-finds-nothing-new}
 use Rattle.evict.specs.declared.Room.{Room}
 use Rattle.evict.specs.declared.Room.the-variants.{Made, Refused}
 use Rattle.evict.specs.Evict.{minRefusalWait, evicted}
-use Rattle.evict.proofs.WalkLaws.{made-is-no-refusal, evict-cap, evict-ledger-cap, evict-sound, evict-made-leaves-room, evict-refusal}
+use Rattle.evict.proofs.WalkLaws.{made-is-no-refusal, never-refused-is-made, evict-cap, evict-ledger-cap, evict-sound, evict-made-leaves-room, evict-refusal}
 use Rattle.evict.proofs.KeptLaws.{evict-keeps-held}
-use Rattle.evict.proofs.DistinctLaws.{evict-finds-nothing-new}
 use Rattle.store.specs.declared.Policy.{Policy}
-use Rattle.store.specs.Model.{sweptIdle, swept, makeRoom}
+use Rattle.store.specs.Model.{idleLimitIn, sweptIdle, swept, makeRoom}
 
 -- The ledger's sweep, in its shard.
 abbrev pub sweptLedger : Nanos → Shard → Shard
 sweptLedger at s = withLedger s (Ledger.sweep (at .0) ledgerScan (s .ledger))
-
--- Lookup of a slot does not look at the ledger.
-pub ledger-keeps-lookup : (s : Shard) (l : Ledger.Ledger) (h k : ℕ) → placeOf (withLedger s l) h k ≡ placeOf s h k
-unfolding placeOf
-ledger-keeps-lookup s l h k = refl
 
 -- Q is kept by the two sweeps.
 pub record KeptBySweeps (p : Policy) (at : Nanos) (Q : Shard → Type 0) : Type 0 where
@@ -82,7 +74,7 @@ module _ (p : Policy) (at : Nanos) (s : Shard) (u : Sound s) where
   -- What the sweeps keep holds after both.
   swept-keeps : (Q : Shard → Type 0) → KeptBySweeps p at Q → Q s → Q (swept p at s)
   swept-keeps Q k q =
-      let limit : OptionMillis = p .«idle_limit» in
+      let limit : OptionMillis = idleLimitIn p in
       k .ledger (sweptIdle p at s limit) (swept-idle-sound limit) (swept-idle-keeps Q k q limit)
 
   pub swept-sound : Sound (swept p at s)
@@ -143,16 +135,6 @@ module _ (p : Policy) (at : Nanos) (s : Shard) (u : Sound s) where
       c : BucketConfig
       c = p .config
 
-  -- A key that has no slot has none afterwards.
-  pub room-finds-nothing-new : (h k : ℕ) → placeOf s h k ≡ Nowhere → placeOf (makeRoom p at s .after) h k ≡ Nowhere
-  room-finds-nothing-new h k =
-      room-keeps (λ t. placeOf t h k ≡ Nowhere)
-      (record {
-        idle = λ t limit v new. sweep-idle-finds-nothing-new (p .config) at limit ttlSweep t h k v new;
-        ledger = λ t v new. ledger-keeps-lookup t _ h k ∙ new;
-      })
-      (λ t v some new. evict-finds-nothing-new (p .config) at (p .«forget_debt») t h k v some new)
-
   -- Where room was made there is room for a slot.
   pub room-made-leaves-room : makeRoom p at s .answer ≡ Made → makeRoom p at s .after .slots .count < capOf (makeRoom p at s .after)
   room-made-leaves-room =
@@ -169,15 +151,8 @@ module _ (p : Policy) (at : Nanos) (s : Shard) (u : Sound s) where
       record { full = omega (arith, r .full, swept-ledger-cap, swept-ledger-count); never = r .never; least = r .least })
 
   -- So room is made while the ledger is below its cap, and wherever debts may be forgotten.
-  room-succeeds : ((wait : Nanos) → makeRoom p at s .answer ≡ Refused wait → ⊥) → makeRoom p at s .answer ≡ Made
-  room-succeeds never = go (makeRoom p at s .answer) refl
-    where
-      go : (answer : Room) → makeRoom p at s .answer ≡ answer → makeRoom p at s .answer ≡ Made
-      go Made e = e
-      go (Refused wait) e = absurd (never wait e)
-
   pub room-below-ledger-cap-never-refuses : s .ledger .debts .count < Ledger.capOf (s .ledger) → makeRoom p at s .answer ≡ Made
-  room-below-ledger-cap-never-refuses below = room-succeeds (λ wait e. omega (arith, room-refusal wait e .full))
+  room-below-ledger-cap-never-refuses below = never-refused-is-made _ (λ wait e. omega (arith, room-refusal wait e .full))
 
   pub room-forgetting-never-refuses : p .«forget_debt» ≡ true → makeRoom p at s .answer ≡ Made
-  room-forgetting-never-refuses forgets = room-succeeds (λ wait e. true≢false (sym forgets ∙ room-refusal wait e .never))
+  room-forgetting-never-refuses forgets = never-refused-is-made _ (λ wait e. true≢false (sym forgets ∙ room-refusal wait e .never))

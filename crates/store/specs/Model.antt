@@ -18,6 +18,8 @@ use Rattle.rows.specs.declared.Place.{Place}
 use Rattle.rows.specs.declared.Place.the-variants.{At, Nowhere}
 use Rattle.rows.specs.Outcome.{Outcome, outcome}
 use Rattle.settings.specs.Eviction.{ttlSweep, ledgerScan}
+use Rattle.settings.specs.Rate.{timeToFull}
+use Rattle.settings.specs.Settings.{idleLimitOf}
 use Rattle.slot.specs.declared.Slot.{Slot}
 use Rattle.slot.specs.Slot.{touched, withBucket, newSlot}
 use Rattle.ledger.specs.Model as Ledger
@@ -31,9 +33,9 @@ use Rattle.store.specs.declared.Answer.{Answer}
 use Rattle.store.specs.declared.Answer.the-variants.{Decided, NoSpace}
 
 -- Whether last-seen is kept up to date: only where an idle time is set.
-abbrev pub tracks : OptionMillis → Bool
-tracks millis.None = false
-tracks (millis.Some limit) = true
+abbrev pub tracks : OptionNanos → Bool
+tracks nanos.None = false
+tracks (nanos.Some ttl) = true
 
 -- A known key's slot is touched, and its bucket is asked.
 abbrev pub askedAt : Policy → Slot → Request → ℕ → Nanos → BucketOutcome
@@ -41,8 +43,12 @@ askedAt p slot request cost at = Bucket.asked (p .config) request (slot .bucket)
 
 unfoldable pub known : Policy → Request → ℕ → Nanos → Shard → ℕ → Outcome Answer Shard
 known p request cost at s i =
-    let slot = touched (slotAt s i) (millisOf at) (tracks (p .«idle_limit»)) in
+    let slot = touched (slotAt s i) (millisOf at) (tracks (p .«idle_ttl»)) in
     outcome (Decided (askedAt p slot request cost at .decision)) (withSlot s i (withBucket slot (askedAt p slot request cost at .bucket)))
+
+-- The idle limit, by the idle time and the time in which a bucket is full.
+abbrev pub idleLimitIn : Policy → OptionMillis
+idleLimitIn p = idleLimitOf (p .«idle_ttl») (timeToFull (p .config))
 
 -- The idle sweep runs where an idle time is set.
 abbrev pub sweptIdle : Policy → Nanos → Shard → OptionMillis → Shard
@@ -52,7 +58,7 @@ sweptIdle p at s (millis.Some limit) = sweepIdle (p .config) at limit ttlSweep s
 -- Before a new key comes in: the idle sweep, the ledger's sweep, and an eviction if the shard is full all the same.
 abbrev pub swept : Policy → Nanos → Shard → Shard
 swept p at s =
-    let idle = sweptIdle p at s (p .«idle_limit») in
+    let idle = sweptIdle p at s (idleLimitIn p) in
     withLedger idle (Ledger.sweep (at .0) ledgerScan (idle .ledger))
 
 unfoldable pub makeRoom : Policy → Nanos → Shard → Outcome Room Shard

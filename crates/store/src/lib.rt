@@ -16,7 +16,6 @@ use settings::eviction::Eviction;
 use shard_map::debts;
 use slot::Slot;
 use units::Nanos;
-use units::OptionMillis;
 use units::OptionNanos;
 
 // A key: its hash and the key itself, together.
@@ -28,7 +27,7 @@ pub struct Identity {
 // The settings that the store on one shard needs.
 pub struct Policy {
     pub config: BucketConfig,
-    pub idle_limit: OptionMillis,
+    pub idle_ttl: OptionNanos,
     pub forget_debt: bool,
 }
 
@@ -41,37 +40,18 @@ pub enum Answer {
 impl Policy {
     // Whether last-seen is kept up to date.
     pub fn tracks_idle(self) -> bool
-        ensures { λ r. ⌜ r ≡ Model.tracks (self .«idle_limit») ⌝ }
+        ensures { λ r. ⌜ r ≡ Model.tracks (self .«idle_ttl») ⌝ }
     {
-        let idle_limit = self.idle_limit;
-        match idle_limit {
-            OptionMillis::None => false,
-            OptionMillis::Some(_) => true,
+        let idle_ttl = self.idle_ttl;
+        match idle_ttl {
+            OptionNanos::None => false,
+            OptionNanos::Some(_) => true,
         }
     }
 }
 
-// Runs a request on a key's bucket. A new key gets a bucket first, in its debt if it left one, and room is made for it.
-pub fn with_or_insert(
-    ws: &mut [u64],
-    cap: usize,
-    policy: Policy,
-    id: Identity,
-    request: Request,
-    cost: u32,
-    at: Nanos,
-) -> Answer
-    requires { ⌜ Lent cap (now ws) × Accepted (policy .config) × (cost ≤ policy .config .capacity) × (at .0 ≤ 2 ^ 62) ⌝ }
-    ensures { λ r. ⌜ outcome r (shard cap (now (ws .exit))) ≡ Model.withOrInsert policy id request cost at (shard cap (now (ws .entry))) ⌝ }
-{
-    match shard_map::position(ws, cap, id.hash, id.key) {
-        Place::At(pos) => known(ws, cap, policy, pos, request, cost, at),
-        Place::Nowhere => new(ws, cap, policy, id, request, cost, at),
-    }
-}
-
-// A known key: its slot is touched, and its bucket is asked.
-fn known(
+// A request of a known key, by its place: its slot is touched, and its bucket is asked.
+pub fn known(
     ws: &mut [u64],
     cap: usize,
     policy: Policy,
@@ -108,9 +88,9 @@ fn with_bucket(slot: Slot, bucket: BucketCore) -> Slot
     }
 }
 
-// A new key takes its debt out first, so that the debt's own place in the ledger is free for the room that it needs. A key that left a debt is
+// A request of a new key. It takes its debt out first, so that the debt's own place in the ledger is free for the room that it needs. A key that left a debt is
 // therefore never turned away for space, and no debt has to be put back.
-fn new(
+pub fn new(
     ws: &mut [u64],
     cap: usize,
     policy: Policy,
@@ -190,16 +170,17 @@ fn sweep(ws: &mut [u64], cap: usize, policy: Policy, at: Nanos)
     debts::sweep(ws, cap, at, Eviction::LEDGER_SCAN);
 }
 
-// The idle sweep, where an idle time is set.
+// The idle sweep, where an idle time is set. The limit is worked out here, since only a new key needs it.
 fn sweep_idle(ws: &mut [u64], cap: usize, policy: Policy, at: Nanos)
     requires { ⌜ Lent cap (now ws) × Accepted (policy .config) ⌝ }
-    ensures { λ _. ⌜ shard cap (now (ws .exit)) ≡ Model.sweptIdle policy at (shard cap (now (ws .entry))) (policy .«idle_limit») ⌝ }
+    ensures { λ _. ⌜ shard cap (now (ws .exit)) ≡ Model.sweptIdle policy at (shard cap (now (ws .entry))) (Model.idleLimitIn policy) ⌝ }
 {
     let config = policy.config;
-    let idle_limit = policy.idle_limit;
-    match idle_limit {
-        OptionMillis::None => {}
-        OptionMillis::Some(limit) => {
+    let idle_ttl = policy.idle_ttl;
+    match idle_ttl {
+        OptionNanos::None => {}
+        OptionNanos::Some(ttl) => {
+            let limit = settings::idle_limit(ttl, config);
             shard_map::sweep_idle(ws, cap, config, at, limit, Eviction::TTL_SWEEP);
         }
     }

@@ -15,7 +15,7 @@ pub enum OptionNanos {
     Some(Nanos),
 }
 
-// A span in milliseconds that may be missing.
+// A span in milliseconds that may be missing: for the definitions, where the idle limit is one.
 pub enum OptionMillis {
     None,
     Some(Millis),

@@ -1,26 +1,63 @@
 -- `available` tells the refusal, else the tokens.
-use mathlib.Core.Path.{sym, _∙_}
+use Rattle.perkey.proofs.CallLaws.{refusal-is-told, unlent-is-told, lent-is-ruled}
 use Rattle.perkey.specs.Calls.{available}
-use Rattle.perkey.proofs.CallLaws.{refusal-is-told, rule-is-told}
+use Rattle.shards.proofs.RefusalLaws.{settings-refuse-timed}
+use Rattle.shards.proofs.LendingLaws.{accepted-shape, lent-part, timed-lending}
+use mathlib.Core.Path.{sym, _∙_}
 use borrow.Author.Needs.{needs}
 use Rattle.perkey.proofs.available.Statement.{statement}
 use Rattle.perkey.proofs.available.Tie as tie
 
-timed-refusal-requires : tie.Need-timed-refusal-requires
-timed-refusal-requires c κs = search needs
+refusal-requires : tie.Need-refusal-requires
+refusal-requires c κs = search needs
 
 returns : tie.Need-returns
 returns c =
     let args′ = c .before .before .before .args in
-    refusal-is-told (available (args′ .settings) (args′ .at) (args′ .id)) (args′ .ws .now) (c .before .timed-refusal .ensures) (c .if1 .taken)
+    let if1′ = c .if1 in
+    refusal-is-told (available (args′ .settings) (args′ .at) (args′ .id)) (args′ .ws .now) (settings-refuse-timed (args′ .settings) (args′ .id .hash) (args′ .ws .now) (c .before .refusal .ensures) (if1′ .taken) (args′ .at)) (if1′ .taken)
+
+shape-requires : tie.Need-shape-requires
+shape-requires c κs = search needs
+
+moment-refusal-requires : tie.Need-moment-refusal-requires
+moment-refusal-requires c κs = search needs
+
+lend-requires : tie.Need-lend-requires
+lend-requires c κs = accepted-shape (c .before .before .before .before .before .args .settings) (sym (c .before .before .before .refusal .ensures) ∙ c .before .before .if1 .left) (c .before .shape .ensures)
+
+enum-known-refusal : tie.Need-enum-known-refusal
+enum-known-refusal c = search needs
+
+enum-known-part : tie.Need-enum-known-part
+enum-known-part c = search needs
 
 tokens-requires : tie.Need-tokens-requires
-tokens-requires c κs = sym (c .before .timed-refusal .ensures) ∙ c .if1 .left
+tokens-requires c κs =
+    let args′ = c .before .before .before .before .before .before .before .before .before .args in
+    lent-part _ _ (timed-lending (args′ .settings) (args′ .id .hash) (args′ .ws .now) (sym (c .before .before .before .before .before .before .before .refusal .ensures) ∙ c .before .before .before .before .before .before .if1 .left) (c .before .before .before .before .before .shape .ensures) _ (c .before .before .before .lend .ensures) (args′ .at) (c .before .before .before .before .moment-refusal .ensures)) (c .before .part .given .1)
 
 returns-2 : tie.Need-returns-2
 returns-2 c =
-    let args′ = c .before .before .before .before .args in
-    rule-is-told (available (args′ .settings) (args′ .at) (args′ .id)) (args′ .ws .now) (c .before .before .timed-refusal .ensures) (c .before .if1 .left) (rw (c .tokens .ensures))
+    let args′ = c .before .before .before .before .before .before .before .before .before .args in
+    unlent-is-told (available (args′ .settings) (args′ .at) (args′ .id)) (args′ .ws .now) _ (timed-lending (args′ .settings) (args′ .id .hash) (args′ .ws .now) (sym (c .before .before .before .before .before .before .before .refusal .ensures) ∙ c .before .before .before .before .before .before .if1 .left) (c .before .before .before .before .before .shape .ensures) _ (c .before .before .before .lend .ensures) (args′ .at) (c .before .before .before .before .moment-refusal .ensures)) (c .before .refusal2 .given .1)
+
+returns-3 : tie.Need-returns-3
+returns-3 c =
+    let args′ = c .before .before .before .before .before .before .before .before .before .before .args in
+    lent-is-ruled (available (args′ .settings) (args′ .at) (args′ .id)) (args′ .ws .now) _ (timed-lending (args′ .settings) (args′ .id .hash) (args′ .ws .now) (sym (c .before .before .before .before .before .before .before .before .refusal .ensures) ∙ c .before .before .before .before .before .before .before .if1 .left) (c .before .before .before .before .before .before .shape .ensures) _ (c .before .before .before .before .lend .ensures) (args′ .at) (c .before .before .before .before .before .moment-refusal .ensures)) (c .before .before .part .given .1) (rw (c .tokens .ensures))
 
 pub available-spec : {M : Type 1} → statement M
-available-spec = tie.close (tie.spec timed-refusal-requires returns tokens-requires returns-2)
+available-spec =
+    tie.close
+    (tie.spec
+    refusal-requires
+    returns
+    shape-requires
+    moment-refusal-requires
+    lend-requires
+    enum-known-refusal
+    enum-known-part
+    tokens-requires
+    returns-2
+    returns-3)

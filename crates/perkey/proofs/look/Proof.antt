@@ -22,12 +22,14 @@ returns c = rw (c .before .before .before .before .limit .given .1) (peek-of-too
 view-requires : tie.Need-view-requires
 view-requires c κs =
     let args′ = c .before .before .before .before .before .before .before .args in
-    bucket-may-be-viewed (args′ .settings) (args′ .id .hash) (args′ .ws .now) (args′ .at) (c .before .before .before .before .before .before .before .pre) _ (c .before .before .before .before .limit .given .1) (c .before .before .config .ensures)
+    let start′ = c .before .before .before .before .before .before .before in
+    bucket-may-be-viewed (args′ .settings) (args′ .id .hash) (args′ .ws .now) (start′ .pre .1) (args′ .at) (start′ .pre .0) _ (c .before .before .before .before .limit .given .1) (c .before .before .config .ensures)
 
 time-until-at-requires : tie.Need-time-until-at-requires
 time-until-at-requires c κs =
     let args′ = c .before .before .before .before .before .before .before .before .args in
-    (bucket-may-be-viewed (args′ .settings) (args′ .id .hash) (args′ .ws .now) (args′ .at) (c .before .before .before .before .before .before .before .before .pre) _ (c .before .before .before .before .before .limit .given .1) (c .before .before .before .config .ensures) .1, c .before .if1 .left)
+    let start′ = c .before .before .before .before .before .before .before .before in
+    (bucket-may-be-viewed (args′ .settings) (args′ .id .hash) (args′ .ws .now) (start′ .pre .1) (args′ .at) (start′ .pre .0) _ (c .before .before .before .before .before .limit .given .1) (c .before .before .before .config .ensures) .2, c .before .if1 .left)
 
 wait-reply-requires : tie.Need-wait-reply-requires
 wait-reply-requires c κs = search needs
@@ -38,7 +40,7 @@ returns-2 c = rw (c .before .enum-told .given .1, c .closed .ensures)
 returns-3 : tie.Need-returns-3
 returns-3 c =
     let config′ = c .before .before .before .before .before .config in
-    rw (c .before .before .before .before .before .before .before .limit .given .1, c .wait-reply .ensures, c .before .time-until-at .ensures, c .before .before .view .ensures, config′ .ensures) (peek-of-bucket _ _ _ _ _ _ (rw (config′ .ensures) at (c .before .before .before .if1 .left)))
+    rw (c .before .before .before .before .before .before .before .limit .given .1, c .wait-reply .ensures, c .before .time-until-at .ensures, c .before .before .view .ensures, config′ .ensures, c .before .before .before .before .before .before .before .before .before .before .pre .1) (peek-of-bucket _ _ _ _ _ _ (rw (config′ .ensures) at (c .before .before .before .if1 .left)))
 
 pub look-spec : {M : Type 1} → statement M
 look-spec =

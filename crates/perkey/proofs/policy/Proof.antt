@@ -6,14 +6,11 @@ use Rattle.perkey.proofs.policy.Tie as tie
 config-requires : tie.Need-config-requires
 config-requires c κs = search needs
 
-idle-limit-requires : tie.Need-idle-limit-requires
-idle-limit-requires c κs = search needs
-
 forgets-requires : tie.Need-forgets-requires
 forgets-requires c κs = search needs
 
 returns : tie.Need-returns
-returns c = rw (c .forgets .ensures, c .before .idle-limit .ensures, c .before .before .config .ensures)
+returns c = rw (c .forgets .ensures, c .before .config .ensures)
 
 pub policy-spec : {M : Type 1} → statement M
-policy-spec = tie.close (tie.spec config-requires idle-limit-requires forgets-requires returns)
+policy-spec = tie.close (tie.spec config-requires forgets-requires returns)

@@ -1,71 +1,67 @@
--- `refund` tells the refusal; a closed limiter knows no key; else the store's answer in the key's shard.
-use mathlib.Core.Path.{sym, _∙_}
-use Rattle.perkey.proofs.RuleLaws.{rate-is-accepted, key-is-told}
+-- `refund` tells the refusal, else what `give_back` tells.
+use Rattle.perkey.proofs.CallLaws.{refusal-is-told, unlent-is-told, lent-is-ruled}
 use Rattle.perkey.specs.Calls.{refund}
-use Rattle.perkey.proofs.CallLaws.{refusal-is-told, rule-is-told}
+use Rattle.shards.proofs.RefusalLaws.{settings-refuse-keyed}
+use Rattle.shards.proofs.LendingLaws.{accepted-shape, lent-part, keyed-lending}
+use mathlib.Core.Path.{refl, sym, _∙_}
 use borrow.Author.Needs.{needs}
 use Rattle.perkey.proofs.refund.Statement.{statement}
 use Rattle.perkey.proofs.refund.Tie as tie
 
-keyed-refusal-requires : tie.Need-keyed-refusal-requires
-keyed-refusal-requires c κs = search needs
+refusal-requires : tie.Need-refusal-requires
+refusal-requires c κs = search needs
+
+returns : tie.Need-returns
+returns c =
+    let args′ = c .before .before .before .args in
+    let if1′ = c .if1 in
+    refusal-is-told (refund (args′ .settings) (args′ .id) (args′ .cost)) (args′ .ws .now) (settings-refuse-keyed (args′ .settings) (args′ .id .hash) (args′ .ws .now) (c .before .refusal .ensures) (if1′ .taken)) (if1′ .taken)
+
+shape-requires : tie.Need-shape-requires
+shape-requires c κs = search needs
+
+lend-requires : tie.Need-lend-requires
+lend-requires c κs = accepted-shape (c .before .before .before .before .before .args .settings) (sym (c .before .before .before .refusal .ensures) ∙ c .before .before .if1 .left) (c .before .shape .ensures)
+
+enum-known-refusal : tie.Need-enum-known-refusal
+enum-known-refusal c = search needs
+
+enum-known-part : tie.Need-enum-known-part
+enum-known-part c = search needs
+
+give-back-requires : tie.Need-give-back-requires
+give-back-requires c κs =
+    let args′ = c .before .before .before .before .before .before .before .before .before .before .args in
+    lent-part _ _ (keyed-lending (args′ .settings) (args′ .id .hash) (args′ .ws .now) (sym (c .before .before .before .before .before .before .before .before .refusal .ensures) ∙ c .before .before .before .before .before .before .before .if1 .left) (c .before .before .before .before .before .before .shape .ensures) _ (c .before .before .before .before .lend .ensures) refl) (c .before .before .part .given .1)
 
 same-length : tie.Need-same-length
 same-length c = search needs
 
-returns : tie.Need-returns
-returns c =
-    let args′ = c .before .before .before .before .args in
-    refusal-is-told (refund (args′ .settings) (args′ .id) (args′ .cost)) (args′ .ws .now) (c .before .keyed-refusal .ensures) (c .if1 .taken)
-
-enum-told : tie.Need-enum-told
-enum-told c = search needs
-
-enum-known-limit : tie.Need-enum-known-limit
-enum-known-limit c = search needs
-
-config-requires : tie.Need-config-requires
-config-requires c κs = search needs
-
-refund-requires : tie.Need-refund-requires
-refund-requires c κs =
-    let keyed-refusal′ = c .before .before .before .before .before .before .keyed-refusal in
-    let if1′ = c .before .before .before .before .before .if1 in
+returns-2 : tie.Need-returns-2
+returns-2 c =
     let args′ = c .before .before .before .before .before .before .before .before .before .args in
-    (sym (keyed-refusal′ .ensures) ∙ if1′ .left, rw (c .config .ensures) (rate-is-accepted (args′ .settings) (args′ .id .hash) (args′ .ws .now) _ (sym (keyed-refusal′ .ensures) ∙ if1′ .left) (c .before .before .before .limit .given .1)))
-
-known-reply-requires : tie.Need-known-reply-requires
-known-reply-requires c κs = search needs
+    unlent-is-told (refund (args′ .settings) (args′ .id) (args′ .cost)) (args′ .ws .now) _ (keyed-lending (args′ .settings) (args′ .id .hash) (args′ .ws .now) (sym (c .before .before .before .before .before .before .before .refusal .ensures) ∙ c .before .before .before .before .before .before .if1 .left) (c .before .before .before .before .before .shape .ensures) _ (c .before .before .before .lend .ensures) refl) (c .before .refusal2 .given .1)
 
 same-length-2 : tie.Need-same-length-2
 same-length-2 c = search needs
 
-returns-2 : tie.Need-returns-2
-returns-2 c =
-    let args′ = c .before .before .before .before .before .before .args in
-    rule-is-told (refund (args′ .settings) (args′ .id) (args′ .cost)) (args′ .ws .now) (c .before .before .before .keyed-refusal .ensures) (c .before .before .if1 .left) (rw (c .enum-told .given .1))
-
-same-length-3 : tie.Need-same-length-3
-same-length-3 c = search needs
-
 returns-3 : tie.Need-returns-3
 returns-3 c =
     let args′ = c .before .before .before .before .before .before .before .before .before .before .before .before .before .args in
-    rule-is-told (refund (args′ .settings) (args′ .id) (args′ .cost)) (args′ .ws .now) (c .before .before .before .before .before .before .before .before .before .before .keyed-refusal .ensures) (c .before .before .before .before .before .before .before .before .before .if1 .left) (rw (c .before .before .before .before .before .before .before .limit .given .1) (key-is-told (args′ .settings) (args′ .id) (args′ .ws .now) _ (rw (c .before .before .before .before .config .ensures) at (c .before .before .before .refund .ensures)) (c .known-reply .ensures)))
+    lent-is-ruled (refund (args′ .settings) (args′ .id) (args′ .cost)) (args′ .ws .now) _ (keyed-lending (args′ .settings) (args′ .id .hash) (args′ .ws .now) (sym (c .before .before .before .before .before .before .before .before .before .before .before .refusal .ensures) ∙ c .before .before .before .before .before .before .before .before .before .before .if1 .left) (c .before .before .before .before .before .before .before .before .before .shape .ensures) _ (c .before .before .before .before .before .before .before .lend .ensures) refl) (c .before .before .before .before .before .part .given .1) (c .before .before .give-back .ensures)
 
 pub refund-spec : {M : Type 1} → statement M
 refund-spec =
     tie.close
     (tie.spec
-    keyed-refusal-requires
-    same-length
+    refusal-requires
     returns
-    enum-told
-    enum-known-limit
-    config-requires
-    refund-requires
-    known-reply-requires
-    same-length-2
+    shape-requires
+    lend-requires
+    enum-known-refusal
+    enum-known-part
+    give-back-requires
+    same-length
     returns-2
-    same-length-3
+    same-length-2
     returns-3)

@@ -4,23 +4,17 @@ use borrow.Author.Needs.{needs}
 use Rattle.shards.proofs.slot_count.Statement.{statement}
 use Rattle.shards.proofs.slot_count.Tie as tie
 
+mul-words : tie.Need-mul-words
+mul-words c = search needs
+
+add-words : tie.Need-add-words
+add-words c = search needs
+
 mul-start : tie.Need-mul-start
 mul-start c = search needs
 
-add-start : tie.Need-add-start
-add-start c = search needs
-
-mul-start-2 : tie.Need-mul-start-2
-mul-start-2 c = search needs
-
-mul-end : tie.Need-mul-end
-mul-end c = search needs
-
 add-end : tie.Need-add-end
 add-end c = search needs
-
-add-end-2 : tie.Need-add-end-2
-add-end-2 c = search needs
 
 mul-len : tie.Need-mul-len
 mul-len c = search needs
@@ -44,12 +38,10 @@ pub slot-count-spec : {M : Type 1} → statement M
 slot-count-spec =
     tie.close
     (tie.spec
+    mul-words
+    add-words
     mul-start
-    add-start
-    mul-start-2
-    mul-end
     add-end
-    add-end-2
     mul-len
     sub-len
     part-len-start

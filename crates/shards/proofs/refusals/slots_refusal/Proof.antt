@@ -17,16 +17,13 @@ record Within (ws : List ℕ) (cap shards i : ℕ) : Type 0 where
   within : i ≤ shards
 
 abbrev Inv-loop : tie.InvT-loop
-Inv-loop ws cap shards i₀ i = Within ws cap shards i
+Inv-loop ws shape i₀ i = Within ws (shape .cap) (shape .shards) i
 
 abbrev μ-loop : tie.MeasureT-loop
-μ-loop ws cap shards i₀ i = shards - i
+μ-loop ws shape i₀ i = shape .shards - i
 
-per-shard-cap-requires : tie.Need-per-shard-cap-requires Inv-loop μ-loop
-per-shard-cap-requires c κs = search needs
-
-shard-count-requires : tie.Need-shard-count-requires Inv-loop μ-loop
-shard-count-requires c κs = search needs
+shape-requires : tie.Need-shape-requires Inv-loop μ-loop
+shape-requires c κs = search needs
 
 loop-holds : tie.Need-loop-holds Inv-loop μ-loop
 loop-holds c = record { most = no-shard-within _ _; within = omega arith }
@@ -34,12 +31,13 @@ loop-holds c = record { most = no-shard-within _ _; within = omega arith }
 slot-count-requires : tie.Need-slot-count-requires Inv-loop μ-loop
 slot-count-requires c κs =
     let args′ = c .before .before .before .before .before .args in
-    numbered-shard-ends (args′ .settings) (args′ .ws .now) (set-up-not-refused (args′ .settings) (args′ .ws .now) (c .before .before .before .before .before .pre)) (c .before .before .before .per-shard-cap .ensures) (c .before .before .shard-count .ensures) (c .loop-test .taken)
+    numbered-shard-ends (args′ .settings) (args′ .ws .now) (set-up-not-refused (args′ .settings) (args′ .ws .now) (c .before .before .before .before .before .pre)) (c .before .before .before .shape .ensures) (c .if1 .taken)
 
 returns : tie.Need-returns Inv-loop μ-loop
 returns c =
-    let args′ = c .before .before .before .before .before .before .before .args in
-    sym (shard-over-is-refused (args′ .settings) (args′ .ws .now) _ (rw (c .before .before .before .before .shard-count .ensures) at (c .before .before .loop-test .taken)) (rw (c .before .slot-count .ensures, c .before .before .before .before .before .per-shard-cap .ensures) at (c .if1 .taken)))
+    let args′ = c .before .before .before .before .before .before .before .before .args in
+    let shape′ = c .before .before .before .before .before .before .shape in
+    sym (shard-over-is-refused (args′ .settings) (args′ .ws .now) _ (rw (shape′ .ensures) at (c .before .before .before .if1 .taken)) (rw (c .before .before .slot-count .ensures, shape′ .ensures) at (c .if2 .taken)))
 
 add-i : tie.Need-add-i Inv-loop μ-loop
 add-i c = search needs
@@ -48,13 +46,13 @@ loop-less : tie.Need-loop-less Inv-loop μ-loop
 loop-less c = search needs
 
 loop-again : tie.Need-loop-again Inv-loop μ-loop
-loop-again c = record { most = next-shard-within _ _ _ (c .before .before .before .loop .inv .most) (rw (c .before .slot-count .ensures) at (c .if1 .left)); within = omega (arith, c .before .before .loop-test .taken) }
+loop-again c = record { most = next-shard-within _ _ _ (c .before .before .before .before .before .loop .inv .most) (rw (c .before .before .slot-count .ensures) at (c .if2 .left)); within = omega (arith, c .before .before .before .if1 .taken) }
 
 returns-2 : tie.Need-returns-2 Inv-loop μ-loop
 returns-2 c =
     let args′ = c .before .before .before .before .before .args in
-    let loop′ = c .before .loop in
-    sym (shards-are-accepted (args′ .settings) (args′ .ws .now) (rw (le-antisymm (loop′ .inv .within) (c .loop-test .left), c .before .before .before .per-shard-cap .ensures, c .before .before .shard-count .ensures) at (loop′ .inv .most)))
+    let loop′ = c .before .before .loop in
+    sym (shards-are-accepted (args′ .settings) (args′ .ws .now) (rw (le-antisymm (loop′ .inv .within) (c .if1 .left), c .before .before .before .shape .ensures) at (loop′ .inv .most)))
 
 pub slots-refusal-spec : {M : Type 1} → statement M
 slots-refusal-spec =
@@ -62,8 +60,7 @@ slots-refusal-spec =
     (tie.spec
     Inv-loop
     μ-loop
-    per-shard-cap-requires
-    shard-count-requires
+    shape-requires
     loop-holds
     slot-count-requires
     returns
