@@ -9,7 +9,7 @@ use Rattle.rows.specs.Outcome.{Outcome, outcome}
 use Rattle.decimal.specs.declared.OptionNumber.{OptionNumber}
 use Rattle.decimal.specs.declared.OptionNumber.the-variants.{None, Some}
 
--- A decimal digit: a byte from 48 to 57.
+-- A decimal digit: a byte from `0` (48) to `9` (57).
 unfoldable pub isDigit : ℕ → Bool
 isDigit b = cond (leb 48 b) (leb b 57) false
 

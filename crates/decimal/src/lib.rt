@@ -24,13 +24,13 @@ pub fn number(bytes: &[u8], most: u64) -> OptionNumber
     let mut value: u64 = 0;
     for i in 0..bytes.len() {
         let byte = bytes[i];
-        if byte < 48 {
+        if byte < b'0' {
             return OptionNumber::None;
         }
-        if byte > 57 {
+        if byte > b'9' {
             return OptionNumber::None;
         }
-        let digit = (byte - 48) as u64;
+        let digit = (byte - b'0') as u64;
         if value > most / 10 {
             return OptionNumber::None;
         }
@@ -55,7 +55,7 @@ pub fn width(n: u64) -> usize
     more + 1
 }
 
-// Writes the digits of a number into `out` from a place on, the last one first. Tells the place after them.
+// Writes the digits of a number into `out` from a place on, the last one first. Tells the place after them. 48 is the digit 0.
 pub fn put(out: &mut [u8], at: usize, n: u64) -> usize
     requires { ⌜ at + 20 ≤ length (now out) ⌝ }
     ensures { λ r. ⌜ outcome r (now (out .exit)) ≡ written at n (now (out .entry)) ⌝ }

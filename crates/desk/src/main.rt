@@ -1,12 +1,14 @@
 // The desk: a line of standard input is a call of the limiter, and a line of standard output its answer, as document 01 gives them.
-mod answer;
 mod feed;
 
 // The words of the memory from which the store is lent its own.
 const MEMORY_WORDS: usize = 8192;
 
+// The bytes that are read at once, with those held of a line that has not ended. The answers to so many lines have room in the output.
+const INPUT_BYTES: usize = 1024;
+
 fn main() {
-    let mut input = io::large_buffer();
+    let mut input: [u8; INPUT_BYTES] = [0; INPUT_BYTES];
     let mut output = io::large_buffer();
     let mut memory: [u64; MEMORY_WORDS] = [0; MEMORY_WORDS];
     feed::run(&mut input, &mut output, &mut memory);

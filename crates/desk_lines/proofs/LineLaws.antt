@@ -3,8 +3,10 @@ use Prim.Native.Nat.{ℕ, _+_, _-_, _≤_, _<_}
 use native.Mathlib.Omega.{arith}
 use mathlib.Core.Path.{_≡_, refl, sym, ap, _∙_}
 use mathlib.Core.Bool.{Bool, true, false}
-use mathlib.Core.List.{List, [], _∷_}
-use lib.ListN.{length, getD}
+use mathlib.Core.List.{List, [], _∷_, _++_}
+use lib.ListN.{length, getD, take, length-append}
+use lib.Seq.{take-all, length-take-le}
+use Rattle.arith.proofs.Cases.{by-le}
 use Rattle.rows.specs.Parts.{part}
 use Rattle.rows.proofs.PartLaws.{part-length}
 use Rattle.rows.proofs.RowLaws.{part-word}
@@ -13,10 +15,10 @@ use Rattle.settings.specs.declared.Limit.the-variants.{Open}
 use Rattle.settings.specs.declared.eviction.WhenFull.{WhenFull}
 use Rattle.settings.specs.declared.eviction.WhenFull.the-variants.{RefuseNew, ForgetDebt}
 use Rattle.settings.specs.declared.rate.OptionTokens.the-variants as tokens
-use Rattle.desk_lines.specs.declared.Rest.{Rest}
-use Rattle.desk_lines.specs.declared.Number.{Number}
-use Rattle.desk_lines.specs.declared.Idle.{Idle}
-use Rattle.desk_lines.specs.declared.RateRead.{RateRead}
+use Rattle.desk_lines.specs.declared.fields.Rest.{Rest}
+use Rattle.desk_lines.specs.declared.fields.NumberRead.{NumberRead}
+use Rattle.desk_lines.specs.declared.fields.IdleRead.{IdleRead}
+use Rattle.desk_lines.specs.declared.parts.RateRead.{RateRead}
 use Rattle.desk_lines.specs.declared.Line.{Line}
 use Rattle.desk_lines.specs.declared.Line.the-variants.{SetUp, Malformed}
 use Rattle.desk_lines.specs.Fields.{fields, fieldEnd, fieldsFrom}
@@ -54,7 +56,7 @@ taken-after most gave same = gave ∙ ap (λ (r : Reading). taken most r) same
 
 module _ (line : List ℕ) (rest : Rest) where
   -- A moment, a key and a cost.
-  pub request-taken : (at key cost : Number) → numberAt line at ≡ taken most64 (readingAt line rest) → numberAt line key ≡ taken most64 (readingAt line (at .rest))
+  pub request-taken : (at key cost : NumberRead) → numberAt line at ≡ taken most64 (readingAt line rest) → numberAt line key ≡ taken most64 (readingAt line (at .rest))
       → numberAt line cost ≡ taken most32 (readingAt line (key .rest))
       → record { value = record { at = nanosOf (at .value); key = key .value; cost = cost .value }; rest = readingAt line (cost .rest) } ≡ takenRequest (readingAt line rest)
   request-taken at key cost e₁ e₂ e₃ =
@@ -63,7 +65,7 @@ module _ (line : List ℕ) (rest : Rest) where
       λ j. record { value = record { at = nanosOf (e₁ j .value); key = e₂′ j .value; cost = e₃′ j .value }; rest = e₃′ j .rest }
 
   -- A rate.
-  pub rate-taken : (amount period burst initial : Number) → numberAt line amount ≡ taken most32 (readingAt line rest)
+  pub rate-taken : (amount period burst initial : NumberRead) → numberAt line amount ≡ taken most32 (readingAt line rest)
       → numberAt line period ≡ taken most64 (readingAt line (amount .rest)) → numberAt line burst ≡ taken most32 (readingAt line (period .rest))
       → numberAt line initial ≡ taken most32 (readingAt line (burst .rest))
       → rateAt line (record { value = record { amount = amount .value; period = nanosOf (period .value); burst = tokens.Some (burst .value); initial = tokens.Some (initial .value) }; rest = initial .rest })
@@ -78,7 +80,7 @@ module _ (line : List ℕ) (rest : Rest) where
       }
 
   -- Settings: what is left after all fields, and the line that they are.
-  module _ (rate : RateRead) (keys shards : Number) (idle : Idle) (rule : Number)
+  module _ (rate : RateRead) (keys shards : NumberRead) (idle : IdleRead) (rule : NumberRead)
       (e₁ : rateAt line rate ≡ takenRate (readingAt line rest)) (e₂ : numberAt line keys ≡ taken most64 (readingAt line (rate .rest)))
       (e₃ : numberAt line shards ≡ taken most64 (readingAt line (keys .rest))) (e₄ : idleAt line idle ≡ takenIdle (readingAt line (shards .rest)))
       (e₅ : numberAt line rule ≡ taken mostRule (readingAt line (idle .rest))) where
@@ -196,3 +198,12 @@ module _ (line : List ℕ) where
     by-letter one =
         let byte = part-word 0 (fieldEnd line 0) line 0 (omega (arith, one)) in
         sym (line-of-first ∙ one-letter (part 0 (fieldEnd line 0) line) (fieldsFrom line (fieldEnd line 0 + 1)) (first-length ∙ one) ∙ rw (byte, one))
+
+-- Of the bytes before a place one more than a line may have is enough, whatever follows: all of a short beginning is kept, and a longer one is
+-- malformed with that many bytes already.
+pub kept-is-enough : (line more : List ℕ) → lineOf (take (longestLine + 1) line ++ more) ≡ lineOf (line ++ more)
+kept-is-enough line more =
+    let kept = take (longestLine + 1) line in
+    by-le (length line) (longestLine + 1) (λ short. rw (take-all (longestLine + 1) line short))
+    (λ long. sym (too-long (kept ++ more) (omega (arith, length-append kept more, length-take-le (longestLine + 1) line (omega (arith, long)))))
+    ∙ too-long (line ++ more) (omega (arith, long, length-append line more)))

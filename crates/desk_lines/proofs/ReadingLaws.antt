@@ -15,8 +15,8 @@ use Rattle.units.specs.declared.OptionNanos.the-variants as nanos
 use Rattle.decimal.specs.declared.OptionNumber.{OptionNumber}
 use Rattle.decimal.specs.declared.OptionNumber.the-variants as number
 use Rattle.decimal.specs.Decimal.{numberOf, allDigits, decimalFrom}
-use Rattle.desk_lines.specs.declared.Rest.{Rest}
-use Rattle.desk_lines.specs.declared.Number.{Number}
+use Rattle.desk_lines.specs.declared.fields.Rest.{Rest}
+use Rattle.desk_lines.specs.declared.fields.NumberRead.{NumberRead}
 use Rattle.desk_lines.specs.Fields.{fieldEnd, fieldsFrom}
 use Rattle.desk_lines.specs.Lines.{Reading, failed, left, Taken, takenNumber, taken, isDash, dashNext, most64, nanosOf, skipped, idleTime, takenIdle, isFinished}
 use Rattle.desk_lines.specs.Places.{readingAt, numberRead, numberAt}
@@ -49,17 +49,17 @@ read-is-taken line next number.None = refl
 read-is-taken line next (number.Some n) = refl
 
 module _ (line : List ℕ) (rest : Rest) (most : ℕ) where
-  pub number-is-taken : {end : ℕ} {o : OptionNumber} {r : Number} → rest .good ≡ true → rest .at ≤ length line → end ≡ fieldEnd line (rest .at)
+  pub number-is-taken : {end : ℕ} {o : OptionNumber} {r : NumberRead} → rest .good ≡ true → rest .at ≤ length line → end ≡ fieldEnd line (rest .at)
       → o ≡ numberOf most (part (rest .at) (end - rest .at) line) → r ≡ numberRead (end + 1) o → numberAt line r ≡ taken most (readingAt line rest)
   unfolding taken
   number-is-taken good inside is-end is-number is-read =
       rw (is-read, is-number, is-end, reading-inside line rest good inside) (read-is-taken line (fieldEnd line (rest .at) + 1) (numberOf most (firstFieldAt line rest)))
 
-  pub no-number-is-taken : {r : Number} → r ≡ numberRead 0 number.None → rest .good ≡ false → numberAt line r ≡ taken most (readingAt line rest)
+  pub no-number-is-taken : {r : NumberRead} → r ≡ numberRead 0 number.None → rest .good ≡ false → numberAt line r ≡ taken most (readingAt line rest)
   unfolding readingAt taken
   no-number-is-taken is-read bad = rw (is-read, bad)
 
-  pub no-field-is-taken : {r : Number} → r ≡ numberRead 0 number.None → length line < rest .at → numberAt line r ≡ taken most (readingAt line rest)
+  pub no-field-is-taken : {r : NumberRead} → r ≡ numberRead 0 number.None → length line < rest .at → numberAt line r ≡ taken most (readingAt line rest)
   unfolding taken
   no-field-is-taken is-read past =
       by-test (rest .good)
@@ -149,7 +149,7 @@ module _ (line : List ℕ) (rest : Rest) (dash : dashNext (readingAt line rest) 
       rw (reading-inside line rest dash-is-good within, next) (reading-good line (record { at = rest .at + 2; good = true }) refl) in
       rw dash (λ j. record { value = nanos.None; rest = then j })
 
-pub idle-of-number : (line : List ℕ) (rest : Rest) (n : Number) → dashNext (readingAt line rest) ≡ false → numberAt line n ≡ taken most64 (readingAt line rest)
+pub idle-of-number : (line : List ℕ) (rest : Rest) (n : NumberRead) → dashNext (readingAt line rest) ≡ false → numberAt line n ≡ taken most64 (readingAt line rest)
     → record { value = nanos.Some (nanosOf (n .value)); rest = readingAt line (n .rest) } ≡ takenIdle (readingAt line rest)
 idle-of-number line rest n none gave = rw none (ap idleTime gave)
 

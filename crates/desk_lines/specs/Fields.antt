@@ -1,9 +1,10 @@
 -- A line's bytes as fields, parted by one space each.
-use Prim.Native.Nat.{ℕ, zero, suc, _+_}
+use Prim.Native.Nat.{ℕ, _+_}
 use mathlib.Core.Bool.{cond}
 use mathlib.Core.List.{List, [], _∷_}
 use lib.Dec.{eqb, leb}
 use lib.ListN.{length, drop}
+use Rattle.bytes.specs.Bytes.{indexOf}
 
 -- A space.
 abbrev pub space : ℕ
@@ -19,14 +20,9 @@ unfoldable pub fields : List ℕ → List (List ℕ)
 fields [] = [] ∷ []
 fields (b ∷ bs) = cond (eqb b space) ([] ∷ fields bs) (onFirst b (fields bs))
 
--- How many bytes stand before the first space.
-unfoldable pub untilSpace : List ℕ → ℕ
-untilSpace [] = 0
-untilSpace (b ∷ bs) = cond (eqb b space) 0 (suc (untilSpace bs))
-
--- Where the first field from a place on ends.
+-- Where the first field from a place on ends: at the first space, or at the end of the line.
 abbrev pub fieldEnd : List ℕ → ℕ → ℕ
-fieldEnd line from = from + untilSpace (drop from line)
+fieldEnd line from = from + indexOf space (drop from line)
 
 -- The fields that are left from a place on: none past the end of the line, where the last field has been taken.
 unfoldable pub fieldsFrom : List ℕ → ℕ → List (List ℕ)

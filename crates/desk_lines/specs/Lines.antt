@@ -1,5 +1,5 @@
 -- The lines of the desk program: which call a line's bytes are, or that they are malformed, whichever line it is. That `s` is the first line and no other is the
--- program's rule.
+-- rule of desk_answers (`opened`, `answered`).
 use Prim.Native.Nat.{ℕ, _-_, _^_}
 use mathlib.Core.Bool.{Bool, true, false, cond}
 use mathlib.Core.List.{List, [], _∷_}
@@ -9,7 +9,6 @@ use Rattle.units.specs.declared.Nanos.{Nanos}
 use Rattle.units.specs.declared.OptionNanos.{OptionNanos}
 use Rattle.units.specs.declared.OptionNanos.the-variants as nanos
 use Rattle.settings.specs.declared.Limit.the-variants.{Open}
-use Rattle.settings.specs.declared.Settings.{Settings}
 use Rattle.settings.specs.declared.eviction.WhenFull.{WhenFull}
 use Rattle.settings.specs.declared.eviction.WhenFull.the-variants.{RefuseNew, ForgetDebt}
 use Rattle.settings.specs.declared.rate.OptionTokens.the-variants as tokens
@@ -60,7 +59,7 @@ taken most failed = record { value = 0; rest = failed }
 taken most (left []) = record { value = 0; rest = failed }
 taken most (left (f ∷ fs)) = takenNumber fs (numberOf most f)
 
--- The next field as an idle time: the one byte `-` for none, else a number.
+-- The next field as an idle time: the one byte `-` (45) for none, else a number.
 unfoldable pub isDash : List ℕ → Bool
 isDash f = cond (eqb (length f) 1) (eqb (getD f 0 0) 45) false
 
@@ -151,7 +150,7 @@ setUp r =
       shards = shards .value;
     }))
 
--- The first field is one letter, which says what the other fields are.
+-- The first field is one letter, which says what the other fields are: by their bytes `a`, `p`, `r`, `f`, `d`, `s`.
 unfoldable pub lineOfLetter : ℕ → Reading → Line
 lineOfLetter letter r =
     cond (eqb letter 97) (try r)

@@ -6,12 +6,12 @@ use Rattle.units.specs.declared.OptionNanos.{OptionNanos}
 use Rattle.settings.specs.declared.rate.Rate.{Rate}
 use Rattle.decimal.specs.declared.OptionNumber.{OptionNumber}
 use Rattle.decimal.specs.declared.OptionNumber.the-variants as number
-use Rattle.desk_lines.specs.declared.Rest.{Rest}
-use Rattle.desk_lines.specs.declared.Number.{Number}
-use Rattle.desk_lines.specs.declared.Idle.{Idle}
+use Rattle.desk_lines.specs.declared.fields.Rest.{Rest}
+use Rattle.desk_lines.specs.declared.fields.NumberRead.{NumberRead}
+use Rattle.desk_lines.specs.declared.fields.IdleRead.{IdleRead}
 use Rattle.desk_lines.specs.declared.Request.{Request}
-use Rattle.desk_lines.specs.declared.RequestRead.{RequestRead}
-use Rattle.desk_lines.specs.declared.RateRead.{RateRead}
+use Rattle.desk_lines.specs.declared.parts.RequestRead.{RequestRead}
+use Rattle.desk_lines.specs.declared.parts.RateRead.{RateRead}
 use Rattle.desk_lines.specs.Fields.{fieldsFrom}
 use Rattle.desk_lines.specs.Lines.{Reading, failed, left, Taken}
 
@@ -19,7 +19,7 @@ unfoldable pub readingAt : List ℕ → Rest → Reading
 readingAt line r = cond (r .good) (left (fieldsFrom line (r .at))) failed
 
 -- A number that a field was, or was not.
-abbrev pub numberRead : ℕ → OptionNumber → Number
+abbrev pub numberRead : ℕ → OptionNumber → NumberRead
 numberRead next number.None = record { value = 0; rest = record { at = 0; good = false } }
 numberRead next (number.Some n) = record { value = n; rest = record { at = next; good = true } }
 
@@ -27,10 +27,10 @@ numberRead next (number.Some n) = record { value = n; rest = record { at = next;
 abbrev takenAt : {A : Type 0} → List ℕ → A → Rest → Taken A
 takenAt line value rest = record { value = value; rest = readingAt line rest }
 
-abbrev pub numberAt : List ℕ → Number → Taken ℕ
+abbrev pub numberAt : List ℕ → NumberRead → Taken ℕ
 numberAt line n = takenAt line (n .value) (n .rest)
 
-abbrev pub idleAt : List ℕ → Idle → Taken OptionNanos
+abbrev pub idleAt : List ℕ → IdleRead → Taken OptionNanos
 idleAt line n = takenAt line (n .value) (n .rest)
 
 abbrev pub requestAt : List ℕ → RequestRead → Taken Request

@@ -7,13 +7,17 @@ use Rattle.rows.specs.Outcome.{Outcome, outcome}
 use Rattle.decimal.specs.Decimal.{digitsOf}
 use Rattle.desk_lines.specs.Fields.{space}
 
--- The end of a line.
+-- The end of a line, an LF.
 abbrev pub lineFeed : ℕ
 lineFeed = 10
 
 -- A number in decimal, and the byte after it.
 abbrev pub printedField : ℕ → ℕ → List ℕ
 printedField n after = digitsOf n ++ (after ∷ [])
+
+-- The most bytes of a printed line: three numbers of 20 digits, and a byte after each.
+abbrev pub longestPrinted : ℕ
+longestPrinted = 63
 
 abbrev pub printed : ℕ → ℕ → ℕ → List ℕ
 printed number code wait = printedField number space ++ (printedField code space ++ printedField wait lineFeed)

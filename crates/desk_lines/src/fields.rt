@@ -5,38 +5,46 @@ ghost use lib.ListN.{length};
 ghost use Rattle.desk_lines.specs.Fields.{fieldEnd};
 ghost use Rattle.desk_lines.specs.Lines as Lines;
 ghost use Rattle.desk_lines.specs.Places.{readingAt, numberRead, numberAt, idleAt};
-use crate::Idle;
-use crate::Number;
-use crate::Rest;
 use decimal::OptionNumber;
 use units::Nanos;
 use units::OptionNanos;
+
+// How far a line has been read: the place at which the next field begins, one past the end of the line if none is left; or that it failed.
+pub struct Rest {
+    pub at: usize,
+    pub good: bool,
+}
+
+// A number that was read, and what is left.
+pub struct NumberRead {
+    pub value: u64,
+    pub rest: Rest,
+}
+
+// An idle time that was read, and what is left.
+pub struct IdleRead {
+    pub value: OptionNanos,
+    pub rest: Rest,
+}
 
 // Where the field that begins at a place ends: at the first space from there on, or at the end of the line.
 pub(crate) fn end(line: &[u8], from: usize) -> usize
     requires { ⌜ from ≤ length (now line) ⌝ }
     ensures { λ r. ⌜ r ≡ fieldEnd (now (line .entry)) from ⌝ }
 {
-    let mut i = from;
-    while i < line.len() {
-        if line[i] == 32 {
-            break;
-        }
-        i += 1;
-    }
-    i
+    bytes::scan::find(line, from, line.len(), b' ')
 }
 
 // A field's number, if it was one, and the place of the next field.
-fn number_read(number: OptionNumber, next: usize) -> Number
+fn number_read(number: OptionNumber, next: usize) -> NumberRead
     ensures { λ r. ⌜ r ≡ numberRead next number ⌝ }
 {
     match number {
-        OptionNumber::None => Number {
+        OptionNumber::None => NumberRead {
             value: 0,
             rest: Rest { at: 0, good: false },
         },
-        OptionNumber::Some(value) => Number {
+        OptionNumber::Some(value) => NumberRead {
             value,
             rest: Rest {
                 at: next,
@@ -47,7 +55,7 @@ fn number_read(number: OptionNumber, next: usize) -> Number
 }
 
 // The next field as a number of at most `most`.
-pub(crate) fn number(line: &[u8], rest: Rest, most: u64) -> Number
+pub(crate) fn number(line: &[u8], rest: Rest, most: u64) -> NumberRead
     ensures { λ r. ⌜ numberAt (now (line .entry)) r ≡ Lines.taken most (readingAt (now (line .entry)) rest) ⌝ }
 {
     let at = rest.at;
@@ -69,7 +77,7 @@ fn is_dash(line: &[u8], rest: Rest) -> bool
     if line.len() <= at {
         return false;
     }
-    if line[at] != 45 {
+    if line[at] != b'-' {
         return false;
     }
     if rest.good {
@@ -79,11 +87,11 @@ fn is_dash(line: &[u8], rest: Rest) -> bool
 }
 
 // The next field as an idle time.
-pub(crate) fn idle(line: &[u8], rest: Rest) -> Idle
+pub(crate) fn idle(line: &[u8], rest: Rest) -> IdleRead
     ensures { λ r. ⌜ idleAt (now (line .entry)) r ≡ Lines.takenIdle (readingAt (now (line .entry)) rest) ⌝ }
 {
     if is_dash(line, rest) {
-        return Idle {
+        return IdleRead {
             value: OptionNanos::None,
             rest: Rest {
                 at: rest.at + 2,
@@ -93,7 +101,7 @@ pub(crate) fn idle(line: &[u8], rest: Rest) -> Idle
     }
     let number = number(line, rest, u64::MAX);
     let rest = number.rest;
-    Idle {
+    IdleRead {
         value: OptionNanos::Some(Nanos(number.value)),
         rest,
     }

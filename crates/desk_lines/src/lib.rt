@@ -4,12 +4,11 @@ ghost use Rattle.desk_lines.specs.Fields.{fieldsFrom};
 ghost use Rattle.desk_lines.specs.Lines.{left};
 ghost use Rattle.desk_lines.specs.Lines as Lines;
 ghost use Rattle.desk_lines.specs.Places.{readingAt};
+use fields::Rest;
 use settings::Limit;
 use settings::Settings;
 use settings::eviction::Eviction;
-use settings::rate::Rate;
 use units::Nanos;
-use units::OptionNanos;
 
 mod fields;
 mod parts;
@@ -36,36 +35,6 @@ pub enum Line {
     Malformed,
 }
 
-// How far a line has been read: the place at which the next field begins, one past the end of the line if none is left; or that it failed.
-pub struct Rest {
-    pub at: usize,
-    pub good: bool,
-}
-
-// A number that was read, and what is left.
-pub struct Number {
-    pub value: u64,
-    pub rest: Rest,
-}
-
-// An idle time that was read, and what is left.
-pub struct Idle {
-    pub value: OptionNanos,
-    pub rest: Rest,
-}
-
-// A request that was read, and what is left.
-pub struct RequestRead {
-    pub value: Request,
-    pub rest: Rest,
-}
-
-// A rate that was read, and what is left.
-pub struct RateRead {
-    pub value: Rate,
-    pub rest: Rest,
-}
-
 // The most bytes that a line may have before its end.
 pub const LONGEST_LINE: usize = 100;
 
@@ -87,22 +56,22 @@ fn of_letter(line: &[u8], letter: u8) -> Line
     ensures { λ r. ⌜ r ≡ Lines.lineOfLetter letter (left (fieldsFrom (now (line .entry)) 2)) ⌝ }
 {
     let rest = Rest { at: 2, good: true };
-    if letter == 97 {
+    if letter == b'a' {
         return try_line(line, rest);
     }
-    if letter == 112 {
+    if letter == b'p' {
         return peek_line(line, rest);
     }
-    if letter == 114 {
+    if letter == b'r' {
         return reserve_line(line, rest);
     }
-    if letter == 102 {
+    if letter == b'f' {
         return refund_line(line, rest);
     }
-    if letter == 100 {
+    if letter == b'd' {
         return remove_line(line, rest);
     }
-    if letter == 115 {
+    if letter == b's' {
         return set_up_line(line, rest);
     }
     Line::Malformed

@@ -2,15 +2,25 @@
 ghost use mathlib.Core.Path.{_≡_};
 ghost use Rattle.desk_lines.specs.Lines as Lines;
 ghost use Rattle.desk_lines.specs.Places.{readingAt, requestAt, rateAt};
-use crate::RateRead;
 use crate::Request;
-use crate::RequestRead;
-use crate::Rest;
 use crate::fields;
+use crate::fields::Rest;
 use settings::eviction::WhenFull;
 use settings::rate::OptionTokens;
 use settings::rate::Rate;
 use units::Nanos;
+
+// A request that was read, and what is left.
+pub struct RequestRead {
+    pub value: Request,
+    pub rest: Rest,
+}
+
+// A rate that was read, and what is left.
+pub struct RateRead {
+    pub value: Rate,
+    pub rest: Rest,
+}
 
 // The largest number of 32 bits.
 pub(crate) const MOST_32: u64 = 0xffff_ffff;

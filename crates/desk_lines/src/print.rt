@@ -3,10 +3,7 @@ ghost use mathlib.Core.Path.{_≡_};
 ghost use Prim.Native.Nat.{_+_, _≤_};
 ghost use lib.ListN.{length};
 ghost use Rattle.rows.specs.Outcome.{outcome};
-ghost use Rattle.desk_lines.specs.Printed.{printedField, printed, writtenOver};
-
-// The most bytes of a printed line: three numbers of 20 digits, and a byte after each.
-pub const LONGEST: usize = 63;
+ghost use Rattle.desk_lines.specs.Printed.{printedField, longestPrinted, printed, writtenOver};
 
 // Writes a number and the byte after it from a place on. Tells the place after them.
 fn field(out: &mut [u8], at: usize, n: u64, after: u8) -> usize
@@ -20,10 +17,10 @@ fn field(out: &mut [u8], at: usize, n: u64, after: u8) -> usize
 
 // Writes a line's number, a code and a wait from a place on. Tells the place after them.
 pub fn line(out: &mut [u8], at: usize, number: u64, code: u64, wait: u64) -> usize
-    requires { ⌜ at + 63 ≤ length (now out) ⌝ }
+    requires { ⌜ at + longestPrinted ≤ length (now out) ⌝ }
     ensures { λ r. ⌜ outcome r (now (out .exit)) ≡ writtenOver (printed number code wait) at (now (out .entry)) ⌝ }
 {
-    let second = field(out, at, number, 32);
-    let third = field(out, second, code, 32);
-    field(out, third, wait, 10)
+    let second = field(out, at, number, b' ');
+    let third = field(out, second, code, b' ');
+    field(out, third, wait, b'\n')
 }

@@ -1,15 +1,17 @@
--- `run` keeps the lengths of its buffers and what is held within them, and ends since a turn is taken off with each read.
-use Prim.Native.Nat.{_≤_}
+-- `run` keeps the lengths of its buffers and holds no more than a line's beginning; it ends since a turn is taken off with each read.
+use Prim.Native.Nat.{_+_, _≤_}
+use native.Mathlib.Omega.{arith}
+use mathlib.Core.Path.{_≡_}
 use mathlib.Core.Bool.{false}
-use mathlib.Core.Path.{sym, _∙_, _≡_}
 use lib.ListN.{length}
-use Rattle.desk.specs.Feeding.{hasEnded}
+use Rattle.desk_lines.specs.Lines.{longestLine}
+use Rattle.desk_turns.specs.Run.{hasEnded}
 use borrow.Author.Needs.{needs}
 use Rattle.desk.proofs.feed.run.Statement.{statement}
 use Rattle.desk.proofs.feed.run.Tie as tie
 
 abbrev Inv-loop : tie.InvT-loop
-Inv-loop input₀ output₀ memory₀ feed₀ held₀ turns₀ input output memory feed held turns = (length input ≡ length input₀) × (length output ≡ length output₀) × (length memory ≡ length memory₀) × (feed .at ≡ 0) × (feed .put ≤ length output₀) × (held ≤ length input₀) × (hasEnded (feed .stage) ≡ false)
+Inv-loop input₀ output₀ memory₀ feed₀ held₀ turns₀ input output memory feed held turns = (length input ≡ length input₀) × (length output ≡ length output₀) × (length memory ≡ length memory₀) × (held ≤ longestLine + 1) × (hasEnded (feed .stage) ≡ false)
 
 abbrev μ-loop : tie.MeasureT-loop
 μ-loop input₀ output₀ memory₀ feed₀ held₀ turns₀ input output memory feed held turns = turns
@@ -20,8 +22,11 @@ loop-holds c = search needs
 read-more-requires : tie.Need-read-more-requires Inv-loop μ-loop
 read-more-requires c κs = search needs
 
-last-line-requires : tie.Need-last-line-requires Inv-loop μ-loop
-last-line-requires c κs = search needs
+enum-known-got : tie.Need-enum-known-got Inv-loop μ-loop
+enum-known-got c = search needs
+
+finish-requires : tie.Need-finish-requires Inv-loop μ-loop
+finish-requires c κs = search needs
 
 same-length : tie.Need-same-length Inv-loop μ-loop
 same-length c = search needs
@@ -35,17 +40,14 @@ same-length-3 c = search needs
 returns : tie.Need-returns Inv-loop μ-loop
 returns c = search needs
 
-whole-lines-requires : tie.Need-whole-lines-requires Inv-loop μ-loop
-whole-lines-requires c κs = search needs
+turn-requires : tie.Need-turn-requires Inv-loop μ-loop
+turn-requires c κs =
+    let got′ = c .before .before .before .before .got in
+    let read-more′ = c .before .before .before .before .before .before .before .before .read-more in
+    (omega (arith, rw (got′ .given .1) at (read-more′ .ensures .0)), omega (arith, rw (got′ .given .1) at (read-more′ .ensures .0), c .before .before .before .before .before .before .before .before .before .before .before .before .before .before .before .pre .1), c .before .before .before .before .before .before .before .before .before .before .before .loop .inv .4)
 
-keep-rest-requires : tie.Need-keep-rest-requires Inv-loop μ-loop
-keep-rest-requires c κs = search needs
-
-written-requires : tie.Need-written-requires Inv-loop μ-loop
-written-requires c κs = search needs
-
-has-ended-requires : tie.Need-has-ended-requires Inv-loop μ-loop
-has-ended-requires c κs = search needs
+is-over-requires : tie.Need-is-over-requires Inv-loop μ-loop
+is-over-requires c κs = search needs
 
 same-length-4 : tie.Need-same-length-4 Inv-loop μ-loop
 same-length-4 c = search needs
@@ -66,7 +68,7 @@ loop-less : tie.Need-loop-less Inv-loop μ-loop
 loop-less c = search needs
 
 loop-again : tie.Need-loop-again Inv-loop μ-loop
-loop-again c = (search needs, search needs, search needs, search needs, search needs, search needs, sym (c .before .has-ended .ensures) ∙ c .if2 .left)
+loop-again c = (search needs, search needs, search needs, c .before .before .before .before .before .before .before .before .before .before .turn .ensures .few, c .before .is-over .ensures (c .if1 .left))
 
 same-length-7 : tie.Need-same-length-7 Inv-loop μ-loop
 same-length-7 c = search needs
@@ -88,15 +90,14 @@ run-spec =
     μ-loop
     loop-holds
     read-more-requires
-    last-line-requires
+    enum-known-got
+    finish-requires
     same-length
     same-length-2
     same-length-3
     returns
-    whole-lines-requires
-    keep-rest-requires
-    written-requires
-    has-ended-requires
+    turn-requires
+    is-over-requires
     same-length-4
     same-length-5
     same-length-6

@@ -1,2 +1,0 @@
-pub mod DeskLaws
-pub mod FeedingLaws

@@ -1,0 +1,79 @@
+-- `read_more` changes the input after the bytes that are held alone, and tells of bytes only if there are some.
+use Prim.Native.Nat.{_≤_}
+use native.Mathlib.Omega.{arith}
+use lib.ListN.{length}
+use borrow.Rule.Slice.PartMut.{take-put}
+use borrow.Author.Needs.{needs}
+use Rattle.desk.proofs.feed.read_more.Statement.{statement}
+use Rattle.desk.proofs.feed.read_more.Tie as tie
+
+sub-read : tie.Need-sub-read
+sub-read c = search needs
+
+part-read-start : tie.Need-part-read-start
+part-read-start c = search needs
+
+part-read-end : tie.Need-part-read-end
+part-read-end c = search needs
+
+read-requires : tie.Need-read-requires
+read-requires c κs = search needs
+
+same-length : tie.Need-same-length
+same-length c = search needs
+
+returns : tie.Need-returns
+returns c =
+    let args′ = c .before .before .before .before .before .before .args in
+    (tt, let inside : args′ .held ≤ length (args′ .input .now) = omega arith in rw take-put)
+
+sub-count : tie.Need-sub-count
+sub-count c = search needs
+
+part-count-start : tie.Need-part-count-start
+part-count-start c = search needs
+
+part-count-end : tie.Need-part-count-end
+part-count-end c = search needs
+
+count-requires : tie.Need-count-requires
+count-requires c κs = search needs
+
+same-length-2 : tie.Need-same-length-2
+same-length-2 c = search needs
+
+returns-2 : tie.Need-returns-2
+returns-2 c =
+    let args′ = c .before .before .before .before .before .before .before .before .before .before .args in
+    (tt, let inside : args′ .held ≤ length (args′ .input .now) = omega arith in rw take-put)
+
+add-t6 : tie.Need-add-t6
+add-t6 c = search needs
+
+same-length-3 : tie.Need-same-length-3
+same-length-3 c = search needs
+
+returns-3 : tie.Need-returns-3
+returns-3 c =
+    let args′ = c .before .before .before .before .before .before .before .before .before .before .args in
+    ((omega arith, search needs), let inside : args′ .held ≤ length (args′ .input .now) = omega arith in rw take-put)
+
+pub read-more-spec : {M : Type 1} → statement M
+read-more-spec =
+    tie.close
+    (tie.spec
+    sub-read
+    part-read-start
+    part-read-end
+    read-requires
+    same-length
+    returns
+    sub-count
+    part-count-start
+    part-count-end
+    count-requires
+    same-length-2
+    returns-2
+    add-t6
+    same-length-3
+    returns-3)

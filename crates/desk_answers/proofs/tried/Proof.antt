@@ -1,0 +1,30 @@
+-- `tried` tells the outcome of the rule that perkey's try gives.
+use Rattle.desk_answers.proofs.DeskLaws.{outcome-is-told}
+use borrow.Author.Needs.{needs}
+use Rattle.desk_answers.proofs.tried.Statement.{statement}
+use Rattle.desk_answers.proofs.tried.Tie as tie
+
+identity-requires : tie.Need-identity-requires
+identity-requires c κs = search needs
+
+try-acquire-with-cost-requires : tie.Need-try-acquire-with-cost-requires
+try-acquire-with-cost-requires c κs = search needs
+
+told-as-requires : tie.Need-told-as-requires
+told-as-requires c κs = search needs
+
+same-length : tie.Need-same-length
+same-length c = search needs
+
+returns : tie.Need-returns
+returns c = outcome-is-told (rw (c .before .before .before .before .before .identity .ensures) at (c .before .before .before .try-acquire-with-cost .ensures)) (c .told-as .ensures)
+
+pub tried-spec : {M : Type 1} → statement M
+tried-spec =
+    tie.close
+    (tie.spec
+    identity-requires
+    try-acquire-with-cost-requires
+    told-as-requires
+    same-length
+    returns)

@@ -1,0 +1,98 @@
+-- What each line of the desk is told, and what it does to the memory, by the rules of the limiter.
+use Prim.Native.Nat.{ℕ, min}
+use mathlib.Core.Bool.{cond}
+use mathlib.Core.List.{List, _++_}
+use lib.Dec.{eqb}
+use lib.ListN.{length, take, drop}
+use Rattle.rows.specs.Outcome.{Outcome, outcome}
+use Rattle.units.specs.declared.Nanos.{Nanos}
+use Rattle.settings.specs.declared.Settings.{Settings}
+use Rattle.settings.specs.Settings.{sizeRefusal, wordsOf}
+use Rattle.hash.specs.Fnv.{keyHash}
+use Rattle.store.specs.declared.Identity.{Identity}
+use Rattle.perkey.specs.declared.Reply.{Reply}
+use Rattle.perkey.specs.Rules as Rules
+use Rattle.desk_lines.specs.declared.Request.{Request}
+use Rattle.desk_lines.specs.declared.Line.{Line}
+use Rattle.desk_lines.specs.declared.Line.the-variants.{SetUp, Try, Peek, Reserve, Refund, Remove, Malformed}
+use Rattle.desk_answers.specs.declared.Told.{Told}
+use Rattle.desk_answers.specs.declared.Served.{Served}
+use Rattle.desk_answers.specs.declared.Stage.{Stage}
+use Rattle.desk_answers.specs.declared.Stage.the-variants.{First, Open, Ended}
+
+-- A reply is told as its code and the number beside it. No line of the desk counts, so the number is a wait.
+abbrev pub toldOf : Reply → Told
+toldOf r = record { code = Rules.codeOf r; wait = Rules.numberOf r }
+
+abbrev pub told : Outcome Reply (List ℕ) → Outcome Told (List ℕ)
+told o = outcome (toldOf (o .answer)) (o .after)
+
+abbrev pub malformed : Told
+malformed = record { code = 9; wait = 0 }
+
+-- The desk's hash of a key is FNV-1a over its eight bytes.
+abbrev pub identityOf : ℕ → Identity
+identityOf key = record { hash = keyHash key; key = key }
+
+abbrev pub tried : Settings → Request → List ℕ → Outcome Told (List ℕ)
+tried s q ws = told (Rules.tryAcquire s (q .at) (identityOf (q .key)) (q .cost) ws)
+
+abbrev pub peeked : Settings → Request → List ℕ → Outcome Told (List ℕ)
+peeked s q ws = told (Rules.peek s (q .at) (identityOf (q .key)) (q .cost) ws)
+
+abbrev pub reserved : Settings → Request → Nanos → List ℕ → Outcome Told (List ℕ)
+reserved s q longest ws = told (Rules.reserve s (q .at) (identityOf (q .key)) (q .cost) longest ws)
+
+-- A line after the first, on the words of the store: the call that it is. A second settings line is malformed, and a malformed line changes no word.
+abbrev pub answered : Settings → Line → List ℕ → Outcome Told (List ℕ)
+answered s (SetUp t) ws = outcome malformed ws
+answered s (Try q) ws = tried s q ws
+answered s (Peek q) ws = peeked s q ws
+answered s (Reserve q longest) ws = reserved s q longest ws
+answered s (Refund key cost) ws = told (Rules.refund s (identityOf key) cost ws)
+answered s (Remove key) ws = told (Rules.remove s (identityOf key) ws)
+answered s Malformed ws = outcome malformed ws
+
+-- The store is lent the words that it needs, or all of the memory where it needs more: set-up refuses that as 5. The words of settings that are
+-- refused as 4 are not counted, and none are lent.
+unfoldable pub storeSize : Settings → ℕ → ℕ
+storeSize s words = cond (eqb (sizeRefusal s) 0) (min (wordsOf s) words) 0
+
+-- What a call on the words of the store gives, and the whole memory after it.
+abbrev pub onFirstWords : {A : Type 0} → ℕ → (List ℕ → Outcome A (List ℕ)) → List ℕ → Outcome A (List ℕ)
+onFirstWords n call memory = let o = call (take n memory) in outcome (o .answer) (o .after ++ drop n memory)
+
+abbrev pub inStore : {A : Type 0} → Settings → (List ℕ → Outcome A (List ℕ)) → List ℕ → Outcome A (List ℕ)
+inStore s call memory = onFirstWords (storeSize s (length memory)) call memory
+
+-- Line 1 sets the store up. Unless it is accepted, the run ends.
+unfoldable pub stageAfter : Settings → ℕ → Stage
+stageAfter s code = cond (eqb code 0) (Open s) Ended
+
+abbrev pub servedFirst : Settings → Outcome Told (List ℕ) → Outcome Served (List ℕ)
+servedFirst s o = outcome (record { told = o .answer; stage = stageAfter s (o .answer .code) }) (o .after)
+
+abbrev pub setUp : Settings → List ℕ → Outcome Served (List ℕ)
+setUp s memory = servedFirst s (inStore s (λ ws. told (Rules.setUp s ws)) memory)
+
+abbrev pub unopened : Served
+unopened = record { told = malformed; stage = Ended }
+
+abbrev pub opened : Line → List ℕ → Outcome Served (List ℕ)
+opened (SetUp s) memory = setUp s memory
+opened (Try q) memory = outcome unopened memory
+opened (Peek q) memory = outcome unopened memory
+opened (Reserve q longest) memory = outcome unopened memory
+opened (Refund key cost) memory = outcome unopened memory
+opened (Remove key) memory = outcome unopened memory
+opened Malformed memory = outcome unopened memory
+
+abbrev pub servedNext : Settings → Outcome Told (List ℕ) → Outcome Served (List ℕ)
+servedNext s o = outcome (record { told = o .answer; stage = Open s }) (o .after)
+
+-- Every line, by how the run stands: what it is told, how the run stands then, and the memory after it. Once the run has ended no line is answered
+-- any more (`linesAnswered` of desk_turns), so the last case is never used.
+abbrev pub served : Stage → Line → List ℕ → Outcome Served (List ℕ)
+served First line memory = opened line memory
+served (Open s) line memory = servedNext s (inStore s (answered s line) memory)
+served Ended line memory = outcome unopened memory

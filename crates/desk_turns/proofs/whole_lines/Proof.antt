@@ -1,0 +1,123 @@
+-- `whole_lines` answers one line more with each turn of its loop, and stops where no line feed is left or the run has ended.
+use Prim.Native.Nat.{_+_, _*_, _-_, _≤_}
+use native.Mathlib.Omega.{arith}
+use mathlib.Core.Path.{refl, sym, _∙_, _≡_}
+use mathlib.Core.Bool.{false}
+use lib.ListN.{length}
+use Rattle.desk_lines.specs.Printed.{lineFeed, longestPrinted}
+use Rattle.desk_lines.proofs.FieldLaws.{found-from}
+use Rattle.desk_turns.specs.Run.{hasEnded}
+use Rattle.desk_turns.proofs.FeedingLaws.{Underway, none-yet, none-left, rest-left, others-follow, rest-follows, none-follow, ended-is-over}
+use borrow.Author.Needs.{needs}
+use Rattle.desk_turns.proofs.whole_lines.Statement.{statement}
+use Rattle.desk_turns.proofs.whole_lines.Tie as tie
+
+abbrev Inv-loop : tie.InvT-loop
+Inv-loop bytes output₀ memory₀ feed₀ at₀ output memory feed at = (length output ≡ length output₀) × (length memory ≡ length memory₀) × (at ≤ length bytes) × (feed .put + longestPrinted * (length bytes - at) ≤ length output₀) × (hasEnded (feed .stage) ≡ false) × Underway feed₀ bytes memory₀ output₀ feed at memory output
+
+abbrev μ-loop : tie.MeasureT-loop
+μ-loop bytes output₀ memory₀ feed₀ at₀ output memory feed at = length bytes - at
+
+loop-holds : tie.Need-loop-holds Inv-loop μ-loop
+loop-holds c =
+    let pre′ = c .before .before .before .pre in
+    (refl, refl, omega arith, omega (arith, pre′ .0), pre′ .1, none-yet _ _ _ _)
+
+find-requires : tie.Need-find-requires Inv-loop μ-loop
+find-requires c κs = search needs
+
+sub-answer-line : tie.Need-sub-answer-line Inv-loop μ-loop
+sub-answer-line c = search needs
+
+part-answer-line-start : tie.Need-part-answer-line-start Inv-loop μ-loop
+part-answer-line-start c = search needs
+
+part-answer-line-end : tie.Need-part-answer-line-end Inv-loop μ-loop
+part-answer-line-end c = search needs
+
+answer-line-requires : tie.Need-answer-line-requires Inv-loop μ-loop
+answer-line-requires c κs = search needs
+
+add-at : tie.Need-add-at Inv-loop μ-loop
+add-at c = search needs
+
+has-ended-requires : tie.Need-has-ended-requires Inv-loop μ-loop
+has-ended-requires c κs = search needs
+
+loop-less : tie.Need-loop-less Inv-loop μ-loop
+loop-less c = search needs
+
+loop-again : tie.Need-loop-again Inv-loop μ-loop
+loop-again c =
+    let answer-line′ = c .before .before .before .before .before .before .answer-line in
+    let loop′ = c .before .before .before .before .before .before .before .before .before .before .before .before .before .loop in
+    let find′ = c .before .before .before .before .before .before .before .before .before .before .before .find in
+    let if1′ = c .before .before .before .before .before .before .before .before .before .before .if1 in
+    (search needs, search needs, omega arith, omega (arith, answer-line′ .ensures .1), sym (c .before .has-ended .ensures) ∙ c .if2 .left, record { answers = others-follow (loop′ .inv .5) (loop′ .inv .4) (found-from lineFeed _ _ (find′ .ensures .0)) (omega (arith, if1′ .left, find′ .ensures .1)) (answer-line′ .ensures .0); leaves = rest-follows (loop′ .inv .5) (loop′ .inv .4) (found-from lineFeed _ _ (find′ .ensures .0)) (omega (arith, if1′ .left, find′ .ensures .1)) (answer-line′ .ensures .0) })
+
+same-length : tie.Need-same-length Inv-loop μ-loop
+same-length c = search needs
+
+same-length-2 : tie.Need-same-length-2 Inv-loop μ-loop
+same-length-2 c = search needs
+
+returns : tie.Need-returns Inv-loop μ-loop
+returns c =
+    let loop′ = c .before .loop in
+    record { answers = none-left (loop′ .inv .5) (omega arith); leaves = λ goes-on. rest-left (loop′ .inv .5) (omega arith); within = loop′ .inv .2; fits = omega (arith, loop′ .inv .3) }
+
+same-length-3 : tie.Need-same-length-3 Inv-loop μ-loop
+same-length-3 c = search needs
+
+same-length-4 : tie.Need-same-length-4 Inv-loop μ-loop
+same-length-4 c = search needs
+
+returns-2 : tie.Need-returns-2 Inv-loop μ-loop
+returns-2 c =
+    let loop′ = c .before .before .before .loop in
+    let args′ = c .before .before .before .before .before .before .before .args in
+    let find′ = c .before .find in
+    let if1′ = c .if1 in
+    record { answers = none-left (loop′ .inv .5) (omega (arith, found-from lineFeed (args′ .bytes .now) (loop′ .at) (find′ .ensures .0), if1′ .taken)); leaves = λ goes-on. rest-left (loop′ .inv .5) (omega (arith, found-from lineFeed (args′ .bytes .now) (loop′ .at) (find′ .ensures .0), if1′ .taken)); within = loop′ .inv .2; fits = omega (arith, loop′ .inv .3) }
+
+same-length-5 : tie.Need-same-length-5 Inv-loop μ-loop
+same-length-5 c = search needs
+
+same-length-6 : tie.Need-same-length-6 Inv-loop μ-loop
+same-length-6 c = search needs
+
+returns-3 : tie.Need-returns-3 Inv-loop μ-loop
+returns-3 c =
+    let loop′ = c .before .before .before .before .before .before .before .before .before .before .before .before .before .loop in
+    let find′ = c .before .before .before .before .before .before .before .before .before .before .before .find in
+    let if1′ = c .before .before .before .before .before .before .before .before .before .before .if1 in
+    let answer-line′ = c .before .before .before .before .before .before .answer-line in
+    let has-ended′ = c .before .has-ended in
+    let if2′ = c .if2 in
+    record { answers = none-follow (loop′ .inv .5) (loop′ .inv .4) (found-from lineFeed _ _ (find′ .ensures .0)) (omega (arith, if1′ .left, find′ .ensures .1)) (answer-line′ .ensures .0) (sym (has-ended′ .ensures) ∙ if2′ .taken); leaves = ended-is-over (has-ended′ .ensures) (if2′ .taken); within = omega (arith, if1′ .left, find′ .ensures .1); fits = omega (arith, answer-line′ .ensures .1, loop′ .inv .3, if1′ .left, find′ .ensures .1, loop′ .inv .0) }
+
+pub whole-lines-spec : {M : Type 1} → statement M
+whole-lines-spec =
+    tie.close
+    (tie.spec
+    Inv-loop
+    μ-loop
+    loop-holds
+    find-requires
+    sub-answer-line
+    part-answer-line-start
+    part-answer-line-end
+    answer-line-requires
+    add-at
+    has-ended-requires
+    loop-less
+    loop-again
+    same-length
+    same-length-2
+    returns
+    same-length-3
+    same-length-4
+    returns-2
+    same-length-5
+    same-length-6
+    returns-3)

@@ -1,0 +1,142 @@
+// Turns of the desk program: the whole lines among the bytes that have been read are answered, and what is left of them is kept; and the last line.
+ghost use mathlib.Core.Path.{_≡_};
+ghost use mathlib.Core.Bool.{false};
+ghost use Prim.Native.Nat.{_+_, _*_, _≤_};
+ghost use lib.ListN.{length};
+ghost use Rattle.desk_lines.specs.Printed.{longestPrinted};
+ghost use Rattle.desk_turns.specs.Feeding.{fed, WholeLines, OneTurn, LastLine, keptFrom, movedToStart};
+ghost use Rattle.desk_turns.specs.Feeding as Feeding;
+ghost use Rattle.desk_turns.specs.Run.{hasEnded, andThen, lineAnswered};
+use desk_answers::Stage;
+use desk_lines::LONGEST_LINE;
+use desk_lines::print;
+
+// How far the run has come.
+pub struct Feed {
+    pub stage: Stage,
+    // The number of the last line that was answered.
+    pub number: u64,
+    // How many bytes at the start of the output are printed and not written.
+    pub put: usize,
+}
+
+// How far the run has come, and the place in the input at which the next line begins.
+pub struct Lines {
+    pub feed: Feed,
+    pub at: usize,
+}
+
+// How far the run has come after a turn, and how many bytes at the start of the input are held of a line that has not ended.
+pub struct Turned {
+    pub feed: Feed,
+    pub held: usize,
+}
+
+// Answers the whole lines among the first `end` bytes of the input, and keeps what is left.
+pub fn turn(
+    input: &mut [u8],
+    end: usize,
+    output: &mut [u8],
+    memory: &mut [u64],
+    feed: Feed,
+) -> Turned
+    requires { ⌜ (end ≤ length (now input)) × (longestPrinted * end ≤ length (now output)) × (hasEnded (feed .stage) ≡ false) ⌝ }
+    ensures { λ r. ⌜ OneTurn feed end (now (input .entry)) (now (memory .entry)) (now (output .entry)) r (now (input .exit)) (now (memory .exit)) (now (output .exit)) ⌝ }
+{
+    let lines = whole_lines(&input[0..end], output, memory, unprinted(feed));
+    let held = keep_rest(input, lines.at, end);
+    let feed = lines.feed;
+    Turned { feed, held }
+}
+
+// Answers the line that the end of the input ends, if one has begun.
+pub fn last_line(
+    input: &[u8],
+    held: usize,
+    output: &mut [u8],
+    memory: &mut [u64],
+    feed: Feed,
+) -> Feed
+    requires { ⌜ (held ≤ length (now input)) × (longestPrinted ≤ length (now output)) × (hasEnded (feed .stage) ≡ false) ⌝ }
+    ensures { λ r. ⌜ LastLine feed held (now (input .entry)) (now (memory .entry)) (now (output .entry)) r (now (memory .exit)) (now (output .exit)) ⌝ }
+{
+    let feed = unprinted(feed);
+    if held == 0 {
+        return feed;
+    }
+    answer_line(&input[0..held], output, memory, feed)
+}
+
+// The same, with nothing printed.
+fn unprinted(feed: Feed) -> Feed
+    ensures { λ r. ⌜ r ≡ Feeding.unprinted feed ⌝ }
+{
+    let stage = feed.stage;
+    Feed {
+        stage,
+        number: feed.number,
+        put: 0,
+    }
+}
+
+// Answers the lines that end among some bytes. None is answered once the run has ended.
+fn whole_lines(bytes: &[u8], output: &mut [u8], memory: &mut [u64], feed: Feed) -> Lines
+    requires { ⌜ (feed .put + longestPrinted * length (now bytes) ≤ length (now output)) × (hasEnded (feed .stage) ≡ false) ⌝ }
+    ensures { λ r. ⌜ WholeLines feed (now (bytes .entry)) (now (memory .entry)) (now (output .entry)) r (now (memory .exit)) (now (output .exit)) ⌝ }
+{
+    let mut feed = feed;
+    let mut at: usize = 0;
+    while at < bytes.len() {
+        let stop = bytes::scan::find(bytes, at, bytes.len(), b'\n');
+        if stop == bytes.len() {
+            break;
+        }
+        feed = answer_line(&bytes[at..stop], output, memory, feed);
+        at = stop + 1;
+        if has_ended(feed) {
+            break;
+        }
+    }
+    Lines { feed, at }
+}
+
+// Answers a line, and prints its answer.
+fn answer_line(line: &[u8], output: &mut [u8], memory: &mut [u64], feed: Feed) -> Feed
+    requires { ⌜ feed .put + longestPrinted ≤ length (now output) ⌝ }
+    ensures { λ r. ⌜ (fed r (now (memory .exit)) (now (output .exit)) ≡ andThen (fed feed (now (memory .entry)) (now (output .entry))) (lineAnswered (now (line .entry)))) × (r .put ≤ feed .put + longestPrinted) ⌝ }
+{
+    let stage = feed.stage;
+    let number = std::num::wrapping_add_u64(feed.number, 1);
+    let served = desk_answers::serve(stage, desk_lines::read(line), memory);
+    let stage = served.stage;
+    let told = served.told;
+    let put = print::line(output, feed.put, number, told.code, told.wait);
+    Feed { stage, number, put }
+}
+
+// Whether no further line is answered.
+pub fn has_ended(feed: Feed) -> bool
+    ensures { λ r. ⌜ r ≡ hasEnded (feed .stage) ⌝ }
+{
+    let stage = feed.stage;
+    match stage {
+        Stage::First => false,
+        Stage::Open(_) => false,
+        Stage::Ended => true,
+    }
+}
+
+// Moves the bytes of a line that has not ended to the start of the input, and tells how many they are. One byte more than a line may have is
+// enough of a longer one: it is malformed by that.
+fn keep_rest(input: &mut [u8], from: usize, end: usize) -> usize
+    requires { ⌜ (from ≤ end) × (end ≤ length (now input)) ⌝ }
+    ensures { λ r. ⌜ (r ≡ keptFrom from end) × (now (input .exit) ≡ movedToStart from r (now (input .entry))) ⌝ }
+{
+    let kept = arith::fewer(end - from, LONGEST_LINE + 1);
+    let mut i: usize = 0;
+    while i < kept {
+        input[i] = input[from + i];
+        i += 1;
+    }
+    kept
+}
