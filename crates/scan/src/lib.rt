@@ -35,6 +35,15 @@ pub fn skip_to_digit(text: &[u8], from: usize) -> usize {
     at
 }
 
+// A number held to 32 bits.
+pub fn narrow(number: u64) -> u32 {
+    if number <= 0xFFFF_FFFF {
+        number as u32
+    } else {
+        u32::MAX
+    }
+}
+
 fn is_digit(byte: u8) -> bool {
     if byte < b'0' {
         return false;

@@ -81,19 +81,10 @@ fn configure(state: State, line: Line) -> State {
 // The configuration of an amount, a period, a burst and an initial number of tokens.
 fn configured(amount: u64, period: u64, burst: u64, initial: u64) -> BucketConfig {
     BucketConfig {
-        capacity: narrow(burst),
-        amount: narrow(amount),
+        capacity: scan::narrow(burst),
+        amount: scan::narrow(amount),
         period: Nanos(period),
-        initial: narrow(initial),
-    }
-}
-
-// A number held to 32 bits.
-pub(crate) fn narrow(number: u64) -> u32 {
-    if number <= 0xFFFF_FFFF {
-        number as u32
-    } else {
-        u32::MAX
+        initial: scan::narrow(initial),
     }
 }
 

@@ -110,7 +110,7 @@ fn record(ws: &mut [u64], cap: usize, line: Line)
 fn pay(ws: &mut [u64], cap: usize, config: BucketConfig, line: Line)
     requires { ⌜ Lent cap (now ws) × Accepted config ⌝ }
 {
-    if debts::pay_down(ws, cap, line.a, crate::narrow(line.b), config) {
+    if debts::pay_down(ws, cap, line.a, scan::narrow(line.b), config) {
         print::answer(0, 0);
     } else {
         print::answer(3, 0);

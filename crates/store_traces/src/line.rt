@@ -1,21 +1,21 @@
-// The lines of the traces.
+// The lines of the traces. A number that a line lacks at its end is 0.
+ghost use Prim.Native.Nat.{_≤_};
+ghost use lib.ListN.{length};
 use limiter::LimiterSettings;
 
-// A call: how many words it is lent, its arguments, and where the reading stands after it.
-pub struct Call {
+// A store: how many words each call is lent, and its settings.
+pub struct Store {
     pub size: usize,
+    pub settings: LimiterSettings,
+}
+
+// The arguments of a call.
+pub struct Call {
     pub at: u64,
     pub hash: u64,
     pub key: u64,
     pub cost: u32,
     pub max_wait: u64,
-    pub next: usize,
-}
-
-// Settings, and where the reading stands after them.
-pub struct SettingsRead {
-    pub settings: LimiterSettings,
-    pub next: usize,
 }
 
 // The rate's numbers of some settings, and where the reading stands after them.
@@ -30,34 +30,41 @@ pub struct RateRead {
     pub next: usize,
 }
 
-// The next six numbers.
-pub(crate) fn read_call(text: &[u8], from: usize) -> Call {
-    let size = scan::read_number(text, from);
-    let at = scan::read_number(text, size.at);
-    let hash = scan::read_number(text, at.at);
-    let key = scan::read_number(text, hash.at);
-    let cost = scan::read_number(text, key.at);
-    let max_wait = scan::read_number(text, cost.at);
+// The first line feed from here on, or the end of the text.
+pub(crate) fn end(text: &[u8], from: usize) -> usize
+    requires { ⌜ from ≤ length (now text) ⌝ }
+    ensures { λ r. ⌜ (from ≤ r) × (r ≤ length (now (text .entry))) ⌝ }
+{
+    bytes::scan::find(text, from, text.len(), b'\n')
+}
+
+// The next five numbers.
+pub(crate) fn read_call(line: &[u8], from: usize) -> Call {
+    let at = scan::read_number(line, from);
+    let hash = scan::read_number(line, at.at);
+    let key = scan::read_number(line, hash.at);
+    let cost = scan::read_number(line, key.at);
+    let max_wait = scan::read_number(line, cost.at);
     Call {
-        size: size.value as usize,
         at: at.value,
         hash: hash.value,
         key: key.value,
-        cost: narrow(cost.value),
+        cost: scan::narrow(cost.value),
         max_wait: max_wait.value,
-        next: max_wait.at,
     }
 }
 
-// The next twelve numbers.
-pub(crate) fn read_settings(text: &[u8], from: usize) -> SettingsRead {
-    let rate = read_rate(text, from);
-    let max_keys = scan::read_number(text, rate.next);
-    let shards = scan::read_number(text, max_keys.at);
-    let has_idle = scan::read_number(text, shards.at);
-    let idle = scan::read_number(text, has_idle.at);
-    let forget_debt = scan::read_number(text, idle.at);
-    SettingsRead {
+// The next thirteen numbers.
+pub(crate) fn read_store(line: &[u8], from: usize) -> Store {
+    let size = scan::read_number(line, from);
+    let rate = read_rate(line, size.at);
+    let max_keys = scan::read_number(line, rate.next);
+    let shards = scan::read_number(line, max_keys.at);
+    let has_idle = scan::read_number(line, shards.at);
+    let idle = scan::read_number(line, has_idle.at);
+    let forget_debt = scan::read_number(line, idle.at);
+    Store {
+        size: size.value as usize,
         settings: LimiterSettings {
             period: rate.period,
             max_keys: max_keys.value,
@@ -69,39 +76,29 @@ pub(crate) fn read_settings(text: &[u8], from: usize) -> SettingsRead {
             burst: rate.burst,
             has_initial: rate.has_initial,
             initial: rate.initial,
-            has_idle: narrow(has_idle.value),
-            forget_debt: narrow(forget_debt.value),
+            has_idle: scan::narrow(has_idle.value),
+            forget_debt: scan::narrow(forget_debt.value),
         },
-        next: forget_debt.at,
     }
 }
 
 // The next seven numbers.
-fn read_rate(text: &[u8], from: usize) -> RateRead {
-    let closed = scan::read_number(text, from);
-    let amount = scan::read_number(text, closed.at);
-    let period = scan::read_number(text, amount.at);
-    let has_burst = scan::read_number(text, period.at);
-    let burst = scan::read_number(text, has_burst.at);
-    let has_initial = scan::read_number(text, burst.at);
-    let initial = scan::read_number(text, has_initial.at);
+fn read_rate(line: &[u8], from: usize) -> RateRead {
+    let closed = scan::read_number(line, from);
+    let amount = scan::read_number(line, closed.at);
+    let period = scan::read_number(line, amount.at);
+    let has_burst = scan::read_number(line, period.at);
+    let burst = scan::read_number(line, has_burst.at);
+    let has_initial = scan::read_number(line, burst.at);
+    let initial = scan::read_number(line, has_initial.at);
     RateRead {
-        closed: narrow(closed.value),
-        amount: narrow(amount.value),
+        closed: scan::narrow(closed.value),
+        amount: scan::narrow(amount.value),
         period: period.value,
-        has_burst: narrow(has_burst.value),
-        burst: narrow(burst.value),
-        has_initial: narrow(has_initial.value),
-        initial: narrow(initial.value),
+        has_burst: scan::narrow(has_burst.value),
+        burst: scan::narrow(burst.value),
+        has_initial: scan::narrow(has_initial.value),
+        initial: scan::narrow(initial.value),
         next: initial.at,
-    }
-}
-
-// A number held to 32 bits.
-fn narrow(number: u64) -> u32 {
-    if number <= 0xFFFF_FFFF {
-        number as u32
-    } else {
-        u32::MAX
     }
 }

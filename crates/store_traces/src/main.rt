@@ -1,24 +1,20 @@
-// Runs recorded traces on the operations. Standard input has lines of numbers: an operation, how many words it is lent and five arguments, 0 for those that it has not; or 0 and
-// the twelve numbers of settings. Each call prints the code and the number of the reply, and a hash of all words after it. The gate compares the lines with the
-// file `stdout`, whose replies and words are those of the Rust oracle (oracle/record-store-traces).
+// Runs recorded traces on the operations, a line of standard input after the other:
+// - 0, how many words are lent, and the twelve numbers of some settings: the calls that follow are on this store;
+// - an operation and its arguments, 0 for those that it has not, left out at the end: a call, which prints the code and the number of its reply, and a hash of all words after it;
+// - anything that begins with no digit, as the name of an edge of document 01 with a call in words: printed ahead of the next reply.
+// The gate compares what is printed with the file `stdout`, whose replies and words are those of the Rust oracle (oracle/record-store-traces).
 use libc::STDIN_FILENO;
 use libc::STDOUT_FILENO;
 use limiter::LimiterReply;
-use limiter::LimiterSettings;
 use line::Call;
+use line::Store;
 
 mod digest;
 mod line;
 mod operations;
 
-// The most words that a store of the traces may have. A call that is lent more is not run, and prints nothing.
-const MOST_WORDS: usize = 1024;
-
-// Where the reading stands, and the settings of the store.
-pub struct State {
-    pub at: usize,
-    pub settings: LimiterSettings,
-}
+// The most words that a store can have, those of 4,096 keys in 64 shards. A call that is lent more is not run, and prints nothing.
+const MOST_WORDS: usize = 64 * (5 + 8 * 64);
 
 fn main() {
     let mut text = io::large_buffer();
@@ -27,48 +23,38 @@ fn main() {
     run(&text[..n], &mut words);
 }
 
-// Runs the traces, a line a turn. A line has a byte at least, so no more turns are needed than there are bytes.
+// Runs the traces, a line a turn.
 fn run(text: &[u8], words: &mut [u64]) {
-    // Past the end of the text every number is 0.
-    let none = line::read_settings(text, text.len());
-    let settings = none.settings;
-    let mut state = State {
-        at: scan::skip_to_digit(text, 0),
-        settings,
-    };
-    let mut turns = text.len();
-    while 0 < turns {
-        if text.len() <= state.at {
-            break;
-        }
-        state = step(text, words, state);
-        turns -= 1;
+    // Past the end of the text every number is 0: a store that is lent no words.
+    let mut store = line::read_store(text, text.len());
+    let mut at: usize = 0;
+    while at < text.len() {
+        let end = line::end(text, at);
+        store = step(&text[at..end], words, store);
+        at = end + 1;
     }
 }
 
-// Runs one line.
-fn step(text: &[u8], words: &mut [u64], state: State) -> State {
-    let operation = scan::read_number(text, state.at);
-    if operation.value == operations::SETTINGS {
-        let read = line::read_settings(text, operation.at);
-        let settings = read.settings;
-        return State {
-            at: read.next,
-            settings,
-        };
+// Runs one line. Tells the store of the next one.
+fn step(line: &[u8], words: &mut [u64], store: Store) -> Store {
+    if 0 < scan::skip_to_digit(line, 0) {
+        io::write_all(STDOUT_FILENO, line);
+        io::write_all(STDOUT_FILENO, b": ");
+        return store;
     }
-    let call = line::read_call(text, operation.at);
-    let settings = state.settings;
-    lend(operation.value, words, settings, call);
-    State {
-        at: call.next,
-        settings,
+    let operation = scan::read_number(line, 0);
+    if operation.value == operations::STORE {
+        return line::read_store(line, operation.at);
     }
+    let call = line::read_call(line, operation.at);
+    lend(operation.value, words, store, call);
+    store
 }
 
 // Lends a call the words that it is to have, and prints what comes of it.
-fn lend(operation: u64, words: &mut [u64], settings: LimiterSettings, call: Call) {
-    let size = call.size;
+fn lend(operation: u64, words: &mut [u64], store: Store, call: Call) {
+    let size = store.size;
+    let settings = store.settings;
     if size <= words.len() {
         print(operations::run(operation, &mut words[0..size], settings, call));
         digest::print(&words[0..size]);

@@ -3,8 +3,8 @@ use crate::line::Call;
 use limiter::LimiterReply;
 use limiter::LimiterSettings;
 
-// From now on the calls have the settings of the line.
-pub(crate) const SETTINGS: u64 = 0;
+// No operation: the line has the store that the next calls are on.
+pub(crate) const STORE: u64 = 0;
 
 const SET_UP: u64 = 1;
 
