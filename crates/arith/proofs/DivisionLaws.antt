@@ -1,6 +1,6 @@
 -- Division rounded up, for every divisor: what bounds it, what it is, and how it splits into a quotient and a rest.
 use Prim.Native.Nat.{ℕ, suc, _+_, _*_, _-_, _/_, _%_, _≤_, _<_}
-use mathlib.Core.Path.{_≡_, refl, ap}
+use mathlib.Core.Path.{_≡_}
 use native.Mathlib.Nat.{mod-lt, div-add-mod', le-of-suc-le-suc, lt-of-mul-lt-mul-right, mul-le-mul-left}
 use native.Mathlib.Omega.{arith}
 use Rattle.arith.specs.Arith.{ceilDiv}

@@ -1,5 +1,4 @@
 pub mod WalkLaws
 pub mod ModelLaws
 pub mod KeptLaws
-pub mod DistinctLaws
 pub mod Worked

@@ -1,5 +1,5 @@
 -- The walk of the hand, and how an eviction ends. The walk only clears marks and moves the hand, and the places that it notes hold slots; the eviction then
--- ends in one of three ways. Laws about sums, identities and lookup go by these cases and do not open the walk.
+-- ends in one of three ways. Laws about sums go by these cases and do not open the walk.
 use Prim.Native.Nat.{ℕ, zero, suc, _+_, _≤_, _<_, max, min}
 use mathlib.Core.Path.{_≡_, refl, sym, _∙_, ap}
 use mathlib.Core.Bool.{Bool, true, false, true≢false}
@@ -12,7 +12,7 @@ use Rattle.bucket.specs.declared.BucketConfig.{BucketConfig}
 use Rattle.bucket.specs.Bucket.{shortfallAt}
 use Rattle.rows.specs.declared.Place.{Place}
 use Rattle.rows.specs.declared.Place.the-variants.{At, Nowhere}
-use Rattle.rows.specs.Held.{Held, itemAt}
+use Rattle.rows.specs.Held.{Held}
 use Rattle.rows.specs.Outcome.{Outcome, outcome}
 use Rattle.rows.proofs.HeldLaws.{item-stored, item-stored-other}
 use Rattle.slot.specs.declared.Slot.{Slot}
@@ -27,7 +27,7 @@ use Rattle.evict.specs.declared.Room.{Room}
 use Rattle.evict.specs.declared.Room.the-variants.{Made, Refused}
 use Rattle.shard_map.specs.Model.{Shard, Sound, noSlot, capOf, slotAt, withLedger, handOf, removeAt}
 use Rattle.evict.specs.Evict.{minRefusalWait, orPlace, placeOr, nothingNoted, noted, looked, goesAtOnce, holds, Walked, walkFrom, walked, evictAt, debtLeft, evictOwing, evictLimited, evictNoted, evictWalked, evicted}
-use Rattle.shard_map.proofs.StepLaws.{EverySlot, removal-every, hand-below, removal-count, removal-cap, removal-ledger, ledger-sound}
+use Rattle.shard_map.proofs.StepLaws.{hand-below, removal-count, removal-cap, removal-ledger, ledger-sound}
 
 -- A shard that is another but for the hand and the marks.
 pub record Remarked (s t : Shard) : Type 0 where
@@ -47,9 +47,6 @@ remarked-bucket s t r = remarked-slots s t r (λ slot. slot .bucket) (λ slot ma
 
 pub remarked-sound : (s t : Shard) → Remarked s t → Sound s → Sound t
 remarked-sound s t r u = record { room = omega (arith, r .cap, u .room); held = omega (arith, r .cap, r .count, u .held); ledger = rw (r .ledger) (u .ledger) }
-
-pub remarked-every : (Q : Slot → Type 0) → ((slot : Slot) (mark : ℕ) → Q slot → Q (withMark slot mark)) → (s t : Shard) → Remarked s t → EverySlot Q s → EverySlot Q t
-remarked-every Q blind s t r every i below = rw (r .slots i) (blind (slotAt s i) (slotAt t i .mark) (every i (omega (arith, r .count))))
 
 -- A look at a place changes nothing else.
 look-remarks : (s t : Shard) (p : ℕ) → Remarked s t → p < capOf t → Remarked s (looked t p)
@@ -178,9 +175,13 @@ evict-cases c at forget s u some = by-victim (walked c at s .victim) (kept .vict
     by-victim (At p) f = full-goes p (remarked-full c at s t p (kept .same) f)
     by-victim Nowhere f = by-full (w .full) (kept .full)
 
--- The two answers are not one.
+-- The two answers are not one, and there is no third.
 pub made-is-no-refusal : {Q : Type 0} {wait : Nanos} → Made ≡ Refused wait → Q
 made-is-no-refusal e = let z : _≡_ {A = ℕ} 0 1 = cc in absurd (omega arith)
+
+pub never-refused-is-made : (answer : Room) → ((wait : Nanos) → answer ≡ Refused wait → ⊥) → answer ≡ Made
+never-refused-is-made Made never = refl
+never-refused-is-made (Refused wait) never = absurd (never wait refl)
 
 -- What a refusal says: the ledger is full, nothing may be forgotten, the wait is at least a millisecond, and no slot and no debt has come or gone.
 pub record EvictRefusal (forget : Bool) (s : Shard) (wait : Nanos) (after : Shard) : Type 0 where
@@ -240,12 +241,6 @@ module _ (c : BucketConfig) (at : Nanos) (forget : Bool) (s : Shard) (u : Sound 
     ledger = evict-keeps-ledger Ledger.Sound (λ l d v same. recorded-sound l d (at .0) forget v) (u .ledger);
   }
 
-  -- What holds of every slot, whatever its mark, holds of those that are left.
-  pub evict-every : (Q : Slot → Type 0) → ((slot : Slot) (mark : ℕ) → Q slot → Q (withMark slot mark)) → EverySlot Q s → EverySlot Q (evicted c at forget s .after)
-  evict-every Q blind =
-      evict-keeps-slots (λ h. (i : ℕ) → i < h .count → Q (itemAt noSlot h i))
-      (record { remarks = λ t v r every. remarked-every Q blind t v r every; drops = λ t p v every. removal-every Q t p v every })
-
   -- Where room was made one slot has gone, so there is room for another.
   pub evict-made-count : evicted c at forget s .answer ≡ Made → evicted c at forget s .after .slots .count + 1 ≡ s .slots .count
   evict-made-count made = omega (arith, go (evict-cases c at forget s u some) made, walk-remarks .count)
@@ -276,15 +271,8 @@ module _ (c : BucketConfig) (at : Nanos) (forget : Bool) (s : Shard) (u : Sound 
           }
 
   -- So it is never refused while the ledger is below its cap, nor where debts may be forgotten.
-  evict-succeeds : ((wait : Nanos) → evicted c at forget s .answer ≡ Refused wait → ⊥) → evicted c at forget s .answer ≡ Made
-  evict-succeeds never = go (evicted c at forget s .answer) refl
-    where
-      go : (answer : Room) → evicted c at forget s .answer ≡ answer → evicted c at forget s .answer ≡ Made
-      go Made e = e
-      go (Refused wait) e = absurd (never wait e)
-
   pub evict-below-ledger-cap-never-refuses : s .ledger .debts .count < Ledger.capOf (s .ledger) → evicted c at forget s .answer ≡ Made
-  evict-below-ledger-cap-never-refuses room = evict-succeeds (λ wait e. omega (arith, evict-refusal wait e .full))
+  evict-below-ledger-cap-never-refuses room = never-refused-is-made _ (λ wait e. omega (arith, evict-refusal wait e .full))
 
   pub evict-forgetting-never-refuses : forget ≡ true → evicted c at forget s .answer ≡ Made
-  evict-forgetting-never-refuses forgets = evict-succeeds (λ wait e. true≢false (sym forgets ∙ evict-refusal wait e .never))
+  evict-forgetting-never-refuses forgets = never-refused-is-made _ (λ wait e. true≢false (sym forgets ∙ evict-refusal wait e .never))

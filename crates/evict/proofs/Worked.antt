@@ -1,4 +1,4 @@
--- The sentences of the scope on eviction, each worked on a small shard, as the idle sweep is in the Worked of the shard.
+-- The sentences of document 01 on eviction, each worked on a small shard, as the idle sweep is in the Worked of the shard.
 use Prim.Native.Nat.{ℕ}
 use mathlib.Core.Path.{_≡_, refl}
 use mathlib.Core.Bool.{true, false}

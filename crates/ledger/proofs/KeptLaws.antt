@@ -12,7 +12,7 @@ use Rattle.units.specs.declared.OptionNanos.the-variants.{None, Some}
 use Rattle.bucket.specs.declared.BucketConfig.{BucketConfig}
 use Rattle.rows.specs.declared.Place.the-variants.{At, Nowhere}
 use Rattle.rows.specs.Outcome.{Outcome}
-use Rattle.rows.specs.Held.{sum, total}
+use Rattle.rows.specs.Held.{total}
 use Rattle.rows.proofs.SumLaws.{sum-of-zeros, sum-le, term-le-sum}
 use Rattle.rows.proofs.HeldLaws.{total-stored, total-appended, total-removed}
 use Rattle.ledger.specs.declared.Debt.{Debt}
@@ -128,7 +128,7 @@ owed-by-another-value h f g a more l =
     sum-le (l .debts .count) (λ i. weigh h f (debtAt l i)) (λ i. weigh h g (debtAt l i)) (λ i. weigh h one (debtAt l i)) a (λ i below. weigh-by-another-value h f g a more (debtAt l i))
 
 -- A sum of no debts: none of the hash is held, and whatever their value, nothing is owed.
-pub none-owed-none-held : (h : ℕ) (l : Ledger) → owed h one l ≡ 0 → (i : ℕ) → i < l .debts .count → debtAt l i .hash ≡ h → ⊥
+none-owed-none-held : (h : ℕ) (l : Ledger) → owed h one l ≡ 0 → (i : ℕ) → i < l .debts .count → debtAt l i .hash ≡ h → ⊥
 unfolding owed
 none-owed-none-held h l none i below own = omega (arith, weigh-own h one (debtAt l i) own, term-le-sum (l .debts .count) (λ j. weigh h one (debtAt l j)) i below)
 

@@ -3,7 +3,6 @@ pub mod StepLaws
 pub mod RecordLaws
 pub mod ModelLaws
 pub mod KeptLaws
-pub mod DistinctLaws
 pub mod LookupLaws
 pub mod Worked
 pub mod ReadBack

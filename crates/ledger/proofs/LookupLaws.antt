@@ -1,8 +1,8 @@
--- What lookup finds after each operation, for a ledger in which no two debts have the same hash. All of it follows from the sums: what lookup finds of a
--- hash is known once the sum of every value is.
-use Prim.Native.Nat.{ℕ, _+_, _-_, _≤_, _<_, max}
+-- What lookup finds of a hash after each operation, where the hash owes at most once. All of it follows from the sums: what lookup finds of a hash is known
+-- once the sum of every value is.
+use Prim.Native.Nat.{ℕ, _-_, _≤_, _<_, max}
 use mathlib.Core.Path.{_≡_, refl, sym, _∙_, ap}
-use mathlib.Core.Bool.{Bool, false}
+use mathlib.Core.Bool.{Bool}
 use native.Mathlib.Omega.{arith}
 use Rattle.units.specs.declared.Nanos.{Nanos}
 use Rattle.units.specs.declared.OptionNanos.{OptionNanos}
@@ -13,12 +13,11 @@ use Rattle.rows.specs.declared.Place.the-variants.{At, Nowhere}
 use Rattle.rows.specs.Outcome.{Outcome}
 use Rattle.ledger.specs.declared.Debt.{Debt}
 use Rattle.ledger.specs.declared.Recorded.{Recorded}
-use Rattle.ledger.specs.declared.Recorded.the-variants.{Done, NoRoom}
+use Rattle.ledger.specs.declared.Recorded.the-variants.{Done}
 use Rattle.ledger.specs.Model.{Ledger, Sound, debtAt, placeOf, owedAt, owedBy, taken, sweep, later, recorded, credit, paidDown}
-use Rattle.ledger.proofs.StepLaws.{sweep-sound, taken-sound, paid-sound, Owing, found-owes, nowhere-owes-none, owed-where, taken-cases, paid-cases, sooner-by}
+use Rattle.ledger.proofs.StepLaws.{sweep-sound, paid-sound, Owing, found-owes, nowhere-owes-none, owed-where, taken-cases, paid-cases, sooner-by}
 use Rattle.ledger.proofs.RecordLaws.{Recording, merged, joins, replaces, refused, record-cases, recorded-sound, done-is-no-refusal}
-use Rattle.ledger.proofs.KeptLaws.{owed, weigh, one, worth, weigh-own, weigh-other, owed-stored, owed-appended, owed-replaced, sweep-never-adds, sweep-keeps-unsettled, nowhere-owes-nothing, found-is-all, record-adds-at-most, record-keeps-unsettled, refusal-keeps, taking-lowers-by-what-it-tells, taking-another-keeps, paying-another-keeps}
-use Rattle.ledger.proofs.DistinctLaws.{DistinctHashes, distinct-owes-once}
+use Rattle.ledger.proofs.KeptLaws.{owed, one, worth, weigh-own, weigh-other, owed-stored, owed-appended, owed-replaced, sweep-never-adds, sweep-keeps-unsettled, nowhere-owes-nothing, found-is-all}
 
 -- Taking out tells what lookup finds.
 pub taken-tells : (l : Ledger) (h : ℕ) → taken l h .answer ≡ owedBy l h
@@ -58,10 +57,6 @@ lookup-by-sums h l s found sums =
     let single : owed h one l ≤ 1 = omega (arith, sums one, worth-one found) in
     same-worth (owedBy l h) found (λ value. sym (sum-of-lookup h l s single value) ∙ sums value)
 
--- Two ledgers with the same sums of a hash: lookup finds the same in both.
-same-sums-same-lookup : (h : ℕ) (l m : Ledger) → Sound l → Sound m → owed h one l ≤ 1 → ((value : ℕ → ℕ) → owed h value m ≡ owed h value l) → owedBy m h ≡ owedBy l h
-same-sums-same-lookup h l m s t single same = lookup-by-sums h m t (owedBy l h) (λ value. same value ∙ sum-of-lookup h l s single value)
-
 -- Two ledgers with the same time left to the debts of a hash: an unsettled debt that lookup finds in one it finds in the other.
 unsettled-by-time-left : (at : ℕ) (found : OptionNanos) (t : Nanos) → at < t .0 → worth (λ n. n - at) found ≡ t .0 - at → found ≡ Some t
 unsettled-by-time-left at None t unsettled same = absurd (omega arith)
@@ -73,56 +68,26 @@ same-time-left-same-lookup h at l m s t single single′ same moment found unset
     unsettled-by-time-left at (owedBy m h) moment unsettled
     (sym (sum-of-lookup h m t single′ (λ n. n - at)) ∙ same ∙ sum-of-lookup h l s single (λ n. n - at) ∙ ap (worth (λ n. n - at)) found)
 
--- A ledger with no more of a hash than another, whatever the value: what lookup finds in the one it finds in the other.
-no-more-found : (found : OptionNanos) (t : Nanos) → ((value : ℕ → ℕ) → value (t .0) ≤ worth value found) → found ≡ Some t
-no-more-found None t less = absurd (omega (arith, less one))
-no-more-found (Some u) t less =
-    let e : u .0 ≡ t .0 = omega (arith, less (λ n. n), less (λ n. t .0 + u .0 - n)) in
-    ap (λ (n : ℕ). Some (record { 0 = n })) e
-
-no-more-lookup : (h : ℕ) (l m : Ledger) → Sound l → Sound m → owed h one l ≤ 1 → ((value : ℕ → ℕ) → owed h value m ≤ owed h value l) → (t : Nanos) → owedBy m h ≡ Some t → owedBy l h ≡ Some t
-no-more-lookup h l m s t single less moment found =
-    no-more-found (owedBy l h) moment
-    (λ value. omega (arith, less value, sum-of-lookup h l s single value, sum-of-lookup h m t (omega (arith, less one)) value, ap (worth value) found))
-
-module _ (l : Ledger) (s : Sound l) (u : DistinctHashes l) where
-  -- After a sweep an unsettled debt is found as before, and nothing is found that was not found before.
-  pub sweep-finds-unsettled : (at n h : ℕ) (t : Nanos) → owedBy l h ≡ Some t → at < t .0 → owedBy (sweep at n l) h ≡ Some t
-  sweep-finds-unsettled at n h t found unsettled =
-      let single : owed h one l ≤ 1 = distinct-owes-once l h u in
+module _ (l : Ledger) (s : Sound l) (h : ℕ) (single : owed h one l ≤ 1) where
+  -- After a sweep an unsettled debt is found as before.
+  pub sweep-finds-unsettled : (at n : ℕ) (t : Nanos) → owedBy l h ≡ Some t → at < t .0 → owedBy (sweep at n l) h ≡ Some t
+  sweep-finds-unsettled at n t found unsettled =
       same-time-left-same-lookup h at l (sweep at n l) s (sweep-sound at n l s) single (omega (arith, sweep-never-adds h one at n l s))
       (sweep-keeps-unsettled h (λ m. m - at) at n l s (λ m settled. omega arith)) t found unsettled
 
-  pub sweep-finds-nothing-new : (at n h : ℕ) (t : Nanos) → owedBy (sweep at n l) h ≡ Some t → owedBy l h ≡ Some t
-  sweep-finds-nothing-new at n h = no-more-lookup h l (sweep at n l) s (sweep-sound at n l s) (distinct-owes-once l h u) (λ value. sweep-never-adds h value at n l s)
-
-  -- After a debt is taken out its hash owes nothing, and others owe what they owed.
-  pub taken-finds-none : (h : ℕ) → owedBy (taken l h .after) h ≡ None
-  taken-finds-none h =
-      lookup-by-sums h (taken l h .after) (taken-sound l h s) None
-      (λ value. omega (arith, taking-lowers-by-what-it-tells h value l s, sum-of-lookup h l s (distinct-owes-once l h u) value, ap (worth value) (taken-tells l h)))
-
-  pub taken-finds-others : (h other : ℕ) → (h ≡ other → ⊥) → owedBy (taken l h .after) other ≡ owedBy l other
-  taken-finds-others h other apart =
-      same-sums-same-lookup other l (taken l h .after) s (taken-sound l h s) (distinct-owes-once l other u) (λ value. taking-another-keeps other value l s h apart)
-
-  -- After a payment the debt settles so much sooner, and others owe what they owed.
-  pub paid-finds-sooner : (h cost : ℕ) (c : BucketConfig) → owedBy (paidDown l h cost c .after) h ≡ paidOff (credit c cost) (owedBy l h)
-  paid-finds-sooner h cost c =
+  -- After a payment the debt settles so much sooner.
+  pub paid-finds-sooner : (cost : ℕ) (c : BucketConfig) → owedBy (paidDown l h cost c .after) h ≡ paidOff (credit c cost) (owedBy l h)
+  paid-finds-sooner cost c =
       lookup-by-sums h (paidDown l h cost c .after) (paid-sound l h cost c s) (paidOff (credit c cost) (owedBy l h))
       (λ value. paid-cases l h cost c (λ o. owed h value (o .after) ≡ worth value (paidOff (credit c cost) (owedBy l h)))
       (λ p e.
       let f : Owing l h p = found-owes l h p e in
       let x : Debt = sooner-by (credit c cost) (debtAt l p) in
       rw (← owed-where l h e)
-      (omega (arith, owed-stored h value l p x s (f .below), weigh-own h value (debtAt l p) (f .own), weigh-own h value x (f .own), found-is-all h value l s p e (distinct-owes-once l h u))))
+      (omega (arith, owed-stored h value l p x s (f .below), weigh-own h value (debtAt l p) (f .own), weigh-own h value x (f .own), found-is-all h value l s p e single)))
       (λ e. rw (← owed-where l h e) (nowhere-owes-nothing h value l e)))
 
-  pub paid-finds-others : (h cost : ℕ) (c : BucketConfig) (other : ℕ) → (h ≡ other → ⊥) → owedBy (paidDown l h cost c .after) other ≡ owedBy l other
-  paid-finds-others h cost c other apart =
-      same-sums-same-lookup other l (paidDown l h cost c .after) s (paid-sound l h cost c s) (distinct-owes-once l other u) (λ value. paying-another-keeps other value l s h cost c apart)
-
-module _ (l : Ledger) (s : Sound l) (u : DistinctHashes l) (d : Debt) (at : ℕ) (forget : Bool) where
+module _ (l : Ledger) (s : Sound l) (d : Debt) (at : ℕ) (forget : Bool) (single : owed (d .hash) one l ≤ 1) where
   -- After a recording the hash owes until the later of the two moments.
   pub recorded-finds-later : recorded l d at forget .answer ≡ Done → owedBy (recorded l d at forget .after) (d .hash) ≡ laterOf (d .settles) (owedBy l (d .hash))
   recorded-finds-later done =
@@ -140,7 +105,7 @@ module _ (l : Ledger) (s : Sound l) (u : DistinctHashes l) (d : Debt) (at : ℕ)
             weigh-own (d .hash) value (debtAt l p) (f .own),
             weigh-own (d .hash) value x (f .own),
             ap value moment,
-            found-is-all (d .hash) value l s p e (distinct-owes-once l (d .hash) u),
+            found-is-all (d .hash) value l s p e single,
           ))
       go value (joins new room) q =
           rw (← owed-where l (d .hash) new) (omega (arith, owed-appended (d .hash) value l d room, weigh-own (d .hash) value d refl, nowhere-owes-nothing (d .hash) value l new))
@@ -154,23 +119,3 @@ module _ (l : Ledger) (s : Sound l) (u : DistinctHashes l) (d : Debt) (at : ℕ)
             weigh-other (d .hash) value (debtAt l p) (nowhere-owes-none l (d .hash) new p below),
           ))
       go value (refused p c full below never unsettled) q = done-is-no-refusal (sym q)
-
-  -- What it finds of another hash was found before; and where debts may not be forgotten, an unsettled debt is still found.
-  pub recorded-finds-nothing-new : recorded l d at forget .answer ≡ Done → (h : ℕ) → (d .hash ≡ h → ⊥) → (t : Nanos) → owedBy (recorded l d at forget .after) h ≡ Some t → owedBy l h ≡ Some t
-  recorded-finds-nothing-new done h apart =
-      no-more-lookup h l (recorded l d at forget .after) s (recorded-sound l d at forget s) (distinct-owes-once l h u)
-      (λ value. omega (arith, record-adds-at-most h value l s d at forget done, weigh-other h value d apart))
-
-  pub recorded-finds-unsettled : forget ≡ false → recorded l d at forget .answer ≡ Done → (h : ℕ) → (d .hash ≡ h → ⊥) → (t : Nanos) → owedBy l h ≡ Some t → at < t .0
-      → owedBy (recorded l d at forget .after) h ≡ Some t
-  recorded-finds-unsettled never done h apart t found unsettled =
-      let single : owed h one l + weigh h one d ≤ 1 = omega (arith, distinct-owes-once l h u, weigh-other h one d apart) in
-      same-time-left-same-lookup h at l (recorded l d at forget .after) s (recorded-sound l d at forget s) (omega arith) (omega (arith, record-adds-at-most h one l s d at forget done))
-      (record-keeps-unsettled h (λ n. n - at) l s d at forget never (λ n settled. omega arith) single done
-      ∙ omega (arith, weigh-other h (λ n. n - at) d apart))
-      t found unsettled
-
-  -- After a refusal lookup finds what it found before.
-  pub refusal-finds-the-same : (wait : Nanos) → recorded l d at forget .answer ≡ NoRoom wait → (h : ℕ) → owedBy (recorded l d at forget .after) h ≡ owedBy l h
-  refusal-finds-the-same wait told h =
-      same-sums-same-lookup h l (recorded l d at forget .after) s (recorded-sound l d at forget s) (distinct-owes-once l h u) (λ value. refusal-keeps h value l s d at forget wait told)

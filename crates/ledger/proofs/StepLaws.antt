@@ -1,12 +1,12 @@
 -- What lookup by hash says, what the operations leave of the room, and the sweep as steps: it only moves the cursor and drops settled debts, so what
--- both keep a sweep keeps. Laws about sums, hashes and lookup go by this and do not open the sweep.
+-- both keep a sweep keeps. Laws about sums and lookup go by this and do not open the sweep.
 use Prim.Native.Nat.{ℕ, zero, suc, _-_, _≤_, _<_}
 use mathlib.Core.Path.{_≡_, refl, _∙_}
 use mathlib.Core.Bool.{Bool, true, false}
 use native.Mathlib.Omega.{arith}
 use lib.ListN.{length-set}
-use lib.Dec.{ltb, leb, eqb}
-use borrow.Author.Tests.{ltb-true, leb-true, eqb-true, eqb-false}
+use lib.Dec.{leb, eqb}
+use borrow.Author.Tests.{leb-true, eqb-true, eqb-false}
 use Rattle.arith.proofs.Cases.{by-test}
 use Rattle.units.specs.declared.OptionNanos.{OptionNanos}
 use Rattle.units.specs.declared.OptionNanos.the-variants.{None, Some}
@@ -14,14 +14,14 @@ use Rattle.bucket.specs.declared.BucketConfig.{BucketConfig}
 use Rattle.rows.specs.declared.Place.{Place}
 use Rattle.rows.specs.declared.Place.the-variants.{At, Nowhere}
 use Rattle.rows.specs.Outcome.{Outcome, outcome}
-use Rattle.rows.proofs.HeldLaws.{removed-count, removed-length}
+use Rattle.rows.proofs.HeldLaws.{wrapped-below, removed-count, removed-length}
 use Rattle.rows.proofs.LowestLaws.{found-passes, nowhere-passes-none}
 use Rattle.ledger.specs.declared.Debt.{Debt}
 use Rattle.ledger.specs.Model.{Ledger, Sound, noDebt, capOf, debtAt, settlesAt, cursorOf, withCursor, withDebt, owes, placeOf, removeAt, append, owedAt, owedBy, takenAt, taken, lookAt, look, sweep, credit, paidAt, paidDown}
 
 -- The cursor, as it is read, stands at a debt.
 pub cursor-below : (l : Ledger) → 0 < l .debts .count → cursorOf l < l .debts .count
-cursor-below l some = by-test (ltb (l .cursor) (l .debts .count)) (λ t. rw t (ltb-true _ _ t)) (λ t. rw t some)
+cursor-below l some = wrapped-below (l .cursor) (l .debts .count) some
 
 -- What a lookup by hash says of the debts that are held.
 pub record Owing (l : Ledger) (h p : ℕ) : Type 0 where
@@ -104,11 +104,6 @@ paid-sound l h cost c s = paid-cases l h cost c (λ o. Sound (o .after)) (λ p e
 
 pub paid-cap : (l : Ledger) (h cost : ℕ) (c : BucketConfig) → capOf (paidDown l h cost c .after) ≡ capOf l
 paid-cap l h cost c = paid-cases l h cost c (λ o. capOf (o .after) ≡ capOf l) (λ p e. simp length-set) (λ e. refl)
-
--- Once a debt was taken out there is room for another.
-pub taken-leaves-room : (l : Ledger) (h p : ℕ) → Sound l → placeOf l h ≡ At p → taken l h .after .debts .count < capOf (taken l h .after)
-unfolding taken
-taken-leaves-room l h p s e = rw e (removal-leaves-room l p (s .held) (found-owes l h p e .below))
 
 -- Q is kept by the two steps of a sweep: the cursor moves, and a settled debt leaves.
 pub record KeptBySteps (at : ℕ) (Q : Ledger → Type 0) : Type 0 where

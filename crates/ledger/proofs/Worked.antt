@@ -1,4 +1,4 @@
--- The sentences of the scope on the ledger, each worked on a small one. Hashes are small numbers and moments count from 0; a free place is `noDebt`.
+-- The sentences of document 01 on the ledger, each worked on a small one. Hashes are small numbers and moments count from 0; a free place is `noDebt`.
 use Prim.Native.Nat.{ℕ, _^_, _-_}
 use mathlib.Core.Path.{_≡_, refl}
 use mathlib.Core.Bool.{true, false}

@@ -28,7 +28,7 @@ pub enum Choice {
     Soonest(usize),
 }
 
-// Whether a debt was recorded; where there was no room for it, how long until a debt that was looked at settles.
+// Whether a debt was recorded; where there was no room for it, how long until the soonest of the debts looked at settles.
 pub enum Recorded {
     Done,
     NoRoom(Nanos),

@@ -4,10 +4,16 @@ use mathlib.Core.Path.{_≡_, refl, ap, sym, _∙_}
 use native.Mathlib.Numerals.{add-one}
 use native.Mathlib.Omega.{arith}
 use lib.ListN.{length, set, length-set}
+use lib.Dec.{ltb}
 use lib.Seq.{getD-set-same, getD-set-other}
-use Rattle.arith.proofs.Cases.{by-eq}
-use Rattle.rows.specs.Held.{Held, sum, itemAt, removed, total, appended, stored}
+use borrow.Author.Tests.{ltb-true}
+use Rattle.arith.proofs.Cases.{by-test, by-eq}
+use Rattle.rows.specs.Held.{Held, wrapped, sum, itemAt, removed, total, appended, stored}
 use Rattle.rows.proofs.SumLaws.{sum-same, sum-changed}
+
+-- A hand, sweep or cursor, as it is read, stands at an item.
+pub wrapped-below : (i count : ℕ) → 0 < count → wrapped i count < count
+wrapped-below i count some = by-test (ltb i count) (λ t. rw t (ltb-true _ _ t)) (λ t. rw t some)
 
 -- The items stand in places that there are.
 pub record Sound {A : Type 0} (h : Held A) : Type 0 where
@@ -26,7 +32,7 @@ module _ {A : Type 0} (free : A) where
   pub item-appended-other : (h : Held A) (x : A) (j : ℕ) → j < h .count → itemAt free (appended h x) j ≡ itemAt free h j
   item-appended-other h x j b = getD-set-other (h .places) (h .count) j x free (λ e. omega arith)
 
-  -- After a removal the last item stands in the gap, the others where they stood, and the last place is free.
+  -- After a removal the last item stands in the gap and the others where they stood: one item less, in as many places.
   pub item-moved : (h : Held A) (p : ℕ) → Sound h → p < h .count - 1 → itemAt free (removed free h p) p ≡ itemAt free h (h .count - 1)
   unfolding removed
   item-moved h p s b =
@@ -46,9 +52,6 @@ module _ {A : Type 0} (free : A) where
   pub removed-length : (h : Held A) (p : ℕ) → length (removed free h p .places) ≡ length (h .places)
   unfolding removed
   removed-length h p = simp length-set
-
-  pub removed-sound : (h : Held A) (p : ℕ) → Sound h → Sound (removed free h p)
-  removed-sound h p s = record { held = omega (arith, s .held, removed-count h p, removed-length h p) }
 
   -- The weights: a stored item changes its own, an appended one adds its own, a removed one takes its own away.
   pub total-stored : (w : A → ℕ) (h : Held A) (i : ℕ) (x : A) → Sound h → i < h .count

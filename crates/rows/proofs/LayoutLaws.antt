@@ -8,9 +8,9 @@ use lib.Seq.{sets, getD-set-same, getD-set-other}
 use borrow.Rule.Slice.PartMut.{putMid}
 use Rattle.rows.specs.Parts.{part}
 use Rattle.rows.specs.Rows.{rows, unrow}
-use Rattle.rows.specs.Held.{Held, itemAt, stored}
+use Rattle.rows.specs.Held.{itemAt, stored}
 use Rattle.rows.specs.Layout.{heldIn}
-use Rattle.rows.proofs.PartLaws.{part-set, part-set-below, part-set-above, part-sets, part-length, part-of-part, part-kept-below, word-kept}
+use Rattle.rows.proofs.PartLaws.{part-set, part-set-below, part-sets, part-length, part-of-part, part-kept-below, word-kept}
 use Rattle.rows.proofs.RowLaws.{rows-length, record-at, record-put, record-put-word, row-end, getD-sets-lt, rows-round, unrow-rows}
 
 module _ {A : Type 0} (read : List ℕ → A) (w cap at first : ℕ) where
@@ -65,19 +65,12 @@ module _ {A : Type 0} (read : List ℕ → A) (w cap at first : ℕ) where
         (record-put-word read w cap (part first (w * cap) ws) i b f v c) in
         λ j. record { count = getD-set-other ws (first + (w * i + f)) at v 0 (λ q. omega arith) j; places = word-put j }
 
-    -- A word that is no item's, nor the count.
+    -- A word before the items that is not the count.
     pub held-set-before : (j v : ℕ) → j < first → (at ≡ j → ⊥) → heldIn read w cap at first (set ws j v) ≡ heldIn read w cap at first ws
     unfolding heldIn
     held-set-before j v b other = λ k. record {
       count = getD-set-other ws j at v 0 other k;
       places = map read (rows w cap (part-set-below first (w * cap) ws j v b k));
-    }
-
-    pub held-set-after : (j v : ℕ) → first + w * cap ≤ j → heldIn read w cap at first (set ws j v) ≡ heldIn read w cap at first ws
-    unfolding heldIn
-    held-set-after j v b = λ k. record {
-      count = getD-set-other ws j at v 0 (λ q. omega arith) k;
-      places = map read (rows w cap (part-set-above first (w * cap) ws j v b k));
     }
 
     -- A part past the items that was lent and came back.

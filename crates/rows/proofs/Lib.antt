@@ -3,7 +3,6 @@ pub mod RowLaws
 pub mod SumLaws
 pub mod LowestLaws
 pub mod HeldLaws
-pub mod DistinctLaws
 pub mod LayoutLaws
 pub mod OutcomeLaws
 pub mod ReadBack

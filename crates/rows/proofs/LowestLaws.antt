@@ -1,11 +1,10 @@
--- Lookup by the lowest place. Layers above know it by three laws: what is found passes, a single item that passes is found, and where nothing is
--- found nothing passes. The last three laws are its steps, for the loop that computes it.
+-- Lookup by the lowest place. Layers above know it by two laws: what is found passes, and where nothing is found nothing passes. The last three laws are its
+-- steps, for the loop that computes it.
 use Prim.Native.Nat.{ℕ, zero, suc, _+_, _-_, _≤_, _<_}
-use mathlib.Core.Path.{_≡_, refl, sym, _∙_, ap}
-use mathlib.Core.Bool.{Bool, true, false, true≢false}
+use mathlib.Core.Path.{_≡_}
+use mathlib.Core.Bool.{Bool, true, false}
 use native.Mathlib.Omega.{arith}
 use Rattle.arith.proofs.Cases.{by-test, by-eq}
-use Rattle.rows.specs.declared.Place.{Place}
 use Rattle.rows.specs.declared.Place.the-variants.{At, Nowhere}
 use Rattle.rows.specs.Held.{lowestFrom, lowest}
 
@@ -35,14 +34,6 @@ from-nowhere test i (suc left) j =
 
 pub nowhere-passes-none : (n : ℕ) (test : ℕ → Bool) (j : ℕ) → lowest n test ≡ Nowhere → j < n → test j ≡ false
 nowhere-passes-none n test j e b = from-nowhere test 0 n j e (omega arith) (omega arith)
-
--- A single item that passes is found.
-pub one-passing-is-found : (n : ℕ) (test : ℕ → Bool) (i : ℕ) → i < n → test i ≡ true → ((j : ℕ) → j < n → test j ≡ true → j ≡ i) → lowest n test ≡ At i
-one-passing-is-found n test i b t only = go (lowest n test) refl
-  where
-    go : (found : Place) → lowest n test ≡ found → lowest n test ≡ At i
-    go (At p) e = let f = found-passes n test p e in e ∙ ap At (only p (f .below) (f .passes))
-    go Nowhere e = let z : true ≡ false = sym t ∙ nowhere-passes-none n test i e b in absurd (true≢false z)
 
 -- The steps of a loop that has come to place i of n: it ends there, goes on, or has passed the last place.
 pub lowest-hit : (test : ℕ → Bool) (i n : ℕ) → i < n → test i ≡ true → lowestFrom test i (n - i) ≡ At i

@@ -5,7 +5,7 @@ use mathlib.Core.Path.{_≡_, refl, ap, sym, _∙_}
 use mathlib.Core.List.{List, [], _∷_, _++_}
 use lib.ListN.{length, getD, set, take, drop, length-drop, List·getD-append, take-append-drop}
 use native.Mathlib.Nat.{add-suc}
-use lib.Seq.{sets, take-take, take-set-lt, take-set-le, drop-set-lt, drop-set-add, drop-drop, drop-append-le, take-append-le, take-at, drop-at, length-take-le, getD-take, take-add}
+use lib.Seq.{sets, take-take, take-set-lt, drop-set-lt, drop-set-add, drop-drop, drop-append-le, take-append-le, take-at, drop-at, length-take-le, getD-take, take-add}
 use borrow.Rule.Slice.PartMut.{putMid}
 use Rattle.rows.specs.Parts.{part}
 
@@ -16,11 +16,6 @@ module _ (a n : ℕ) (ws : List ℕ) where
 
   pub part-set-below : (i v : ℕ) → i < a → part a n (set ws i v) ≡ part a n ws
   part-set-below i v h = rw (drop-set-lt a ws i v h)
-
-  pub part-set-above : (i v : ℕ) → a + n ≤ i → part a n (set ws i v) ≡ part a n ws
-  part-set-above i v h =
-      let e : i ≡ a + (i - a) = omega arith in
-      rw (e, drop-set-add) (take-set-le n (drop a ws) (i - a) v (omega arith))
 
   pub part-length : a + n ≤ length ws → length (part a n ws) ≡ n
   part-length h = let d = length-drop a ws in length-take-le n (drop a ws) (omega arith)

@@ -1,17 +1,13 @@
--- Words in rows: what a read, a store and the lending of a row mean for them, and the way back from rows to words. At every width.
+-- Words in rows: what a read and a store mean for them, and the way back from rows to words. At every width.
 use Prim.Native.Nat.{ℕ, zero, suc, _+_, _*_, _-_, _≤_, _<_}
 use native.Mathlib.Omega.{arith}
 use native.Mathlib.Nat.{mul-suc, mul-zero, zero-add, add-zero, add-suc, mul-le-mul-left}
 use mathlib.Core.Path.{_≡_, refl, ap, sym, _∙_, subst}
-use mathlib.Core.List.{List, [], _∷_, _++_, map, append-nil}
-use lib.ListN.{length, getD, set, take, drop, length-drop, List·getD-map, length-set, drop-of-length-le}
-use lib.Seq.{drop-drop, take-set-lt, take-set-le, drop-set-lt, drop-set-add, getD-take, getD-drop, length-take-le, take-append-le, drop-append-le, sets, getD-set-same, getD-set-other, set-getD, set-set, ext-getD, take-add, take-all, sets-eq}
-use borrow.Rule.Slice.PartMut.{putMid}
-use mathlib.Core.Logic.{_⊎_, inl, inr, ⊎-elim}
-use native.Mathlib.Decide.{ℕ-discrete, decLt}
+use mathlib.Core.List.{List, [], _∷_, map, append-nil}
+use lib.ListN.{length, getD, set, take, drop, length-drop, List·getD-map, drop-of-length-le}
+use lib.Seq.{drop-drop, take-set-lt, take-set-le, drop-set-lt, drop-set-add, getD-take, getD-drop, length-take-le, sets, getD-set-same, getD-set-other, set-getD, set-set, take-add, take-all, sets-eq}
 use Rattle.rows.specs.Rows.{rows, unrow}
 use Rattle.rows.specs.Parts.{part}
-use Rattle.rows.proofs.PartLaws.{part-back, part-kept-below, part-kept-above}
 
 pub rows-length : (w n : ℕ) (ws : List ℕ) → length (rows w n ws) ≡ n
 unfolding rows
@@ -26,10 +22,6 @@ unfolding rows
 row-at w zero ws i b = absurd (omega arith)
 row-at w (suc n) ws zero b = rw mul-zero
 row-at w (suc n) ws (suc i) b = row-at w n (drop w ws) i (omega arith) ∙ rw (drop-drop, next-row)
-
--- Word f of row i.
-pub row-read : (w n : ℕ) (ws : List ℕ) (i f : ℕ) → i < n → f < w → getD (getD (rows w n ws) i []) f 0 ≡ getD ws (w * i + f) 0
-row-read w n ws i f b c = rw (row-at w n ws i b, getD-take w (drop (w * i) ws) f 0 c, getD-drop)
 
 -- A store to word f of row i.
 pub row-put : (w n : ℕ) (ws : List ℕ) (i f v : ℕ) → i < n → f < w
@@ -51,15 +43,6 @@ row-length w n ws i b c =
     let d = length-drop (w * i) ws in
     rw (row-at w n ws i b) (length-take-le w (drop (w * i) ws) (omega arith))
 
--- The rows are those of the words that they take up.
-pub rows-append : (w n : ℕ) (xs ys : List ℕ) → w * n ≤ length xs → rows w n (xs ++ ys) ≡ rows w n xs
-unfolding rows
-rows-append w zero xs ys h = refl
-rows-append w (suc n) xs ys h =
-    let e = next-row w n in
-    let d = length-drop w xs in
-    rw (take-append-le w xs ys (omega arith), drop-append-le w xs ys (omega arith), rows-append w n (drop w xs) ys (omega arith))
-
 -- A list of known length, written out word by word.
 abbrev pub tabulate : ℕ → (ℕ → ℕ) → List ℕ
 tabulate zero f = []
@@ -80,15 +63,7 @@ map-set f [] i a = refl
 map-set f (x ∷ l) zero a = refl
 map-set {B = B} f (x ∷ l) (suc i) a = ap {B = List B} (λ r. f x ∷ r) (map-set f l i a)
 
--- A run of stores, as straight-line code leaves it.
-pub drop-sets : (n : ℕ) (l : List ℕ) (i : ℕ) (vs : List ℕ) → drop n (sets l (n + i) vs) ≡ sets (drop n l) i vs
-drop-sets n l i [] = refl
-drop-sets n l i (v ∷ vs) = rw (← add-suc) (drop-sets n (set l (n + i) v) (suc i) vs ∙ rw drop-set-add)
-
-pub drop-sets-lt : (n : ℕ) (l : List ℕ) (i : ℕ) (vs : List ℕ) → i + length vs ≤ n → drop n (sets l i vs) ≡ drop n l
-drop-sets-lt n l i [] h = refl
-drop-sets-lt n l i (v ∷ vs) h = drop-sets-lt n (set l i v) (suc i) vs (omega arith) ∙ drop-set-lt n l i v (omega arith)
-
+-- A run of stores leaves the words before it.
 pub getD-sets-lt : (l : List ℕ) (i j : ℕ) (vs : List ℕ) → j < i → getD (sets l i vs) j 0 ≡ getD l j 0
 getD-sets-lt l i j [] h = refl
 getD-sets-lt l i j (v ∷ vs) h = getD-sets-lt (set l i v) (suc i) j vs (omega arith) ∙ getD-set-other l i j v 0 (omega arith)
@@ -107,36 +82,12 @@ pub row-puts : (w n : ℕ) (ws : List ℕ) (i : ℕ) (vs : List ℕ) → i < n �
     → rows w n (sets ws (w * i) vs) ≡ set (rows w n ws) i (sets (getD (rows w n ws) i []) 0 vs)
 row-puts w n ws i vs b c = rw (add-zero (w * i)) at (row-puts-from w n ws i 0 vs b (omega arith))
 
--- A place is another one, or below it, or above.
-ℕ-compare : (j i : ℕ) → (j ≡ i) ⊎ ((j < i) ⊎ (i < j))
-ℕ-compare j i = elim (ℕ-discrete j i) [ yes e ↦ inl e | no n ↦ elim (decLt j i) [ yes l ↦ inr (inl l) | no g ↦ inr (inr (omega arith)) ] ]
-
--- Row i lent as a part of the words, and come back.
+-- Row i as a part of the words, and where it ends.
 pub row-part : (w n : ℕ) (ws : List ℕ) (i : ℕ) → i < n → part (w * i) w ws ≡ getD (rows w n ws) i []
 row-part w n ws i b = sym (row-at w n ws i b)
 
 pub row-end : (w n i : ℕ) → i < n → w * i + w ≤ w * n
 row-end w n i b = let m : w * suc i ≤ w * n = mul-le-mul-left w b in let e = next-row w i in omega arith
-
-pub row-back : (w n : ℕ) (ws ys : List ℕ) (i : ℕ) → i < n → w * n ≤ length ws → length ys ≡ w
-    → rows w n (putMid (w * i) w ws ys) ≡ set (rows w n ws) i ys
-row-back w n ws ys i b c k = ext-getD [] _ _ (rows-length w n _ ∙ sym (length-set (rows w n ws) i ys ∙ rows-length w n ws)) at
-  where
-    h : w * i + w ≤ length ws
-    h = let m = row-end w n i b in omega arith
-
-    at : (j : ℕ) → j < length (rows w n (putMid (w * i) w ws ys)) → getD (rows w n (putMid (w * i) w ws ys)) j [] ≡ getD (set (rows w n ws) i ys) j []
-    at j l =
-        let d : j < n = rw rows-length at l in
-        let r : i < length (rows w n ws) = rw (rows-length w n ws) b in
-        rw (row-at w n (putMid (w * i) w ws ys) j d)
-        (elim (ℕ-compare j i) [
-          | inl e ↦ rw e (part-back (w * i) w ws ys h k ∙ sym (getD-set-same (rows w n ws) i ys [] r))
-          | inr o ↦ ⊎-elim
-              (λ (g : j < i). part-kept-below (w * i) w ws ys h k (w * j) w (row-end w i j g) ∙ row-part w n ws j d ∙ sym (getD-set-other (rows w n ws) i j ys [] (omega arith)))
-              (λ (g : i < j). part-kept-above (w * i) w ws ys h k (w * j) w (row-end w j i g) ∙ row-part w n ws j d ∙ sym (getD-set-other (rows w n ws) i j ys [] (omega arith)))
-              o
-        ])
 
 -- The rows of words, put one after the other, are the words.
 unrow-front : (w n : ℕ) (ws : List ℕ) → w * n ≤ length ws → unrow (rows w n ws) ≡ take (w * n) ws

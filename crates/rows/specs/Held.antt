@@ -1,5 +1,6 @@
 -- Items held in the first places of a fixed number of places. What stands in the places past the count is part of the value, so that a definition
--- over `Held` fixes every word. `position` finds an item, `appended` adds one, `removed` takes one out; nothing else changes which items are held.
+-- over `Held` fixes every word. `position` finds an item, `appended` adds one, `removed` takes one out and `stored` puts one in the place of another;
+-- nothing else changes which items are held.
 use Prim.Native.Nat.{ℕ, zero, suc, _+_, _-_}
 use mathlib.Core.Bool.{Bool, cond}
 use mathlib.Core.List.{List}

@@ -2,6 +2,5 @@ pub mod LayoutLaws
 pub mod StepLaws
 pub mod ModelLaws
 pub mod KeptLaws
-pub mod DistinctLaws
 pub mod ReadBack
 pub mod Worked

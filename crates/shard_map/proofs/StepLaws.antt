@@ -1,22 +1,20 @@
 -- What lookup by hash and key says, what the steps leave of the room, and the idle sweep as steps: it only moves the sweep and drops slots that may be
--- reclaimed, so what both keep an idle sweep keeps. Laws about sums, identities and lookup go by this and do not open the sweep.
-use Prim.Native.Nat.{ℕ, zero, suc, _+_, _-_, _≤_, _<_}
+-- reclaimed, so what both keep an idle sweep keeps. Laws about sums go by this and do not open the sweep.
+use Prim.Native.Nat.{ℕ, zero, suc, _+_, _-_, _<_}
 use mathlib.Core.Path.{_≡_, refl, sym, _∙_}
 use mathlib.Core.Bool.{true, false, true≢false}
 use native.Mathlib.Omega.{arith}
 use lib.ListN.{length-set}
-use lib.Dec.{ltb, eqb}
-use borrow.Author.Tests.{ltb-true, leb-true, eqb-true, eqb-false}
-use Rattle.arith.proofs.Cases.{by-test, by-eq}
+use lib.Dec.{eqb}
+use borrow.Author.Tests.{eqb-true, eqb-false}
+use Rattle.arith.proofs.Cases.{by-test}
 use Rattle.units.specs.declared.Nanos.{Nanos}
 use Rattle.units.specs.declared.Millis.{Millis}
 use Rattle.units.specs.Units.{millisOf}
 use Rattle.bucket.specs.declared.BucketConfig.{BucketConfig}
 use Rattle.bucket.specs.Bucket.{shortfallAt}
-use Rattle.rows.specs.declared.Place.{Place}
 use Rattle.rows.specs.declared.Place.the-variants.{At, Nowhere}
-use Rattle.rows.specs.Held.{wrapped}
-use Rattle.rows.proofs.HeldLaws.{item-moved, item-kept, removed-count, removed-length}
+use Rattle.rows.proofs.HeldLaws.{wrapped-below, removed-count, removed-length}
 use Rattle.rows.proofs.LowestLaws.{found-passes, nowhere-passes-none}
 use Rattle.slot.specs.declared.Slot.{Slot}
 use Rattle.slot.specs.Slot.{isKey, expired}
@@ -25,9 +23,6 @@ use Rattle.ledger.specs.Model as Ledger
 use Rattle.shard_map.specs.Model.{Shard, Sound, noSlot, capOf, slotAt, withSlot, withSweep, withLedger, handOf, sweepOf, placeOf, removeAt, insert, reclaimable, idleLookAt, idleLook, sweepIdle}
 
 -- The hand and the sweep, as they are read, stand at a slot.
-wrapped-below : (i count : ℕ) → 0 < count → wrapped i count < count
-wrapped-below i count some = by-test (ltb i count) (λ t. rw t (ltb-true _ _ t)) (λ t. rw t some)
-
 pub hand-below : (s : Shard) → 0 < s .slots .count → handOf s < s .slots .count
 hand-below s some = wrapped-below (s .hand) (s .slots .count) some
 
@@ -54,14 +49,7 @@ nowhere-holds-none s h k e i below hash key =
     let holds : isKey h k (slotAt s i) ≡ true = is-key-iff h k (slotAt s i) .1 (hash, key) in
     absurd (true≢false (sym holds ∙ fails))
 
-pub none-held-is-nowhere : (s : Shard) (h k : ℕ) → ((i : ℕ) → i < s .slots .count → slotAt s i .hash ≡ h → slotAt s i .key ≡ k → ⊥) → placeOf s h k ≡ Nowhere
-none-held-is-nowhere s h k none = go (placeOf s h k) refl
-  where
-    go : (place : Place) → placeOf s h k ≡ place → placeOf s h k ≡ Nowhere
-    go Nowhere e = e
-    go (At p) e = let f : Holding s h k p = found-holds s h k p e in absurd (none p (f .below) (f .hash) (f .key))
-
--- A removal leaves one slot less and the same room. It leaves the hand, the sweep and the ledger alone.
+-- A removal leaves one slot less, the same room and the same ledger.
 pub removal-count : (s : Shard) (p : ℕ) → removeAt s p .slots .count ≡ s .slots .count - 1
 unfolding removeAt
 removal-count s p = removed-count noSlot (s .slots) p
@@ -74,29 +62,12 @@ pub removal-ledger : (s : Shard) (p : ℕ) → removeAt s p .ledger ≡ s .ledge
 unfolding removeAt
 removal-ledger s p = refl
 
-pub removal-hand : (s : Shard) (p : ℕ) → removeAt s p .hand ≡ s .hand
-unfolding removeAt
-removal-hand s p = refl
-
 pub removal-sound : (s : Shard) (p : ℕ) → Sound s → Sound (removeAt s p)
 removal-sound s p t = record {
   room = omega (arith, removal-cap s p, t .room);
   held = omega (arith, removal-cap s p, removal-count s p, t .held);
   ledger = rw (removal-ledger s p) (t .ledger);
 }
-
--- What holds of every slot that is held.
-abbrev pub EverySlot : (Slot → Type 0) → Shard → Type 0
-EverySlot Q s = (i : ℕ) → i < s .slots .count → Q (slotAt s i)
-
--- It holds of those that are left after a removal.
-pub removal-every : (Q : Slot → Type 0) (s : Shard) (p : ℕ) → Sound s → EverySlot Q s → EverySlot Q (removeAt s p)
-unfolding removeAt
-removal-every Q s p t every i below =
-    let left : i < s .slots .count - 1 = rw (removed-count noSlot (s .slots) p) at below in
-    by-eq i p
-    (λ gap. rw (gap, item-moved noSlot (s .slots) p (record { held = t .held }) (rw gap at left)) (every (s .slots .count - 1) (omega arith)))
-    (λ other. rw (item-kept noSlot (s .slots) p i left other) (every i (omega arith)))
 
 -- An insertion where there is room leaves one slot more and the same room.
 pub insert-count : (s : Shard) (slot : Slot) → insert s slot .slots .count ≡ s .slots .count + 1
@@ -131,12 +102,9 @@ sweep-sound s sweep t = record { room = t .room; held = t .held; ledger = t .led
 pub ledger-sound : (s : Shard) (l : Ledger.Ledger) → Sound s → Ledger.Sound l → Sound (withLedger s l)
 ledger-sound s l t u = record { room = t .room; held = t .held; ledger = u }
 
--- A slot that may be reclaimed has been idle for the limit, and its bucket is full.
+-- A slot that may be reclaimed has a full bucket.
 pub reclaimable-is-full : (c : BucketConfig) (at : Nanos) (limit : Millis) (slot : Slot) → reclaimable c at limit slot ≡ true → shortfallAt c (slot .bucket) at ≡ 0
 reclaimable-is-full c at limit slot = by-test (expired slot (millisOf at) limit) (λ t. rw t (λ full. eqb-true _ _ full)) (λ t. rw t (λ e. cc))
-
-pub reclaimable-is-idle : (c : BucketConfig) (at : Nanos) (limit : Millis) (slot : Slot) → reclaimable c at limit slot ≡ true → limit .0 ≤ millisOf at .0 - slot .seen .0
-reclaimable-is-idle c at limit slot = by-test (expired slot (millisOf at) limit) (λ t. rw t (λ full. leb-true _ _ t)) (λ t. rw t (λ e. absurd (true≢false (sym e))))
 
 -- Q is kept by the two steps of an idle sweep: the sweep moves, and a slot that may be reclaimed leaves.
 pub record KeptByIdleSteps (c : BucketConfig) (at : Nanos) (limit : Millis) (Q : Shard → Type 0) : Type 0 where
@@ -164,7 +132,7 @@ module _ (c : BucketConfig) (at : Nanos) (limit : Millis) where
   sweep-idle-keeps Q k zero s t q = q
   sweep-idle-keeps Q k (suc n) s t q = sweep-idle-keeps Q k n (idleLook c at limit s) (idle-look-keeps Sound sound-by-steps s t t) (idle-look-keeps Q k s t q)
 
-  -- It leaves a sound shard with the same room and no more slots than there were, and touches neither the ledger nor the hand.
+  -- It leaves a sound shard with the same room and the same ledger.
   pub sweep-idle-sound : (n : ℕ) (s : Shard) → Sound s → Sound (sweepIdle c at limit n s)
   sweep-idle-sound n s t = sweep-idle-keeps Sound sound-by-steps n s t t
 
@@ -172,19 +140,6 @@ module _ (c : BucketConfig) (at : Nanos) (limit : Millis) where
   sweep-idle-cap n s t =
       sweep-idle-keeps (λ u. capOf u ≡ capOf s) (record { moves = λ u p same. same; drops = λ u p v below goes same. removal-cap u p ∙ same }) n s t refl
 
-  pub sweep-idle-count : (n : ℕ) (s : Shard) → Sound s → sweepIdle c at limit n s .slots .count ≤ s .slots .count
-  sweep-idle-count n s t =
-      sweep-idle-keeps (λ u. u .slots .count ≤ s .slots .count)
-      (record { moves = λ u p fewer. fewer; drops = λ u p v below goes fewer. omega (arith, removal-count u p) }) n s t (omega arith)
-
   pub sweep-idle-ledger : (n : ℕ) (s : Shard) → Sound s → sweepIdle c at limit n s .ledger ≡ s .ledger
   sweep-idle-ledger n s t =
       sweep-idle-keeps (λ u. u .ledger ≡ s .ledger) (record { moves = λ u p same. same; drops = λ u p v below goes same. removal-ledger u p ∙ same }) n s t refl
-
-  pub sweep-idle-every : (Q : Slot → Type 0) (n : ℕ) (s : Shard) → Sound s → EverySlot Q s → EverySlot Q (sweepIdle c at limit n s)
-  sweep-idle-every Q n s t every =
-      sweep-idle-keeps (EverySlot Q) (record { moves = λ u p same. same; drops = λ u p v below goes same. removal-every Q u p v same }) n s t every
-
-  pub sweep-idle-hand : (n : ℕ) (s : Shard) → Sound s → sweepIdle c at limit n s .hand ≡ s .hand
-  sweep-idle-hand n s t =
-      sweep-idle-keeps (λ u. u .hand ≡ s .hand) (record { moves = λ u p same. same; drops = λ u p v below goes same. removal-hand u p ∙ same }) n s t refl

@@ -1,4 +1,4 @@
--- The sentences of the scope on the idle sweep, each worked on a small shard. A slot's hash and key are the same small number, and its stamp is moment 0;
+-- The sentences of document 01 on the idle sweep, each worked on a small shard. A slot's hash and key are the same small number, and its stamp is moment 0;
 -- a free place is `noSlot`. Two parts come back each nanosecond.
 use Prim.Native.Nat.{ℕ}
 use mathlib.Core.Path.{_≡_, refl}

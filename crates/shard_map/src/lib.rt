@@ -1,4 +1,4 @@
-// One shard over lent words: the slots of its keys in the order in which they came, the hand and the sweep that go round them, and the ledger.
+// One shard over lent words: the slots of its keys place by place, the hand and the sweep that go round them, and the ledger.
 ghost use mathlib.Core.Path.{_≡_};
 ghost use Prim.Native.Nat.{_<_};
 ghost use lib.ListN.{length};

@@ -1,13 +1,11 @@
--- What a touch and a mark leave alone, and when a slot is a key's.
+-- What a touch leaves alone, and when a slot is a key's.
 use mathlib.Core.Path.{_≡_, refl}
 use Prim.Native.Nat.{ℕ}
 use mathlib.Core.Bool.{Bool, true, false, cond}
-use lib.Dec.{eqb}
-use borrow.Author.Tests.{eqb-true, eq-eqb, ne-eqb}
-use Rattle.arith.proofs.Cases.{by-test}
+use borrow.Author.Tests.{eqb-true, eq-eqb}
 use Rattle.units.specs.declared.Millis.{Millis}
 use Rattle.slot.specs.declared.Slot.{Slot}
-use Rattle.slot.specs.Slot.{isKey, withMark, touched}
+use Rattle.slot.specs.Slot.{isKey, touched}
 
 -- A touch moves no key to another identity, and gives no tokens and takes none.
 pub touch-keeps-identity : (s : Slot) (stamp : Millis) (track : Bool) →
@@ -16,13 +14,6 @@ touch-keeps-identity s stamp track = (refl, refl)
 
 pub touch-keeps-bucket : (s : Slot) (stamp : Millis) (track : Bool) → touched s stamp track .bucket ≡ s .bucket
 touch-keeps-bucket s stamp track = refl
-
--- Nor does the hand, which only clears marks.
-pub mark-keeps-identity : (s : Slot) (mark : ℕ) → (withMark s mark .hash ≡ s .hash) × (withMark s mark .key ≡ s .key)
-mark-keeps-identity s mark = (refl, refl)
-
-pub mark-keeps-bucket : (s : Slot) (mark : ℕ) → withMark s mark .bucket ≡ s .bucket
-mark-keeps-bucket s mark = refl
 
 -- Where two tests both have to hold and do, each of them holds.
 both-hold : (a b : Bool) → cond a b false ≡ true → (a ≡ true) × (b ≡ true)
@@ -36,10 +27,3 @@ is-key-iff hash key s = (
   λ h. let both = both-hold _ _ h in (eqb-true _ _ (both .0), eqb-true _ _ (both .1)),
   λ h. rw (eq-eqb _ _ (h .0)) (eq-eqb _ _ (h .1)),
 )
-
--- A slot of another hash, or of another key, is not the key's.
-pub other-hash-is-not-key : (hash key : ℕ) (s : Slot) → (s .hash ≡ hash → ⊥) → isKey hash key s ≡ false
-other-hash-is-not-key hash key s h = rw (ne-eqb _ _ h)
-
-pub other-key-is-not-key : (hash key : ℕ) (s : Slot) → (s .key ≡ key → ⊥) → isKey hash key s ≡ false
-other-key-is-not-key hash key s h = by-test (eqb (s .hash) hash) (λ t. rw (t, ne-eqb _ _ h)) (λ t. rw t)

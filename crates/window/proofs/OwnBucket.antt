@@ -9,7 +9,6 @@ use Rattle.bucket.specs.declared.Request.the-variants.{Acquire, Reserve}
 use Rattle.settings.specs.declared.Limit.{Limit}
 use Rattle.settings.specs.declared.rate.Rate.{Rate}
 use Rattle.settings.specs.Rate.{burstOf}
-use Rattle.store.specs.Model.{holds}
 use Rattle.store.proofs.OwnBucketLaws.{own-bucket-decides}
 use Rattle.perkey.specs.declared.Reply.{Reply}
 use Rattle.perkey.specs.declared.Reply.the-variants.{Impossible, Nothing}

@@ -5,7 +5,7 @@ use mathlib.Core.Bool.{true, false}
 use mathlib.Core.List.{List, [], _∷_}
 use native.Mathlib.Omega.{arith}
 use native.Mathlib.Nat.{mul-le-mul-right}
-use lib.ListN.{length, replicate, length-replicate}
+use lib.ListN.{replicate, length-replicate}
 use Rattle.arith.proofs.Cases.{by-test, by-eq}
 use Rattle.rows.specs.Outcome.{Outcome, outcome}
 use Rattle.bucket.specs.Bucket.{Accepted}
@@ -16,7 +16,6 @@ use Rattle.settings.specs.Rate.{burstOf, configOf}
 use Rattle.settings.specs.Settings.{wordsOf, settingsRefusal}
 use Rattle.settings.proofs.RateLaws.{accepted-rate}
 use Rattle.settings.proofs.SettingsLaws.{accepted-parts}
-use Rattle.shard_map.specs.Model as Shard
 use Rattle.store.specs.declared.Identity.{Identity}
 use Rattle.perkey.specs.declared.Reply.{Reply}
 use Rattle.perkey.specs.declared.Reply.the-variants.{Done, Refused}
@@ -115,9 +114,6 @@ rules-keep-the-window s rate ws rated refuses done′ cs same rising apart k unr
 -- Demand 3, whole.
 pub rules-meet-demand3 : Demand3 rules
 rules-meet-demand3 = (rules-keep-the-window, rules-decide-by-own-bucket)
-
-pub rules-meet-demand2 : Demand2 rules
-rules-meet-demand2 c ws = refl
 
 -- An implementation that answers and leaves what the rules do gets through a list as they do.
 same-replies : (f : Implementation) → Demand2 f → (cs : List Call) (ws law : List ℕ) → replies f cs ws law ≡ replies rules cs ws law
