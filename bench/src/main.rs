@@ -2,20 +2,24 @@
 //!
 //! `bench [--rounds N] [--calls N] [--only TEXT]`
 
+mod flags;
 mod library;
 mod measure;
 mod memory;
 mod scenario;
 mod sides;
+mod times;
 
 use std::process::ExitCode;
 
 use published::Limiter;
 
+use flags::{number, word};
 use library::Store;
-use measure::{Times, round};
+use measure::round;
 use scenario::Scenario;
 use sides::{ClockOnly, Nobody, Side};
+use times::Times;
 
 #[global_allocator]
 static ALLOCATOR: memory::Counting = memory::Counting;
@@ -115,13 +119,4 @@ fn print_memory() {
             bytes.ours, bytes.slots, bytes.ledgers
         );
     }
-}
-
-/// The word after a flag.
-fn word(flag: &str) -> Option<String> {
-    std::env::args().skip_while(|word| word != flag).nth(1)
-}
-
-fn number(flag: &str) -> Option<usize> {
-    word(flag).and_then(|word| word.parse().ok())
 }

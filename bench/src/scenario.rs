@@ -1,6 +1,7 @@
 //! The scenarios: settings, calls that bring a store into its state, and the calls that are timed.
 
 use published::Key;
+pub use published::key;
 
 /// The settings of both sides. The period is a second.
 #[derive(Clone, Copy)]
@@ -93,7 +94,7 @@ pub fn all(calls: usize) -> Vec<Scenario> {
 pub const SIZES: [(usize, usize); 4] = [(1_000, 64), (1_000, 1), (4_096, 64), (4_096, 1)];
 
 /// One key, a token a millisecond: always granted.
-fn hot_granted(calls: usize, idle: Option<u64>) -> Scenario {
+pub fn hot_granted(calls: usize, idle: Option<u64>) -> Scenario {
     let timed = (0..calls as u64).map(|i| try_(i * MS, key(7), 1));
     Scenario {
         name: format!("hot key granted{}", with_idle(idle)),
@@ -105,7 +106,7 @@ fn hot_granted(calls: usize, idle: Option<u64>) -> Scenario {
 }
 
 /// One key whose bucket is empty, asked every nanosecond: always denied.
-fn hot_denied(calls: usize) -> Scenario {
+pub fn hot_denied(calls: usize) -> Scenario {
     let timed = (0..calls as u64).map(|i| try_(i, key(7), 100));
     Scenario {
         name: "hot key denied".to_owned(),
@@ -117,7 +118,7 @@ fn hot_denied(calls: usize) -> Scenario {
 }
 
 /// Known keys in random order, a call every microsecond.
-fn known(calls: usize, max_keys: usize, shards: usize) -> Scenario {
+pub fn known(calls: usize, max_keys: usize, shards: usize) -> Scenario {
     let setup = Setup {
         max_keys,
         shards,
@@ -295,16 +296,6 @@ fn remove(key: Key) -> Call {
         cost: 0,
         op: Op::Remove,
     }
-}
-
-/// The key of this number, hashed by FNV-1a.
-pub fn key(number: u64) -> Key {
-    let mix = |hash: u64, byte: u8| (hash ^ u64::from(byte)).wrapping_mul(1_099_511_628_211);
-    let hash = number
-        .to_le_bytes()
-        .into_iter()
-        .fold(14_695_981_039_346_656_037, mix);
-    Key { hash, key: number }
 }
 
 fn over(shards: usize) -> String {

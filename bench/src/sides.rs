@@ -3,7 +3,7 @@
 use core::hint::black_box;
 use core::time::Duration;
 
-use published::{Answer, Eviction, Limiter, WhenFull};
+use published::{Answer, Eviction, Limiter, Rate, WhenFull};
 
 use crate::library::Store;
 use crate::scenario::{Call, Op, Setup};
@@ -55,12 +55,13 @@ impl Side for Limiter {
         } else {
             WhenFull::RefuseNew
         };
-        Self::new(
-            setup.amount,
-            setup.burst,
-            eviction.with_when_full(when_full),
-            setup.shards,
-        )
+        let rate = Rate {
+            amount: setup.amount,
+            period: 1_000_000_000,
+            burst: setup.burst,
+            initial: setup.burst,
+        };
+        Self::new(rate, eviction.with_when_full(when_full), setup.shards)
     }
 
     #[inline]

@@ -22,8 +22,28 @@ use perkey::PerKey;
 pub use eviction::{Eviction, WhenFull};
 pub use key::Key;
 
+/// The key of this number, hashed by FNV-1a over its eight bytes, lowest first.
+#[inline]
+#[must_use]
+pub fn key(number: u64) -> Key {
+    let mix = |hash: u64, byte: u8| (hash ^ u64::from(byte)).wrapping_mul(1_099_511_628_211);
+    let hash = number
+        .to_le_bytes()
+        .into_iter()
+        .fold(14_695_981_039_346_656_037, mix);
+    Key { hash, key: number }
+}
+
 /// An answer's code and number, as the library numbers them.
 pub type Answer = (u64, u64);
+
+/// `amount` tokens every `period` nanoseconds, at most `burst`, and `initial` for a new key.
+pub struct Rate {
+    pub amount: u32,
+    pub period: u64,
+    pub burst: u32,
+    pub initial: u32,
+}
 
 /// The published limiter and the clock that it reads.
 pub struct Limiter {
@@ -32,13 +52,13 @@ pub struct Limiter {
 }
 
 impl Limiter {
-    /// A limiter of `amount` tokens a second, at most `burst`.
     #[must_use]
-    pub fn new(amount: u32, burst: u32, eviction: Eviction, shards: usize) -> Self {
+    pub fn new(rate: Rate, eviction: Eviction, shards: usize) -> Self {
         let clock = Arc::new(ManualClock::new());
         let published = PerKey::<Key>::builder()
-            .rate(amount, Duration::from_secs(1))
-            .burst(burst)
+            .rate(rate.amount, Duration::from_nanos(rate.period))
+            .burst(rate.burst)
+            .initial(rate.initial)
             .eviction(eviction)
             .shards(shards)
             .clock(Arc::clone(&clock))
@@ -55,11 +75,22 @@ impl Limiter {
     #[inline]
     pub fn try_(&self, now: u64, key: Key, cost: u32) -> Answer {
         self.set_clock(now);
-        match self.published.decision(&key, cost) {
-            Decision::Acquired => (0, 0),
-            Decision::Retry { after } => (1, nanos(after)),
-            Decision::Impossible => (2, 0),
-        }
+        decided(self.published.decision(&key, cost))
+    }
+
+    #[inline]
+    pub fn peek(&self, now: u64, key: Key, cost: u32) -> Answer {
+        self.set_clock(now);
+        decided(self.published.peek(&key, cost))
+    }
+
+    #[inline]
+    pub fn reserve(&self, now: u64, key: Key, cost: u32, max_wait: u64) -> Answer {
+        self.set_clock(now);
+        let max_wait = Duration::from_nanos(max_wait);
+        self.published
+            .reserve(&key, cost, max_wait)
+            .map_or((3, 0), |wait| (0, nanos(wait)))
     }
 
     #[inline]
@@ -70,6 +101,15 @@ impl Limiter {
     #[inline]
     pub fn remove(&self, key: Key) -> Answer {
         known(self.published.remove(&key))
+    }
+}
+
+#[inline]
+fn decided(decision: Decision) -> Answer {
+    match decision {
+        Decision::Acquired => (0, 0),
+        Decision::Retry { after } => (1, nanos(after)),
+        Decision::Impossible => (2, 0),
     }
 }
 

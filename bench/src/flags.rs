@@ -1,0 +1,11 @@
+//! The words of the command line.
+
+/// The word after a flag.
+pub fn word(flag: &str) -> Option<String> {
+    std::env::args().skip_while(|word| word != flag).nth(1)
+}
+
+/// The number after a flag.
+pub fn number(flag: &str) -> Option<usize> {
+    word(flag).and_then(|word| word.parse().ok())
+}
