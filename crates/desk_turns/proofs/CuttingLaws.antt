@@ -18,6 +18,7 @@ use Rattle.desk_answers.specs.declared.Stage.the-variants.{First}
 use Rattle.desk_turns.specs.declared.Feed.{Feed}
 use Rattle.desk_turns.specs.declared.Turned.{Turned}
 use Rattle.desk_turns.specs.Feeding.{stateOf, OneTurn}
+use Rattle.desk_lines.specs.Fields as Fields
 use Rattle.desk_turns.specs.Run.{State, hasEnded, lineAnswered, andThen, linesAnswered, Cut, onFirst, cut, lastLine, linesOf, printedAll, keptOf, turned, printedInTurns, joined}
 use Rattle.desk_turns.proofs.RunLaws.{none-once-ended}
 
@@ -60,16 +61,12 @@ cut-onto [] bs none = onto-nothing (cut bs .lines) (cut bs .rest)
 cut-onto (b ∷ front) bs none = rw (none .0) (ap (λ (c : Cut). onFirst b (c .lines) (c .rest)) (cut-onto front bs (none .1)) ∙ onto-further b front (cut bs .lines) (cut bs .rest))
 
 -- The lines of bytes with others after them: those that end among the first, and those of what is left and the others.
-abbrev onFirstLine : ℕ → List (List ℕ) → List (List ℕ)
-onFirstLine b [] = (b ∷ []) ∷ []
-onFirstLine b (line ∷ lines) = (b ∷ line) ∷ lines
-
-first-is-longer : (b : ℕ) (lines : List (List ℕ)) (rest : List ℕ) → onFirst b lines rest .lines ++ lastLine (onFirst b lines rest .rest) ≡ onFirstLine b (lines ++ lastLine rest)
+first-is-longer : (b : ℕ) (lines : List (List ℕ)) (rest : List ℕ) → onFirst b lines rest .lines ++ lastLine (onFirst b lines rest .rest) ≡ Fields.onFirst b (lines ++ lastLine rest)
 first-is-longer b [] [] = refl
 first-is-longer b [] (c ∷ rest) = refl
 first-is-longer b (line ∷ lines) rest = refl
 
-one-byte-more : (b : ℕ) (bs : List ℕ) → eqb b lineFeed ≡ false → linesOf (b ∷ bs) ≡ onFirstLine b (linesOf bs)
+one-byte-more : (b : ℕ) (bs : List ℕ) → eqb b lineFeed ≡ false → linesOf (b ∷ bs) ≡ Fields.onFirst b (linesOf bs)
 unfolding linesOf cut
 one-byte-more b bs other = rw other (first-is-longer b (cut bs .lines) (cut bs .rest))
 
@@ -78,7 +75,7 @@ unfolding linesOf cut
 one-feed-more b bs feed = rw feed
 
 byte-on-both : (b : ℕ) (lines : List (List ℕ)) (rest more : List ℕ) → eqb b lineFeed ≡ false
-    → onFirstLine b (lines ++ linesOf (rest ++ more)) ≡ onFirst b lines rest .lines ++ linesOf (onFirst b lines rest .rest ++ more)
+    → Fields.onFirst b (lines ++ linesOf (rest ++ more)) ≡ onFirst b lines rest .lines ++ linesOf (onFirst b lines rest .rest ++ more)
 byte-on-both b [] rest more other = sym (one-byte-more b (rest ++ more) other)
 byte-on-both b (line ∷ lines) rest more other = refl
 
@@ -88,7 +85,7 @@ lines-in-parts [] more = refl
 lines-in-parts (b ∷ bs) more =
     by-test (eqb b lineFeed)
     (λ feed. one-feed-more b (bs ++ more) feed ∙ rw feed (ap (λ (l : List (List ℕ)). [] ∷ l) (lines-in-parts bs more)))
-    (λ other. one-byte-more b (bs ++ more) other ∙ rw other (ap (onFirstLine b) (lines-in-parts bs more) ∙ byte-on-both b (cut bs .lines) (cut bs .rest) more other))
+    (λ other. one-byte-more b (bs ++ more) other ∙ rw other (ap (Fields.onFirst b) (lines-in-parts bs more) ∙ byte-on-both b (cut bs .lines) (cut bs .rest) more other))
 
 -- What is kept of a line's beginning is as good as all of it: for the answer of the line, and for what is kept next.
 kept-again : (n : ℕ) (bs more : List ℕ) → take n (take n bs ++ more) ≡ take n (bs ++ more)

@@ -2,3 +2,4 @@ pub mod RefusedLaws
 pub mod RuleLaws
 pub mod CallLaws
 pub mod EdgeLaws
+pub mod WaitLaws

@@ -72,7 +72,8 @@ pub fn try_acquire_with_cost(
     }
 }
 
-// A try that is not refused. No state is made for a cost that can never be granted, nor for cost 0.
+// A try that is not refused. No state is made for a cost that can never be granted, nor for cost 0. The key's place is found here and not in the
+// store, so that a known key's request is compiled into the call (docs/DECISIONS.md).
 fn decide(
     settings: Settings,
     ws: &mut [u64],
