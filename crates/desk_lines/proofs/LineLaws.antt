@@ -13,7 +13,7 @@ use Rattle.rows.proofs.RowLaws.{part-word}
 use Rattle.units.specs.declared.OptionNanos.{OptionNanos}
 use Rattle.settings.specs.declared.Limit.the-variants.{Open}
 use Rattle.settings.specs.declared.eviction.WhenFull.{WhenFull}
-use Rattle.settings.specs.declared.eviction.WhenFull.the-variants.{RefuseNew, ForgetDebt}
+use Rattle.settings.specs.Eviction.{whenFullOf}
 use Rattle.settings.specs.declared.rate.OptionTokens.the-variants as tokens
 use Rattle.desk_lines.specs.declared.fields.Rest.{Rest}
 use Rattle.desk_lines.specs.declared.fields.NumberRead.{NumberRead}
@@ -23,20 +23,10 @@ use Rattle.desk_lines.specs.declared.Line.{Line}
 use Rattle.desk_lines.specs.declared.Line.the-variants.{SetUp, Malformed}
 use Rattle.desk_lines.specs.Fields.{fields, fieldEnd, fieldsFrom}
 use Rattle.desk_lines.specs.Lines as Lines
-use Rattle.desk_lines.specs.Lines.{Reading, left, Taken, taken, takenIdle, takenRequest, takenRate, nanosOf, isFinished, finished, whenFullOf, most32, most64, mostRule, longestLine, lineOfLetter, lineOfFields, lineOf}
+use Rattle.desk_lines.specs.Lines.{Reading, left, Taken, taken, takenIdle, takenRequest, takenRate, nanosOf, isFinished, finished, most32, most64, mostRule, longestLine, lineOfLetter, lineOfFields, lineOf}
 use Rattle.desk_lines.specs.Places.{readingAt, numberAt, idleAt, rateAt}
 use Rattle.desk_lines.proofs.FieldLaws.{field-ends-inside, first-field}
-use borrow.Author.Tests.{le-leb, lt-leb, eq-eqb, ne-eqb}
-
--- The rule when full, by its number.
-module _ (rule : ℕ) where
-  pub rule-refuses : rule ≡ 0 → RefuseNew ≡ whenFullOf rule
-  unfolding whenFullOf
-  rule-refuses none = rw (eq-eqb _ _ none)
-
-  pub rule-forgets : (rule ≡ 0 → ⊥) → ForgetDebt ≡ whenFullOf rule
-  unfolding whenFullOf
-  rule-forgets some = rw (ne-eqb _ _ some)
+use borrow.Author.Tests.{le-leb, lt-leb, ne-eqb}
 
 -- A line is what its fields say where the reading is finished, and malformed where it is not.
 module _ {told : Bool} {r s : Reading} (is : told ≡ isFinished r) (same : r ≡ s) where

@@ -1,18 +1,18 @@
 -- Worked examples: lines of 01's example and others of every kind, and two printed lines.
 use Prim.Native.Nat.{ℕ}
 use mathlib.Core.Path.{_≡_, refl}
-use mathlib.Core.List.{List, [], _∷_}
+use mathlib.Core.List.{[], _∷_}
 use Rattle.units.specs.declared.OptionNanos.the-variants as nanos
 use Rattle.settings.specs.declared.Limit.the-variants.{Open}
 use Rattle.settings.specs.declared.Settings.{Settings}
 use Rattle.settings.specs.declared.eviction.WhenFull.the-variants.{RefuseNew}
+use Rattle.settings.specs.Eviction.{whenFullOf}
 use Rattle.settings.specs.declared.rate.OptionTokens.the-variants as tokens
 use Rattle.decimal.specs.Decimal.{isDigit, allDigits, decimalFrom, numberOf, digitsFrom}
 use Rattle.desk_lines.specs.declared.Request.{Request}
-use Rattle.desk_lines.specs.declared.Line.{Line}
 use Rattle.desk_lines.specs.declared.Line.the-variants.{SetUp, Try, Peek, Reserve, Refund, Remove, Malformed}
 use Rattle.desk_lines.specs.Fields.{fields}
-use Rattle.desk_lines.specs.Lines.{nanosOf, taken, isDash, whenFullOf, lineOfLetter, lineOf}
+use Rattle.desk_lines.specs.Lines.{nanosOf, taken, isDash, lineOfLetter, lineOf}
 use Rattle.desk_lines.specs.Printed.{printed}
 
 abbrev request : ℕ → ℕ → ℕ → Request

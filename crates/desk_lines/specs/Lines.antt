@@ -9,13 +9,12 @@ use Rattle.units.specs.declared.Nanos.{Nanos}
 use Rattle.units.specs.declared.OptionNanos.{OptionNanos}
 use Rattle.units.specs.declared.OptionNanos.the-variants as nanos
 use Rattle.settings.specs.declared.Limit.the-variants.{Open}
-use Rattle.settings.specs.declared.eviction.WhenFull.{WhenFull}
-use Rattle.settings.specs.declared.eviction.WhenFull.the-variants.{RefuseNew, ForgetDebt}
 use Rattle.settings.specs.declared.rate.OptionTokens.the-variants as tokens
 use Rattle.decimal.specs.declared.OptionNumber.{OptionNumber}
 use Rattle.decimal.specs.declared.OptionNumber.the-variants as number
 use Rattle.decimal.specs.Decimal.{numberOf}
 use Rattle.settings.specs.declared.rate.Rate.{Rate}
+use Rattle.settings.specs.Eviction.{whenFullOf}
 use Rattle.desk_lines.specs.declared.Request.{Request}
 use Rattle.desk_lines.specs.declared.Line.{Line}
 use Rattle.desk_lines.specs.declared.Line.the-variants.{SetUp, Try, Peek, Reserve, Refund, Remove, Malformed}
@@ -133,9 +132,6 @@ takenRate r =
       initial = tokens.Some (initial .value);
     } in
     record { value = rate; rest = initial .rest }
-
-unfoldable pub whenFullOf : ℕ → WhenFull
-whenFullOf n = cond (eqb n 0) RefuseNew ForgetDebt
 
 abbrev pub setUp : Reading → Line
 setUp r =

@@ -8,6 +8,7 @@ use fields::Rest;
 use settings::Limit;
 use settings::Settings;
 use settings::eviction::Eviction;
+use settings::eviction::WhenFull;
 use units::Nanos;
 
 mod fields;
@@ -157,7 +158,7 @@ fn set_up_line(line: &[u8], rest: Rest) -> Line
         let eviction = Eviction {
             max_keys: keys.value as usize,
             idle_ttl,
-            when_full: parts::when_full(rule.value),
+            when_full: WhenFull::numbered(rule.value),
         };
         return Line::SetUp(Settings {
             limit: Limit::Open(value),

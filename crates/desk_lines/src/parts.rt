@@ -5,7 +5,6 @@ ghost use Rattle.desk_lines.specs.Places.{readingAt, requestAt, rateAt};
 use crate::Request;
 use crate::fields;
 use crate::fields::Rest;
-use settings::eviction::WhenFull;
 use settings::rate::OptionTokens;
 use settings::rate::Rate;
 use units::Nanos;
@@ -60,16 +59,5 @@ pub(crate) fn rate(line: &[u8], rest: Rest) -> RateRead
             initial: OptionTokens::Some(initial.value as u32),
         },
         rest,
-    }
-}
-
-// The rule when full, by its number.
-pub(crate) fn when_full(rule: u64) -> WhenFull
-    ensures { λ r. ⌜ r ≡ Lines.whenFullOf rule ⌝ }
-{
-    if rule == 0 {
-        WhenFull::RefuseNew
-    } else {
-        WhenFull::ForgetDebt
     }
 }

@@ -6,12 +6,11 @@ use borrow.Author.Tests.{eq-eqb, ne-eqb}
 use Rattle.rows.specs.Outcome.{Outcome, outcome}
 use Rattle.units.specs.declared.OptionNanos.the-variants as nanos
 use Rattle.settings.specs.declared.Limit.the-variants.{Closed, Open}
-use Rattle.settings.specs.declared.eviction.WhenFull.the-variants.{RefuseNew, ForgetDebt}
 use Rattle.settings.specs.declared.rate.OptionTokens.the-variants as tokens
 use Rattle.perkey.specs.declared.Reply.{Reply}
 use Rattle.limiter.specs.declared.LimiterSettings.{LimiterSettings}
 use Rattle.limiter.specs.declared.LimiterReply.{LimiterReply}
-use Rattle.limiter.specs.Exported.{tokensOf, idleOf, whenFullOf, rateOf, limitOf, nanosOf, replyOf, told}
+use Rattle.limiter.specs.Exported.{tokensOf, idleOf, rateOf, limitOf, nanosOf, replyOf, told}
 
 module _ (flag n : ℕ) where
   pub tokens-unset : flag ≡ 0 → tokens.None ≡ tokensOf flag n
@@ -29,15 +28,6 @@ module _ (flag n : ℕ) where
   pub idle-set : (flag ≡ 0 → ⊥) → nanos.Some (nanosOf n) ≡ idleOf flag n
   unfolding idleOf
   idle-set on = rw (ne-eqb _ _ on)
-
-module _ (flag : ℕ) where
-  pub refuses-new : flag ≡ 0 → RefuseNew ≡ whenFullOf flag
-  unfolding whenFullOf
-  refuses-new off = rw (eq-eqb _ _ off)
-
-  pub forgets-debt : (flag ≡ 0 → ⊥) → ForgetDebt ≡ whenFullOf flag
-  unfolding whenFullOf
-  forgets-debt on = rw (ne-eqb _ _ on)
 
 module _ (s : LimiterSettings) where
   pub has-rate : s .closed ≡ 0 → Open (rateOf s) ≡ limitOf s

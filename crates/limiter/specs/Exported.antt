@@ -10,12 +10,11 @@ use Rattle.units.specs.declared.OptionNanos.the-variants as nanos
 use Rattle.settings.specs.declared.Limit.{Limit}
 use Rattle.settings.specs.declared.Limit.the-variants.{Closed, Open}
 use Rattle.settings.specs.declared.Settings.{Settings}
-use Rattle.settings.specs.declared.eviction.WhenFull.{WhenFull}
-use Rattle.settings.specs.declared.eviction.WhenFull.the-variants.{RefuseNew, ForgetDebt}
 use Rattle.settings.specs.declared.eviction.Eviction.{Eviction}
 use Rattle.settings.specs.declared.rate.OptionTokens.{OptionTokens}
 use Rattle.settings.specs.declared.rate.OptionTokens.the-variants as tokens
 use Rattle.settings.specs.declared.rate.Rate.{Rate}
+use Rattle.settings.specs.Eviction.{whenFullOf}
 use Rattle.store.specs.declared.Identity.{Identity}
 use Rattle.perkey.specs.declared.Reply.{Reply}
 use Rattle.perkey.specs.Rules.{codeOf, numberOf}
@@ -28,9 +27,6 @@ tokensOf flag n = cond (eqb flag 0) tokens.None (tokens.Some n)
 
 unfoldable pub idleOf : ℕ → ℕ → OptionNanos
 idleOf flag n = cond (eqb flag 0) nanos.None (nanos.Some (record { 0 = n }))
-
-unfoldable pub whenFullOf : ℕ → WhenFull
-whenFullOf flag = cond (eqb flag 0) RefuseNew ForgetDebt
 
 abbrev pub rateOf : LimiterSettings → Rate
 rateOf s = record {

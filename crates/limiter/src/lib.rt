@@ -223,7 +223,7 @@ fn eviction(settings: LimiterSettings) -> Eviction
     Eviction {
         max_keys: settings.max_keys as usize,
         idle_ttl: idle(settings.has_idle, settings.idle),
-        when_full: when_full(settings.forget_debt),
+        when_full: WhenFull::numbered(settings.forget_debt as u64),
     }
 }
 
@@ -234,15 +234,5 @@ fn idle(flag: u32, nanos: u64) -> OptionNanos
         OptionNanos::None
     } else {
         OptionNanos::Some(Nanos(nanos))
-    }
-}
-
-fn when_full(flag: u32) -> WhenFull
-    ensures { λ r. ⌜ r ≡ Exported.whenFullOf flag ⌝ }
-{
-    if flag == 0 {
-        WhenFull::RefuseNew
-    } else {
-        WhenFull::ForgetDebt
     }
 }

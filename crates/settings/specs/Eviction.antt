@@ -1,11 +1,13 @@
 -- The bounds that the builders of `Eviction` make. `capacity`, `idle` and `new` start from RefuseNew; the with builders change one field.
 use Prim.Native.Nat.{ℕ}
+use mathlib.Core.Bool.{cond}
+use lib.Dec.{eqb}
 use Rattle.units.specs.declared.Nanos.{Nanos}
 use Rattle.units.specs.declared.OptionNanos.{OptionNanos}
 use Rattle.units.specs.declared.OptionNanos.the-variants.{None, Some}
 use Rattle.settings.specs.declared.eviction.Eviction.{Eviction}
 use Rattle.settings.specs.declared.eviction.WhenFull.{WhenFull}
-use Rattle.settings.specs.declared.eviction.WhenFull.the-variants.{RefuseNew}
+use Rattle.settings.specs.declared.eviction.WhenFull.the-variants.{RefuseNew, ForgetDebt}
 
 -- How many looks the idle sweep, the ledger and the CLOCK hand take.
 abbrev pub ttlSweep : ℕ
@@ -41,3 +43,7 @@ withIdle e ttl = bounds (e .«max_keys») (Some ttl) (e .«when_full»)
 
 abbrev pub withWhenFull : Eviction → WhenFull → Eviction
 withWhenFull e full = bounds (e .«max_keys») (e .«idle_ttl») full
+
+-- The rule when full that a number stands for: 0 is RefuseNew, any other ForgetDebt.
+unfoldable pub whenFullOf : ℕ → WhenFull
+whenFullOf n = cond (eqb n 0) RefuseNew ForgetDebt

@@ -1,6 +1,6 @@
 // How the store bounds its memory.
 ghost use mathlib.Core.Path.{_≡_};
-ghost use Rattle.settings.specs.Eviction.{capacityOf, idleOf, boundedBy, withCapacity, withIdle, withWhenFull};
+ghost use Rattle.settings.specs.Eviction.{capacityOf, idleOf, boundedBy, withCapacity, withIdle, withWhenFull, whenFullOf};
 use units::Nanos;
 use units::OptionNanos;
 
@@ -12,6 +12,19 @@ pub const DEFAULT_MAX_KEYS: usize = 1048576;
 pub enum WhenFull {
     RefuseNew,
     ForgetDebt,
+}
+
+impl WhenFull {
+    // The rule that a number stands for.
+    pub fn numbered(number: u64) -> WhenFull
+        ensures { λ r. ⌜ r ≡ whenFullOf number ⌝ }
+    {
+        if number == 0 {
+            WhenFull::RefuseNew
+        } else {
+            WhenFull::ForgetDebt
+        }
+    }
 }
 
 // The cap on keys, the idle time after which a full bucket may be forgotten, and the rule when full.

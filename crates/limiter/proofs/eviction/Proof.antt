@@ -6,11 +6,14 @@ use Rattle.limiter.proofs.eviction.Tie as tie
 idle-requires : tie.Need-idle-requires
 idle-requires c κs = search needs
 
-when-full-requires : tie.Need-when-full-requires
-when-full-requires c κs = search needs
+cast-numbered : tie.Need-cast-numbered
+cast-numbered c = search needs
+
+numbered-requires : tie.Need-numbered-requires
+numbered-requires c κs = search needs
 
 returns : tie.Need-returns
-returns c = rw (c .before .idle .ensures, c .when-full .ensures)
+returns c = rw (c .before .before .idle .ensures, c .numbered .ensures)
 
 pub eviction-spec : {M : Type 1} → statement M
-eviction-spec = tie.close (tie.spec idle-requires when-full-requires returns)
+eviction-spec = tie.close (tie.spec idle-requires cast-numbered numbered-requires returns)
