@@ -1,43 +1,57 @@
--- The code: an implementation that is as the contracts of its operations say meets demand 2, and so demand 3.
+-- Code that is as the contracts of its operations tell meets demand 2, and so demand 3.
 use Prim.Native.Nat.{ℕ}
 use mathlib.Core.Path.{_≡_, refl, sym, ap, _∙_}
+use mathlib.Core.Bool.{true}
 use mathlib.Core.List.{List}
 use contract.Lifetimes.{Lfts}
 use Rattle.rows.specs.Outcome.{outcome}
-use Rattle.perkey.specs.Calls.{Call, try, reserve, peek, available, len, refund, remove, Implementation, rules}
+use Rattle.perkey.specs.Calls.{Call, try, reserve, peek, available, len, refund, remove, rules}
 use Rattle.perkey.proofs.CallLaws.{Look, peeks, looks-available, looks-length, looks-change-nothing}
-use Rattle.window.specs.Demands.{Demand2, Demand3}
-use Rattle.window.specs.Contracts.{Contracts}
+use Rattle.window.specs.Widths.{fits, lendable}
+use Rattle.window.specs.Demands.{Limiter, answering, Demand2, Demand3}
+use Rattle.window.specs.Contracts.{Lends, Contracts}
 use Rattle.window.proofs.Theorem.{demand2-gives-demand3}
 
--- The rules themselves are as the contracts say, so that what follows is said of something.
-pub rules-are-as-the-contracts-say : (κs : Lfts 1) (ptr : ℕ × ℕ) (name : ℕ) → Contracts κs ptr name rules
-rules-are-as-the-contracts-say κs ptr name = record {
-  tries = λ s at id cost ws. refl;
-  reserves = λ s at id cost longest ws. refl;
-  peeks = λ s at id cost ws. looked-as-ruled (peek s at id cost) ws peeks;
-  availables = λ s at id ws. looked-as-ruled (available s at id) ws looks-available;
-  counts = λ s ws. looked-as-ruled (len s) ws looks-length;
-  refunds = λ s id cost ws. refl;
-  removes = λ s id ws. refl;
-}
-  where
-    looked-as-ruled : (c : Call) (ws : List ℕ) → Look c → (outcome (rules c ws .answer) ws ≡ rules c ws) × (rules c ws .after ≡ ws)
-    looked-as-ruled c ws look = let kept = looks-change-nothing ws look in (ap (outcome (rules c ws .answer)) (sym kept), kept)
+module _ (κs : Lfts 1) (ptr : ℕ × ℕ) (name : ℕ) where
+  -- The rules themselves are as the contracts tell, so that what follows is said of something.
+  pub rules-are-as-the-contracts-tell : Contracts κs ptr name (answering rules)
+  rules-are-as-the-contracts-tell = record {
+    sets-up = λ s ws _ _ _. refl;
+    clears = λ s ws _ _ _. refl;
+    tries = λ s at id cost ws _ _ _. refl;
+    reserves = λ s at id cost longest ws _ _ _. refl;
+    peeks = λ s at id cost ws _ _ _. looked-as-ruled (peek s at id cost) ws peeks;
+    availables = λ s at id ws _ _ _. looked-as-ruled (available s at id) ws looks-available;
+    lens = λ s ws _ _ _. looked-as-ruled (len s) ws looks-length;
+    refunds = λ s id cost ws _ _ _. refl;
+    removes = λ s id ws _ _ _. refl;
+  }
+    where
+      looked-as-ruled : (c : Call) (ws : List ℕ) → Look c → outcome (rules c ws .answer) ws ≡ rules c ws
+      looked-as-ruled c ws look = ap (outcome (rules c ws .answer)) (sym (looks-change-nothing ws look))
 
-module _ (κs : Lfts 1) (ptr : ℕ × ℕ) (name : ℕ) (f : Implementation) (c : Contracts κs ptr name f) where
-  -- A look whose words stay, and whose answer is the rule's with them.
-  looked : (call : Call) (ws : List ℕ) → outcome (f call ws .answer) ws ≡ rules call ws → f call ws .after ≡ ws → f call ws ≡ rules call ws
-  looked call ws told kept = ap (outcome (f call ws .answer)) kept ∙ told
+  module _ (l : Limiter) (lends : Lends l) (c : Contracts κs ptr name l) where
+    -- A look whose words stay, and whose answer is the rule's with them.
+    looked : (call : Call) (ws : List ℕ) → outcome (l .answers call ws .answer) ws ≡ rules call ws → l .answers call ws .after ≡ ws
+        → l .answers call ws ≡ rules call ws
+    looked call ws told kept = ap (outcome (l .answers call ws .answer)) kept ∙ told
 
-  pub contracts-meet-demand2 : Demand2 f
-  contracts-meet-demand2 (try s at id cost) ws = c .tries s at id cost ws
-  contracts-meet-demand2 (reserve s at id cost longest) ws = c .reserves s at id cost longest ws
-  contracts-meet-demand2 (peek s at id cost) ws = let told = c .peeks s at id cost ws in looked (peek s at id cost) ws (told .0) (told .1)
-  contracts-meet-demand2 (available s at id) ws = let told = c .availables s at id ws in looked (available s at id) ws (told .0) (told .1)
-  contracts-meet-demand2 (len s) ws = let told = c .counts s ws in looked (len s) ws (told .0) (told .1)
-  contracts-meet-demand2 (refund s id cost) ws = c .refunds s id cost ws
-  contracts-meet-demand2 (remove s id) ws = c .removes s id ws
+    -- No operation asks anything of its caller: `tt` shows all that is asked.
+    pub contracts-meet-demand2 : Demand2 l
+    contracts-meet-demand2 = record {
+      sets-up = λ s ws fit lent. c .sets-up s ws fit lent tt;
+      clears = λ s ws fit lent. c .clears s ws fit lent tt;
+      answers = ruled;
+    }
+      where
+        ruled : (call : Call) (ws : List ℕ) → fits call ≡ true → lendable ws ≡ true → l .answers call ws ≡ rules call ws
+        ruled (try s at id cost) ws = λ fit lent. c .tries s at id cost ws fit lent tt
+        ruled (reserve s at id cost longest) ws = λ fit lent. c .reserves s at id cost longest ws fit lent tt
+        ruled (peek s at id cost) ws = λ fit lent. looked (peek s at id cost) ws (c .peeks s at id cost ws fit lent tt) (lends .peeks s at id cost ws)
+        ruled (available s at id) ws = λ fit lent. looked (available s at id) ws (c .availables s at id ws fit lent tt) (lends .availables s at id ws)
+        ruled (len s) ws = λ fit lent. looked (len s) ws (c .lens s ws fit lent tt) (lends .lens s ws)
+        ruled (refund s id cost) ws = λ fit lent. c .refunds s id cost ws fit lent tt
+        ruled (remove s id) ws = λ fit lent. c .removes s id ws fit lent tt
 
-  pub contracts-meet-demand3 : Demand3 f
-  contracts-meet-demand3 = demand2-gives-demand3 f contracts-meet-demand2
+    pub contracts-meet-demand3 : Demand3 l
+    contracts-meet-demand3 = demand2-gives-demand3 l lends contracts-meet-demand2

@@ -1,3 +1,4 @@
+pub mod WidthLaws
 pub mod GrantLaws
 pub mod BucketKept
 pub mod RequestLaws
@@ -9,4 +10,3 @@ pub mod CallSteps
 pub mod AppearsLaws
 pub mod Theorem
 pub mod CodeTheorem
-pub mod ImpostorLaws

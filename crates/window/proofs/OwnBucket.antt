@@ -1,4 +1,4 @@
--- The rules meet the second part of demand 3: a key that holds a slot or a debt is decided by its own bucket.
+-- The second part of demand 3, of the rules: a key that holds a slot or a debt is decided by its own bucket.
 use Prim.Native.Nat.{ℕ, _≤_}
 use mathlib.Core.Path.{_≡_, ap, _∙_}
 use mathlib.Core.List.{List, [], _∷_}
@@ -16,7 +16,7 @@ use Rattle.shards.specs.Memory.{shardAt}
 use Rattle.perkey.specs.Rules.{unlessTrivial, triedBy, reservedBy, requested, policyOf, tryReply, reserveReply}
 use Rattle.shards.proofs.RefusalLaws.{timed-not-refused, reserve-not-refused}
 use Rattle.perkey.specs.Calls.{Call, try, reserve, peek, available, len, refund, remove, rules, Answered, replies, Every}
-use Rattle.window.specs.Demands.{decidedBy, OwnBucket}
+use Rattle.window.specs.Demands.{decidedBy}
 use Rattle.perkey.proofs.CallLaws.{refusalOf, ruleOf, not-refused-is-ruled, accepted-not-refused}
 
 -- A cost from 1 to the burst is put to the store.
@@ -54,10 +54,7 @@ decided (len s) ws = tt
 decided (refund s id cost) ws = tt
 decided (remove s id) ws = tt
 
-every-decided : (cs : List Call) (ws : List ℕ) → Every (λ a. decidedBy a (a .call)) (replies rules cs ws ws)
+pub rules-decide-by-own-bucket : (ws : List ℕ) (cs : List Call) → Every (λ a. decidedBy a (a .call)) (replies rules cs ws ws)
 unfolding replies
-every-decided [] ws = tt
-every-decided (c ∷ cs) ws = (decided c ws, every-decided cs (rules c ws .after))
-
-pub rules-decide-by-own-bucket : OwnBucket rules
-rules-decide-by-own-bucket ws cs = every-decided cs ws
+rules-decide-by-own-bucket ws [] = tt
+rules-decide-by-own-bucket ws (c ∷ cs) = (decided c ws, rules-decide-by-own-bucket (rules c ws .after) cs)

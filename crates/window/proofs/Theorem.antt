@@ -11,6 +11,7 @@ use Rattle.rows.specs.Outcome.{Outcome, outcome}
 use Rattle.bucket.specs.Bucket.{Accepted}
 use Rattle.settings.specs.declared.Limit.the-variants.{Open}
 use Rattle.settings.specs.declared.Settings.{Settings}
+use Rattle.settings.specs.declared.eviction.WhenFull.the-variants.{RefuseNew}
 use Rattle.settings.specs.declared.rate.Rate.{Rate}
 use Rattle.settings.specs.Rate.{burstOf, configOf}
 use Rattle.settings.specs.Settings.{wordsOf, settingsRefusal}
@@ -24,9 +25,13 @@ use Rattle.perkey.specs.Rules.{setUp, forgets, policyOf}
 use Rattle.shards.proofs.MemoryLaws.{fresh-shards-are-empty, fresh-sound}
 use Rattle.shards.proofs.RefusalLaws.{set-up-not-refused}
 use Rattle.perkey.proofs.RefusedLaws.{unless-refused-accepts, unless-refused-refuses}
-use Rattle.perkey.specs.Calls.{Call, Implementation, rules, Answered, replies, accepted, Every}
+use Rattle.perkey.specs.Calls.{Call, rules, Answered, replies, accepted, Every}
+use Rattle.window.proofs.WidthLaws.{both-true}
 use Rattle.window.proofs.TryLaws.{tries-are-prompt}
-use Rattle.window.specs.Demands.{Demand2, SameSettings, clock, TimesNeverFall, NoSharedHash, NeverReturned, tokensOf, tokensUsable, Window, OwnBucket, Demand3}
+use Rattle.window.specs.Widths.{fits, allFit, lendable}
+use Rattle.window.specs.Demands.{SameSettings, clock, TimesNeverFall, NoSharedHash, NeverReturned, tokensOf, tokensUsable, WithinWindow}
+use Rattle.window.specs.Demands.{Limiter, answering, Demand2, Window, OwnBucket, Demand3}
+use Rattle.window.specs.Contracts.{Lends}
 use Rattle.window.proofs.GrantLaws.{Grant, within, window-from-bound}
 use Rattle.window.proofs.RequestLaws.{invariant-empty}
 use Rattle.window.proofs.OwnBucket.{rules-decide-by-own-bucket}
@@ -103,31 +108,42 @@ module _ (s : Settings) (rate : Rate) (k : Identity) (a : Accepted (configOf rat
         window-from-bound (rate .amount) (rate .period .0) (burstOf rate) (tokensUsable k t u answered) t u le
         (by-test (appears k answered) (appearing-window same rising apart unreturned) absent-window)
 
--- The first part.
-pub rules-keep-the-window : Window rules
-rules-keep-the-window s rate ws rated refuses done′ cs same rising apart k unreturned t u le =
+-- The first part, for settings, calls and words of any numbers.
+pub rules-stay-within-the-window : (s : Settings) (rate : Rate) (ws : List ℕ) → s .limit ≡ Open rate → s .eviction .«when_full» ≡ RefuseNew → setUp s ws .answer ≡ Done
+    → (cs : List Call) → WithinWindow s rate (replies rules cs (setUp s ws .after) (setUp s ws .after))
+rules-stay-within-the-window s rate ws rated refuses done′ cs same rising apart k unreturned t u le =
     let up = set-up-done s ws done′ in
     let a : Accepted (configOf rate) = accepted-rate rate (rw rated at (accepted-parts s (up .settings) .0)) in
     rw (up .words)
     (fresh-window s rate k a (ap forgets refuses) rated cs t u le (rw (up .words) at same) (rw (up .words) at rising) (rw (up .words) at apart) (rw (up .words) at unreturned))
 
 -- Demand 3, whole.
-pub rules-meet-demand3 : Demand3 rules
-rules-meet-demand3 = (rules-keep-the-window, rules-decide-by-own-bucket)
+pub rules-meet-demand3 : Demand3 (answering rules)
+rules-meet-demand3 = record {
+  window = λ s rate ws _ _ rated refuses done′ cs _. rules-stay-within-the-window s rate ws rated refuses done′ cs;
+  own-bucket = λ ws cs _ _. rules-decide-by-own-bucket ws cs;
+}
 
--- An implementation that answers and leaves what the rules do gets through a list as they do.
-same-replies : (f : Implementation) → Demand2 f → (cs : List Call) (ws law : List ℕ) → replies f cs ws law ≡ replies rules cs ws law
-unfolding replies
-same-replies f equal [] ws law = refl
-same-replies f equal (c ∷ cs) ws law =
-    rw (equal c ws) (ap {B = List Answered} (λ rest. record { call = c; reply = rules c ws .answer; words = law } ∷ rest) (same-replies f equal cs (rules c ws .after) (rules c law .after)))
+-- A limiter that answers and leaves what the rules do gets through a list as they do, as long as its words can be lent.
+module _ (l : Limiter) (lends : Lends l) (equal : Demand2 l) where
+  same-replies : (cs : List Call) (ws law : List ℕ) → allFit cs ≡ true → lendable ws ≡ true → replies (l .answers) cs ws law ≡ replies rules cs ws law
+  unfolding replies
+  same-replies [] ws law = λ fit lent. refl
+  same-replies (c ∷ cs) ws law = λ fit lent.
+      let both = both-true (fits c) (allFit cs) fit in
+      let next : lendable (rules c ws .after) ≡ true = rw (equal .answers c ws (both .0) lent) at (lends .answers c ws (both .0) lent) in
+      rw (equal .answers c ws (both .0) lent)
+      (ap {B = List Answered} (λ rest. record { call = c; reply = rules c ws .answer; words = law } ∷ rest) (same-replies cs (rules c ws .after) (rules c law .after) (both .1) next))
 
--- So it meets demand 3 as well.
-pub demand2-gives-demand3 : (f : Implementation) → Demand2 f → Demand3 f
-demand2-gives-demand3 f equal = (keeps, decides)
-  where
-    keeps : Window f
-    keeps s rate ws rated refuses done′ cs = rw (same-replies f equal cs (setUp s ws .after) (setUp s ws .after)) (rules-keep-the-window s rate ws rated refuses done′ cs)
+  -- So it meets demand 3 as well, from the words that its own set-up leaves.
+  keeps : Window l
+  keeps s rate ws fit lent rated refuses =
+      let up = equal .sets-up s ws fit lent in
+      let fresh : lendable (setUp s ws .after) ≡ true = rw up at (lends .sets-up s ws fit lent) in
+      rw up (λ done′ cs fits. rw (same-replies cs (setUp s ws .after) (setUp s ws .after) fits fresh) (rules-stay-within-the-window s rate ws rated refuses done′ cs))
 
-    decides : OwnBucket f
-    decides ws cs = rw (same-replies f equal cs ws ws) (rules-decide-by-own-bucket ws cs)
+  decides : OwnBucket l
+  decides ws cs lent fits = rw (same-replies cs ws ws fits lent) (rules-decide-by-own-bucket ws cs)
+
+  pub demand2-gives-demand3 : Demand3 l
+  demand2-gives-demand3 = record { window = keeps; own-bucket = decides }

@@ -1,16 +1,18 @@
--- What the contracts of the code say of an implementation. `Post` is the contract of an operation as the check of its code reads it: of the arguments at
--- entry, the result, and the arguments at exit. The check makes it from the `ensures` in crates/perkey/src/lib.rt.
--- An implementation is as the contracts say where every call's answer and words meet the contract of its operation, and every look leaves the words: they are
--- lent to it as `&[u64]`, to read only. The code is such on the numbers that it can be given.
+-- Code as its caller knows it: what the contracts of the nine operations of `perkey` tell, and what the types of their arguments tell.
+-- `Asked` and `Learnt` are the contract of an operation as the check of its callers reads it: what a caller has to show first, and what it then knows of the
+-- arguments at entry, the result, and the arguments at exit. The check makes both from the `requires` and `ensures` in crates/perkey/src/lib.rt.
 use Prim.Native.Nat.{ℕ}
 use mathlib.Core.Path.{_≡_}
+use mathlib.Core.Bool.{true}
 use mathlib.Core.List.{List}
 use contract.Lifetimes.{Lfts}
 use denote.Ref.{RefT}
 use Rattle.units.specs.declared.Nanos.{Nanos}
 use Rattle.settings.specs.declared.Settings.{Settings}
 use Rattle.store.specs.declared.Identity.{Identity}
-use Rattle.perkey.specs.Calls.{Implementation, try, reserve, peek, available, len, refund, remove}
+use Rattle.perkey.specs.Calls.{Call, try, reserve, peek, available, len, refund, remove}
+use Rattle.perkey.proofs.set_up.Reads as SetUp
+use Rattle.perkey.proofs.clear.Reads as Clear
 use Rattle.perkey.proofs.try_acquire_with_cost.Reads as Try
 use Rattle.perkey.proofs.reserve.Reads as Reserve
 use Rattle.perkey.proofs.peek.Reads as Peek
@@ -18,24 +20,59 @@ use Rattle.perkey.proofs.available.Reads as Available
 use Rattle.perkey.proofs.len.Reads as Len
 use Rattle.perkey.proofs.refund.Reads as Refund
 use Rattle.perkey.proofs.remove.Reads as Remove
+use Rattle.window.specs.Widths.{settingsFit, fits, lendable}
+use Rattle.window.specs.Demands.{Limiter}
 
--- Words that are lent, wherever they lie.
-abbrev pub lentAt : ℕ × ℕ → ℕ → List ℕ → RefT (List ℕ)
-lentAt ptr name ws = record { ptr = ptr; name = name; now = ws }
+-- The words stay lendable, as behind `&mut [u64]`, and looks leave them as they are, as behind `&[u64]`.
+pub record Lends (l : Limiter) : Type 0 where
+  pub sets-up : (s : Settings) (ws : List ℕ) → settingsFit s ≡ true → lendable ws ≡ true → lendable (l .sets-up s ws .after) ≡ true
+  pub clears : (s : Settings) (ws : List ℕ) → settingsFit s ≡ true → lendable ws ≡ true → lendable (l .clears s ws .after) ≡ true
+  pub answers : (c : Call) (ws : List ℕ) → fits c ≡ true → lendable ws ≡ true → lendable (l .answers c ws .after) ≡ true
+  pub peeks : (s : Settings) (at : Nanos) (id : Identity) (cost : ℕ) (ws : List ℕ) → l .answers (peek s at id cost) ws .after ≡ ws
+  pub availables : (s : Settings) (at : Nanos) (id : Identity) (ws : List ℕ) → l .answers (available s at id) ws .after ≡ ws
+  pub lens : (s : Settings) (ws : List ℕ) → l .answers (len s) ws .after ≡ ws
 
 -- For some lifetimes and some place of the lent words, by which no contract tells answers apart.
-pub record Contracts (κs : Lfts 1) (ptr : ℕ × ℕ) (name : ℕ) (f : Implementation) : Type 0 where
-  pub tries : (s : Settings) (at : Nanos) (id : Identity) (cost : ℕ) (ws : List ℕ)
-      → Try.Post κs (s, (lentAt ptr name ws, (at, (id, (cost, tt))))) (f (try s at id cost) ws .answer) (s, (lentAt ptr name (f (try s at id cost) ws .after), (at, (id, (cost, tt)))))
-  pub reserves : (s : Settings) (at : Nanos) (id : Identity) (cost : ℕ) (longest : Nanos) (ws : List ℕ)
-      → Reserve.Post κs (s, (lentAt ptr name ws, (at, (id, (cost, (longest, tt)))))) (f (reserve s at id cost longest) ws .answer) (s, (lentAt ptr name (f (reserve s at id cost longest) ws .after), (at, (id, (cost, (longest, tt))))))
-  pub peeks : (s : Settings) (at : Nanos) (id : Identity) (cost : ℕ) (ws : List ℕ)
-      → Peek.Post κs (s, (lentAt ptr name ws, (at, (id, (cost, tt))))) (f (peek s at id cost) ws .answer) (s, (lentAt ptr name ws, (at, (id, (cost, tt))))) × (f (peek s at id cost) ws .after ≡ ws)
-  pub availables : (s : Settings) (at : Nanos) (id : Identity) (ws : List ℕ)
-      → Available.Post κs (s, (lentAt ptr name ws, (at, (id, tt)))) (f (available s at id) ws .answer) (s, (lentAt ptr name ws, (at, (id, tt)))) × (f (available s at id) ws .after ≡ ws)
-  pub counts : (s : Settings) (ws : List ℕ)
-      → Len.Post κs (s, (lentAt ptr name ws, tt)) (f (len s) ws .answer) (s, (lentAt ptr name ws, tt)) × (f (len s) ws .after ≡ ws)
-  pub refunds : (s : Settings) (id : Identity) (cost : ℕ) (ws : List ℕ)
-      → Refund.Post κs (s, (lentAt ptr name ws, (id, (cost, tt)))) (f (refund s id cost) ws .answer) (s, (lentAt ptr name (f (refund s id cost) ws .after), (id, (cost, tt))))
-  pub removes : (s : Settings) (id : Identity) (ws : List ℕ)
-      → Remove.Post κs (s, (lentAt ptr name ws, (id, tt))) (f (remove s id) ws .answer) (s, (lentAt ptr name (f (remove s id) ws .after), (id, tt)))
+module _ (κs : Lfts 1) (ptr : ℕ × ℕ) (name : ℕ) where
+  abbrev lent : List ℕ → RefT (List ℕ)
+  lent ws = record { ptr = ptr; name = name; now = ws }
+
+  -- Of each operation: where its numbers fit and what it asks is shown, its contract holds of what the code gives.
+  pub record Contracts (l : Limiter) : Type 0 where
+    pub sets-up : (s : Settings) (ws : List ℕ) → settingsFit s ≡ true → lendable ws ≡ true →
+        let o = l .sets-up s ws in
+        SetUp.Asked κs (s, (lent ws, tt)) →
+        SetUp.Learnt κs (s, (lent ws, tt)) (o .answer) (s, (lent (o .after), tt))
+    pub clears : (s : Settings) (ws : List ℕ) → settingsFit s ≡ true → lendable ws ≡ true →
+        let o = l .clears s ws in
+        Clear.Asked κs (s, (lent ws, tt)) →
+        Clear.Learnt κs (s, (lent ws, tt)) (o .answer) (s, (lent (o .after), tt))
+    pub tries : (s : Settings) (at : Nanos) (id : Identity) (cost : ℕ) (ws : List ℕ) → fits (try s at id cost) ≡ true → lendable ws ≡ true →
+        let o = l .answers (try s at id cost) ws in
+        Try.Asked κs (s, (lent ws, (at, (id, (cost, tt))))) →
+        Try.Learnt κs (s, (lent ws, (at, (id, (cost, tt))))) (o .answer) (s, (lent (o .after), (at, (id, (cost, tt)))))
+    pub reserves : (s : Settings) (at : Nanos) (id : Identity) (cost : ℕ) (longest : Nanos) (ws : List ℕ) →
+        fits (reserve s at id cost longest) ≡ true → lendable ws ≡ true →
+        let o = l .answers (reserve s at id cost longest) ws in
+        Reserve.Asked κs (s, (lent ws, (at, (id, (cost, (longest, tt)))))) →
+        Reserve.Learnt κs (s, (lent ws, (at, (id, (cost, (longest, tt)))))) (o .answer) (s, (lent (o .after), (at, (id, (cost, (longest, tt))))))
+    pub peeks : (s : Settings) (at : Nanos) (id : Identity) (cost : ℕ) (ws : List ℕ) → fits (peek s at id cost) ≡ true → lendable ws ≡ true →
+        let o = l .answers (peek s at id cost) ws in
+        Peek.Asked κs (s, (lent ws, (at, (id, (cost, tt))))) →
+        Peek.Learnt κs (s, (lent ws, (at, (id, (cost, tt))))) (o .answer) (s, (lent (o .after), (at, (id, (cost, tt)))))
+    pub availables : (s : Settings) (at : Nanos) (id : Identity) (ws : List ℕ) → fits (available s at id) ≡ true → lendable ws ≡ true →
+        let o = l .answers (available s at id) ws in
+        Available.Asked κs (s, (lent ws, (at, (id, tt)))) →
+        Available.Learnt κs (s, (lent ws, (at, (id, tt)))) (o .answer) (s, (lent (o .after), (at, (id, tt))))
+    pub lens : (s : Settings) (ws : List ℕ) → fits (len s) ≡ true → lendable ws ≡ true →
+        let o = l .answers (len s) ws in
+        Len.Asked κs (s, (lent ws, tt)) →
+        Len.Learnt κs (s, (lent ws, tt)) (o .answer) (s, (lent (o .after), tt))
+    pub refunds : (s : Settings) (id : Identity) (cost : ℕ) (ws : List ℕ) → fits (refund s id cost) ≡ true → lendable ws ≡ true →
+        let o = l .answers (refund s id cost) ws in
+        Refund.Asked κs (s, (lent ws, (id, (cost, tt)))) →
+        Refund.Learnt κs (s, (lent ws, (id, (cost, tt)))) (o .answer) (s, (lent (o .after), (id, (cost, tt))))
+    pub removes : (s : Settings) (id : Identity) (ws : List ℕ) → fits (remove s id) ≡ true → lendable ws ≡ true →
+        let o = l .answers (remove s id) ws in
+        Remove.Asked κs (s, (lent ws, (id, tt))) →
+        Remove.Learnt κs (s, (lent ws, (id, tt))) (o .answer) (s, (lent (o .after), (id, tt)))

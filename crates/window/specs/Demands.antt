@@ -1,9 +1,42 @@
--- Demand 2 and demand 3, as claims about any implementation of the calls.
+-- What is promised of a limiter, as two claims about any limiter: demand 2, that it does what the rules say; demand 3, the window and the own bucket.
+--
+-- Demand 3 in plain English. Behind each clause stands the name that states it.
+--
+-- Take any list of tries, reservations, peeks, looks at available or at length, refunds and removals,     Call
+-- calls that are refused by number among them, with any numbers that code can be given.                  fits, lendable (Widths)
+-- Each call gets the words that the call before it left.                                                 replies
+--
+-- The window.                                                                                            Window
+-- The limiter's own set-up has accepted settings with a rate that turn new keys away when full.
+-- Of the calls that are not refused by number                                                            accepted
+-- all have these settings,                                                                               SameSettings
+-- the moments never fall,                                                                                TimesNeverFall
+-- no two name different keys of one hash,                                                                NoSharedHash
+-- and none refunds or removes the key k.                                                                 NeverReturned
+-- Add up the tokens granted to k that first become usable from moment t to moment u.                     tokensUsable
+-- Times the period, the sum is at most burst × period + (u - t + 1) × amount,                            WithinWindow
+-- however often k was evicted and came back.
+--
+-- The own bucket.                                                                                        OwnBucket
+-- The list starts from any words, and has any settings, moments, hashes and rule when full.
+-- A try or a reservation is not refused by number, has a rate, and costs from 1 to the burst;
+-- its key holds a slot or a debt, in the words that the rules make of the list so far.                    holds
+-- Then it is answered as that slot's bucket answers it, or a fresh bucket in that debt:                   ByOwnBucket, ownAnswer
+-- never by want of space.
+--
+-- Theorems, in proofs/:
+-- * `rules-meet-demand3`: the rules meet it. `demand2-gives-demand3`: so does every limiter that meets demand 2.
+-- * `contracts-meet-demand2`, `contracts-meet-demand3`: so does code that is as the contracts of `perkey` tell its callers.
+-- * `exports-meet-demand2`, `exports-meet-demand3`: so does what C and Rust call, read through the numbers of a reply.
+-- * `short-window-is-false`: the + 1 cannot be left out.
+-- * Impostors are refuted in ImpostorLaws. Demand 3 alone admits a limiter that turns every newcomer away once (`starving-meets-demand3`);
+--   demand 2 shuts it out (`starving-fails-demand2`).
 use Prim.Native.Nat.{ℕ, _+_, _*_, _-_, _≤_}
 use mathlib.Core.Path.{_≡_}
 use mathlib.Core.Bool.{true, cond}
 use mathlib.Core.List.{List, [], _∷_}
 use lib.Dec.{leb, eqb}
+use Rattle.rows.specs.Outcome.{Outcome}
 use Rattle.units.specs.declared.Nanos.{Nanos}
 use Rattle.bucket.specs.declared.Request.{Request}
 use Rattle.bucket.specs.declared.Request.the-variants.{Acquire, Reserve}
@@ -20,12 +53,25 @@ use Rattle.store.specs.Model.{holds}
 use Rattle.perkey.specs.declared.Reply.{Reply}
 use Rattle.perkey.specs.declared.Reply.the-variants.{Done}
 use Rattle.shards.specs.Memory.{shardAt}
-use Rattle.perkey.specs.Rules.{setUp, tryReply, reserveReply, bucketOf}
+use Rattle.perkey.specs.Rules.{setUp, clear, tryReply, reserveReply, bucketOf}
 use Rattle.perkey.specs.Calls.{Call, try, reserve, peek, available, len, refund, remove, Implementation, rules, Answered, replies, settingsOf, momentOf, ofKey, ofReturned, ofGrant, accepted, Every}
+use Rattle.window.specs.Widths.{settingsFit, fits, allFit, lendable}
 
--- Demand 2, as far as it is about these calls: every answer, and all words after it, are those of the rules.
-abbrev pub Demand2 : Implementation → Type 0
-Demand2 f = (c : Call) (ws : List ℕ) → f c ws ≡ rules c ws
+-- A limiter, as its caller has it: set-up, clear, and an answer to every other call. Each gives a reply and leaves words.
+pub record Limiter : Type 0 where
+  pub sets-up : Settings → List ℕ → Outcome Reply (List ℕ)
+  pub clears : Settings → List ℕ → Outcome Reply (List ℕ)
+  pub answers : Implementation
+
+-- A limiter that is set up and cleared as the rules say, and answers calls in a way of its own. The rules are one.
+abbrev pub answering : Implementation → Limiter
+answering f = record { sets-up = setUp; clears = clear; answers = f }
+
+-- Demand 2, for all that code can be given: every reply, and all words after it, are those of the rules.
+pub record Demand2 (l : Limiter) : Type 0 where
+  pub sets-up : (s : Settings) (ws : List ℕ) → settingsFit s ≡ true → lendable ws ≡ true → l .sets-up s ws ≡ setUp s ws
+  pub clears : (s : Settings) (ws : List ℕ) → settingsFit s ≡ true → lendable ws ≡ true → l .clears s ws ≡ clear s ws
+  pub answers : (c : Call) (ws : List ℕ) → fits c ≡ true → lendable ws ≡ true → l .answers c ws ≡ rules c ws
 
 -- The conditions of the window rule bind accepted calls only. They all have the settings of set-up;
 abbrev pub SameSettings : Settings → List Answered → Type 0
@@ -70,17 +116,22 @@ unfoldable pub tokensUsable : Identity → ℕ → ℕ → List Answered → ℕ
 tokensUsable k t u [] = 0
 tokensUsable k t u (a ∷ rest) = tokensOf k t u (a .call) (a .reply) + tokensUsable k t u rest
 
--- Demand 3, first part: the window. On a fresh store with a rate set, under RefuseNew, no key is granted more in any window than its burst and what comes
--- back in that time, however often it is evicted and returns.
-abbrev pub Window : Implementation → Type 0
-Window f =
-    (s : Settings) (rate : Rate) (ws : List ℕ) → s .limit ≡ Open rate → s .eviction .«when_full» ≡ RefuseNew → setUp s ws .answer ≡ Done →
-    (cs : List Call) →
-    let answered = replies f cs (setUp s ws .after) (setUp s ws .after) in
+-- One list stays within the window.
+abbrev pub WithinWindow : Settings → Rate → List Answered → Type 0
+WithinWindow s rate answered =
     SameSettings s answered → TimesNeverFall 0 answered → NoSharedHash answered →
     (k : Identity) → NeverReturned k answered →
     (t u : ℕ) → t ≤ u →
     tokensUsable k t u answered * rate .period .0 ≤ burstOf rate * rate .period .0 + (u - t + 1) * rate .amount
+
+-- Demand 3, first part: the window. On a fresh store with a rate set, under RefuseNew, no key is granted more in any window than its burst and what comes
+-- back in that time.
+abbrev pub Window : Limiter → Type 0
+Window l =
+    (s : Settings) (rate : Rate) (ws : List ℕ) → settingsFit s ≡ true → lendable ws ≡ true →
+    s .limit ≡ Open rate → s .eviction .«when_full» ≡ RefuseNew → l .sets-up s ws .answer ≡ Done →
+    (cs : List Call) → allFit cs ≡ true →
+    WithinWindow s rate (replies (l .answers) cs (l .sets-up s ws .after) (l .sets-up s ws .after))
 
 -- What a key's own bucket answers to a request: its slot's bucket, else a fresh one in its debt.
 abbrev pub ownAnswer : Settings → Rate → Nanos → Identity → Request → ℕ → List ℕ → Answer
@@ -102,9 +153,11 @@ decidedBy a (refund s id cost) = Unit {0}
 decidedBy a (remove s id) = Unit {0}
 
 -- Demand 3, second part: the own bucket. From any words, whatever the settings, times and hashes, no such request is decided by want of space.
-abbrev pub OwnBucket : Implementation → Type 0
-OwnBucket f = (ws : List ℕ) (cs : List Call) → Every (λ a. decidedBy a (a .call)) (replies f cs ws ws)
+abbrev pub OwnBucket : Limiter → Type 0
+OwnBucket l =
+    (ws : List ℕ) (cs : List Call) → lendable ws ≡ true → allFit cs ≡ true → Every (λ a. decidedBy a (a .call)) (replies (l .answers) cs ws ws)
 
 -- Demand 3 is both parts.
-abbrev pub Demand3 : Implementation → Type 0
-Demand3 f = Window f × OwnBucket f
+pub record Demand3 (l : Limiter) : Type 0 where
+  pub window : Window l
+  pub own-bucket : OwnBucket l

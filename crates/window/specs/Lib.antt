@@ -1,3 +1,3 @@
+pub mod Widths
 pub mod Demands
-pub mod Impostors
 pub mod Contracts
