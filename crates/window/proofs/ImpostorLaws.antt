@@ -15,6 +15,7 @@ use Rattle.bucket.specs.declared.Request.the-variants.{Acquire}
 use Rattle.bucket.specs.Bucket.{shortfallAt, availableAt, waitAt, asked}
 use Rattle.bucket.specs.Debt.{takenOut, lacking, restored}
 use Rattle.settings.specs.declared.Settings.{Settings}
+use Rattle.settings.specs.declared.decision.Decision.the-variants.{Acquired, Retry, Impossible}
 use Rattle.settings.specs.Eviction.{capacityOf}
 use Rattle.settings.specs.Rate as Rate
 use Rattle.settings.specs.Settings as Settings
@@ -25,11 +26,11 @@ use Rattle.shard_map.specs.Model as Shard
 use Rattle.store.specs.declared.Identity.{Identity}
 use Rattle.store.specs.Model as Store
 use Rattle.perkey.specs.declared.Reply.{Reply}
-use Rattle.perkey.specs.declared.Reply.the-variants.{Granted, Retry, Impossible, Count}
+use Rattle.perkey.specs.declared.Reply.the-variants.{Tried, Count}
 use Rattle.shards.specs.Memory.{shardAt}
 use Rattle.shards.specs.Refusals as Refusals
 use Rattle.perkey.specs.Rules as Rules
-use Rattle.perkey.specs.Rules.{codeOf, numberOf, noWait, tryReply}
+use Rattle.perkey.specs.Rules.{codeOf, numberOf, tryReply}
 use Rattle.perkey.specs.Calls.{Call, try, reserve, peek, available, len, refund, remove, Implementation, rules, replies, accepted}
 use Rattle.window.specs.Demands.{Demand2, TimesNeverFall, NoSharedHash, usable, tokensOf, tokensUsable, Window, ownAnswer, Demand3}
 use Rattle.perkey.specs.Edges.{twoPerSecond, limited, keyOf, asks}
@@ -67,12 +68,12 @@ record Told (keys : ℕ) (ws : List ℕ) (reply : Reply) : Type 0 where
 -- All that is computed: the rules grant key 7 the whole bucket and store a slot, and the clock of two such calls stands still; what it is told where it
 -- holds a slot or a debt, and by a ledger that does not see the second debt; the length of the fresh store, and the invented one.
 record Computed : Type 0 where
-  granted : rules spendsAll fresh .answer ≡ Granted noWait
+  granted : rules spendsAll fresh .answer ≡ Tried Acquired
   stored : getD (rules spendsAll fresh .after) 0 0 ≡ 1
   steady : (f : Implementation) → TimesNeverFall 0 (replies f (spendsAll ∷ spendsAll ∷ []) fresh fresh)
-  full : Told 1 withSlot (Granted noWait)
-  owing : Told 2 withDebts (Retry (record { 0 = 500000000 }))
-  unseen : firstDebtOnly (asksForOne 2) withDebts .answer ≡ Granted noWait
+  full : Told 1 withSlot (Tried Acquired)
+  owing : Told 2 withDebts (Tried (Retry (record { 0 = 500000000 })))
+  unseen : firstDebtOnly (asksForOne 2) withDebts .answer ≡ Tried Acquired
   empty : rules (len (roomFor 1)) fresh .answer ≡ Count 0
   invented : inventedLength (len (roomFor 1)) fresh .answer ≡ Count 1
 
@@ -106,7 +107,7 @@ module _ (f : Implementation) (keys : ℕ) {ws : List ℕ} {reply : Reply} (told
       otherwise (ap codeOf (own ∙ told .owned))
 
 -- Who grants all tokens of a fresh store and stores nothing leaves no slot, where the rules leave one, and grants them again at the same moment.
-module _ (f : Implementation) (grants : f spendsAll fresh ≡ outcome (Granted noWait) fresh) where
+module _ (f : Implementation) (grants : f spendsAll fresh ≡ outcome (Tried Acquired) fresh) where
   unstored-grant-fails-demand2 : Demand2 f → ⊥
   unstored-grant-fails-demand2 demand =
       let slots : _≡_ {A = ℕ} 0 1 = ap (λ o. getD (o .after) 0 0) (sym grants ∙ demand spendsAll fresh) ∙ computed .stored in
@@ -132,7 +133,7 @@ pub impossible-to-all-fails-demand3 : Demand3 impossibleToAll → ⊥
 impossible-to-all-fails-demand3 = told-otherwise-fails-demand3 impossibleToAll 1 (computed .full) (omega arith)
 
 -- It grants nothing, and so keeps the window: it is the own bucket that shuts it out.
-impossible-is-no-grant : (k : Identity) (t u : ℕ) (c : Call) → tokensOf k t u c Impossible ≡ 0
+impossible-is-no-grant : (k : Identity) (t u : ℕ) (c : Call) → tokensOf k t u c (Tried Impossible) ≡ 0
 impossible-is-no-grant k t u (try s at id cost) = refl
 impossible-is-no-grant k t u (reserve s at id cost longest) = refl
 impossible-is-no-grant k t u (peek s at id cost) = refl
@@ -165,7 +166,7 @@ pub always-acquired-fails-demand3 : Demand3 alwaysAcquired → ⊥
 always-acquired-fails-demand3 = unstored-grant-fails-demand3 alwaysAcquired refl
 
 -- The fourth.
-grants-and-stores-nothing : grantsWithoutStoring spendsAll fresh ≡ outcome (Granted noWait) fresh
+grants-and-stores-nothing : grantsWithoutStoring spendsAll fresh ≡ outcome (Tried Acquired) fresh
 grants-and-stores-nothing = ap (λ reply. outcome reply fresh) (computed .granted)
 
 pub grants-without-storing-fails-demand2 : Demand2 grantsWithoutStoring → ⊥

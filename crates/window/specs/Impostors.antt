@@ -4,20 +4,21 @@ use mathlib.Core.List.{List}
 use lib.ListN.{getD, set}
 use Rattle.rows.specs.Outcome.{outcome}
 use Rattle.bucket.specs.declared.BucketDecision.the-variants.{Allowed}
+use Rattle.settings.specs.declared.decision.Decision.the-variants.{Impossible}
 use Rattle.settings.specs.Settings.{shardCount, capOf, shardWords}
 use Rattle.shard_map.specs.Layout.{ledgerStart}
 use Rattle.evict.specs.Evict.{minRefusalWait}
 use Rattle.store.specs.declared.Answer.{Answer}
 use Rattle.store.specs.declared.Answer.the-variants.{Decided, NoSpace}
 use Rattle.perkey.specs.declared.Reply.{Reply}
-use Rattle.perkey.specs.declared.Reply.the-variants.{Impossible, Count}
+use Rattle.perkey.specs.declared.Reply.the-variants.{Tried, Count}
 use Rattle.shards.specs.Refusals.{lenRefusal}
 use Rattle.perkey.specs.Rules.{unlessRefused, numberOf, noWait, tryReply, reserveReply}
 use Rattle.perkey.specs.Calls.{try, reserve, peek, available, len, refund, remove, Implementation, rules, settingsOf}
 
 -- The first: everything is impossible.
 abbrev pub impossibleToAll : Implementation
-impossibleToAll c ws = outcome Impossible ws
+impossibleToAll c ws = outcome (Tried Impossible) ws
 
 -- The next three answer requests in their own way, told as a try or as a reservation tells it, and leave the rest to the rules.
 abbrev withRequests : ((Answer → Reply) → Implementation) → Implementation
