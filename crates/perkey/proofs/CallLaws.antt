@@ -1,4 +1,5 @@
--- Every call alike: it is refused by its number and leaves the words as they are, or its rule decides. A rule never answers with a number of a refusal.
+-- Every call alike: it is refused by its number and leaves the words as they are, or its rule decides. A rule answers in the kind of its call, and never
+-- with a number of a refusal.
 use Prim.Native.Nat.{ℕ}
 use mathlib.Core.Path.{_≡_, refl, sym, ap, _∙_}
 use mathlib.Core.Bool.{Bool, true, false, not, true≢false}
@@ -13,6 +14,8 @@ use Rattle.settings.specs.declared.Settings.{Settings}
 use Rattle.store.specs.declared.Identity.{Identity}
 use Rattle.settings.specs.declared.Limit.{Limit}
 use Rattle.settings.specs.declared.Limit.the-variants.{Closed, Open}
+use Rattle.settings.specs.declared.decision.Decision.{Decision}
+use Rattle.settings.specs.declared.decision.Decision.the-variants.{Acquired, Retry, Impossible}
 use Rattle.settings.specs.declared.rate.Rate.{Rate}
 use Rattle.settings.specs.Rate.{configOf}
 use Rattle.settings.specs.Settings.{capOf, shardCount}
@@ -20,7 +23,7 @@ use Rattle.store.specs.declared.Answer.{Answer}
 use Rattle.store.specs.declared.Answer.the-variants.{Decided, NoSpace}
 use Rattle.store.specs.Model as Store
 use Rattle.perkey.specs.declared.Reply.{Reply}
-use Rattle.perkey.specs.declared.Reply.the-variants.{Impossible, Nothing, Count, Refused}
+use Rattle.perkey.specs.declared.Reply.the-variants.{Tried, Reserved, Nothing, Done, Count, Refused}
 use Rattle.shards.specs.declared.Part.{Part}
 use Rattle.shards.specs.declared.lending.Lending.{Lending}
 use Rattle.shards.specs.declared.lending.Lending.the-variants as Lending
@@ -84,61 +87,99 @@ module _ (c : Call) (ws : List ℕ) {lending : Lending} (part′ : Part) (is : l
   pub lent-is-ruled : {p : Part} {o : Outcome Reply (List ℕ)} → lending ≡ Lending.Lent p → o ≡ ruleOf c ws → o ≡ rules c ws
   lent-is-ruled gave is-rule = is-rule ∙ sym (not-refused-is-ruled c ws (lent-part (refusalOf c ws) part′ is gave .0))
 
--- No rule answers with a number of a refusal.
-closed-not-numbered : (cost : ℕ) → numbered (Rules.closed cost) ≡ false
-unfolding Rules.closed
-closed-not-numbered cost = by-test (eqb cost 0) (λ t. rw t) (λ t. rw t)
+-- The kinds of replies. A try and a peek are told a decision, a reservation its wait or nothing, a look at tokens or keys how many there are, and a refund
+-- or a removal whether the key was known.
+pub data Kind : Type 0 where
+  decides : Kind
+  reserves : Kind
+  counts : Kind
+  knows : Kind
 
-try-not-numbered : (a : Answer) → numbered (Rules.tryReply a) ≡ false
-try-not-numbered (Decided (Allowed wait)) = refl
-try-not-numbered (Decided (Denied wait)) = refl
-try-not-numbered (NoSpace wait) = refl
+abbrev pub kindOf : Call → Kind
+kindOf (try s at id cost) = decides
+kindOf (reserve s at id cost longest) = reserves
+kindOf (peek s at id cost) = decides
+kindOf (available s at id) = counts
+kindOf (len s) = counts
+kindOf (refund s id cost) = knows
+kindOf (remove s id) = knows
 
-reserve-not-numbered : (a : Answer) → numbered (Rules.reserveReply a) ≡ false
-reserve-not-numbered (Decided (Allowed wait)) = refl
-reserve-not-numbered (Decided (Denied wait)) = refl
-reserve-not-numbered (NoSpace wait) = refl
+pub data OfKind : Kind → Reply → Type 0 where
+  decided : (decision : Decision) → OfKind decides (Tried decision)
+  reserved : (wait : Nanos) → OfKind reserves (Reserved wait)
+  not-reserved : OfKind reserves Nothing
+  counted : (n : ℕ) → OfKind counts (Count n)
+  known : OfKind knows Done
+  unknown : OfKind knows Nothing
 
-known-not-numbered : (b : Bool) → numbered (Rules.knownReply b) ≡ false
-known-not-numbered true = refl
-known-not-numbered false = refl
+-- Every rule answers in the kind of its call.
+try-decides : (a : Answer) → OfKind decides (Rules.tryReply a)
+try-decides (Decided decision) = decided (Rules.mapDecision decision)
+try-decides (NoSpace wait) = decided (Retry wait)
 
-trivial-not-numbered : (rate : Rate) (cost : ℕ) (tooMuch : Reply) (ws : List ℕ) (asked : Outcome Reply (List ℕ))
-    → numbered tooMuch ≡ false → numbered (asked .answer) ≡ false → numbered (Rules.unlessTrivial rate cost tooMuch ws asked .answer) ≡ false
+reserve-reserves : (a : Answer) → OfKind reserves (Rules.reserveReply a)
+reserve-reserves (Decided (Allowed wait)) = reserved wait
+reserve-reserves (Decided (Denied wait)) = not-reserved
+reserve-reserves (NoSpace wait) = not-reserved
+
+key-is-known-or-not : (b : Bool) → OfKind knows (Rules.knownReply b)
+key-is-known-or-not true = known
+key-is-known-or-not false = unknown
+
+trivial-in-kind : (kind : Kind) (rate : Rate) (cost : ℕ) {tooMuch atOnce : Reply} (ws : List ℕ) (asked : Outcome Reply (List ℕ))
+    → OfKind kind tooMuch → OfKind kind atOnce → OfKind kind (asked .answer)
+    → OfKind kind (Rules.unlessTrivial rate cost tooMuch atOnce ws asked .answer)
 unfolding Rules.unlessTrivial
-trivial-not-numbered rate cost tooMuch ws asked a b =
-    by-test (ltb (configOf rate .capacity) cost) (λ t. rw t a) (λ t. by-test (eqb cost 0) (λ u. rw (t, u)) (λ u. rw (t, u) b))
+trivial-in-kind kind rate cost ws asked a b c =
+    by-test (ltb (configOf rate .capacity) cost) (λ t. rw t a) (λ t. by-test (eqb cost 0) (λ u. rw (t, u) b) (λ u. rw (t, u) c))
 
-tried-not-numbered : (c : Limit) (s : Settings) (at : Nanos) (id : Identity) (cost : ℕ) (ws : List ℕ) → numbered (Rules.triedBy c s at id cost ws .answer) ≡ false
-tried-not-numbered Closed s at id cost ws = closed-not-numbered cost
-tried-not-numbered (Open rate) s at id cost ws = trivial-not-numbered rate cost Impossible ws _ refl (try-not-numbered (Store.withOrInsert (Rules.policyOf s rate) id Acquire cost at (shardAt s (id .hash) ws) .answer))
+tried-in-kind : (c : Limit) (s : Settings) (at : Nanos) (id : Identity) (cost : ℕ) (ws : List ℕ) → OfKind decides (Rules.triedBy c s at id cost ws .answer)
+tried-in-kind Closed s at id cost ws = decided (Rules.closed cost)
+tried-in-kind (Open rate) s at id cost ws =
+    let store = Store.withOrInsert (Rules.policyOf s rate) id Acquire cost at (shardAt s (id .hash) ws) in
+    trivial-in-kind decides rate cost ws _ (decided Impossible) (decided Acquired) (try-decides (store .answer))
 
-reserved-not-numbered : (c : Limit) (s : Settings) (at : Nanos) (id : Identity) (cost : ℕ) (longest : Nanos) (ws : List ℕ)
-    → numbered (Rules.reservedBy c s at id cost longest ws .answer) ≡ false
-reserved-not-numbered Closed s at id cost longest ws = refl
-reserved-not-numbered (Open rate) s at id cost longest ws = trivial-not-numbered rate cost Nothing ws _ refl (reserve-not-numbered (Store.withOrInsert (Rules.policyOf s rate) id (Reserve longest) cost at (shardAt s (id .hash) ws) .answer))
+reserved-in-kind : (c : Limit) (s : Settings) (at : Nanos) (id : Identity) (cost : ℕ) (longest : Nanos) (ws : List ℕ)
+    → OfKind reserves (Rules.reservedBy c s at id cost longest ws .answer)
+reserved-in-kind Closed s at id cost longest ws = not-reserved
+reserved-in-kind (Open rate) s at id cost longest ws =
+    let store = Store.withOrInsert (Rules.policyOf s rate) id (Reserve longest) cost at (shardAt s (id .hash) ws) in
+    trivial-in-kind reserves rate cost ws _ not-reserved (reserved Rules.noWait) (reserve-reserves (store .answer))
 
-wait-not-numbered : (wait : ℕ) → numbered (Rules.waitReply wait) ≡ false
+wait-decides : (wait : Nanos) → OfKind decides (Rules.waitReply wait)
 unfolding Rules.waitReply
-wait-not-numbered wait = by-test (eqb wait 0) (λ t. rw t) (λ t. rw t)
+wait-decides wait = by-test (eqb (wait .0) 0) (λ t. rw t (decided Acquired)) (λ t. rw t (decided (Retry wait)))
 
-peeked-not-numbered : (c : Limit) (s : Settings) (at : Nanos) (id : Identity) (cost : ℕ) (ws : List ℕ) → numbered (Rules.peekedBy c s at id cost ws) ≡ false
+peeked-in-kind : (c : Limit) (s : Settings) (at : Nanos) (id : Identity) (cost : ℕ) (ws : List ℕ) → OfKind decides (Rules.peekedBy c s at id cost ws)
 unfolding Rules.peekedAt
-peeked-not-numbered Closed s at id cost ws = closed-not-numbered cost
-peeked-not-numbered (Open rate) s at id cost ws = by-test (ltb (configOf rate .capacity) cost) (λ t. rw t) (λ t. rw t (wait-not-numbered _))
+peeked-in-kind Closed s at id cost ws = decided (Rules.closed cost)
+peeked-in-kind (Open rate) s at id cost ws =
+    by-test (ltb (configOf rate .capacity) cost) (λ t. rw t (decided Impossible)) (λ t. rw t (wait-decides _))
 
-refunded-not-numbered : (c : Limit) (s : Settings) (id : Identity) (cost : ℕ) (ws : List ℕ) → numbered (Rules.refundedBy c s id cost ws .answer) ≡ false
-refunded-not-numbered Closed s id cost ws = refl
-refunded-not-numbered (Open rate) s id cost ws = known-not-numbered (Store.refunded (configOf rate) id cost (shardAt s (id .hash) ws) .answer)
+refunded-in-kind : (c : Limit) (s : Settings) (id : Identity) (cost : ℕ) (ws : List ℕ) → OfKind knows (Rules.refundedBy c s id cost ws .answer)
+refunded-in-kind Closed s id cost ws = unknown
+refunded-in-kind (Open rate) s id cost ws = key-is-known-or-not (Store.refunded (configOf rate) id cost (shardAt s (id .hash) ws) .answer)
+
+pub rule-answers-in-kind : (c : Call) (ws : List ℕ) → OfKind (kindOf c) (ruleOf c ws .answer)
+rule-answers-in-kind (try s at id cost) ws = tried-in-kind (s .limit) s at id cost ws
+rule-answers-in-kind (reserve s at id cost longest) ws = reserved-in-kind (s .limit) s at id cost longest ws
+rule-answers-in-kind (peek s at id cost) ws = peeked-in-kind (s .limit) s at id cost ws
+rule-answers-in-kind (available s at id) ws = counted _
+rule-answers-in-kind (len s) ws = counted _
+rule-answers-in-kind (refund s id cost) ws = refunded-in-kind (s .limit) s id cost ws
+rule-answers-in-kind (remove s id) ws = key-is-known-or-not (Store.removed id (shardAt s (id .hash) ws) .answer)
+
+-- So no rule answers with a number of a refusal.
+in-kind-not-numbered : {kind : Kind} {r : Reply} → OfKind kind r → numbered r ≡ false
+in-kind-not-numbered (decided decision) = refl
+in-kind-not-numbered (reserved wait) = refl
+in-kind-not-numbered not-reserved = refl
+in-kind-not-numbered (counted n) = refl
+in-kind-not-numbered known = refl
+in-kind-not-numbered unknown = refl
 
 rule-not-numbered : (c : Call) (ws : List ℕ) → numbered (ruleOf c ws .answer) ≡ false
-rule-not-numbered (try s at id cost) ws = tried-not-numbered (s .limit) s at id cost ws
-rule-not-numbered (reserve s at id cost longest) ws = reserved-not-numbered (s .limit) s at id cost longest ws
-rule-not-numbered (peek s at id cost) ws = peeked-not-numbered (s .limit) s at id cost ws
-rule-not-numbered (available s at id) ws = refl
-rule-not-numbered (len s) ws = refl
-rule-not-numbered (refund s id cost) ws = refunded-not-numbered (s .limit) s id cost ws
-rule-not-numbered (remove s id) ws = known-not-numbered (Store.removed id (shardAt s (id .hash) ws) .answer)
+rule-not-numbered c ws = in-kind-not-numbered (rule-answers-in-kind c ws)
 
 -- So a call is refused by number exactly where it has a number.
 pub numbered-is-refused : (c : Call) (ws : List ℕ) → numbered (rules c ws .answer) ≡ true → refusalOf c ws ≡ 0 → ⊥

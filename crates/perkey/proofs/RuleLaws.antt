@@ -12,6 +12,7 @@ use Rattle.bucket.specs.Bucket.{Accepted, waitAt}
 use Rattle.settings.specs.declared.Limit.{Limit}
 use Rattle.settings.specs.declared.Limit.the-variants.{Open}
 use Rattle.settings.specs.declared.Settings.{Settings}
+use Rattle.settings.specs.declared.decision.Decision.the-variants.{Acquired, Retry, Impossible}
 use Rattle.settings.specs.declared.rate.Rate.{Rate}
 use Rattle.settings.specs.Rate.{burstOf, configOf}
 use Rattle.settings.specs.Settings.{idleLimit}
@@ -31,13 +32,13 @@ use Rattle.shards.specs.Refusals.{keyedRefusal, momentRefusal, timedRefusal, wa
 use Rattle.shards.proofs.LendingLaws.{accepted-part, found-place-below}
 use Rattle.shards.proofs.RefusalLaws.{keyed-not-refused, timed-not-refused}
 use Rattle.perkey.specs.declared.Reply.{Reply}
-use Rattle.perkey.specs.declared.Reply.the-variants.{Granted, Retry, Impossible, Nothing}
+use Rattle.perkey.specs.declared.Reply.the-variants.{Tried, Reserved, Nothing}
 use Rattle.perkey.specs.Rules.{noWait, closed, waitReply, unlessTrivial, policyOf, requested, tryReply, reserveReply, triedBy, reservedBy, bucketOf, peekedAt, knownReply, keyed}
 use borrow.Author.Tests.{le-ltb, lt-ltb, eq-eqb, ne-eqb}
 
 -- A limiter without a rate.
 module _ (cost : ℕ) where
-  pub closed-grants-none : cost ≡ 0 → Granted noWait ≡ closed cost
+  pub closed-grants-none : cost ≡ 0 → Acquired ≡ closed cost
   unfolding closed
   closed-grants-none none = rw (eq-eqb _ _ none)
 
@@ -47,25 +48,25 @@ module _ (cost : ℕ) where
 
 -- The wait of a bucket that is looked at.
 module _ (wait : Nanos) where
-  pub no-wait-is-granted : wait .0 ≡ 0 → Granted noWait ≡ waitReply (wait .0)
+  pub no-wait-is-granted : wait .0 ≡ 0 → Tried Acquired ≡ waitReply wait
   unfolding waitReply
   no-wait-is-granted none = rw (eq-eqb _ _ none)
 
-  pub wait-is-told : (wait .0 ≡ 0 → ⊥) → Retry wait ≡ waitReply (wait .0)
+  pub wait-is-told : (wait .0 ≡ 0 → ⊥) → Tried (Retry wait) ≡ waitReply wait
   unfolding waitReply
   wait-is-told some = rw (ne-eqb _ _ some)
 
 -- A request of more than a full bucket, of nothing, and any other.
-module _ (rate : Rate) {cost : ℕ} (tooMuch : Reply) (ws : List ℕ) (asked : Outcome Reply (List ℕ)) where
-  pub too-much-is-told : burstOf rate < cost → outcome tooMuch ws ≡ unlessTrivial rate cost tooMuch ws asked
+module _ (rate : Rate) {cost : ℕ} (tooMuch atOnce : Reply) (ws : List ℕ) (asked : Outcome Reply (List ℕ)) where
+  pub too-much-is-told : burstOf rate < cost → outcome tooMuch ws ≡ unlessTrivial rate cost tooMuch atOnce ws asked
   unfolding unlessTrivial
   too-much-is-told more = rw (lt-ltb _ _ more)
 
-  pub nothing-is-granted : cost ≤ burstOf rate → cost ≡ 0 → outcome (Granted noWait) ws ≡ unlessTrivial rate cost tooMuch ws asked
+  pub nothing-is-granted : cost ≤ burstOf rate → cost ≡ 0 → outcome atOnce ws ≡ unlessTrivial rate cost tooMuch atOnce ws asked
   unfolding unlessTrivial
   nothing-is-granted within none = rw (le-ltb _ _ within, eq-eqb _ _ none)
 
-  bucket-is-asked : cost ≤ burstOf rate → (cost ≡ 0 → ⊥) → asked ≡ unlessTrivial rate cost tooMuch ws asked
+  bucket-is-asked : cost ≤ burstOf rate → (cost ≡ 0 → ⊥) → asked ≡ unlessTrivial rate cost tooMuch atOnce ws asked
   unfolding unlessTrivial
   bucket-is-asked within some = rw (le-ltb _ _ within, ne-eqb _ _ some)
 
@@ -85,20 +86,20 @@ module _ (s : Settings) (id : Identity) (cost : ℕ) (at : Nanos) (ws : List ℕ
 
 -- What it makes of the reply and of all words, for a request of something that a full bucket holds.
 module _ (s : Settings) (id : Identity) (cost : ℕ) (at : Nanos) (ws : List ℕ) {policy : Policy} {answer : Answer} {told : Reply} {ws′ : List ℕ} where
-  request-is-told : (rate : Rate) (request : Request) (reply : Answer → Reply) (tooMuch : Reply) → policy ≡ policyOf s rate → cost ≤ burstOf rate → (cost ≡ 0 → ⊥)
+  request-is-told : (rate : Rate) (request : Request) (reply : Answer → Reply) (tooMuch atOnce : Reply) → policy ≡ policyOf s rate → cost ≤ burstOf rate → (cost ≡ 0 → ⊥)
       → Answers s id cost at ws policy request answer ws′ → told ≡ reply answer
-      → outcome told ws′ ≡ unlessTrivial rate cost tooMuch ws (requested s rate id request cost at ws reply)
-  request-is-told rate request reply tooMuch is-policy within some gave is-reply =
+      → outcome told ws′ ≡ unlessTrivial rate cost tooMuch atOnce ws (requested s rate id request cost at ws reply)
+  request-is-told rate request reply tooMuch atOnce is-policy within some gave is-reply =
       rw is-reply (ap (λ (o : Outcome Answer (List ℕ)). outcome (reply (o .answer)) (o .after)) (rw is-policy at gave))
-      ∙ bucket-is-asked rate tooMuch ws _ within some
+      ∙ bucket-is-asked rate tooMuch atOnce ws _ within some
 
   module _ {limit : Limit} {rate : Rate} (is-limit : limit ≡ Open rate) (is-policy : policy ≡ policyOf s rate) (within : cost ≤ burstOf rate) (some : cost ≡ 0 → ⊥) where
     pub try-is-told : Answers s id cost at ws policy Acquire answer ws′ → told ≡ tryReply answer → outcome told ws′ ≡ triedBy limit s at id cost ws
-    try-is-told gave is-reply = rw is-limit (request-is-told rate Acquire tryReply Impossible is-policy within some gave is-reply)
+    try-is-told gave is-reply = rw is-limit (request-is-told rate Acquire tryReply (Tried Impossible) (Tried Acquired) is-policy within some gave is-reply)
 
     pub reserve-is-told : (longest : Nanos) → Answers s id cost at ws policy (Reserve longest) answer ws′ → told ≡ reserveReply answer
         → outcome told ws′ ≡ reservedBy limit s at id cost longest ws
-    reserve-is-told longest gave is-reply = rw is-limit (request-is-told rate (Reserve longest) reserveReply Nothing is-policy within some gave is-reply)
+    reserve-is-told longest gave is-reply = rw is-limit (request-is-told rate (Reserve longest) reserveReply Nothing (Reserved noWait) is-policy within some gave is-reply)
 
 pub key-is-told : (s : Settings) (id : Identity) (ws : List ℕ) (o : Outcome Bool Shard) {known : Bool} {told : Reply} {ws′ : List ℕ}
     → outcome known ws′ ≡ inShard s (id .hash) ws o → told ≡ knownReply known → outcome told ws′ ≡ keyed s id ws o
@@ -106,11 +107,11 @@ key-is-told s id ws o gave is-reply = rw is-reply (ap (λ (o : Outcome Bool (Lis
 
 -- A peek of more than a full bucket, and any other.
 module _ (s : Settings) (rate : Rate) (at : Nanos) (id : Identity) (cost : ℕ) (ws : List ℕ) where
-  pub peek-of-too-much : burstOf rate < cost → Impossible ≡ peekedAt s rate at id cost ws
+  pub peek-of-too-much : burstOf rate < cost → Tried Impossible ≡ peekedAt s rate at id cost ws
   unfolding peekedAt
   peek-of-too-much more = rw (lt-ltb _ _ more)
 
-  pub peek-of-bucket : cost ≤ burstOf rate → waitReply (waitAt (configOf rate) (bucketOf s rate id at ws) cost at) ≡ peekedAt s rate at id cost ws
+  pub peek-of-bucket : cost ≤ burstOf rate → waitReply (record { 0 = waitAt (configOf rate) (bucketOf s rate id at ws) cost at }) ≡ peekedAt s rate at id cost ws
   unfolding peekedAt
   peek-of-bucket within = rw (le-ltb _ _ within)
 

@@ -5,9 +5,10 @@ use mathlib.Core.List.{List, [], _∷_}
 use Rattle.rows.specs.Outcome.{Outcome}
 use Rattle.units.specs.declared.Nanos.{Nanos}
 use Rattle.settings.specs.declared.Settings.{Settings}
+use Rattle.settings.specs.declared.decision.Decision.the-variants.{Acquired, Retry, Impossible}
 use Rattle.store.specs.declared.Identity.{Identity}
 use Rattle.perkey.specs.declared.Reply.{Reply}
-use Rattle.perkey.specs.declared.Reply.the-variants.{Granted, Retry, Impossible, Nothing, Done, Count, Refused}
+use Rattle.perkey.specs.declared.Reply.the-variants.{Tried, Reserved, Nothing, Done, Count, Refused}
 use Rattle.perkey.specs.Rules as Rules
 
 -- A call: an operation with all its arguments, its own settings among them. Set-up and clear are no calls of a list.
@@ -83,11 +84,13 @@ ofReturned Q (len s) = Unit {0}
 ofReturned Q (refund s id cost) = Q id
 ofReturned Q (remove s id) = Q id
 
--- What is made of the wait of a reply that grants, else another value.
+-- What is made of the wait of a reply that grants, else another value. Acquired and a reservation both grant, whichever call is answered so: an
+-- implementation cannot hide the grant of a try in a reservation's reply, nor the other way round.
 abbrev pub ofGrant : {A : Type 0} → (ℕ → A) → A → Reply → A
-ofGrant f other (Granted wait) = f (wait .0)
-ofGrant f other (Retry wait) = other
-ofGrant f other Impossible = other
+ofGrant f other (Tried Acquired) = f 0
+ofGrant f other (Tried (Retry after)) = other
+ofGrant f other (Tried Impossible) = other
+ofGrant f other (Reserved wait) = f (wait .0)
 ofGrant f other Nothing = other
 ofGrant f other Done = other
 ofGrant f other (Count n) = other
@@ -95,9 +98,8 @@ ofGrant f other (Refused n) = other
 
 -- Whether a reply is a refusal by number.
 abbrev pub numbered : Reply → Bool
-numbered (Granted wait) = false
-numbered (Retry wait) = false
-numbered Impossible = false
+numbered (Tried decision) = false
+numbered (Reserved wait) = false
 numbered Nothing = false
 numbered Done = false
 numbered (Count n) = false

@@ -8,6 +8,7 @@ use Rattle.rows.specs.Held.{sum}
 use Rattle.rows.specs.Outcome.{Outcome, outcome}
 use Rattle.units.specs.declared.Nanos.{Nanos}
 use Rattle.bucket.specs.declared.BucketCore.{BucketCore}
+use Rattle.bucket.specs.declared.BucketDecision.{BucketDecision}
 use Rattle.bucket.specs.declared.BucketDecision.the-variants.{Allowed, Denied}
 use Rattle.bucket.specs.declared.Request.{Request}
 use Rattle.bucket.specs.declared.Request.the-variants.{Acquire, Reserve}
@@ -15,6 +16,8 @@ use Rattle.bucket.specs.Bucket.{waitAt, availableAt}
 use Rattle.settings.specs.declared.Limit.{Limit}
 use Rattle.settings.specs.declared.Limit.the-variants.{Closed, Open}
 use Rattle.settings.specs.declared.Settings.{Settings}
+use Rattle.settings.specs.declared.decision.Decision.{Decision}
+use Rattle.settings.specs.declared.decision.Decision.the-variants.{Acquired, Retry, Impossible}
 use Rattle.settings.specs.declared.eviction.WhenFull.{WhenFull}
 use Rattle.settings.specs.declared.eviction.WhenFull.the-variants.{RefuseNew, ForgetDebt}
 use Rattle.settings.specs.declared.rate.Rate.{Rate}
@@ -27,25 +30,27 @@ use Rattle.store.specs.declared.Answer.the-variants.{Decided, NoSpace}
 use Rattle.shard_map.specs.Model.{Shard}
 use Rattle.store.specs.Model as Store
 use Rattle.perkey.specs.declared.Reply.{Reply}
-use Rattle.perkey.specs.declared.Reply.the-variants.{Granted, Retry, Impossible, Nothing, Done, Count, Refused}
+use Rattle.perkey.specs.declared.Reply.the-variants.{Tried, Reserved, Nothing, Done, Count, Refused}
 use Rattle.shards.specs.Memory.{shardAt, inShard, slotCount}
 use Rattle.shards.specs.Refusals.{setUpRefusal, keyedRefusal, timedRefusal, reserveRefusal, lenRefusal}
 
 -- The desk's code of a reply: 0 granted, accepted, known or counted, 1 to be tried again, 2 impossible, 3 none or unknown, 10 + n refused as n.
 abbrev pub codeOf : Reply → ℕ
-codeOf (Granted wait) = 0
-codeOf (Retry wait) = 1
-codeOf Impossible = 2
+codeOf (Tried Acquired) = 0
+codeOf (Tried (Retry after)) = 1
+codeOf (Tried Impossible) = 2
+codeOf (Reserved wait) = 0
 codeOf Nothing = 3
 codeOf Done = 0
 codeOf (Count n) = 0
 codeOf (Refused n) = 10 + n
 
--- The number beside the code: the wait of a grant or a retry, the number counted, else 0.
+-- The number beside the code: the wait of a retry or a reservation, the number counted, else 0.
 abbrev pub numberOf : Reply → ℕ
-numberOf (Granted wait) = wait .0
-numberOf (Retry wait) = wait .0
-numberOf Impossible = 0
+numberOf (Tried Acquired) = 0
+numberOf (Tried (Retry after)) = after .0
+numberOf (Tried Impossible) = 0
+numberOf (Reserved wait) = wait .0
 numberOf Nothing = 0
 numberOf Done = 0
 numberOf (Count n) = n
@@ -67,15 +72,19 @@ policyOf s rate = record { config = configOf rate; «idle_ttl» = s .eviction .�
 unfoldable pub setUp : Settings → List ℕ → Outcome Reply (List ℕ)
 setUp s ws = unlessRefused (setUpRefusal s ws) ws (outcome Done (replicate (wordsOf s) 0))
 
+-- What a bucket decided, as a try is told it: a try is granted without a wait.
+abbrev pub mapDecision : BucketDecision → Decision
+mapDecision (Allowed wait) = Acquired
+mapDecision (Denied wait) = Retry wait
+
 -- The answer to a try: granted, or to be tried again, by its bucket or for want of space.
 abbrev pub tryReply : Answer → Reply
-tryReply (Decided (Allowed wait)) = Granted wait
-tryReply (Decided (Denied wait)) = Retry wait
-tryReply (NoSpace wait) = Retry wait
+tryReply (Decided decision) = Tried (mapDecision decision)
+tryReply (NoSpace wait) = Tried (Retry wait)
 
 -- The answer to a reservation: granted with its wait, else none.
 abbrev pub reserveReply : Answer → Reply
-reserveReply (Decided (Allowed wait)) = Granted wait
+reserveReply (Decided (Allowed wait)) = Reserved wait
 reserveReply (Decided (Denied wait)) = Nothing
 reserveReply (NoSpace wait) = Nothing
 
@@ -89,20 +98,21 @@ requested s rate id request cost at ws reply =
     let o = inShard s (id .hash) ws (Store.withOrInsert (policyOf s rate) id request cost at (shardAt s (id .hash) ws)) in
     outcome (reply (o .answer)) (o .after)
 
--- A cost of more than a full bucket has an answer of its own, and cost 0 is granted without a wait; neither touches a word.
-unfoldable pub unlessTrivial : Rate → ℕ → Reply → List ℕ → Outcome Reply (List ℕ) → Outcome Reply (List ℕ)
-unlessTrivial rate cost tooMuch ws asked =
+-- A cost of more than a full bucket has an answer of its own, and so has cost 0, which is granted at once; neither touches a word.
+unfoldable pub unlessTrivial : Rate → ℕ → (tooMuch atOnce : Reply) → List ℕ → Outcome Reply (List ℕ) → Outcome Reply (List ℕ)
+unlessTrivial rate cost tooMuch atOnce ws asked =
     cond (ltb (configOf rate .capacity) cost) (outcome tooMuch ws)
-    (cond (eqb cost 0) (outcome (Granted noWait) ws) asked)
+    (cond (eqb cost 0) (outcome atOnce ws) asked)
 
 -- A closed limiter grants only cost 0.
-unfoldable pub closed : ℕ → Reply
-closed cost = cond (eqb cost 0) (Granted noWait) Impossible
+unfoldable pub closed : ℕ → Decision
+closed cost = cond (eqb cost 0) Acquired Impossible
 
 -- A try.
 abbrev pub triedBy : Limit → Settings → Nanos → Identity → ℕ → List ℕ → Outcome Reply (List ℕ)
-triedBy Closed s at id cost ws = outcome (closed cost) ws
-triedBy (Open rate) s at id cost ws = unlessTrivial rate cost Impossible ws (requested s rate id Acquire cost at ws tryReply)
+triedBy Closed s at id cost ws = outcome (Tried (closed cost)) ws
+triedBy (Open rate) s at id cost ws =
+    unlessTrivial rate cost (Tried Impossible) (Tried Acquired) ws (requested s rate id Acquire cost at ws tryReply)
 
 unfoldable pub tryAcquire : Settings → Nanos → Identity → ℕ → List ℕ → Outcome Reply (List ℕ)
 tryAcquire s at id cost ws = unlessRefused (timedRefusal s (id .hash) at ws) ws (triedBy (s .limit) s at id cost ws)
@@ -110,7 +120,8 @@ tryAcquire s at id cost ws = unlessRefused (timedRefusal s (id .hash) at ws) ws 
 -- A reservation.
 abbrev pub reservedBy : Limit → Settings → Nanos → Identity → ℕ → Nanos → List ℕ → Outcome Reply (List ℕ)
 reservedBy Closed s at id cost longest ws = outcome Nothing ws
-reservedBy (Open rate) s at id cost longest ws = unlessTrivial rate cost Nothing ws (requested s rate id (Reserve longest) cost at ws reserveReply)
+reservedBy (Open rate) s at id cost longest ws =
+    unlessTrivial rate cost Nothing (Reserved noWait) ws (requested s rate id (Reserve longest) cost at ws reserveReply)
 
 unfoldable pub reserve : Settings → Nanos → Identity → ℕ → Nanos → List ℕ → Outcome Reply (List ℕ)
 reserve s at id cost longest ws = unlessRefused (reserveRefusal s (id .hash) at longest ws) ws (reservedBy (s .limit) s at id cost longest ws)
@@ -120,15 +131,16 @@ abbrev pub bucketOf : Settings → Rate → Identity → Nanos → List ℕ → 
 bucketOf s rate id at ws = Store.viewed (configOf rate) id at (shardAt s (id .hash) ws)
 
 -- A peek: the wait of that bucket. It changes no word.
-unfoldable pub waitReply : ℕ → Reply
-waitReply wait = cond (eqb wait 0) (Granted noWait) (Retry (record { 0 = wait }))
+unfoldable pub waitReply : Nanos → Reply
+waitReply wait = cond (eqb (wait .0) 0) (Tried Acquired) (Tried (Retry wait))
 
 unfoldable pub peekedAt : Settings → Rate → Nanos → Identity → ℕ → List ℕ → Reply
 peekedAt s rate at id cost ws =
-    cond (ltb (configOf rate .capacity) cost) Impossible (waitReply (waitAt (configOf rate) (bucketOf s rate id at ws) cost at))
+    cond (ltb (configOf rate .capacity) cost) (Tried Impossible)
+    (waitReply (record { 0 = waitAt (configOf rate) (bucketOf s rate id at ws) cost at }))
 
 abbrev pub peekedBy : Limit → Settings → Nanos → Identity → ℕ → List ℕ → Reply
-peekedBy Closed s at id cost ws = closed cost
+peekedBy Closed s at id cost ws = Tried (closed cost)
 peekedBy (Open rate) s at id cost ws = peekedAt s rate at id cost ws
 
 unfoldable pub peek : Settings → Nanos → Identity → ℕ → List ℕ → Outcome Reply (List ℕ)

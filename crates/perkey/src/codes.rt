@@ -2,6 +2,7 @@
 ghost use mathlib.Core.Path.{_≡_};
 ghost use Rattle.perkey.specs.Rules as Rules;
 use crate::Reply;
+use settings::decision::Decision;
 
 impl Reply {
     // The code: 0 granted, accepted, known or counted, 1 to be tried again, 2 impossible, 3 none or unknown, 10 + n refused as n.
@@ -9,9 +10,12 @@ impl Reply {
         ensures { λ r. ⌜ r ≡ Rules.codeOf self ⌝ }
     {
         match self {
-            Reply::Granted(_) => 0,
-            Reply::Retry(_) => 1,
-            Reply::Impossible => 2,
+            Reply::Tried(decision) => match decision {
+                Decision::Acquired => 0,
+                Decision::Retry { after: _ } => 1,
+                Decision::Impossible => 2,
+            },
+            Reply::Reserved(_) => 0,
             Reply::Nothing => 3,
             Reply::Done => 0,
             Reply::Count(_) => 0,
@@ -24,9 +28,12 @@ impl Reply {
         ensures { λ r. ⌜ r ≡ Rules.numberOf self ⌝ }
     {
         match self {
-            Reply::Granted(wait) => wait.0,
-            Reply::Retry(wait) => wait.0,
-            Reply::Impossible => 0,
+            Reply::Tried(decision) => match decision {
+                Decision::Acquired => 0,
+                Decision::Retry { after } => after.0,
+                Decision::Impossible => 0,
+            },
+            Reply::Reserved(wait) => wait.0,
             Reply::Nothing => 0,
             Reply::Done => 0,
             Reply::Count(number) => number,

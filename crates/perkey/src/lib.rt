@@ -9,6 +9,7 @@ use bucket::Request;
 use rows::Place;
 use settings::Limit;
 use settings::Settings;
+use settings::decision::Decision;
 use settings::eviction::WhenFull;
 use settings::rate::Rate;
 use shards::Part;
@@ -24,12 +25,10 @@ pub mod codes;
 
 // What an operation answers.
 pub enum Reply {
-    // Granted, usable after the wait: 0 for a try or a peek.
-    Granted(Nanos),
-    // To be tried again after the wait.
-    Retry(Nanos),
-    // The cost is more than a full bucket holds, or the limiter is closed.
-    Impossible,
+    // What a try or a peek is told.
+    Tried(Decision),
+    // A reservation that is granted: usable after the wait.
+    Reserved(Nanos),
     // No reservation, or an unknown key.
     Nothing,
     // Accepted, or a known key.
@@ -87,13 +86,13 @@ fn decide(
 {
     let limit = settings.limit;
     match limit {
-        Limit::Closed => closed(cost),
+        Limit::Closed => Reply::Tried(closed(cost)),
         Limit::Open(rate) => {
             if rate.capacity() < cost {
-                return Reply::Impossible;
+                return Reply::Tried(Decision::Impossible);
             }
             if cost == 0 {
-                return Reply::Granted(Nanos(0));
+                return Reply::Tried(Decision::Acquired);
             }
             let policy = policy(settings, rate);
             let request = Request::Acquire;
@@ -153,7 +152,7 @@ fn reserve_within(
                 return Reply::Nothing;
             }
             if cost == 0 {
-                return Reply::Granted(Nanos(0));
+                return Reply::Reserved(Nanos(0));
             }
             let policy = policy(settings, rate);
             let request = Request::Reserve(max_wait);
@@ -190,11 +189,11 @@ fn look(settings: Settings, ws: &[u64], part: Part, at: Nanos, id: Identity, cos
 {
     let limit = settings.limit;
     match limit {
-        Limit::Closed => closed(cost),
+        Limit::Closed => Reply::Tried(closed(cost)),
         Limit::Open(rate) => {
             let config = rate.config();
             if config.capacity < cost {
-                return Reply::Impossible;
+                return Reply::Tried(Decision::Impossible);
             }
             let bucket = shards::view(ws, part, config, id, at);
             wait_reply(bucket.time_until_at(config, cost, at))
@@ -291,13 +290,13 @@ pub fn len(settings: Settings, ws: &[u64]) -> Reply
 }
 
 // The answer of a limiter without a rate: it grants only cost 0.
-fn closed(cost: u32) -> Reply
+fn closed(cost: u32) -> Decision
     ensures { λ r. ⌜ r ≡ Rules.closed cost ⌝ }
 {
     if cost == 0 {
-        Reply::Granted(Nanos(0))
+        Decision::Acquired
     } else {
-        Reply::Impossible
+        Decision::Impossible
     }
 }
 
@@ -331,11 +330,18 @@ fn try_reply(answer: Answer) -> Reply
     ensures { λ r. ⌜ r ≡ Rules.tryReply answer ⌝ }
 {
     match answer {
-        Answer::Decided(decision) => match decision {
-            BucketDecision::Allowed(wait) => Reply::Granted(wait),
-            BucketDecision::Denied(wait) => Reply::Retry(wait),
-        },
-        Answer::NoSpace(wait) => Reply::Retry(wait),
+        Answer::Decided(decision) => Reply::Tried(map_decision(decision)),
+        Answer::NoSpace(after) => Reply::Tried(Decision::Retry { after }),
+    }
+}
+
+// What a bucket decided, as a try is told it. A try is granted without a wait, so a grant tells none.
+fn map_decision(decision: BucketDecision) -> Decision
+    ensures { λ r. ⌜ r ≡ Rules.mapDecision decision ⌝ }
+{
+    match decision {
+        BucketDecision::Allowed(_) => Decision::Acquired,
+        BucketDecision::Denied(after) => Decision::Retry { after },
     }
 }
 
@@ -345,7 +351,7 @@ fn reserve_reply(answer: Answer) -> Reply
 {
     match answer {
         Answer::Decided(decision) => match decision {
-            BucketDecision::Allowed(wait) => Reply::Granted(wait),
+            BucketDecision::Allowed(wait) => Reply::Reserved(wait),
             BucketDecision::Denied(_) => Reply::Nothing,
         },
         Answer::NoSpace(_) => Reply::Nothing,
@@ -354,12 +360,12 @@ fn reserve_reply(answer: Answer) -> Reply
 
 // A bucket's wait as the reply to a peek.
 fn wait_reply(wait: Nanos) -> Reply
-    ensures { λ r. ⌜ r ≡ Rules.waitReply (wait .0) ⌝ }
+    ensures { λ r. ⌜ r ≡ Rules.waitReply wait ⌝ }
 {
     if wait.0 == 0 {
-        Reply::Granted(Nanos(0))
+        Reply::Tried(Decision::Acquired)
     } else {
-        Reply::Retry(wait)
+        Reply::Tried(Decision::Retry { after: wait })
     }
 }
 

@@ -7,9 +7,10 @@ use native.Mathlib.Omega.{arith}
 use lib.Dec.{eqb}
 use borrow.Author.Tests.{eqb-true}
 use Rattle.arith.proofs.Cases.{by-test}
+use Rattle.settings.specs.declared.decision.Decision.the-variants.{Acquired, Retry, Impossible}
 use Rattle.store.specs.declared.Identity.{Identity}
 use Rattle.perkey.specs.declared.Reply.{Reply}
-use Rattle.perkey.specs.declared.Reply.the-variants.{Granted, Retry, Impossible, Nothing, Done, Count, Refused}
+use Rattle.perkey.specs.declared.Reply.the-variants.{Tried, Reserved, Nothing, Done, Count, Refused}
 use Rattle.perkey.specs.Calls.{Call, try, reserve, peek, available, len, refund, remove, rules, Answered, replies, ofKey, ofGrant, accepted, Every}
 use Rattle.window.specs.Demands.{usable, tokensOf, tokensUsable, Agree, NoSharedHash}
 use Rattle.perkey.proofs.CallLaws.{unaccepted-refused}
@@ -128,9 +129,10 @@ unnamed-unusable k t u id m cost e =
 
 unnamed-granted : (k : Identity) (t u : ℕ) (id : Identity) (m : ℕ → ℕ) (cost : ℕ) → is k id ≡ false → (reply : Reply)
     → ofGrant (λ wait. usable k t u id (m wait) cost) 0 reply ≡ 0
-unnamed-granted k t u id m cost e (Granted wait) = unnamed-unusable k t u id (m (wait .0)) cost e
-unnamed-granted k t u id m cost e (Retry wait) = refl
-unnamed-granted k t u id m cost e Impossible = refl
+unnamed-granted k t u id m cost e (Tried Acquired) = unnamed-unusable k t u id (m 0) cost e
+unnamed-granted k t u id m cost e (Tried (Retry after)) = refl
+unnamed-granted k t u id m cost e (Tried Impossible) = refl
+unnamed-granted k t u id m cost e (Reserved wait) = unnamed-unusable k t u id (m (wait .0)) cost e
 unnamed-granted k t u id m cost e Nothing = refl
 unnamed-granted k t u id m cost e Done = refl
 unnamed-granted k t u id m cost e (Count n) = refl

@@ -14,6 +14,7 @@ use Rattle.bucket.specs.Bucket.{Accepted, longestWait}
 use Rattle.settings.specs.declared.Limit.{Limit}
 use Rattle.settings.specs.declared.Limit.the-variants.{Open}
 use Rattle.settings.specs.declared.Settings.{Settings}
+use Rattle.settings.specs.declared.decision.Decision.the-variants.{Acquired, Impossible}
 use Rattle.settings.specs.declared.rate.Rate.{Rate}
 use Rattle.settings.specs.Rate.{burstOf, configOf}
 use Rattle.settings.specs.Settings.{shardOf}
@@ -23,7 +24,7 @@ use Rattle.store.specs.declared.Answer.{Answer}
 use Rattle.store.specs.Model as Store
 use Rattle.store.proofs.StoreLaws.{ask-same-room, refund-same-room, remove-same-room}
 use Rattle.perkey.specs.declared.Reply.{Reply}
-use Rattle.perkey.specs.declared.Reply.the-variants.{Granted, Impossible, Nothing}
+use Rattle.perkey.specs.declared.Reply.the-variants.{Tried, Reserved, Nothing}
 use Rattle.shards.specs.Memory.{shardAt, inShard}
 use Rattle.perkey.specs.Rules.{unlessTrivial, noWait, triedBy, reservedBy, requested, policyOf, tryReply, reserveReply, keyed, refundedBy}
 use Rattle.shards.proofs.RefusalLaws.{keyed-not-refused, timed-not-refused, reserve-not-refused}
@@ -34,70 +35,78 @@ use Rattle.window.proofs.BucketKept.{grantsOfAnswer}
 use Rattle.window.proofs.RequestLaws.{invariant-keeps, own-request, other-request, other-refund, other-removal}
 use Rattle.perkey.proofs.CallLaws.{refusalOf, not-refused-is-ruled, accepted-not-refused, unaccepted-refused}
 use Rattle.window.proofs.OwnBucket.{in-range-is-asked}
+use Rattle.window.proofs.TryLaws.{store-grants-at-once}
 use Rattle.window.proofs.StandingLaws.{moment, Standing, standing-later, operation-stands}
-use Rattle.window.proofs.GivenLaws.{ifOwn, granting, given, own-call, other-hash, same-either-way, refusal-gives-nothing, try-grants, reserve-grants}
+use Rattle.window.proofs.GivenLaws.{ifOwn, granting, usableAtOnce, usableAfter, given, own-call, other-hash, same-either-way, refusal-gives-nothing, try-grants, reserve-grants}
 
 -- The call as the rules answer it in some words.
 abbrev pub ruled : Call → List ℕ → Answered
 ruled c ws = record { call = c; reply = rules c ws .answer; words = ws }
 
 -- Costs that never reach the store: more than the burst, or nothing at all.
-too-much : (rate : Rate) (cost : ℕ) (told : Reply) (ws : List ℕ) (asked : Outcome Reply (List ℕ)) → burstOf rate < cost → unlessTrivial rate cost told ws asked ≡ outcome told ws
-unfolding unlessTrivial
-too-much rate cost told ws asked more = rw (lt-ltb (burstOf rate) cost more)
+module _ (rate : Rate) (cost : ℕ) (tooMuch atOnce : Reply) (ws : List ℕ) (asked : Outcome Reply (List ℕ)) where
+  too-much : burstOf rate < cost → unlessTrivial rate cost tooMuch atOnce ws asked ≡ outcome tooMuch ws
+  unfolding unlessTrivial
+  too-much more = rw (lt-ltb (burstOf rate) cost more)
 
-no-cost : (rate : Rate) (cost : ℕ) (told : Reply) (ws : List ℕ) (asked : Outcome Reply (List ℕ)) → cost ≡ 0 → unlessTrivial rate cost told ws asked ≡ outcome (Granted noWait) ws
-unfolding unlessTrivial
-no-cost rate cost told ws asked none = rw (none, le-ltb (burstOf rate) 0 (omega arith))
+  no-cost : cost ≡ 0 → unlessTrivial rate cost tooMuch atOnce ws asked ≡ outcome atOnce ws
+  unfolding unlessTrivial
+  no-cost none = rw (none, le-ltb (burstOf rate) 0 (omega arith))
 
 module _ (s : Settings) (rate : Rate) (k : Identity) (a : Accepted (configOf rate)) (never : policyOf s rate .«forget_debt» ≡ false) where
   abbrev Stands : ℕ → List ℕ → List Grant → Type 0
   Stands n ws gs = Standing s rate k n ws gs
 
-  -- A request of any kind, put to the store, under a reply that grants as the store's answer does.
-  module _ (request : Request) (told : Answer → Reply) (grants : (at : Nanos) (cost : ℕ) (gs : List Grant) (answer : Answer) → granting at cost gs (told answer) ≡ grantsOfAnswer at cost answer gs)
-      (patient : longestWait request ≤ 2 ^ 46) (at : Nanos) (id : Identity) (cost : ℕ) (ws : List ℕ) (gs : List Grant)
+  -- What the store in the key's shard gives for a request.
+  abbrev storeGives : Request → Nanos → Identity → ℕ → List ℕ → Outcome Answer Shard.Shard
+  storeGives request at id cost ws = Store.withOrInsert (policyOf s rate) id request cost at (shardAt s (id .hash) ws)
+
+  -- A request of any kind, put to the store, under a reply that grants as the store's answer does: its tokens are usable from a moment by the wait answered.
+  module _ (request : Request) (told : Answer → Reply) (from : ℕ → ℕ) (at : Nanos) (id : Identity) (cost : ℕ) (ws : List ℕ) (gs : List Grant)
+      (grants : granting from cost gs (told (storeGives request at id cost ws .answer)) ≡ grantsOfAnswer at cost (storeGives request at id cost ws .answer) gs)
+      (patient : longestWait request ≤ 2 ^ 46)
       (sound : Shard.Sound (shardAt s (id .hash) ws)) (alone : id .hash ≡ k .hash → id .key ≡ k .key) (v : Stands (at .0) ws gs) where
     abbrev answered : Outcome Answer Shard.Shard
-    answered = Store.withOrInsert (policyOf s rate) id request cost at (shardAt s (id .hash) ws)
+    answered = storeGives request at id cost ws
 
-    request-stands : 1 ≤ cost → cost ≤ burstOf rate → Stands (at .0) (inShard s (id .hash) ws answered .after) (ifOwn k id (granting at cost gs (told (answered .answer))) gs)
+    request-stands : 1 ≤ cost → cost ≤ burstOf rate → Stands (at .0) (inShard s (id .hash) ws answered .after) (ifOwn k id (granting from cost gs (told (answered .answer))) gs)
     request-stands least most =
         by-eq (id .hash) (k .hash)
         (λ hash.
-        rw (own-call k id (granting at cost gs (told (answered .answer))) gs hash (alone hash), grants at cost gs (answered .answer))
+        rw (own-call k id (granting from cost gs (told (answered .answer))) gs hash (alone hash), grants)
         (operation-stands s rate k (id .hash) (at .0) ws v answered (ask-same-room (shardAt s (id .hash) ws) sound (policyOf s rate) id request cost at) _
         (λ same b. own-request (policyOf s rate) id request cost at (shardAt s (id .hash) ws) a never sound (k .hash) (k .key) hash (alone hash) least most patient b)
         (λ apart. absurd (apart (ap (shardOf s) (sym hash))))))
         (λ differs.
-        rw (other-hash k id (granting at cost gs (told (answered .answer))) gs differs)
+        rw (other-hash k id (granting from cost gs (told (answered .answer))) gs differs)
         (operation-stands s rate k (id .hash) (at .0) ws v answered (ask-same-room (shardAt s (id .hash) ws) sound (policyOf s rate) id request cost at) _
         (λ same b. invariant-keeps (configOf rate) (k .hash) (k .key) at _ _ (other-request (policyOf s rate) id request cost at (shardAt s (id .hash) ws) a never sound (k .hash) (k .key) differs) b)
         (λ apart. refl)))
 
     -- A grant of no tokens bounds as before.
-    nothing-granted-stands : cost ≡ 0 → Stands (at .0) ws (ifOwn k id (record { usable = at .0 + 0; tokens = cost } ∷ gs) gs)
+    nothing-granted-stands : cost ≡ 0 → Stands (at .0) ws (ifOwn k id (record { usable = from 0; tokens = cost } ∷ gs) gs)
     nothing-granted-stands none =
         by-eq (id .hash) (k .hash)
         (λ hash.
-        rw (own-call k id (record { usable = at .0 + 0; tokens = cost } ∷ gs) gs hash (alone hash), none)
+        rw (own-call k id (record { usable = from 0; tokens = cost } ∷ gs) gs hash (alone hash), none)
         (record {
           size = v .size;
           sound = v .sound;
-          bounds = record { one = v .bounds .one; bound = bounded-nil (configOf rate .amount) (configOf rate .period .0) (configOf rate .capacity) (at .0 + 0) (v .bounds .bound) };
+          bounds = record { one = v .bounds .one; bound = bounded-nil (configOf rate .amount) (configOf rate .period .0) (configOf rate .capacity) (from 0) (v .bounds .bound) };
         }))
-        (λ differs. rw (other-hash k id (record { usable = at .0 + 0; tokens = cost } ∷ gs) gs differs) v)
+        (λ differs. rw (other-hash k id (record { usable = from 0; tokens = cost } ∷ gs) gs differs) v)
 
     -- What a request gives and leaves, whatever its cost.
-    pub any-request-stands : (none : Reply) → granting at cost gs none ≡ gs →
-        let o = unlessTrivial rate cost none ws (requested s rate id request cost at ws told) in
-        Stands (at .0) (o .after) (ifOwn k id (granting at cost gs (o .answer)) gs)
-    any-request-stands none ungranted =
+    pub any-request-stands : (none atOnce : Reply) → granting from cost gs none ≡ gs → granting from cost gs atOnce ≡ record { usable = from 0; tokens = cost } ∷ gs →
+        let o = unlessTrivial rate cost none atOnce ws (requested s rate id request cost at ws told) in
+        Stands (at .0) (o .after) (ifOwn k id (granting from cost gs (o .answer)) gs)
+    any-request-stands none atOnce ungranted granted =
+        let asked = requested s rate id request cost at ws told in
         by-le cost (burstOf rate)
         (λ most. by-eq cost 0
-        (λ zero. rw (no-cost rate cost none ws (requested s rate id request cost at ws told) zero) (nothing-granted-stands zero))
-        (λ some. rw (in-range-is-asked rate cost none ws (requested s rate id request cost at ws told) (omega (arith, some)) most) (request-stands (omega (arith, some)) most)))
-        (λ more. rw (too-much rate cost none ws (requested s rate id request cost at ws told) more, ungranted, same-either-way k id gs) v)
+        (λ zero. rw (no-cost rate cost none atOnce ws asked zero, granted) (nothing-granted-stands zero))
+        (λ some. rw (in-range-is-asked rate cost none atOnce ws asked (omega (arith, some)) most) (request-stands (omega (arith, some)) most)))
+        (λ more. rw (too-much rate cost none atOnce ws asked more, ungranted, same-either-way k id gs) v)
 
   -- Accepted calls, with the settings of set-up.
   module _ (rated : s .limit ≡ Open rate) where
@@ -111,11 +120,11 @@ module _ (s : Settings) (rate : Rate) (k : Identity) (a : Accepted (configOf rat
 
     -- The rule of a call with the settings and the rate written in.
     tried : (s′ : Settings) (at : Nanos) (id : Identity) (cost : ℕ) (ws : List ℕ) → s′ ≡ s
-        → triedBy (s′ .limit) s′ at id cost ws ≡ unlessTrivial rate cost Impossible ws (requested s rate id Acquire cost at ws tryReply)
+        → triedBy (s′ .limit) s′ at id cost ws ≡ unlessTrivial rate cost (Tried Impossible) (Tried Acquired) ws (requested s rate id Acquire cost at ws tryReply)
     tried s′ at id cost ws e = ap (λ (x : Settings). triedBy (x .limit) x at id cost ws) e ∙ ap (λ (l : Limit). triedBy l s at id cost ws) rated
 
     reserved : (s′ : Settings) (at : Nanos) (id : Identity) (cost : ℕ) (longest : Nanos) (ws : List ℕ) → s′ ≡ s
-        → reservedBy (s′ .limit) s′ at id cost longest ws ≡ unlessTrivial rate cost Nothing ws (requested s rate id (Reserve longest) cost at ws reserveReply)
+        → reservedBy (s′ .limit) s′ at id cost longest ws ≡ unlessTrivial rate cost Nothing (Reserved noWait) ws (requested s rate id (Reserve longest) cost at ws reserveReply)
     reserved s′ at id cost longest ws e =
         ap (λ (x : Settings). reservedBy (x .limit) x at id cost longest ws) e ∙ ap (λ (l : Limit). reservedBy l s at id cost longest ws) rated
 
@@ -131,12 +140,15 @@ module _ (s : Settings) (rate : Rate) (k : Identity) (a : Accepted (configOf rat
       accepted-stands (try s′ at id cost) none fair =
           let sound = rw (fair .settings) at (timed-not-refused s′ (id .hash) ws at none .0 .sound) in
           rw (not-refused-is-ruled (try s′ at id cost) ws none, tried s′ at id cost ws (fair .settings))
-          (any-request-stands Acquire tryReply try-grants (omega arith) at id cost ws gs sound (fair .alone) (standing-later s rate k n (at .0) ws (fair .later) v) Impossible refl)
+          (any-request-stands Acquire tryReply (usableAtOnce at) at id cost ws gs
+          (try-grants at cost gs (storeGives Acquire at id cost ws .answer) (store-grants-at-once (policyOf s rate) id cost at (shardAt s (id .hash) ws) sound)) (omega arith)
+          sound (fair .alone) (standing-later s rate k n (at .0) ws (fair .later) v) (Tried Impossible) (Tried Acquired) refl refl)
       accepted-stands (reserve s′ at id cost longest) none fair =
           let open′ = reserve-not-refused s′ (id .hash) ws at longest none in
           let sound = rw (fair .settings) at (open′ .0 .sound) in
           rw (not-refused-is-ruled (reserve s′ at id cost longest) ws none, reserved s′ at id cost longest ws (fair .settings))
-          (any-request-stands (Reserve longest) reserveReply reserve-grants (open′ .2) at id cost ws gs sound (fair .alone) (standing-later s rate k n (at .0) ws (fair .later) v) Nothing refl)
+          (any-request-stands (Reserve longest) reserveReply (usableAfter at) at id cost ws gs (reserve-grants at cost gs (storeGives (Reserve longest) at id cost ws .answer)) (open′ .2)
+          sound (fair .alone) (standing-later s rate k n (at .0) ws (fair .later) v) Nothing (Reserved noWait) refl refl)
       accepted-stands (peek s′ at id cost) none fair = rw (not-refused-is-ruled (peek s′ at id cost) ws none) (standing-later s rate k n (at .0) ws (fair .later) v)
       accepted-stands (available s′ at id) none fair = rw (not-refused-is-ruled (available s′ at id) ws none) (standing-later s rate k n (at .0) ws (fair .later) v)
       accepted-stands (len s′) none fair = rw (not-refused-is-ruled (len s′) ws none) v

@@ -1,6 +1,6 @@
 -- The grants of a list of calls to one key, one call at a time, and that their sums are the tokens that demand 3 counts.
 use Prim.Native.Nat.{ℕ, _+_}
-use mathlib.Core.Path.{_≡_, refl, ap, _∙_}
+use mathlib.Core.Path.{_≡_, refl, ap}
 use mathlib.Core.Bool.{cond}
 use mathlib.Core.List.{List, _∷_}
 use native.Mathlib.Omega.{arith}
@@ -9,15 +9,16 @@ use borrow.Author.Tests.{eq-eqb, ne-eqb}
 use Rattle.arith.proofs.Cases.{by-test}
 use Rattle.units.specs.declared.Nanos.{Nanos}
 use Rattle.bucket.specs.declared.BucketDecision.the-variants.{Allowed, Denied}
+use Rattle.settings.specs.declared.decision.Decision.the-variants.{Acquired, Retry, Impossible}
 use Rattle.store.specs.declared.Identity.{Identity}
 use Rattle.store.specs.declared.Answer.{Answer}
 use Rattle.store.specs.declared.Answer.the-variants.{Decided, NoSpace}
 use Rattle.perkey.specs.declared.Reply.{Reply}
-use Rattle.perkey.specs.declared.Reply.the-variants.{Granted, Retry, Impossible, Nothing, Done, Count, Refused}
+use Rattle.perkey.specs.declared.Reply.the-variants.{Tried, Reserved, Nothing, Done, Count, Refused}
 use Rattle.perkey.specs.Rules.{tryReply, reserveReply}
 use Rattle.perkey.specs.Calls.{Call, try, reserve, peek, available, len, refund, remove, ofGrant}
 use Rattle.window.specs.Demands.{usable, tokensOf}
-use Rattle.window.proofs.TryLaws.{WaitsNone, Prompt}
+use Rattle.window.proofs.TryLaws.{AtOnce}
 use Rattle.window.proofs.GrantLaws.{Grant, within}
 use Rattle.window.proofs.BucketKept.{grantsOfAnswer}
 
@@ -25,14 +26,21 @@ use Rattle.window.proofs.BucketKept.{grantsOfAnswer}
 unfoldable pub ifOwn : Identity → Identity → List Grant → List Grant → List Grant
 ifOwn k id own other = cond (eqb (id .hash) (k .hash)) (cond (eqb (id .key) (k .key)) own other) other
 
--- A reply to a request at a moment adds its grant, if it is one.
-abbrev pub granting : Nanos → ℕ → List Grant → Reply → List Grant
-granting at cost gs reply = ofGrant (λ wait. record { usable = at .0 + wait; tokens = cost } ∷ gs) gs reply
+-- A reply to a request adds its grant, if it is one: the wait says from when its tokens are usable.
+abbrev pub granting : (ℕ → ℕ) → ℕ → List Grant → Reply → List Grant
+granting from cost gs reply = ofGrant (λ wait. record { usable = from wait; tokens = cost } ∷ gs) gs reply
+
+-- A try's tokens are usable at once, a reservation's after the wait.
+abbrev pub usableAtOnce : Nanos → ℕ → ℕ
+usableAtOnce at wait = at .0
+
+abbrev pub usableAfter : Nanos → ℕ → ℕ
+usableAfter at wait = at .0 + wait
 
 -- The grants to the key after a call.
 abbrev pub given : Identity → Call → Reply → List Grant → List Grant
-given k (try s at id cost) reply gs = ifOwn k id (granting at cost gs reply) gs
-given k (reserve s at id cost longest) reply gs = ifOwn k id (granting at cost gs reply) gs
+given k (try s at id cost) reply gs = ifOwn k id (granting (usableAtOnce at) cost gs reply) gs
+given k (reserve s at id cost longest) reply gs = ifOwn k id (granting (usableAfter at) cost gs reply) gs
 given k (peek s at id cost) reply gs = gs
 given k (available s at id) reply gs = gs
 given k (len s) reply gs = gs
@@ -64,52 +72,42 @@ refusal-gives-nothing k (refund s id cost) n gs = refl
 refusal-gives-nothing k (remove s id) n gs = refl
 
 -- What a reply tells is granted as the store's answer grants it.
-pub try-grants : (at : Nanos) (cost : ℕ) (gs : List Grant) (a : Answer) → granting at cost gs (tryReply a) ≡ grantsOfAnswer at cost a gs
-try-grants at cost gs (Decided (Allowed wait)) = refl
-try-grants at cost gs (Decided (Denied wait)) = refl
-try-grants at cost gs (NoSpace wait) = refl
+pub try-grants : (at : Nanos) (cost : ℕ) (gs : List Grant) (a : Answer) → AtOnce a → granting (usableAtOnce at) cost gs (tryReply a) ≡ grantsOfAnswer at cost a gs
+try-grants at cost gs (Decided (Allowed wait)) none = ap {B = List Grant} (λ m. record { usable = m; tokens = cost } ∷ gs) (omega (arith, none))
+try-grants at cost gs (Decided (Denied wait)) none = refl
+try-grants at cost gs (NoSpace wait) none = refl
 
-pub reserve-grants : (at : Nanos) (cost : ℕ) (gs : List Grant) (a : Answer) → granting at cost gs (reserveReply a) ≡ grantsOfAnswer at cost a gs
+pub reserve-grants : (at : Nanos) (cost : ℕ) (gs : List Grant) (a : Answer) → granting (usableAfter at) cost gs (reserveReply a) ≡ grantsOfAnswer at cost a gs
 reserve-grants at cost gs (Decided (Allowed wait)) = refl
 reserve-grants at cost gs (Decided (Denied wait)) = refl
 reserve-grants at cost gs (NoSpace wait) = refl
 
 -- The tokens of a window, call by call.
 module _ (k : Identity) (t u : ℕ) (gs : List Grant) where
-  granted-within : (id : Identity) (at : Nanos) (cost wait : ℕ)
-      → within t u (ifOwn k id (record { usable = at .0 + wait; tokens = cost } ∷ gs) gs) ≡ usable k t u id (at .0 + wait) cost + within t u gs
+  granted-within : (id : Identity) (moment cost : ℕ)
+      → within t u (ifOwn k id (record { usable = moment; tokens = cost } ∷ gs) gs) ≡ usable k t u id moment cost + within t u gs
   unfolding ifOwn usable within
-  granted-within id at cost wait =
+  granted-within id moment cost =
       by-test (eqb (id .hash) (k .hash))
       (λ h. by-test (eqb (id .key) (k .key)) (λ y. rw (h, y)) (λ n. rw (h, n) (omega arith)))
       (λ h. rw h (omega arith))
 
-  request-within : (id : Identity) (at : Nanos) (cost : ℕ) (reply : Reply)
-      → within t u (ifOwn k id (granting at cost gs reply) gs) ≡ ofGrant (λ wait. usable k t u id (at .0 + wait) cost) 0 reply + within t u gs
-  request-within id at cost (Granted wait) = granted-within id at cost (wait .0)
-  request-within id at cost (Retry wait) = rw (same-either-way k id gs) (omega arith)
-  request-within id at cost Impossible = rw (same-either-way k id gs) (omega arith)
-  request-within id at cost Nothing = rw (same-either-way k id gs) (omega arith)
-  request-within id at cost Done = rw (same-either-way k id gs) (omega arith)
-  request-within id at cost (Count n) = rw (same-either-way k id gs) (omega arith)
-  request-within id at cost (Refused n) = rw (same-either-way k id gs) (omega arith)
+  request-within : (from : ℕ → ℕ) (id : Identity) (cost : ℕ) (reply : Reply)
+      → within t u (ifOwn k id (granting from cost gs reply) gs) ≡ ofGrant (λ wait. usable k t u id (from wait) cost) 0 reply + within t u gs
+  request-within from id cost (Tried Acquired) = granted-within id (from 0) cost
+  request-within from id cost (Tried (Retry after)) = rw (same-either-way k id gs) (omega arith)
+  request-within from id cost (Tried Impossible) = rw (same-either-way k id gs) (omega arith)
+  request-within from id cost (Reserved wait) = granted-within id (from (wait .0)) cost
+  request-within from id cost Nothing = rw (same-either-way k id gs) (omega arith)
+  request-within from id cost Done = rw (same-either-way k id gs) (omega arith)
+  request-within from id cost (Count n) = rw (same-either-way k id gs) (omega arith)
+  request-within from id cost (Refused n) = rw (same-either-way k id gs) (omega arith)
 
-  -- Tokens without a wait count at the call's own moment.
-  prompt-tokens : (id : Identity) (at : Nanos) (cost : ℕ) (reply : Reply) → WaitsNone reply
-      → ofGrant (λ wait. usable k t u id (at .0 + wait) cost) 0 reply ≡ ofGrant (λ wait. usable k t u id (at .0) cost) 0 reply
-  prompt-tokens id at cost (Granted wait) none = ap (λ (m : ℕ). usable k t u id m cost) (omega (arith, none))
-  prompt-tokens id at cost (Retry wait) none = refl
-  prompt-tokens id at cost Impossible none = refl
-  prompt-tokens id at cost Nothing none = refl
-  prompt-tokens id at cost Done none = refl
-  prompt-tokens id at cost (Count n) none = refl
-  prompt-tokens id at cost (Refused n) none = refl
-
-  pub given-within : (c : Call) (reply : Reply) → Prompt c reply → within t u (given k c reply gs) ≡ tokensOf k t u c reply + within t u gs
-  given-within (try s at id cost) reply prompt = request-within id at cost reply ∙ ap (λ (n : ℕ). n + within t u gs) (prompt-tokens id at cost reply prompt)
-  given-within (reserve s at id cost longest) reply prompt = request-within id at cost reply
-  given-within (peek s at id cost) reply prompt = omega arith
-  given-within (available s at id) reply prompt = omega arith
-  given-within (len s) reply prompt = omega arith
-  given-within (refund s id cost) reply prompt = omega arith
-  given-within (remove s id) reply prompt = omega arith
+  pub given-within : (c : Call) (reply : Reply) → within t u (given k c reply gs) ≡ tokensOf k t u c reply + within t u gs
+  given-within (try s at id cost) reply = request-within (usableAtOnce at) id cost reply
+  given-within (reserve s at id cost longest) reply = request-within (usableAfter at) id cost reply
+  given-within (peek s at id cost) reply = omega arith
+  given-within (available s at id) reply = omega arith
+  given-within (len s) reply = omega arith
+  given-within (refund s id cost) reply = omega arith
+  given-within (remove s id) reply = omega arith

@@ -1,41 +1,40 @@
--- A try that the rules grant has no wait: they tell one with a retry alone.
+-- A try that the store grants has no wait: its tokens are usable at once, as a try's Acquired says.
 use Prim.Native.Nat.{ℕ}
 use native.Mathlib.Omega.{arith}
-use mathlib.Core.Path.{_≡_, refl}
-use mathlib.Core.List.{List}
-use Rattle.perkey.specs.declared.Reply.{Reply}
-use Rattle.perkey.specs.declared.Reply.the-variants.{Granted, Retry, Impossible, Nothing, Done, Count, Refused}
-use Rattle.perkey.specs.Calls.{Call, try, reserve, peek, available, len, refund, remove, ofGrant, rules}
-use Rattle.perkey.proofs.WaitLaws as Waits
+use mathlib.Core.Path.{_≡_}
+use Rattle.arith.proofs.Cases.{by-le}
+use Rattle.rows.specs.Outcome.{Outcome}
+use Rattle.units.specs.declared.Nanos.{Nanos}
+use Rattle.bucket.specs.declared.BucketConfig.{BucketConfig}
+use Rattle.bucket.specs.declared.BucketCore.{BucketCore}
+use Rattle.bucket.specs.declared.BucketDecision.the-variants.{Allowed, Denied}
+use Rattle.bucket.specs.declared.Request.the-variants.{Acquire}
+use Rattle.bucket.specs.Bucket.{waitAt, asked}
+use Rattle.bucket.proofs.BucketLaws.{granted-within-longest, denied-beyond-longest}
+use Rattle.shard_map.specs.Model.{Shard, Sound, slotAt}
+use Rattle.store.specs.declared.Answer.{Answer}
+use Rattle.store.specs.declared.Answer.the-variants.{Decided, NoSpace}
+use Rattle.store.specs.declared.Identity.{Identity}
+use Rattle.store.specs.declared.Policy.{Policy}
+use Rattle.store.specs.Model.{withOrInsert}
+use Rattle.store.proofs.StoreLaws.{Asking, slot-asked, key-joins, no-space, ask-cases}
 
--- A reply that grants with no wait, or grants nothing.
-abbrev pub WaitsNone : Reply → Type 0
-WaitsNone reply = ofGrant (λ wait. wait) 0 reply ≡ 0
+-- An answer that grants without a wait, or grants nothing.
+abbrev pub AtOnce : Answer → Type 0
+AtOnce (Decided (Allowed wait)) = wait .0 ≡ 0
+AtOnce (Decided (Denied wait)) = Unit {0}
+AtOnce (NoSpace wait) = Unit {0}
 
-prompt-grant-waits-none : (reply : Reply) → Waits.WaitsOnRetry reply → WaitsNone reply
-prompt-grant-waits-none (Granted wait) prompt = prompt (λ one. omega (arith, one))
-prompt-grant-waits-none (Retry wait) prompt = refl
-prompt-grant-waits-none Impossible prompt = refl
-prompt-grant-waits-none Nothing prompt = refl
-prompt-grant-waits-none Done prompt = refl
-prompt-grant-waits-none (Count n) prompt = refl
-prompt-grant-waits-none (Refused n) prompt = refl
+bucket-grants-at-once : (c : BucketConfig) (b : BucketCore) (cost : ℕ) (at : Nanos) → AtOnce (Decided (asked c Acquire b cost at .decision))
+bucket-grants-at-once c b cost at =
+    by-le (waitAt c b cost at) 0
+    (λ none. rw (granted-within-longest c Acquire b cost at none) (omega (arith, none)))
+    (λ some. rw (denied-beyond-longest c Acquire b cost at some) tt)
 
--- What the rules tell of a try has no wait; of the other calls nothing is said here.
-abbrev pub Prompt : Call → Reply → Type 0
-Prompt (try s at id cost) reply = WaitsNone reply
-Prompt (reserve s at id cost longest) reply = Unit {0}
-Prompt (peek s at id cost) reply = Unit {0}
-Prompt (available s at id) reply = Unit {0}
-Prompt (len s) reply = Unit {0}
-Prompt (refund s id cost) reply = Unit {0}
-Prompt (remove s id) reply = Unit {0}
-
-pub tries-are-prompt : (c : Call) (ws : List ℕ) → Prompt c (rules c ws .answer)
-tries-are-prompt (try s at id cost) ws = prompt-grant-waits-none (rules (try s at id cost) ws .answer) (Waits.rules-are-prompt (try s at id cost) ws)
-tries-are-prompt (reserve s at id cost longest) ws = tt
-tries-are-prompt (peek s at id cost) ws = tt
-tries-are-prompt (available s at id) ws = tt
-tries-are-prompt (len s) ws = tt
-tries-are-prompt (refund s id cost) ws = tt
-tries-are-prompt (remove s id) ws = tt
+pub store-grants-at-once : (p : Policy) (id : Identity) (cost : ℕ) (at : Nanos) (s : Shard) → Sound s → AtOnce (withOrInsert p id Acquire cost at s .answer)
+store-grants-at-once p id cost at s u = go (ask-cases p id Acquire cost at s u)
+  where
+    go : {o : Outcome Answer Shard} → Asking p id Acquire cost at s o → AtOnce (o .answer)
+    go (slot-asked i slot e f r) = bucket-grants-at-once (p .config) (slotAt s i .bucket) cost at
+    go (key-joins e made) = bucket-grants-at-once (p .config) _ cost at
+    go (no-space wait e no-debt told) = tt

@@ -102,7 +102,8 @@ unfoldable pub usable : Identity → ℕ → ℕ → Identity → ℕ → ℕ �
 usable k t u id moment cost =
     cond (eqb (id .hash) (k .hash)) (cond (eqb (id .key) (k .key)) (cond (leb t moment) (cond (leb moment u) cost 0) 0) 0) 0
 
--- A grant is a try or a reservation answered Granted. A try's tokens are usable at once, a reservation's from the call's moment plus the wait answered.
+-- A grant is a try answered Acquired or a reservation that is answered with its wait; either reply to the other call counts as well, so that no grant is
+-- hidden in it. A try's tokens are usable at once, a reservation's from the call's moment plus the wait answered.
 abbrev pub tokensOf : Identity → ℕ → ℕ → Call → Reply → ℕ
 tokensOf k t u (try s at id cost) reply = ofGrant (λ wait. usable k t u id (at .0) cost) 0 reply
 tokensOf k t u (reserve s at id cost longest) reply = ofGrant (λ wait. usable k t u id (at .0 + wait) cost) 0 reply

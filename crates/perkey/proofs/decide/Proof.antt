@@ -1,7 +1,8 @@
 -- `decide` goes by the limit and the cost, as its rule does, and else asks the store in the key's shard, by the key's place.
 use Rattle.perkey.proofs.RuleLaws.{too-much-is-told, nothing-is-granted, try-is-told, request-may-be-asked, known-may-be-asked, known-answers, new-answers}
 use Rattle.bucket.specs.declared.Request.the-variants.{Acquire}
-use Rattle.perkey.specs.declared.Reply.the-variants.{Impossible}
+use Rattle.settings.specs.declared.decision.Decision.the-variants.{Acquired, Impossible}
+use Rattle.perkey.specs.declared.Reply.the-variants.{Tried}
 use borrow.Author.Needs.{needs}
 use Rattle.perkey.proofs.decide.Statement.{statement}
 use Rattle.perkey.proofs.decide.Tie as tie
@@ -19,10 +20,10 @@ capacity-requires : tie.Need-capacity-requires
 capacity-requires c κs = search needs
 
 returns : tie.Need-returns
-returns c = rw (c .before .before .before .limit .given .1) (too-much-is-told _ Impossible _ _ (rw (c .before .capacity .ensures) at (c .if1 .taken)))
+returns c = rw (c .before .before .before .limit .given .1) (too-much-is-told _ (Tried Impossible) (Tried Acquired) _ _ (rw (c .before .capacity .ensures) at (c .if1 .taken)))
 
 returns-2 : tie.Need-returns-2
-returns-2 c = rw (c .before .before .before .before .limit .given .1) (nothing-is-granted _ Impossible _ _ (rw (c .before .before .capacity .ensures) at (c .before .if1 .left)) (c .if2 .taken))
+returns-2 c = rw (c .before .before .before .before .limit .given .1) (nothing-is-granted _ (Tried Impossible) (Tried Acquired) _ _ (rw (c .before .before .capacity .ensures) at (c .before .if1 .left)) (c .if2 .taken))
 
 policy-requires : tie.Need-policy-requires
 policy-requires c κs = search needs

@@ -1,7 +1,8 @@
 -- `reserve_within` goes by the limit and the cost, as its rule does, and else asks the store in the key's shard, by the key's place.
 use Rattle.perkey.proofs.RuleLaws.{too-much-is-told, nothing-is-granted, reserve-is-told, request-may-be-asked, known-may-be-asked, known-answers, new-answers}
 use Rattle.bucket.specs.declared.Request.the-variants.{Reserve}
-use Rattle.perkey.specs.declared.Reply.the-variants.{Nothing}
+use Rattle.perkey.specs.declared.Reply.the-variants.{Reserved, Nothing}
+use Rattle.perkey.specs.Rules.{noWait}
 use borrow.Author.Needs.{needs}
 use Rattle.perkey.proofs.reserve_within.Statement.{statement}
 use Rattle.perkey.proofs.reserve_within.Tie as tie
@@ -16,10 +17,10 @@ capacity-requires : tie.Need-capacity-requires
 capacity-requires c κs = search needs
 
 returns : tie.Need-returns
-returns c = rw (c .before .before .before .limit .given .1) (too-much-is-told _ Nothing _ _ (rw (c .before .capacity .ensures) at (c .if1 .taken)))
+returns c = rw (c .before .before .before .limit .given .1) (too-much-is-told _ Nothing (Reserved noWait) _ _ (rw (c .before .capacity .ensures) at (c .if1 .taken)))
 
 returns-2 : tie.Need-returns-2
-returns-2 c = rw (c .before .before .before .before .limit .given .1) (nothing-is-granted _ Nothing _ _ (rw (c .before .before .capacity .ensures) at (c .before .if1 .left)) (c .if2 .taken))
+returns-2 c = rw (c .before .before .before .before .limit .given .1) (nothing-is-granted _ Nothing (Reserved noWait) _ _ (rw (c .before .before .capacity .ensures) at (c .before .if1 .left)) (c .if2 .taken))
 
 policy-requires : tie.Need-policy-requires
 policy-requires c κs = search needs

@@ -6,32 +6,19 @@ use Rattle.perkey.proofs.try_reply.Tie as tie
 enum-known-answer : tie.Need-enum-known-answer
 enum-known-answer c = search needs
 
-enum-known-decision : tie.Need-enum-known-decision
-enum-known-decision c = search needs
-
-enum-known-decision-2 : tie.Need-enum-known-decision-2
-enum-known-decision-2 c = search needs
+map-decision-requires : tie.Need-map-decision-requires
+map-decision-requires c κs = search needs
 
 enum-known-answer-2 : tie.Need-enum-known-answer-2
 enum-known-answer-2 c = search needs
 
 returns : tie.Need-returns
-returns c = rw (c .before .before .before .before .answer .given .1, c .before .decision .given .1)
+returns c = rw (c .before .before .answer .given .1, c .map-decision .ensures)
 
 returns-2 : tie.Need-returns-2
-returns-2 c = rw (c .before .before .before .before .answer .given .1, c .before .decision2 .given .1)
-
-returns-3 : tie.Need-returns-3
-returns-3 c = rw (c .before .answer2 .given .1)
+returns-2 c = rw (c .before .answer2 .given .1)
 
 pub try-reply-spec : {M : Type 1} → statement M
 try-reply-spec =
     tie.close
-    (tie.spec
-    enum-known-answer
-    enum-known-decision
-    enum-known-decision-2
-    enum-known-answer-2
-    returns
-    returns-2
-    returns-3)
+    (tie.spec enum-known-answer map-decision-requires enum-known-answer-2 returns returns-2)

@@ -3,6 +3,9 @@ use borrow.Author.Needs.{needs}
 use Rattle.perkey.proofs.Reply.code.Statement.{statement}
 use Rattle.perkey.proofs.Reply.code.Tie as tie
 
+enum-known-self : tie.Need-enum-known-self
+enum-known-self c = search needs
+
 enum-told : tie.Need-enum-told
 enum-told c = search needs
 
@@ -21,8 +24,11 @@ enum-told-5 c = search needs
 enum-told-6 : tie.Need-enum-told-6
 enum-told-6 c = search needs
 
-enum-known-self : tie.Need-enum-known-self
-enum-known-self c = search needs
+enum-told-7 : tie.Need-enum-told-7
+enum-told-7 c = search needs
+
+enum-known-self-2 : tie.Need-enum-known-self-2
+enum-known-self-2 c = search needs
 
 cast-result : tie.Need-cast-result
 cast-result c = search needs
@@ -49,19 +55,24 @@ returns-6 : tie.Need-returns-6
 returns-6 c = search needs
 
 returns-7 : tie.Need-returns-7
-returns-7 c = rw (c .before .self .given .1)
+returns-7 c = search needs
+
+returns-8 : tie.Need-returns-8
+returns-8 c = rw (c .before .self2 .given .1)
 
 pub code-spec : {M : Type 1} → statement M
 code-spec =
     tie.close
     (tie.spec
+    enum-known-self
     enum-told
     enum-told-2
     enum-told-3
     enum-told-4
     enum-told-5
     enum-told-6
-    enum-known-self
+    enum-told-7
+    enum-known-self-2
     cast-result
     add-result
     returns
@@ -70,4 +81,5 @@ code-spec =
     returns-4
     returns-5
     returns-6
-    returns-7)
+    returns-7
+    returns-8)
