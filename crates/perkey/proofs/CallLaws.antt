@@ -34,7 +34,7 @@ use Rattle.shards.specs.Refusals.{keyedRefusal, timedRefusal, reserveRefusal, l
 use Rattle.perkey.specs.Rules as Rules
 use Rattle.perkey.proofs.RefusedLaws.{unless-refused-accepts, unless-refused-refuses}
 use Rattle.rows.specs.Held.{sum}
-use Rattle.perkey.specs.Calls.{Call, try, reserve, peek, available, len, refund, remove, rules, Answered, numbered, accepted}
+use Rattle.perkey.specs.Calls.{Call, try, reserve, peek, available, len, refund, remove, rules, Answered, Kind, decides, reserves, counts, knows, kindOf, numbered, accepted}
 
 -- The number by which a call is refused, 0 if it is not.
 abbrev pub refusalOf : Call → List ℕ → ℕ
@@ -87,23 +87,7 @@ module _ (c : Call) (ws : List ℕ) {lending : Lending} (part′ : Part) (is : l
   pub lent-is-ruled : {p : Part} {o : Outcome Reply (List ℕ)} → lending ≡ Lending.Lent p → o ≡ ruleOf c ws → o ≡ rules c ws
   lent-is-ruled gave is-rule = is-rule ∙ sym (not-refused-is-ruled c ws (lent-part (refusalOf c ws) part′ is gave .0))
 
--- The kinds of replies. A try and a peek are told a decision, a reservation its wait or nothing, a look at tokens or keys how many there are, and a refund
--- or a removal whether the key was known.
-pub data Kind : Type 0 where
-  decides : Kind
-  reserves : Kind
-  counts : Kind
-  knows : Kind
-
-abbrev pub kindOf : Call → Kind
-kindOf (try s at id cost) = decides
-kindOf (reserve s at id cost longest) = reserves
-kindOf (peek s at id cost) = decides
-kindOf (available s at id) = counts
-kindOf (len s) = counts
-kindOf (refund s id cost) = knows
-kindOf (remove s id) = knows
-
+-- A reply of each kind.
 pub data OfKind : Kind → Reply → Type 0 where
   decided : (decision : Decision) → OfKind decides (Tried decision)
   reserved : (wait : Nanos) → OfKind reserves (Reserved wait)

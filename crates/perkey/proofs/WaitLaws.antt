@@ -7,8 +7,8 @@ use Rattle.settings.specs.declared.decision.Decision.the-variants.{Acquired, Re
 use Rattle.perkey.specs.declared.Reply.{Reply}
 use Rattle.perkey.specs.declared.Reply.the-variants.{Refused}
 use Rattle.perkey.specs.Rules.{codeOf, numberOf}
-use Rattle.perkey.specs.Calls.{Call, rules}
-use Rattle.perkey.proofs.CallLaws.{Kind, decides, reserves, counts, knows, kindOf, OfKind, decided, reserved, not-reserved, counted, known, unknown}
+use Rattle.perkey.specs.Calls.{Call, rules, Kind, decides, reserves, counts, knows, kindOf}
+use Rattle.perkey.proofs.CallLaws.{OfKind, decided, reserved, not-reserved, counted, known, unknown}
 use Rattle.perkey.proofs.CallLaws.{refusalOf, not-refused-is-ruled, refused-is-told, rule-answers-in-kind}
 
 -- A number other than 0 is told with code 1 alone.

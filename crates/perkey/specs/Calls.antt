@@ -96,6 +96,23 @@ ofGrant f other Done = other
 ofGrant f other (Count n) = other
 ofGrant f other (Refused n) = other
 
+-- The kinds of replies. A try and a peek are told a decision, a reservation its wait or nothing, a look at tokens or keys how many there are, and a refund
+-- or a removal whether the key was known.
+pub data Kind : Type 0 where
+  decides : Kind
+  reserves : Kind
+  counts : Kind
+  knows : Kind
+
+abbrev pub kindOf : Call → Kind
+kindOf (try s at id cost) = decides
+kindOf (reserve s at id cost longest) = reserves
+kindOf (peek s at id cost) = decides
+kindOf (available s at id) = counts
+kindOf (len s) = counts
+kindOf (refund s id cost) = knows
+kindOf (remove s id) = knows
+
 -- Whether a reply is a refusal by number.
 abbrev pub numbered : Reply → Bool
 numbered (Tried decision) = false

@@ -4,13 +4,17 @@ use mathlib.Core.Path.{_≡_, refl, sym, ap, _∙_}
 use mathlib.Core.Bool.{true}
 use mathlib.Core.List.{List}
 use contract.Lifetimes.{Lfts}
-use Rattle.rows.specs.Outcome.{outcome}
+use Rattle.rows.specs.Outcome.{Outcome, outcome}
 use Rattle.perkey.specs.Calls.{Call, try, reserve, peek, available, len, refund, remove, rules}
 use Rattle.perkey.proofs.CallLaws.{Look, peeks, looks-available, looks-length, looks-change-nothing}
 use Rattle.window.specs.Widths.{fits, lendable}
 use Rattle.window.specs.Demands.{Limiter, answering, Demand2, Demand3}
 use Rattle.window.specs.Contracts.{Lends, Contracts}
 use Rattle.window.proofs.Theorem.{demand2-gives-demand3}
+
+-- A look whose words stay, and whose answer is right with them, is right.
+pub looked : {A : Type 0} {o p : Outcome A (List ℕ)} {ws : List ℕ} → o .after ≡ ws → outcome (o .answer) ws ≡ p → o ≡ p
+looked {o = o} kept told = ap (outcome (o .answer)) kept ∙ told
 
 module _ (κs : Lfts 1) (ptr : ℕ × ℕ) (name : ℕ) where
   -- The rules themselves are as the contracts tell, so that what follows is said of something.
@@ -31,11 +35,6 @@ module _ (κs : Lfts 1) (ptr : ℕ × ℕ) (name : ℕ) where
       looked-as-ruled c ws look = ap (outcome (rules c ws .answer)) (sym (looks-change-nothing ws look))
 
   module _ (l : Limiter) (lends : Lends l) (c : Contracts κs ptr name l) where
-    -- A look whose words stay, and whose answer is the rule's with them.
-    looked : (call : Call) (ws : List ℕ) → outcome (l .answers call ws .answer) ws ≡ rules call ws → l .answers call ws .after ≡ ws
-        → l .answers call ws ≡ rules call ws
-    looked call ws told kept = ap (outcome (l .answers call ws .answer)) kept ∙ told
-
     -- No operation asks anything of its caller: `tt` shows all that is asked.
     pub contracts-meet-demand2 : Demand2 l
     contracts-meet-demand2 = record {
@@ -47,9 +46,9 @@ module _ (κs : Lfts 1) (ptr : ℕ × ℕ) (name : ℕ) where
         ruled : (call : Call) (ws : List ℕ) → fits call ≡ true → lendable ws ≡ true → l .answers call ws ≡ rules call ws
         ruled (try s at id cost) ws = λ fit lent. c .tries s at id cost ws fit lent tt
         ruled (reserve s at id cost longest) ws = λ fit lent. c .reserves s at id cost longest ws fit lent tt
-        ruled (peek s at id cost) ws = λ fit lent. looked (peek s at id cost) ws (c .peeks s at id cost ws fit lent tt) (lends .peeks s at id cost ws)
-        ruled (available s at id) ws = λ fit lent. looked (available s at id) ws (c .availables s at id ws fit lent tt) (lends .availables s at id ws)
-        ruled (len s) ws = λ fit lent. looked (len s) ws (c .lens s ws fit lent tt) (lends .lens s ws)
+        ruled (peek s at id cost) ws = λ fit lent. looked (lends .peeks s at id cost ws) (c .peeks s at id cost ws fit lent tt)
+        ruled (available s at id) ws = λ fit lent. looked (lends .availables s at id ws) (c .availables s at id ws fit lent tt)
+        ruled (len s) ws = λ fit lent. looked (lends .lens s ws) (c .lens s ws fit lent tt)
         ruled (refund s id cost) ws = λ fit lent. c .refunds s id cost ws fit lent tt
         ruled (remove s id) ws = λ fit lent. c .removes s id ws fit lent tt
 

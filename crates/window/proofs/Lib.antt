@@ -10,3 +10,4 @@ pub mod CallSteps
 pub mod AppearsLaws
 pub mod Theorem
 pub mod CodeTheorem
+pub mod ExportTheorem

@@ -54,7 +54,8 @@ use Rattle.perkey.specs.declared.Reply.{Reply}
 use Rattle.perkey.specs.declared.Reply.the-variants.{Done}
 use Rattle.shards.specs.Memory.{shardAt}
 use Rattle.perkey.specs.Rules.{setUp, clear, tryReply, reserveReply, bucketOf}
-use Rattle.perkey.specs.Calls.{Call, try, reserve, peek, available, len, refund, remove, Implementation, rules, Answered, replies, settingsOf, momentOf, ofKey, ofReturned, ofGrant, accepted, Every}
+use Rattle.perkey.specs.Calls.{Call, try, reserve, peek, available, len, refund, remove, Implementation, rules, Answered, replies}
+use Rattle.perkey.specs.Calls.{settingsOf, momentOf, ofKey, ofReturned, ofGrant, accepted, Every}
 use Rattle.window.specs.Widths.{settingsFit, fits, allFit, lendable}
 
 -- A limiter, as its caller has it: set-up, clear, and an answer to every other call. Each gives a reply and leaves words.
@@ -141,7 +142,8 @@ ownAnswer s rate at id request cost ws = Decided (asked (configOf rate) request 
 -- An accepted request with a rate and a cost from 1 to the burst, for a key that holds a slot or a debt, is answered so.
 abbrev pub ByOwnBucket : Answered → Settings → Nanos → Identity → Request → ℕ → (Answer → Reply) → Type 0
 ByOwnBucket a s at id request cost told =
-    accepted a ≡ true → (rate : Rate) → s .limit ≡ Open rate → 1 ≤ cost → cost ≤ burstOf rate → holds id (shardAt s (id .hash) (a .words)) ≡ true →
+    accepted a ≡ true → (rate : Rate) → s .limit ≡ Open rate → 1 ≤ cost → cost ≤ burstOf rate →
+    holds id (shardAt s (id .hash) (a .words)) ≡ true →
     a .reply ≡ told (ownAnswer s rate at id request cost (a .words))
 
 abbrev pub decidedBy : Answered → Call → Type 0

@@ -1,3 +1,4 @@
 pub mod Widths
 pub mod Demands
 pub mod Contracts
+pub mod Exports
