@@ -86,7 +86,8 @@ module _ (s : Settings) (id : Identity) (cost : ℕ) (at : Nanos) (ws : List ℕ
 
 -- What it makes of the reply and of all words, for a request of something that a full bucket holds.
 module _ (s : Settings) (id : Identity) (cost : ℕ) (at : Nanos) (ws : List ℕ) {policy : Policy} {answer : Answer} {told : Reply} {ws′ : List ℕ} where
-  request-is-told : (rate : Rate) (request : Request) (reply : Answer → Reply) (tooMuch atOnce : Reply) → policy ≡ policyOf s rate → cost ≤ burstOf rate → (cost ≡ 0 → ⊥)
+  request-is-told : (rate : Rate) (request : Request) (reply : Answer → Reply) (tooMuch atOnce : Reply) → policy ≡ policyOf s rate
+      → cost ≤ burstOf rate → (cost ≡ 0 → ⊥)
       → Answers s id cost at ws policy request answer ws′ → told ≡ reply answer
       → outcome told ws′ ≡ unlessTrivial rate cost tooMuch atOnce ws (requested s rate id request cost at ws reply)
   request-is-told rate request reply tooMuch atOnce is-policy within some gave is-reply =
@@ -99,7 +100,8 @@ module _ (s : Settings) (id : Identity) (cost : ℕ) (at : Nanos) (ws : List ℕ
 
     pub reserve-is-told : (longest : Nanos) → Answers s id cost at ws policy (Reserve longest) answer ws′ → told ≡ reserveReply answer
         → outcome told ws′ ≡ reservedBy limit s at id cost longest ws
-    reserve-is-told longest gave is-reply = rw is-limit (request-is-told rate (Reserve longest) reserveReply Nothing (Reserved noWait) is-policy within some gave is-reply)
+    reserve-is-told longest gave is-reply =
+        rw is-limit (request-is-told rate (Reserve longest) reserveReply Nothing (Reserved noWait) is-policy within some gave is-reply)
 
 pub key-is-told : (s : Settings) (id : Identity) (ws : List ℕ) (o : Outcome Bool Shard) {known : Bool} {told : Reply} {ws′ : List ℕ}
     → outcome known ws′ ≡ inShard s (id .hash) ws o → told ≡ knownReply known → outcome told ws′ ≡ keyed s id ws o
@@ -111,7 +113,8 @@ module _ (s : Settings) (rate : Rate) (at : Nanos) (id : Identity) (cost : ℕ) 
   unfolding peekedAt
   peek-of-too-much more = rw (lt-ltb _ _ more)
 
-  pub peek-of-bucket : cost ≤ burstOf rate → waitReply (record { 0 = waitAt (configOf rate) (bucketOf s rate id at ws) cost at }) ≡ peekedAt s rate at id cost ws
+  pub peek-of-bucket : cost ≤ burstOf rate
+      → waitReply (record { 0 = waitAt (configOf rate) (bucketOf s rate id at ws) cost at }) ≡ peekedAt s rate at id cost ws
   unfolding peekedAt
   peek-of-bucket within = rw (le-ltb _ _ within)
 

@@ -37,7 +37,8 @@ use Rattle.perkey.proofs.CallLaws.{refusalOf, not-refused-is-ruled, accepted-no
 use Rattle.window.proofs.OwnBucket.{in-range-is-asked}
 use Rattle.window.proofs.TryLaws.{store-grants-at-once}
 use Rattle.window.proofs.StandingLaws.{moment, Standing, standing-later, operation-stands}
-use Rattle.window.proofs.GivenLaws.{ifOwn, granting, usableAtOnce, usableAfter, given, own-call, other-hash, same-either-way, refusal-gives-nothing, try-grants, reserve-grants}
+use Rattle.window.proofs.GivenLaws.{ifOwn, granting, usableAtOnce, usableAfter, given}
+use Rattle.window.proofs.GivenLaws.{own-call, other-hash, same-either-way, refusal-gives-nothing, try-grants, reserve-grants}
 
 -- The call as the rules answer it in some words.
 abbrev pub ruled : Call → List ℕ → Answered
@@ -69,7 +70,8 @@ module _ (s : Settings) (rate : Rate) (k : Identity) (a : Accepted (configOf rat
     abbrev answered : Outcome Answer Shard.Shard
     answered = storeGives request at id cost ws
 
-    request-stands : 1 ≤ cost → cost ≤ burstOf rate → Stands (at .0) (inShard s (id .hash) ws answered .after) (ifOwn k id (granting from cost gs (told (answered .answer))) gs)
+    request-stands : 1 ≤ cost → cost ≤ burstOf rate
+        → Stands (at .0) (inShard s (id .hash) ws answered .after) (ifOwn k id (granting from cost gs (told (answered .answer))) gs)
     request-stands least most =
         by-eq (id .hash) (k .hash)
         (λ hash.
@@ -92,12 +94,16 @@ module _ (s : Settings) (rate : Rate) (k : Identity) (a : Accepted (configOf rat
         (record {
           size = v .size;
           sound = v .sound;
-          bounds = record { one = v .bounds .one; bound = bounded-nil (configOf rate .amount) (configOf rate .period .0) (configOf rate .capacity) (from 0) (v .bounds .bound) };
+          bounds = record {
+            one = v .bounds .one;
+            bound = bounded-nil (configOf rate .amount) (configOf rate .period .0) (configOf rate .capacity) (from 0) (v .bounds .bound);
+          };
         }))
         (λ differs. rw (other-hash k id (record { usable = from 0; tokens = cost } ∷ gs) gs differs) v)
 
     -- What a request gives and leaves, whatever its cost.
-    pub any-request-stands : (none atOnce : Reply) → granting from cost gs none ≡ gs → granting from cost gs atOnce ≡ record { usable = from 0; tokens = cost } ∷ gs →
+    pub any-request-stands : (none atOnce : Reply) → granting from cost gs none ≡ gs
+        → granting from cost gs atOnce ≡ record { usable = from 0; tokens = cost } ∷ gs →
         let o = unlessTrivial rate cost none atOnce ws (requested s rate id request cost at ws told) in
         Stands (at .0) (o .after) (ifOwn k id (granting from cost gs (o .answer)) gs)
     any-request-stands none atOnce ungranted granted =
@@ -120,11 +126,13 @@ module _ (s : Settings) (rate : Rate) (k : Identity) (a : Accepted (configOf rat
 
     -- The rule of a call with the settings and the rate written in.
     tried : (s′ : Settings) (at : Nanos) (id : Identity) (cost : ℕ) (ws : List ℕ) → s′ ≡ s
-        → triedBy (s′ .limit) s′ at id cost ws ≡ unlessTrivial rate cost (Tried Impossible) (Tried Acquired) ws (requested s rate id Acquire cost at ws tryReply)
+        → triedBy (s′ .limit) s′ at id cost ws
+        ≡ unlessTrivial rate cost (Tried Impossible) (Tried Acquired) ws (requested s rate id Acquire cost at ws tryReply)
     tried s′ at id cost ws e = ap (λ (x : Settings). triedBy (x .limit) x at id cost ws) e ∙ ap (λ (l : Limit). triedBy l s at id cost ws) rated
 
     reserved : (s′ : Settings) (at : Nanos) (id : Identity) (cost : ℕ) (longest : Nanos) (ws : List ℕ) → s′ ≡ s
-        → reservedBy (s′ .limit) s′ at id cost longest ws ≡ unlessTrivial rate cost Nothing (Reserved noWait) ws (requested s rate id (Reserve longest) cost at ws reserveReply)
+        → reservedBy (s′ .limit) s′ at id cost longest ws
+        ≡ unlessTrivial rate cost Nothing (Reserved noWait) ws (requested s rate id (Reserve longest) cost at ws reserveReply)
     reserved s′ at id cost longest ws e =
         ap (λ (x : Settings). reservedBy (x .limit) x at id cost longest ws) e ∙ ap (λ (l : Limit). reservedBy l s at id cost longest ws) rated
 
@@ -141,14 +149,15 @@ module _ (s : Settings) (rate : Rate) (k : Identity) (a : Accepted (configOf rat
           let sound = rw (fair .settings) at (timed-not-refused s′ (id .hash) ws at none .0 .sound) in
           rw (not-refused-is-ruled (try s′ at id cost) ws none, tried s′ at id cost ws (fair .settings))
           (any-request-stands Acquire tryReply (usableAtOnce at) at id cost ws gs
-          (try-grants at cost gs (storeGives Acquire at id cost ws .answer) (store-grants-at-once (policyOf s rate) id cost at (shardAt s (id .hash) ws) sound)) (omega arith)
-          sound (fair .alone) (standing-later s rate k n (at .0) ws (fair .later) v) (Tried Impossible) (Tried Acquired) refl refl)
+          (try-grants at cost gs (storeGives Acquire at id cost ws .answer) (store-grants-at-once (policyOf s rate) id cost at (shardAt s (id .hash) ws) sound))
+          (omega arith) sound (fair .alone) (standing-later s rate k n (at .0) ws (fair .later) v) (Tried Impossible) (Tried Acquired) refl refl)
       accepted-stands (reserve s′ at id cost longest) none fair =
           let open′ = reserve-not-refused s′ (id .hash) ws at longest none in
           let sound = rw (fair .settings) at (open′ .0 .sound) in
           rw (not-refused-is-ruled (reserve s′ at id cost longest) ws none, reserved s′ at id cost longest ws (fair .settings))
-          (any-request-stands (Reserve longest) reserveReply (usableAfter at) at id cost ws gs (reserve-grants at cost gs (storeGives (Reserve longest) at id cost ws .answer)) (open′ .2)
-          sound (fair .alone) (standing-later s rate k n (at .0) ws (fair .later) v) Nothing (Reserved noWait) refl refl)
+          (any-request-stands (Reserve longest) reserveReply (usableAfter at) at id cost ws gs
+          (reserve-grants at cost gs (storeGives (Reserve longest) at id cost ws .answer))
+          (open′ .2) sound (fair .alone) (standing-later s rate k n (at .0) ws (fair .later) v) Nothing (Reserved noWait) refl refl)
       accepted-stands (peek s′ at id cost) none fair = rw (not-refused-is-ruled (peek s′ at id cost) ws none) (standing-later s rate k n (at .0) ws (fair .later) v)
       accepted-stands (available s′ at id) none fair = rw (not-refused-is-ruled (available s′ at id) ws none) (standing-later s rate k n (at .0) ws (fair .later) v)
       accepted-stands (len s′) none fair = rw (not-refused-is-ruled (len s′) ws none) v

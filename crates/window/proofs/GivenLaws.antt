@@ -72,7 +72,8 @@ refusal-gives-nothing k (refund s id cost) n gs = refl
 refusal-gives-nothing k (remove s id) n gs = refl
 
 -- What a reply tells is granted as the store's answer grants it.
-pub try-grants : (at : Nanos) (cost : ℕ) (gs : List Grant) (a : Answer) → AtOnce a → granting (usableAtOnce at) cost gs (tryReply a) ≡ grantsOfAnswer at cost a gs
+pub try-grants : (at : Nanos) (cost : ℕ) (gs : List Grant) (a : Answer) → AtOnce a
+    → granting (usableAtOnce at) cost gs (tryReply a) ≡ grantsOfAnswer at cost a gs
 try-grants at cost gs (Decided (Allowed wait)) none = ap {B = List Grant} (λ m. record { usable = m; tokens = cost } ∷ gs) (omega (arith, none))
 try-grants at cost gs (Decided (Denied wait)) none = refl
 try-grants at cost gs (NoSpace wait) none = refl

@@ -40,14 +40,16 @@ decided (try s at id cost) ws = λ taken rate rated least most holding.
     let sound = timed-not-refused s (id .hash) ws at none .0 .sound in
     reply-of-rule (try s at id cost) ws none
     ∙ ap (λ (limit : Limit). triedBy limit s at id cost ws .answer) rated
-    ∙ ap (λ (o : Outcome Reply (List ℕ)). o .answer) (in-range-is-asked rate cost (Tried Impossible) (Tried Acquired) ws (requested s rate id Acquire cost at ws tryReply) least most)
+    ∙ ap (λ (o : Outcome Reply (List ℕ)). o .answer)
+    (in-range-is-asked rate cost (Tried Impossible) (Tried Acquired) ws (requested s rate id Acquire cost at ws tryReply) least most)
     ∙ ap tryReply (own-bucket-decides (policyOf s rate) id Acquire cost at (shardAt s (id .hash) ws) sound holding)
 decided (reserve s at id cost longest) ws = λ taken rate rated least most holding.
     let none = accepted-not-refused (ruled (reserve s at id cost longest) ws) taken in
     let sound = reserve-not-refused s (id .hash) ws at longest none .0 .sound in
     reply-of-rule (reserve s at id cost longest) ws none
     ∙ ap (λ (limit : Limit). reservedBy limit s at id cost longest ws .answer) rated
-    ∙ ap (λ (o : Outcome Reply (List ℕ)). o .answer) (in-range-is-asked rate cost Nothing (Reserved noWait) ws (requested s rate id (Reserve longest) cost at ws reserveReply) least most)
+    ∙ ap (λ (o : Outcome Reply (List ℕ)). o .answer)
+    (in-range-is-asked rate cost Nothing (Reserved noWait) ws (requested s rate id (Reserve longest) cost at ws reserveReply) least most)
     ∙ ap reserveReply (own-bucket-decides (policyOf s rate) id (Reserve longest) cost at (shardAt s (id .hash) ws) sound holding)
 decided (peek s at id cost) ws = tt
 decided (available s at id) ws = tt

@@ -83,7 +83,8 @@ module _ (s : Settings) (rate : Rate) (k : Identity) (a : Accepted (configOf rat
       let next = call-stands s rate k a never rated n ws gs v c fair in
       let rest = run cs (clock n (ruled c ws)) (rules c ws .after) (given k c (rules c ws .answer) gs) (same .1) (rising .1) (alone .1) (unreturned .1) next t u le in
       let sums : tokensOf k t u c (rules c ws .answer) + tokensUsable k t u (replies rules cs (rules c ws .after) (rules c ws .after)) + within t u gs
-      ≡ tokensUsable k t u (replies rules cs (rules c ws .after) (rules c ws .after)) + within t u (given k c (rules c ws .answer) gs) = omega (arith, given-within k t u gs c (rules c ws .answer)) in
+      ≡ tokensUsable k t u (replies rules cs (rules c ws .after) (rules c ws .after)) + within t u (given k c (rules c ws .answer) gs) =
+      omega (arith, given-within k t u gs c (rules c ws .answer)) in
       rw sums rest
 
   -- From a fresh memory. A key that no accepted call names is granted nothing; of any other it holds that no accepted call shares its hash.
