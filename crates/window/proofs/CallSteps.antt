@@ -39,7 +39,7 @@ use Rattle.window.proofs.GivenLaws.{ifOwn, granting, given, own-call, o
 
 -- The call as the rules answer it in some words.
 abbrev pub ruled : Call → List ℕ → Answered
-ruled c ws = record { call = c; reply = rules c ws .answer; words = ws }
+ruled c ws = record { call = c; reply = rules c ws .answer; rulesWords = ws }
 
 -- Costs that never reach the store: more than the burst, or nothing at all.
 too-much : (rate : Rate) (cost : ℕ) (told : Reply) (ws : List ℕ) (asked : Outcome Reply (List ℕ)) → burstOf rate < cost → unlessTrivial rate cost told ws asked ≡ outcome told ws

@@ -59,7 +59,7 @@ withDebts = replicate 15 0 ++ 2 ∷ 0 ∷ 8 ∷ 2000000000 ∷ 7 ∷ 2000000000 
 
 -- Key 7 holds something in a store, and is told the same by the rules and by its own bucket.
 record Told (keys : ℕ) (ws : List ℕ) (reply : Reply) : Type 0 where
-  accepts : accepted (record { call = asksForOne keys; reply = reply; words = ws }) ≡ true
+  accepts : accepted (record { call = asksForOne keys; reply = reply; rulesWords = ws }) ≡ true
   holding : Store.holds (keyOf 7) (shardAt (roomFor keys) 7 ws) ≡ true
   ruled : rules (asksForOne keys) ws .answer ≡ reply
   owned : tryReply (ownAnswer (roomFor keys) twoPerSecond (record { 0 = 0 }) (keyOf 7) Acquire 1 ws) ≡ reply

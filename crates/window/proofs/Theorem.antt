@@ -120,7 +120,7 @@ same-replies : (f : Implementation) → Demand2 f → (cs : List Call) (ws law :
 unfolding replies
 same-replies f equal [] ws law = refl
 same-replies f equal (c ∷ cs) ws law =
-    rw (equal c ws) (ap {B = List Answered} (λ rest. record { call = c; reply = rules c ws .answer; words = law } ∷ rest) (same-replies f equal cs (rules c ws .after) (rules c law .after)))
+    rw (equal c ws) (ap {B = List Answered} (λ rest. record { call = c; reply = rules c ws .answer; rulesWords = law } ∷ rest) (same-replies f equal cs (rules c ws .after) (rules c law .after)))
 
 -- So it meets demand 3 as well.
 pub demand2-gives-demand3 : (f : Implementation) → Demand2 f → Demand3 f

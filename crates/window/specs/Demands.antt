@@ -89,8 +89,8 @@ ownAnswer s rate at id request cost ws = Decided (asked (configOf rate) request 
 -- An accepted request with a rate and a cost from 1 to the burst, for a key that holds a slot or a debt, is answered so.
 abbrev pub ByOwnBucket : Answered → Settings → Nanos → Identity → Request → ℕ → (Answer → Reply) → Type 0
 ByOwnBucket a s at id request cost told =
-    accepted a ≡ true → (rate : Rate) → s .limit ≡ Open rate → 1 ≤ cost → cost ≤ burstOf rate → holds id (shardAt s (id .hash) (a .words)) ≡ true →
-    a .reply ≡ told (ownAnswer s rate at id request cost (a .words))
+    accepted a ≡ true → (rate : Rate) → s .limit ≡ Open rate → 1 ≤ cost → cost ≤ burstOf rate → holds id (shardAt s (id .hash) (a .rulesWords)) ≡ true →
+    a .reply ≡ told (ownAnswer s rate at id request cost (a .rulesWords))
 
 abbrev pub decidedBy : Answered → Call → Type 0
 decidedBy a (try s at id cost) = ByOwnBucket a s at id Acquire cost tryReply
