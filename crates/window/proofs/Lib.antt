@@ -9,4 +9,7 @@ pub mod CallSteps
 pub mod AppearsLaws
 pub mod Theorem
 pub mod CodeTheorem
+pub mod ExampleLaws
+pub mod Computed
+pub mod TellingLaws
 pub mod ImpostorLaws

@@ -1,63 +1,120 @@
--- Six implementations of the calls that look as if they kept the promises. None of them may: each is refuted in proofs/.
-use Prim.Native.Nat.{ℕ, zero, suc, _+_, _*_, min}
+-- Implementations of the calls that look as if they kept the promises: the six of document 01, and three more. What each of them fails, and what one of
+-- them meets all the same, is proved in proofs/ImpostorLaws.antt and proofs/TellingLaws.antt.
+use Prim.Native.Nat.{ℕ, _+_, min}
+use mathlib.Core.Bool.{Bool, cond}
 use mathlib.Core.List.{List}
-use lib.ListN.{getD, set}
 use Rattle.rows.specs.Outcome.{outcome}
 use Rattle.bucket.specs.declared.BucketDecision.the-variants.{Allowed}
-use Rattle.settings.specs.Settings.{shardCount, capOf, shardWords}
-use Rattle.shard_map.specs.Layout.{ledgerStart}
+use Rattle.ledger.specs.Model as Ledger
+use Rattle.shard_map.specs.Model.{Shard, withLedger, placeOf}
 use Rattle.evict.specs.Evict.{minRefusalWait}
 use Rattle.store.specs.declared.Answer.{Answer}
 use Rattle.store.specs.declared.Answer.the-variants.{Decided, NoSpace}
+use Rattle.store.specs.declared.Identity.{Identity}
+use Rattle.store.specs.Model.{hasSlot, holds}
 use Rattle.perkey.specs.declared.Reply.{Reply}
 use Rattle.perkey.specs.declared.Reply.the-variants.{Impossible, Count}
-use Rattle.shards.specs.Refusals.{lenRefusal}
-use Rattle.perkey.specs.Rules.{unlessRefused, numberOf, noWait, tryReply, reserveReply}
-use Rattle.perkey.specs.Calls.{try, reserve, peek, available, len, refund, remove, Implementation, rules, settingsOf}
+use Rattle.shards.specs.Memory.{shardAt, inShard}
+use Rattle.perkey.specs.Rules.{numberOf, noWait, tryReply, reserveReply}
+use Rattle.perkey.specs.Calls.{Call, try, reserve, peek, available, len, refund, remove, Implementation, rules, settingsOf, numbered}
 
--- The first: everything is impossible.
+-- What is made of a request, told as a try or as a reservation tells its answer; of a length; of any other call.
+abbrev pub byKind : {A : Type 0} → ((Answer → Reply) → A) → A → A → Call → A
+byKind request length other (try s at id cost) = request tryReply
+byKind request length other (reserve s at id cost longest) = request reserveReply
+byKind request length other (peek s at id cost) = other
+byKind request length other (available s at id) = other
+byKind request length other (len s) = length
+byKind request length other (refund s id cost) = other
+byKind request length other (remove s id) = other
+
+-- The key that a call names. A length names none; nothing that is made of it depends on the key here.
+abbrev pub identityOf : Call → Identity
+identityOf (try s at id cost) = id
+identityOf (reserve s at id cost longest) = id
+identityOf (peek s at id cost) = id
+identityOf (available s at id) = id
+identityOf (len s) = record { hash = 0; key = 0 }
+identityOf (refund s id cost) = id
+identityOf (remove s id) = id
+
+-- The shard of that key.
+abbrev pub shardOf : Call → List ℕ → Shard
+shardOf c ws = shardAt (settingsOf c) (identityOf c .hash) ws
+
+-- The answer to a request that is turned away for want of space, and to one that is granted at once.
+abbrev pub noSpace : Answer
+noSpace = NoSpace (record { 0 = minRefusalWait })
+
+abbrev pub grantedAtOnce : Answer
+grantedAtOnce = Decided (Allowed noWait)
+
+-- The first: everything is impossible, and no word changes.
 abbrev pub impossibleToAll : Implementation
 impossibleToAll c ws = outcome Impossible ws
 
--- The next three answer requests in their own way, told as a try or as a reservation tells it, and leave the rest to the rules.
-abbrev withRequests : ((Answer → Reply) → Implementation) → Implementation
-withRequests f (try s at id cost) ws = f tryReply (try s at id cost) ws
-withRequests f (reserve s at id cost longest) ws = f reserveReply (reserve s at id cost longest) ws
-withRequests f (peek s at id cost) ws = rules (peek s at id cost) ws
-withRequests f (available s at id) ws = rules (available s at id) ws
-withRequests f (len s) ws = rules (len s) ws
-withRequests f (refund s id cost) ws = rules (refund s id cost) ws
-withRequests f (remove s id) ws = rules (remove s id) ws
+-- The next three answer a request in their own way and change no word by it; they leave the other calls to the rules.
+abbrev withRequests : ((Answer → Reply) → Call → List ℕ → Reply) → Implementation
+withRequests reply c ws = byKind (λ told. outcome (reply told c ws) ws) (rules c ws) (rules c ws) c
 
 -- The second: a request is turned away for want of space, without a look whether there is any.
 abbrev pub retryBeforeALook : Implementation
-retryBeforeALook = withRequests (λ told c ws. outcome (told (NoSpace (record { 0 = minRefusalWait }))) ws)
+retryBeforeALook = withRequests (λ told c ws. told noSpace)
 
 -- The third: a request is granted, whatever the bucket holds.
 abbrev pub alwaysAcquired : Implementation
-alwaysAcquired = withRequests (λ told c ws. outcome (told (Decided (Allowed noWait))) ws)
+alwaysAcquired = withRequests (λ told c ws. told grantedAtOnce)
 
--- The fourth: a request is answered as the rules answer it, and no word changes.
+-- The fourth: a request is answered as the rules answer it, and nothing is stored.
 abbrev pub grantsWithoutStoring : Implementation
-grantsWithoutStoring = withRequests (λ told c ws. outcome (rules c ws .answer) ws)
+grantsWithoutStoring = withRequests (λ told c ws. rules c ws .answer)
 
--- The fifth: the rules, on a ledger that knows its first debt only. The words with every shard's debt count cut to 1:
-abbrev debtCount : ℕ → ℕ → ℕ
-debtCount cap i = i * shardWords cap + ledgerStart cap
-
-unfoldable pub firstDebts : ℕ → ℕ → List ℕ → List ℕ
-firstDebts cap zero ws = ws
-firstDebts cap (suc n) ws = set (firstDebts cap n ws) (debtCount cap n) (min 1 (getD ws (debtCount cap n) 0))
+-- The fifth: the rules, on a shard whose ledger knows its first debt only.
+abbrev withFirstDebt : Shard → Shard
+withFirstDebt s = withLedger s (Ledger.withCount (s .ledger) (min 1 (s .ledger .debts .count)))
 
 abbrev pub firstDebtOnly : Implementation
-firstDebtOnly c ws = rules c (firstDebts (capOf (settingsOf c)) (shardCount (settingsOf c)) ws)
+firstDebtOnly c ws = rules c (inShard (settingsOf c) (identityOf c .hash) ws (outcome (tt {0}) (withFirstDebt (shardOf c ws))) .after)
 
--- The sixth: the rules, but one key too many is counted.
+-- The next three leave the words that the rules leave, and tell something else.
+abbrev pub telling : (Call → List ℕ → Reply) → Implementation
+telling told c ws = outcome (told c ws) (rules c ws .after)
+
+-- The sixth: one key too many is counted.
+abbrev pub oneMore : Reply → Reply
+oneMore reply = cond (numbered reply) reply (Count (numberOf reply + 1))
+
+abbrev pub invented : Call → List ℕ → Reply
+invented c ws = byKind (λ told. rules c ws .answer) (oneMore (rules c ws .answer)) (rules c ws .answer) c
+
 abbrev pub inventedLength : Implementation
-inventedLength (try s at id cost) ws = rules (try s at id cost) ws
-inventedLength (reserve s at id cost longest) ws = rules (reserve s at id cost longest) ws
-inventedLength (peek s at id cost) ws = rules (peek s at id cost) ws
-inventedLength (available s at id) ws = rules (available s at id) ws
-inventedLength (len s) ws = unlessRefused (lenRefusal s ws) ws (outcome (Count (numberOf (rules (len s) ws .answer) + 1)) ws)
-inventedLength (refund s id cost) ws = rules (refund s id cost) ws
-inventedLength (remove s id) ws = rules (remove s id) ws
+inventedLength = telling invented
+
+-- A request is turned away for want of space, unless its key is found in its shard.
+abbrev pub turnedAwayUnless : (Identity → Shard → Bool) → Call → List ℕ → Reply
+turnedAwayUnless found c ws =
+    byKind (λ told. cond (found (identityOf c) (shardOf c ws)) (rules c ws .answer) (told noSpace)) (rules c ws .answer) (rules c ws .answer) c
+
+-- The second, finer: a key without a slot is turned away, and so is one with a debt.
+abbrev pub turnsSlotlessAway : Implementation
+turnsSlotlessAway = telling (turnedAwayUnless (λ id s. hasSlot (placeOf s (id .hash) (id .key))))
+
+-- Finer still: a key with neither a slot nor a debt is turned away. It has a slot from then on, so that it is turned away once.
+abbrev pub turnsNewcomersAway : Implementation
+turnsNewcomersAway = telling (turnedAwayUnless holds)
+
+-- The rules, blind to the key: a call's key is taken for the one whose number is its hash.
+abbrev blind : Identity → Identity
+blind id = record { hash = id .hash; key = id .hash }
+
+abbrev blindly : Call → Call
+blindly (try s at id cost) = try s at (blind id) cost
+blindly (reserve s at id cost longest) = reserve s at (blind id) cost longest
+blindly (peek s at id cost) = peek s at (blind id) cost
+blindly (available s at id) = available s at (blind id)
+blindly (len s) = len s
+blindly (refund s id cost) = refund s (blind id) cost
+blindly (remove s id) = remove s (blind id)
+
+abbrev pub blindToKeys : Implementation
+blindToKeys c ws = rules (blindly c) ws

@@ -1,3 +1,4 @@
 pub mod Demands
+pub mod ShortWindow
 pub mod Impostors
 pub mod Contracts
