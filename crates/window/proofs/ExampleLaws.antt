@@ -1,13 +1,12 @@
 -- What an example has to show to break a part of demand 3, and that it breaks it. An example grows its store by calls, from the words that set-up leaves.
-use Prim.Native.Nat.{ℕ, _+_, _*_, _-_, _≤_}
+use Prim.Native.Nat.{ℕ, _+_, _*_, _-_}
 use native.Mathlib.Omega.{arith}
 use mathlib.Core.Path.{_≡_, refl, sym, ap, _∙_}
-use mathlib.Core.Bool.{Bool, true, false, _&&_, not, cond, true≢false}
+use mathlib.Core.Bool.{Bool, true, false, _&&_, cond, true≢false}
 use mathlib.Core.List.{List, [], _∷_, _++_}
 use lib.Dec.{ltb, eqb}
 use lib.ListN.{replicate}
 use borrow.Author.Tests.{ltb-true, eq-eqb}
-use Rattle.arith.proofs.Cases.{by-test}
 use Rattle.units.specs.declared.Nanos.{Nanos}
 use Rattle.bucket.specs.declared.Request.the-variants.{Acquire}
 use Rattle.settings.specs.declared.Settings.{Settings}
@@ -49,13 +48,13 @@ unfoldable pub after : Implementation → List Call → List ℕ → List ℕ
 after f [] ws = ws
 after f (c ∷ cs) ws = after f cs (f c ws .after)
 
--- A call after some others, as it is answered from some words on.
-abbrev pub answeredAfter : Implementation → List Call → Call → List ℕ → Answered
-answeredAfter f cs c ws = record { call = c; reply = f c (after f cs ws) .answer; rulesWords = after rules cs ws }
+-- A call after some others, as it is answered: the implementation starts from some words, and the rules beside it from theirs.
+abbrev pub answeredAfter : Implementation → List Call → Call → List ℕ → List ℕ → Answered
+answeredAfter f cs c ws law = record { call = c; reply = f c (after f cs ws) .answer; rulesWords = after rules cs law }
 
 -- What holds of every call of a list, as it is answered, holds of the last one.
 last-of-every : (Q : Answered → Type 0) (f : Implementation) (c : Call) (cs : List Call) (ws law : List ℕ) → Every Q (replies f (cs ++ c ∷ []) ws law)
-    → Q (record { call = c; reply = f c (after f cs ws) .answer; rulesWords = after rules cs law })
+    → Q (answeredAfter f cs c ws law)
 unfolding replies after
 last-of-every Q f c [] ws law every = every .0
 last-of-every Q f c (b ∷ cs) ws law every = last-of-every Q f c cs (f b ws .after) (rules b law .after) (every .1)
@@ -74,30 +73,42 @@ pub record TellsOtherwise (f : Implementation) (c : Call) (ws : List ℕ) : Type
 pub telling-otherwise-fails-demand2 : {f : Implementation} {c : Call} {ws : List ℕ} → TellsOtherwise f c ws → Demand2 f → ⊥
 telling-otherwise-fails-demand2 {f} {c} {ws} told demand = same-is-told (ap (λ o. o .answer) (demand c ws)) (told .otherwise)
 
--- A try for one token by a key after some calls, and the reply of the key's own bucket.
-abbrev pub tried : Implementation → ℕ → List Call → Identity → Answered
-tried f keys cs id = answeredAfter f cs (try (roomFor keys) start id 1) (fresh (roomFor keys))
+-- Calls on a store, as the table of edges writes them.
+abbrev pub callsOn : Settings → List (Settings → Call) → List Call
+callsOn s [] = []
+callsOn s (c ∷ cs) = c s ∷ callsOn s cs
 
-abbrev pub ownReply : ℕ → List Call → Identity → Reply
-ownReply keys cs id = tryReply (ownAnswer (roomFor keys) twoPerSecond start id Acquire 1 (after rules cs (fresh (roomFor keys))))
+-- A try for one token by a key after some calls; the words that the rules made by these; and the reply of the key's own bucket in them.
+abbrev pub tried : Implementation → ℕ → List (Settings → Call) → Identity → Answered
+tried f keys cs id = answeredAfter f (callsOn (roomFor keys) cs) (try (roomFor keys) start id 1) (fresh (roomFor keys)) (fresh (roomFor keys))
+
+abbrev pub grown : ℕ → List (Settings → Call) → List ℕ
+grown keys cs = after rules (callsOn (roomFor keys) cs) (fresh (roomFor keys))
+
+abbrev pub ownReply : ℕ → List (Settings → Call) → Identity → Reply
+ownReply keys cs id = tryReply (ownAnswer (roomFor keys) twoPerSecond start id Acquire 1 (grown keys cs))
 
 -- An implementation misdecides it: the rules accept it, the key holds a slot or a debt in the words that they made, and its bucket's reply is not told.
-pub record Misdecides (f : Implementation) (keys : ℕ) (cs : List Call) (id : Identity) : Type 0 where
+pub record Misdecides (f : Implementation) (keys : ℕ) (cs : List (Settings → Call)) (id : Identity) : Type 0 where
   pub accepts : accepted (tried f keys cs id) ≡ true
-  pub holding : holds id (shardAt (roomFor keys) (id .hash) (after rules cs (fresh (roomFor keys)))) ≡ true
+  pub holding : holds id (shardAt (roomFor keys) (id .hash) (grown keys cs)) ≡ true
   pub otherwise : sameTold (tried f keys cs id .reply) (ownReply keys cs id) ≡ false
 
-pub misdeciding-breaks-own-bucket : {f : Implementation} {keys : ℕ} {cs : List Call} {id : Identity} → Misdecides f keys cs id → OwnBucket f → ⊥
+pub misdeciding-breaks-own-bucket : {f : Implementation} {keys : ℕ} {cs : List (Settings → Call)} {id : Identity} → Misdecides f keys cs id → OwnBucket f → ⊥
 misdeciding-breaks-own-bucket {f} {keys} {cs} {id} shown own-bucket =
     let ws : List ℕ = fresh (roomFor keys) in
+    let before : List Call = callsOn (roomFor keys) cs in
     let last : Call = tried f keys cs id .call in
-    let decided = last-of-every _ f last cs ws ws (own-bucket ws (cs ++ last ∷ [])) in
+    let decided = last-of-every _ f last before ws ws (own-bucket ws (before ++ last ∷ [])) in
     same-is-told (decided (shown .accepts) twoPerSecond refl (omega arith) (omega arith) (shown .holding)) (shown .otherwise)
 
 -- Reservations at moment 0, by key and cost; the hash of a key is its own number, and the longest wait is 10 ns.
+abbrev pub reservation : Settings → ℕ × ℕ → Call
+reservation s x = reserve s start (keyOf (x .0)) (x .1) (record { 0 = 10 })
+
 abbrev pub reservations : Settings → List (ℕ × ℕ) → List Call
 reservations s [] = []
-reservations s (x ∷ xs) = reserve s start (keyOf (x .0)) (x .1) (record { 0 = 10 }) ∷ reservations s xs
+reservations s (x ∷ xs) = reservation s x ∷ reservations s xs
 
 -- They meet the conditions of the window, whatever the implementation answers.
 module _ (f : Implementation) (s : Settings) where
@@ -115,7 +126,7 @@ module _ (f : Implementation) (s : Settings) where
   have-rising-times [] ws law = tt
   have-rising-times (x ∷ xs) ws law = (omega arith, rw zero-either-way (have-rising-times xs _ _))
 
-  agree-with-others : (a : Answered) (x : ℕ × ℕ) → a .call ≡ reserve s start (keyOf (x .0)) (x .1) (record { 0 = 10 }) → (xs : List (ℕ × ℕ)) (ws law : List ℕ)
+  agree-with-others : (a : Answered) (x : ℕ × ℕ) → a .call ≡ reservation s x → (xs : List (ℕ × ℕ)) (ws law : List ℕ)
       → Every (Agree a) (replies f (reservations s xs) ws law)
   unfolding replies
   agree-with-others a x is [] ws law = tt

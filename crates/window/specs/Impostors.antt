@@ -1,5 +1,5 @@
--- Implementations of the calls that look as if they kept the promises: the six of document 01, and three more. What each of them fails, and what one of
--- them meets all the same, is proved in proofs/ImpostorLaws.antt and proofs/TellingLaws.antt.
+-- Implementations of the calls that look as if they kept the promises: the six of document 01, and three more. Each of them fails demand 2, and all but two
+-- of them fail demand 3 (proofs/ImpostorLaws.antt); those two meet it (proofs/TellingLaws.antt).
 use Prim.Native.Nat.{ℕ, _+_, min}
 use mathlib.Core.Bool.{Bool, cond}
 use mathlib.Core.List.{List}
@@ -28,7 +28,7 @@ byKind request length other (len s) = length
 byKind request length other (refund s id cost) = other
 byKind request length other (remove s id) = other
 
--- The key that a call names. A length names none; nothing that is made of it depends on the key here.
+-- The key that a call names. A length names none, and has the hash 0 here, whose shard is the first.
 abbrev pub identityOf : Call → Identity
 identityOf (try s at id cost) = id
 identityOf (reserve s at id cost longest) = id
