@@ -173,9 +173,12 @@ accepted-not-refused a yes′ =
     by-eq (refusalOf (a .call) (a .rulesWords)) 0 (λ none. none)
     (λ some. absurd (true≢false (sym yes′ ∙ ap (λ (o : Outcome Reply (List ℕ)). not (numbered (o .answer))) (refused-is-told (a .call) (a .rulesWords) some))))
 
-pub unaccepted-refused : (a : Answered) → accepted a ≡ false → rules (a .call) (a .rulesWords) ≡ outcome (Refused (refusalOf (a .call) (a .rulesWords))) (a .rulesWords)
+pub unaccepted-refused : (a : Answered) → accepted a ≡ false
+    → rules (a .call) (a .rulesWords) ≡ outcome (Refused (refusalOf (a .call) (a .rulesWords))) (a .rulesWords)
 unfolding accepted
 unaccepted-refused a no′ =
     by-eq (refusalOf (a .call) (a .rulesWords)) 0
-    (λ none. absurd (true≢false (ap not (sym (rule-not-numbered (a .call) (a .rulesWords))) ∙ ap (λ (o : Outcome Reply (List ℕ)). not (numbered (o .answer))) (sym (not-refused-is-ruled (a .call) (a .rulesWords) none)) ∙ no′)))
+    (λ none.
+    let ruled = ap (λ (o : Outcome Reply (List ℕ)). not (numbered (o .answer))) (not-refused-is-ruled (a .call) (a .rulesWords) none) in
+    absurd (true≢false (ap not (sym (rule-not-numbered (a .call) (a .rulesWords))) ∙ sym ruled ∙ no′)))
     (λ some. refused-is-told (a .call) (a .rulesWords) some)

@@ -19,7 +19,7 @@ use Rattle.perkey.specs.Rules.{numberOf, noWait, tryReply, reserveReply}
 use Rattle.perkey.specs.Calls.{Call, try, reserve, peek, available, len, refund, remove, Implementation, rules, settingsOf, numbered}
 
 -- What is made of a request, told as a try or as a reservation tells its answer; of a length; of any other call.
-abbrev pub byKind : {A : Type 0} → ((Answer → Reply) → A) → A → A → Call → A
+abbrev byKind : {A : Type 0} → ((Answer → Reply) → A) → A → A → Call → A
 byKind request length other (try s at id cost) = request tryReply
 byKind request length other (reserve s at id cost longest) = request reserveReply
 byKind request length other (peek s at id cost) = other
@@ -29,7 +29,7 @@ byKind request length other (refund s id cost) = other
 byKind request length other (remove s id) = other
 
 -- The key that a call names. A length names none, and has the hash 0 here, whose shard is the first.
-abbrev pub identityOf : Call → Identity
+abbrev identityOf : Call → Identity
 identityOf (try s at id cost) = id
 identityOf (reserve s at id cost longest) = id
 identityOf (peek s at id cost) = id
@@ -39,14 +39,14 @@ identityOf (refund s id cost) = id
 identityOf (remove s id) = id
 
 -- The shard of that key.
-abbrev pub shardOf : Call → List ℕ → Shard
-shardOf c ws = shardAt (settingsOf c) (identityOf c .hash) ws
+abbrev ownShard : Call → List ℕ → Shard
+ownShard c ws = shardAt (settingsOf c) (identityOf c .hash) ws
 
 -- The answer to a request that is turned away for want of space, and to one that is granted at once.
-abbrev pub noSpace : Answer
+abbrev noSpace : Answer
 noSpace = NoSpace (record { 0 = minRefusalWait })
 
-abbrev pub grantedAtOnce : Answer
+abbrev grantedAtOnce : Answer
 grantedAtOnce = Decided (Allowed noWait)
 
 -- The first: everything is impossible, and no word changes.
@@ -74,14 +74,14 @@ abbrev withFirstDebt : Shard → Shard
 withFirstDebt s = withLedger s (Ledger.withCount (s .ledger) (min 1 (s .ledger .debts .count)))
 
 abbrev pub firstDebtOnly : Implementation
-firstDebtOnly c ws = rules c (inShard (settingsOf c) (identityOf c .hash) ws (outcome (tt {0}) (withFirstDebt (shardOf c ws))) .after)
+firstDebtOnly c ws = rules c (inShard (settingsOf c) (identityOf c .hash) ws (outcome (tt {0}) (withFirstDebt (ownShard c ws))) .after)
 
 -- The next three leave the words that the rules leave, and tell something else.
 abbrev pub telling : (Call → List ℕ → Reply) → Implementation
 telling told c ws = outcome (told c ws) (rules c ws .after)
 
 -- The sixth: one key too many is counted.
-abbrev pub oneMore : Reply → Reply
+abbrev oneMore : Reply → Reply
 oneMore reply = cond (numbered reply) reply (Count (numberOf reply + 1))
 
 abbrev pub invented : Call → List ℕ → Reply
@@ -93,13 +93,13 @@ inventedLength = telling invented
 -- A request is turned away for want of space, unless its key is found in its shard.
 abbrev pub turnedAwayUnless : (Identity → Shard → Bool) → Call → List ℕ → Reply
 turnedAwayUnless found c ws =
-    byKind (λ told. cond (found (identityOf c) (shardOf c ws)) (rules c ws .answer) (told noSpace)) (rules c ws .answer) (rules c ws .answer) c
+    byKind (λ told. cond (found (identityOf c) (ownShard c ws)) (rules c ws .answer) (told noSpace)) (rules c ws .answer) (rules c ws .answer) c
 
 -- The second, finer: a key without a slot is turned away, and so is one with a debt.
 abbrev pub turnsSlotlessAway : Implementation
 turnsSlotlessAway = telling (turnedAwayUnless (λ id s. hasSlot (placeOf s (id .hash) (id .key))))
 
--- Finer still: a key with neither a slot nor a debt is turned away. It has a slot from then on, so that it is turned away once.
+-- Finer still: a key with neither a slot nor a debt is turned away. The words are as if it had been let in, so that a newcomer is turned away once.
 abbrev pub turnsNewcomersAway : Implementation
 turnsNewcomersAway = telling (turnedAwayUnless holds)
 
