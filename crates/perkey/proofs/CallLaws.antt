@@ -192,15 +192,18 @@ looks-change-nothing {c} ws look =
     (λ some. ap (λ (o : Outcome Reply (List ℕ)). o .after) (refused-is-told c ws some))
 
 -- An accepted call has no number of a refusal, and is decided by its rule; one that is not accepted leaves the words as they are.
-pub accepted-not-refused : (a : Answered) → accepted a ≡ true → refusalOf (a .call) (a .words) ≡ 0
+pub accepted-not-refused : (a : Answered) → accepted a ≡ true → refusalOf (a .call) (a .rulesWords) ≡ 0
 unfolding accepted
 accepted-not-refused a yes′ =
-    by-eq (refusalOf (a .call) (a .words)) 0 (λ none. none)
-    (λ some. absurd (true≢false (sym yes′ ∙ ap (λ (o : Outcome Reply (List ℕ)). not (numbered (o .answer))) (refused-is-told (a .call) (a .words) some))))
+    by-eq (refusalOf (a .call) (a .rulesWords)) 0 (λ none. none)
+    (λ some. absurd (true≢false (sym yes′ ∙ ap (λ (o : Outcome Reply (List ℕ)). not (numbered (o .answer))) (refused-is-told (a .call) (a .rulesWords) some))))
 
-pub unaccepted-refused : (a : Answered) → accepted a ≡ false → rules (a .call) (a .words) ≡ outcome (Refused (refusalOf (a .call) (a .words))) (a .words)
+pub unaccepted-refused : (a : Answered) → accepted a ≡ false
+    → rules (a .call) (a .rulesWords) ≡ outcome (Refused (refusalOf (a .call) (a .rulesWords))) (a .rulesWords)
 unfolding accepted
 unaccepted-refused a no′ =
-    by-eq (refusalOf (a .call) (a .words)) 0
-    (λ none. absurd (true≢false (ap not (sym (rule-not-numbered (a .call) (a .words))) ∙ ap (λ (o : Outcome Reply (List ℕ)). not (numbered (o .answer))) (sym (not-refused-is-ruled (a .call) (a .words) none)) ∙ no′)))
-    (λ some. refused-is-told (a .call) (a .words) some)
+    by-eq (refusalOf (a .call) (a .rulesWords)) 0
+    (λ none.
+    let ruled = ap (λ (o : Outcome Reply (List ℕ)). not (numbered (o .answer))) (not-refused-is-ruled (a .call) (a .rulesWords) none) in
+    absurd (true≢false (ap not (sym (rule-not-numbered (a .call) (a .rulesWords))) ∙ sym ruled ∙ no′)))
+    (λ some. refused-is-told (a .call) (a .rulesWords) some)

@@ -38,13 +38,13 @@ rules (remove s id) ws = Rules.remove s id ws
 pub record Answered : Type 0 where
   pub call : Call
   pub reply : Reply
-  pub words : List ℕ
+  pub rulesWords : List ℕ
 
 -- Each call gets the words that the implementation left; beside it run the rules, on the words that they left themselves.
 unfoldable pub replies : Implementation → List Call → List ℕ → List ℕ → List Answered
 replies f [] ws rulesWords = []
 replies f (c ∷ cs) ws rulesWords =
-    record { call = c; reply = f c ws .answer; words = rulesWords } ∷ replies f cs (f c ws .after) (rules c rulesWords .after)
+    record { call = c; reply = f c ws .answer; rulesWords = rulesWords } ∷ replies f cs (f c ws .after) (rules c rulesWords .after)
 
 -- What a call names: its settings; the moment to which it brings the clock, from the moment before it; what is said of the key that it names.
 abbrev pub settingsOf : Call → Settings
@@ -124,7 +124,7 @@ numbered (Refused n) = true
 
 -- A call is accepted where the rules, in their own words, do not refuse it by number.
 unfoldable pub accepted : Answered → Bool
-accepted a = not (numbered (rules (a .call) (a .words) .answer))
+accepted a = not (numbered (rules (a .call) (a .rulesWords) .answer))
 
 -- Something holds of every member of a list.
 abbrev pub Every : {A : Type 0} → (A → Type 0) → List A → Type 0

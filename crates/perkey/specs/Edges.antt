@@ -1,4 +1,5 @@
--- The edges of document 01 that are theorems, as a table: a row has its settings, its calls and what they come to. One test goes over all rows.
+-- The edges of document 01 that are theorems, and two of our own on keys that share a hash, as a table: a row has its settings, its calls and what they
+-- come to. One test goes over all rows.
 use Prim.Native.Nat.{ℕ}
 use mathlib.Core.Bool.{Bool, true, false, _&&_}
 use mathlib.Core.List.{List, [], _∷_}
@@ -53,6 +54,10 @@ keyOf n = record { hash = n; key = n }
 -- Calls by moment, key and cost, for settings that the row gives.
 abbrev pub asks : ℕ → ℕ → ℕ → Settings → Call
 asks moment key cost s = try s (record { 0 = moment }) (keyOf key) cost
+
+-- A try by a key of the hash 7.
+abbrev pub asksAsSeven : ℕ → ℕ → ℕ → Settings → Call
+asksAsSeven moment key cost s = try s (record { 0 = moment }) (record { hash = 7; key = key }) cost
 
 abbrev looksAt : ℕ → ℕ → Settings → Call
 looksAt moment key s = available s (record { 0 = moment }) (keyOf key)
@@ -145,6 +150,12 @@ edges =
     -- A token refunded to key 7, whose debt settles at 2 s, takes half a second off the debt.
     ∷ ends (forOneKey twoPerSecond) (asks 0 7 4 ∷ asks 0 8 1 ∷ returns 7 1 ∷ []) 0 0
     (1 ∷ 1 ∷ 0 ∷ 8 ∷ 8 ∷ 1000000000 ∷ 0 ∷ 0 ∷ 0 ∷ 1 ∷ 0 ∷ 7 ∷ 1500000000 ∷ [])
+    -- Keys 7 and 8 share the hash 7. Each has a slot of its own: key 7 has spent all, and key 8 is granted all of its tokens.
+    ∷ ends (limited twoPerSecond (capacityOf 2) 1) (asks 0 7 4 ∷ asksAsSeven 0 8 4 ∷ []) 0 0
+    (2 ∷ 0 ∷ 0 ∷ 7 ∷ 7 ∷ 4000000000 ∷ 0 ∷ 0 ∷ 0 ∷ 7 ∷ 8 ∷ 4000000000 ∷ 0 ∷ 0 ∷ 0 ∷ replicate 6 0)
+    -- A debt has no key but its hash alone: key 9 turns key 7 into a debt, and key 8 takes it over.
+    ∷ ends (forOneKey twoPerSecond) (asks 0 7 4 ∷ asks 0 9 1 ∷ asksAsSeven 0 8 1 ∷ []) 1 500000000
+    (1 ∷ 1 ∷ 0 ∷ 7 ∷ 8 ∷ 4000000000 ∷ 0 ∷ 0 ∷ 0 ∷ 1 ∷ 0 ∷ 9 ∷ 500000000 ∷ [])
     -- No bytes hash to the number at which the hash starts.
     ∷ hashes [] 14695981039346656037
     ∷ []

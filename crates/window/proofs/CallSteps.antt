@@ -42,7 +42,7 @@ use Rattle.window.proofs.GivenLaws.{own-call, other-hash, same-either-w
 
 -- The call as the rules answer it in some words.
 abbrev pub ruled : Call → List ℕ → Answered
-ruled c ws = record { call = c; reply = rules c ws .answer; words = ws }
+ruled c ws = record { call = c; reply = rules c ws .answer; rulesWords = ws }
 
 -- Costs that never reach the store: more than the burst, or nothing at all.
 module _ (rate : Rate) (cost : ℕ) (tooMuch atOnce : Reply) (ws : List ℕ) (asked : Outcome Reply (List ℕ)) where

@@ -9,7 +9,7 @@ use Rattle.perkey.specs.Calls.{Call, try, reserve, peek, available, len, refund
 use Rattle.perkey.proofs.CallLaws.{Look, peeks, looks-available, looks-length, looks-change-nothing}
 use Rattle.window.specs.Widths.{fits, lendable}
 use Rattle.window.specs.Demands.{Limiter, answering, Demand2, Demand3}
-use Rattle.window.specs.Contracts.{Lends, Contracts}
+use Rattle.window.specs.Contracts.{LooksOnly, Contracts}
 use Rattle.window.proofs.Theorem.{demand2-gives-demand3}
 
 -- A look whose words stay, and whose answer is right with them, is right.
@@ -34,7 +34,7 @@ module _ (κs : Lfts 1) (ptr : ℕ × ℕ) (name : ℕ) where
       looked-as-ruled : (c : Call) (ws : List ℕ) → Look c → outcome (rules c ws .answer) ws ≡ rules c ws
       looked-as-ruled c ws look = ap (outcome (rules c ws .answer)) (sym (looks-change-nothing ws look))
 
-  module _ (l : Limiter) (lends : Lends l) (c : Contracts κs ptr name l) where
+  module _ (l : Limiter) (looks : LooksOnly l) (c : Contracts κs ptr name l) where
     -- No operation asks anything of its caller: `tt` shows all that is asked.
     pub contracts-meet-demand2 : Demand2 l
     contracts-meet-demand2 = record {
@@ -46,11 +46,11 @@ module _ (κs : Lfts 1) (ptr : ℕ × ℕ) (name : ℕ) where
         ruled : (call : Call) (ws : List ℕ) → fits call ≡ true → lendable ws ≡ true → l .answers call ws ≡ rules call ws
         ruled (try s at id cost) ws = λ fit lent. c .tries s at id cost ws fit lent tt
         ruled (reserve s at id cost longest) ws = λ fit lent. c .reserves s at id cost longest ws fit lent tt
-        ruled (peek s at id cost) ws = λ fit lent. looked (lends .peeks s at id cost ws) (c .peeks s at id cost ws fit lent tt)
-        ruled (available s at id) ws = λ fit lent. looked (lends .availables s at id ws) (c .availables s at id ws fit lent tt)
-        ruled (len s) ws = λ fit lent. looked (lends .lens s ws) (c .lens s ws fit lent tt)
+        ruled (peek s at id cost) ws = λ fit lent. looked (looks .peeks s at id cost ws) (c .peeks s at id cost ws fit lent tt)
+        ruled (available s at id) ws = λ fit lent. looked (looks .availables s at id ws) (c .availables s at id ws fit lent tt)
+        ruled (len s) ws = λ fit lent. looked (looks .lens s ws) (c .lens s ws fit lent tt)
         ruled (refund s id cost) ws = λ fit lent. c .refunds s id cost ws fit lent tt
         ruled (remove s id) ws = λ fit lent. c .removes s id ws fit lent tt
 
     pub contracts-meet-demand3 : Demand3 l
-    contracts-meet-demand3 = demand2-gives-demand3 l lends contracts-meet-demand2
+    contracts-meet-demand3 = demand2-gives-demand3 l contracts-meet-demand2

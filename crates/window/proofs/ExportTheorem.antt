@@ -35,7 +35,7 @@ use Rattle.perkey.proofs.CallLaws.{refusalOf, ruleOf, not-refused-is-ruled, ref
 use Rattle.limiter.specs.Exported as Exported
 use Rattle.window.specs.Widths.{settingsFit, fits, lendable}
 use Rattle.window.specs.Demands.{Limiter, Demand2, Demand3}
-use Rattle.window.specs.Contracts.{Lends}
+use Rattle.window.specs.Contracts.{LooksOnly}
 use Rattle.window.specs.Exports.{flag, number, idleFlag, idleNumber, forgetsDebt, noRate, withRate, withLimit, written}
 use Rattle.window.specs.Exports.{Exports, reading, readAs, through, called, ExportContracts}
 use Rattle.window.proofs.Theorem.{demand2-gives-demand3}
@@ -147,16 +147,16 @@ rules-are-as-the-exports-tell κs ptr name = record {
   removes = λ s id ws _ _ _. refl;
 }
 
-module _ (κs : Lfts 1) (ptr : ℕ × ℕ) (name : ℕ) (e : Exports) (lends : Lends (called e)) (c : ExportContracts κs ptr name e) where
+module _ (κs : Lfts 1) (ptr : ℕ × ℕ) (name : ℕ) (e : Exports) (looks : LooksOnly (called e)) (c : ExportContracts κs ptr name e) where
   -- What a call gives through the exports is what the rules give, told as numbers.
   told-as-ruled : (call : Call) (ws : List ℕ) → fits call ≡ true → lendable ws ≡ true → through e call ws ≡ Exported.told (rules call ws)
   told-as-ruled (try s at id cost) ws = λ fit lent. rw (settings-come-back s) at (c .tries s at id cost ws fit lent tt)
   told-as-ruled (reserve s at id cost longest) ws = λ fit lent. rw (settings-come-back s) at (c .reserves s at id cost longest ws fit lent tt)
   told-as-ruled (peek s at id cost) ws = λ fit lent.
-      looked (lends .peeks s at id cost ws) (rw (settings-come-back s) at (c .peeks s at id cost ws fit lent tt))
+      looked (looks .peeks s at id cost ws) (rw (settings-come-back s) at (c .peeks s at id cost ws fit lent tt))
   told-as-ruled (available s at id) ws = λ fit lent.
-      looked (lends .availables s at id ws) (rw (settings-come-back s) at (c .availables s at id ws fit lent tt))
-  told-as-ruled (len s) ws = λ fit lent. looked (lends .lens s ws) (rw (settings-come-back s) at (c .lens s ws fit lent tt))
+      looked (looks .availables s at id ws) (rw (settings-come-back s) at (c .availables s at id ws fit lent tt))
+  told-as-ruled (len s) ws = λ fit lent. looked (looks .lens s ws) (rw (settings-come-back s) at (c .lens s ws fit lent tt))
   told-as-ruled (refund s id cost) ws = λ fit lent. rw (settings-come-back s) at (c .refunds s id cost ws fit lent tt)
   told-as-ruled (remove s id) ws = λ fit lent. rw (settings-come-back s) at (c .removes s id ws fit lent tt)
 
@@ -168,4 +168,4 @@ module _ (κs : Lfts 1) (ptr : ℕ × ℕ) (name : ℕ) (e : Exports) (lends : L
   }
 
   pub exports-meet-demand3 : Demand3 (called e)
-  exports-meet-demand3 = demand2-gives-demand3 (called e) lends exports-meet-demand2
+  exports-meet-demand3 = demand2-gives-demand3 (called e) exports-meet-demand2

@@ -8,6 +8,11 @@ pub mod TryLaws
 pub mod GivenLaws
 pub mod CallSteps
 pub mod AppearsLaws
+pub mod LendableLaws
 pub mod Theorem
 pub mod CodeTheorem
 pub mod ExportTheorem
+pub mod ExampleLaws
+pub mod Computed
+pub mod TellingLaws
+pub mod ImpostorLaws

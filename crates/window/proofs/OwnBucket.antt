@@ -32,7 +32,7 @@ reply-of-rule c ws none = ap (λ (o : Outcome Reply (List ℕ)). o .answer) (not
 
 -- The call as the rules answer it in some words.
 abbrev ruled : Call → List ℕ → Answered
-ruled c ws = record { call = c; reply = rules c ws .answer; words = ws }
+ruled c ws = record { call = c; reply = rules c ws .answer; rulesWords = ws }
 
 decided : (c : Call) (ws : List ℕ) → decidedBy (ruled c ws) c
 decided (try s at id cost) ws = λ taken rate rated least most holding.

@@ -30,7 +30,7 @@ use Rattle.window.proofs.WidthLaws.{both-true}
 use Rattle.window.specs.Widths.{fits, allFit, lendable}
 use Rattle.window.specs.Demands.{SameSettings, clock, TimesNeverFall, NoSharedHash, NeverReturned, tokensOf, tokensUsable, WithinWindow}
 use Rattle.window.specs.Demands.{Limiter, answering, Demand2, Window, OwnBucket, Demand3}
-use Rattle.window.specs.Contracts.{Lends}
+use Rattle.window.proofs.LendableLaws.{rules-leave-words-lendable, set-up-leaves-words-lendable}
 use Rattle.window.proofs.GrantLaws.{Grant, within, window-from-bound}
 use Rattle.window.proofs.RequestLaws.{invariant-empty}
 use Rattle.window.proofs.OwnBucket.{rules-decide-by-own-bucket}
@@ -110,7 +110,7 @@ module _ (s : Settings) (rate : Rate) (k : Identity) (a : Accepted (configOf rat
 
 -- The first part, for settings, calls and words of any numbers.
 pub rules-stay-within-the-window : (s : Settings) (rate : Rate) (ws : List ℕ) → s .limit ≡ Open rate → s .eviction .«when_full» ≡ RefuseNew → setUp s ws .answer ≡ Done
-    → (cs : List Call) → WithinWindow s rate (replies rules cs (setUp s ws .after) (setUp s ws .after))
+    → (cs : List Call) → WithinWindow 1 s rate (replies rules cs (setUp s ws .after) (setUp s ws .after))
 rules-stay-within-the-window s rate ws rated refuses done′ cs same rising apart k unreturned t u le =
     let up = set-up-done s ws done′ in
     let a : Accepted (configOf rate) = accepted-rate rate (rw rated at (accepted-parts s (up .settings) .0)) in
@@ -124,23 +124,24 @@ rules-meet-demand3 = record {
   own-bucket = λ ws cs _ _. rules-decide-by-own-bucket ws cs;
 }
 
--- A limiter that answers and leaves what the rules do gets through a list as they do, as long as its words can be lent.
-module _ (l : Limiter) (lends : Lends l) (equal : Demand2 l) where
+-- A limiter that meets demand 2 gets through a list as the rules do: they leave words that can be lent again.
+module _ (l : Limiter) (equal : Demand2 l) where
   same-replies : (cs : List Call) (ws law : List ℕ) → allFit cs ≡ true → lendable ws ≡ true → replies (l .answers) cs ws law ≡ replies rules cs ws law
   unfolding replies
   same-replies [] ws law = λ fit lent. refl
   same-replies (c ∷ cs) ws law = λ fit lent.
       let both = both-true (fits c) (allFit cs) fit in
-      let next : lendable (rules c ws .after) ≡ true = rw (equal .answers c ws (both .0) lent) at (lends .answers c ws (both .0) lent) in
+      let next = rules-leave-words-lendable c ws (both .0) lent in
       rw (equal .answers c ws (both .0) lent)
-      (ap {B = List Answered} (λ rest. record { call = c; reply = rules c ws .answer; words = law } ∷ rest) (same-replies cs (rules c ws .after) (rules c law .after) (both .1) next))
+      (ap {B = List Answered} (λ rest. record { call = c; reply = rules c ws .answer; rulesWords = law } ∷ rest)
+      (same-replies cs (rules c ws .after) (rules c law .after) (both .1) next))
 
   -- So it meets demand 3 as well, from the words that its own set-up leaves.
   keeps : Window l
   keeps s rate ws fit lent rated refuses =
-      let up = equal .sets-up s ws fit lent in
-      let fresh : lendable (setUp s ws .after) ≡ true = rw up at (lends .sets-up s ws fit lent) in
-      rw up (λ done′ cs fits. rw (same-replies cs (setUp s ws .after) (setUp s ws .after) fits fresh) (rules-stay-within-the-window s rate ws rated refuses done′ cs))
+      let fresh = set-up-leaves-words-lendable s ws fit lent in
+      rw (equal .sets-up s ws fit lent)
+      (λ done′ cs fits. rw (same-replies cs (setUp s ws .after) (setUp s ws .after) fits fresh) (rules-stay-within-the-window s rate ws rated refuses done′ cs))
 
   decides : OwnBucket l
   decides ws cs lent fits = rw (same-replies cs ws ws fits lent) (rules-decide-by-own-bucket ws cs)

@@ -23,11 +23,8 @@ use Rattle.perkey.proofs.remove.Reads as Remove
 use Rattle.window.specs.Widths.{settingsFit, fits, lendable}
 use Rattle.window.specs.Demands.{Limiter}
 
--- The words stay lendable, as behind `&mut [u64]`, and looks leave them as they are, as behind `&[u64]`.
-pub record Lends (l : Limiter) : Type 0 where
-  pub sets-up : (s : Settings) (ws : List ℕ) → settingsFit s ≡ true → lendable ws ≡ true → lendable (l .sets-up s ws .after) ≡ true
-  pub clears : (s : Settings) (ws : List ℕ) → settingsFit s ≡ true → lendable ws ≡ true → lendable (l .clears s ws .after) ≡ true
-  pub answers : (c : Call) (ws : List ℕ) → fits c ≡ true → lendable ws ≡ true → lendable (l .answers c ws .after) ≡ true
+-- A look leaves the words as they are: they are lent to it as `&[u64]`, to read only.
+pub record LooksOnly (l : Limiter) : Type 0 where
   pub peeks : (s : Settings) (at : Nanos) (id : Identity) (cost : ℕ) (ws : List ℕ) → l .answers (peek s at id cost) ws .after ≡ ws
   pub availables : (s : Settings) (at : Nanos) (id : Identity) (ws : List ℕ) → l .answers (available s at id) ws .after ≡ ws
   pub lens : (s : Settings) (ws : List ℕ) → l .answers (len s) ws .after ≡ ws

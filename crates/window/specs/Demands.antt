@@ -14,7 +14,7 @@
 -- no two name different keys of one hash,                                                                NoSharedHash
 -- and none refunds or removes the key k.                                                                 NeverReturned
 -- Add up the tokens granted to k that first become usable from moment t to moment u.                     tokensUsable
--- Times the period, the sum is at most burst × period + (u - t + 1) × amount,                            WithinWindow
+-- Times the period, the sum is at most burst × period + (u - t + 1) × amount,                            WithinWindow 1
 -- however often k was evicted and came back.
 --
 -- The own bucket.                                                                                        OwnBucket
@@ -28,9 +28,9 @@
 -- * `rules-meet-demand3`: the rules meet it. `demand2-gives-demand3`: so does every limiter that meets demand 2.
 -- * `contracts-meet-demand2`, `contracts-meet-demand3`: so does code that is as the contracts of `perkey` tell its callers.
 -- * `exports-meet-demand2`, `exports-meet-demand3`: so does what C and Rust call, read through the numbers of a reply.
--- * `short-window-is-false`: the + 1 cannot be left out.
--- * Impostors are refuted in ImpostorLaws. Demand 3 alone admits a limiter that turns every newcomer away once (`starving-meets-demand3`);
---   demand 2 shuts it out (`starving-fails-demand2`).
+-- * `window-adding-none-is-false-of-the-rules`: the + 1 cannot be left out.
+-- * Impostors are refuted in ImpostorLaws. Demand 3 alone admits a limiter that turns every newcomer away once (`turns-newcomers-away-meets-demand3`);
+--   demand 2 shuts it out (`turns-newcomers-away-fails-demand2`).
 use Prim.Native.Nat.{ℕ, _+_, _*_, _-_, _≤_}
 use mathlib.Core.Path.{_≡_}
 use mathlib.Core.Bool.{true, cond}
@@ -118,22 +118,26 @@ unfoldable pub tokensUsable : Identity → ℕ → ℕ → List Answered → ℕ
 tokensUsable k t u [] = 0
 tokensUsable k t u (a ∷ rest) = tokensOf k t u (a .call) (a .reply) + tokensUsable k t u rest
 
--- One list stays within the window.
-abbrev pub WithinWindow : Settings → Rate → List Answered → Type 0
-WithinWindow s rate answered =
+-- One list stays within the window, with so many moments added to those from t to u.
+abbrev pub WithinWindow : ℕ → Settings → Rate → List Answered → Type 0
+WithinWindow added s rate answered =
     SameSettings s answered → TimesNeverFall 0 answered → NoSharedHash answered →
     (k : Identity) → NeverReturned k answered →
     (t u : ℕ) → t ≤ u →
-    tokensUsable k t u answered * rate .period .0 ≤ burstOf rate * rate .period .0 + (u - t + 1) * rate .amount
+    tokensUsable k t u answered * rate .period .0 ≤ burstOf rate * rate .period .0 + (u - t + added) * rate .amount
 
--- Demand 3, first part: the window. On a fresh store with a rate set, under RefuseNew, no key is granted more in any window than its burst and what comes
--- back in that time.
-abbrev pub Window : Limiter → Type 0
-Window l =
+-- Every list does, on a fresh store with a rate set, under RefuseNew.
+abbrev pub WindowAdding : ℕ → Limiter → Type 0
+WindowAdding added l =
     (s : Settings) (rate : Rate) (ws : List ℕ) → settingsFit s ≡ true → lendable ws ≡ true →
     s .limit ≡ Open rate → s .eviction .«when_full» ≡ RefuseNew → l .sets-up s ws .answer ≡ Done →
     (cs : List Call) → allFit cs ≡ true →
-    WithinWindow s rate (replies (l .answers) cs (l .sets-up s ws .after) (l .sets-up s ws .after))
+    WithinWindow added s rate (replies (l .answers) cs (l .sets-up s ws .after) (l .sets-up s ws .after))
+
+-- Demand 3, first part: the window. No key is granted more in any window than its burst and what comes back in that time and in one moment more. That
+-- moment cannot be left out: a wait is rounded up to a whole nanosecond, in which more than the whole tokens can come back.
+abbrev pub Window : Limiter → Type 0
+Window l = WindowAdding 1 l
 
 -- What a key's own bucket answers to a request: its slot's bucket, else a fresh one in its debt.
 abbrev pub ownAnswer : Settings → Rate → Nanos → Identity → Request → ℕ → List ℕ → Answer
@@ -143,8 +147,8 @@ ownAnswer s rate at id request cost ws = Decided (asked (configOf rate) request 
 abbrev pub ByOwnBucket : Answered → Settings → Nanos → Identity → Request → ℕ → (Answer → Reply) → Type 0
 ByOwnBucket a s at id request cost told =
     accepted a ≡ true → (rate : Rate) → s .limit ≡ Open rate → 1 ≤ cost → cost ≤ burstOf rate →
-    holds id (shardAt s (id .hash) (a .words)) ≡ true →
-    a .reply ≡ told (ownAnswer s rate at id request cost (a .words))
+    holds id (shardAt s (id .hash) (a .rulesWords)) ≡ true →
+    a .reply ≡ told (ownAnswer s rate at id request cost (a .rulesWords))
 
 abbrev pub decidedBy : Answered → Call → Type 0
 decidedBy a (try s at id cost) = ByOwnBucket a s at id Acquire cost tryReply

@@ -1,4 +1,5 @@
 pub mod Widths
 pub mod Demands
+pub mod Impostors
 pub mod Contracts
 pub mod Exports

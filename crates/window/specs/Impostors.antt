@@ -1,0 +1,121 @@
+-- Implementations of the calls that look as if they kept the promises: the six of document 01, and three more. Each of them fails demand 2, and all but two
+-- of them fail demand 3 (proofs/ImpostorLaws.antt); those two meet it (proofs/TellingLaws.antt).
+use Prim.Native.Nat.{ℕ, _+_, min}
+use mathlib.Core.Bool.{Bool, cond}
+use mathlib.Core.List.{List}
+use Rattle.rows.specs.Outcome.{outcome}
+use Rattle.bucket.specs.declared.BucketDecision.the-variants.{Allowed}
+use Rattle.ledger.specs.Model as Ledger
+use Rattle.shard_map.specs.Model.{Shard, withLedger, placeOf}
+use Rattle.evict.specs.Evict.{minRefusalWait}
+use Rattle.store.specs.declared.Answer.{Answer}
+use Rattle.store.specs.declared.Answer.the-variants.{Decided, NoSpace}
+use Rattle.store.specs.declared.Identity.{Identity}
+use Rattle.store.specs.Model.{hasSlot, holds}
+use Rattle.perkey.specs.declared.Reply.{Reply}
+use Rattle.settings.specs.declared.decision.Decision.the-variants.{Impossible}
+use Rattle.perkey.specs.declared.Reply.the-variants.{Tried, Count}
+use Rattle.shards.specs.Memory.{shardAt, inShard}
+use Rattle.perkey.specs.Rules.{numberOf, noWait, tryReply, reserveReply}
+use Rattle.perkey.specs.Calls.{Call, try, reserve, peek, available, len, refund, remove, Implementation, rules, settingsOf, numbered}
+
+-- What is made of a request, told as a try or as a reservation tells its answer; of a length; of any other call.
+abbrev byKind : {A : Type 0} → ((Answer → Reply) → A) → A → A → Call → A
+byKind request length other (try s at id cost) = request tryReply
+byKind request length other (reserve s at id cost longest) = request reserveReply
+byKind request length other (peek s at id cost) = other
+byKind request length other (available s at id) = other
+byKind request length other (len s) = length
+byKind request length other (refund s id cost) = other
+byKind request length other (remove s id) = other
+
+-- The key that a call names. A length names none, and has the hash 0 here, whose shard is the first.
+abbrev identityOf : Call → Identity
+identityOf (try s at id cost) = id
+identityOf (reserve s at id cost longest) = id
+identityOf (peek s at id cost) = id
+identityOf (available s at id) = id
+identityOf (len s) = record { hash = 0; key = 0 }
+identityOf (refund s id cost) = id
+identityOf (remove s id) = id
+
+-- The shard of that key.
+abbrev ownShard : Call → List ℕ → Shard
+ownShard c ws = shardAt (settingsOf c) (identityOf c .hash) ws
+
+-- The answer to a request that is turned away for want of space, and to one that is granted at once.
+abbrev noSpace : Answer
+noSpace = NoSpace (record { 0 = minRefusalWait })
+
+abbrev grantedAtOnce : Answer
+grantedAtOnce = Decided (Allowed noWait)
+
+-- The first: everything is impossible, and no word changes.
+abbrev pub impossibleToAll : Implementation
+impossibleToAll c ws = outcome (Tried Impossible) ws
+
+-- The next three answer a request in their own way and change no word by it; they leave the other calls to the rules.
+abbrev withRequests : ((Answer → Reply) → Call → List ℕ → Reply) → Implementation
+withRequests reply c ws = byKind (λ told. outcome (reply told c ws) ws) (rules c ws) (rules c ws) c
+
+-- The second: a request is turned away for want of space, without a look whether there is any.
+abbrev pub retryBeforeALook : Implementation
+retryBeforeALook = withRequests (λ told c ws. told noSpace)
+
+-- The third: a request is granted, whatever the bucket holds.
+abbrev pub alwaysAcquired : Implementation
+alwaysAcquired = withRequests (λ told c ws. told grantedAtOnce)
+
+-- The fourth: a request is answered as the rules answer it, and nothing is stored.
+abbrev pub grantsWithoutStoring : Implementation
+grantsWithoutStoring = withRequests (λ told c ws. rules c ws .answer)
+
+-- The fifth: the rules, on a shard whose ledger knows its first debt only.
+abbrev withFirstDebt : Shard → Shard
+withFirstDebt s = withLedger s (Ledger.withCount (s .ledger) (min 1 (s .ledger .debts .count)))
+
+abbrev pub firstDebtOnly : Implementation
+firstDebtOnly c ws = rules c (inShard (settingsOf c) (identityOf c .hash) ws (outcome (tt {0}) (withFirstDebt (ownShard c ws))) .after)
+
+-- The next three leave the words that the rules leave, and tell something else.
+abbrev pub telling : (Call → List ℕ → Reply) → Implementation
+telling told c ws = outcome (told c ws) (rules c ws .after)
+
+-- The sixth: one key too many is counted.
+abbrev oneMore : Reply → Reply
+oneMore reply = cond (numbered reply) reply (Count (numberOf reply + 1))
+
+abbrev pub invented : Call → List ℕ → Reply
+invented c ws = byKind (λ told. rules c ws .answer) (oneMore (rules c ws .answer)) (rules c ws .answer) c
+
+abbrev pub inventedLength : Implementation
+inventedLength = telling invented
+
+-- A request is turned away for want of space, unless its key is found in its shard.
+abbrev pub turnedAwayUnless : (Identity → Shard → Bool) → Call → List ℕ → Reply
+turnedAwayUnless found c ws =
+    byKind (λ told. cond (found (identityOf c) (ownShard c ws)) (rules c ws .answer) (told noSpace)) (rules c ws .answer) (rules c ws .answer) c
+
+-- The second, finer: a key without a slot is turned away, and so is one with a debt.
+abbrev pub turnsSlotlessAway : Implementation
+turnsSlotlessAway = telling (turnedAwayUnless (λ id s. hasSlot (placeOf s (id .hash) (id .key))))
+
+-- Finer still: a key with neither a slot nor a debt is turned away. The words are as if it had been let in, so that a newcomer is turned away once.
+abbrev pub turnsNewcomersAway : Implementation
+turnsNewcomersAway = telling (turnedAwayUnless holds)
+
+-- The rules, blind to the key: a call's key is taken for the one whose number is its hash.
+abbrev blind : Identity → Identity
+blind id = record { hash = id .hash; key = id .hash }
+
+abbrev blindly : Call → Call
+blindly (try s at id cost) = try s at (blind id) cost
+blindly (reserve s at id cost longest) = reserve s at (blind id) cost longest
+blindly (peek s at id cost) = peek s at (blind id) cost
+blindly (available s at id) = available s at (blind id)
+blindly (len s) = len s
+blindly (refund s id cost) = refund s (blind id) cost
+blindly (remove s id) = remove s (blind id)
+
+abbrev pub blindToKeys : Implementation
+blindToKeys c ws = rules (blindly c) ws
