@@ -82,7 +82,8 @@ impl Rate {
 }
 
 impl Settings {
-    /// A store of one shard for up to `max_keys` keys with this rate.
+    /// A store of one shard for up to `max_keys` keys with this rate. A call looks through the keys of one shard, so a large store is faster with
+    /// 64 [`shards`](Settings::shards()).
     #[must_use]
     pub const fn new(rate: Rate, max_keys: u64) -> Self {
         Self {

@@ -175,6 +175,24 @@ fn every_refusal() {
 }
 
 #[test]
+fn refusals_read_as_in_the_header() {
+    let header = include_str!("../../c/limiter.h");
+    let refusals = [
+        Refusal::Amount,
+        Refusal::Period,
+        Refusal::Burst,
+        Refusal::Sizes,
+        Refusal::Memory,
+        Refusal::Moment,
+        Refusal::MaxWait,
+    ];
+    for refusal in refusals {
+        let line = format!("return \"{refusal}\";");
+        assert!(header.contains(&line), "{line}");
+    }
+}
+
+#[test]
 fn a_store_is_resumed() {
     let settings = Settings::new(R, 10).shards(4).idle(Duration::from_mins(1));
     let mut first = store(settings);
