@@ -38,52 +38,79 @@ static limiter_settings village(void)
     return settings;
 }
 
-int main(void)
+/* A store, and the modem that asks it. */
+typedef struct desk {
+    limiter_settings settings;
+    uint64_t *words;
+    size_t len;
+    uint64_t modem, hash;
+} desk;
+
+/* The modem asks until there are no tokens left, and reserves two more, if they come within two seconds. Tells when these may be used. */
+static uint64_t spend(const desk *d, uint64_t now)
 {
-    limiter_settings settings = village();
-    uint64_t modem = UINT64_C(0x00112233445566), hash = limiter_key_hash(modem), now = 5 * SECOND;
-    size_t len = (size_t)limiter_words(settings);
-    uint64_t *words = (uint64_t *)malloc(len * sizeof *words);
     limiter_reply reply;
     int granted = 0;
-
-    if (words == NULL)
-        return 1;
-    printf("interface %s, %" PRIu64 " words\n", LIMITER_VERSION, (uint64_t)len);
-    reply = limiter_set_up(settings, words, len);
-    stop_if_refused(reply);
-
-    /* Ask until there are no tokens left. */
-    while ((reply = limiter_try(settings, words, len, now, hash, modem, 1)).code == LIMITER_DONE)
+    while ((reply = limiter_try(d->settings, d->words, d->len, now, d->hash, d->modem, 1)).code == LIMITER_DONE)
         granted++;
     stop_if_refused(reply);
     printf("%d granted, then code %d: retry after %" PRIu64 " ns\n", granted, (int)reply.code, reply.number);
 
-    /* Reserve two tokens, if they come within two seconds. */
-    reply = limiter_reserve(settings, words, len, now, hash, modem, 2, 2 * SECOND);
+    reply = limiter_reserve(d->settings, d->words, d->len, now, d->hash, d->modem, 2, 2 * SECOND);
     stop_if_refused(reply);
     printf("reserved, code %d: usable after %" PRIu64 " ns\n", (int)reply.code, reply.number);
+    return now + reply.number;
+}
 
-    /* Looks change nothing. */
-    now += reply.number;
-    reply = limiter_peek(settings, words, len, now, hash, modem, 1);
+/* Looks, which change nothing, and a refund of one token of the two. */
+static void look_and_refund(const desk *d, uint64_t now)
+{
+    limiter_reply reply = limiter_peek(d->settings, d->words, d->len, now, d->hash, d->modem, 1);
     stop_if_refused(reply);
     printf("then the next one, code %d: after another %" PRIu64 " ns\n", (int)reply.code, reply.number);
 
-    /* One of the two was not used. */
-    reply = limiter_refund(settings, words, len, hash, modem, 1);
+    reply = limiter_refund(d->settings, d->words, d->len, d->hash, d->modem, 1);
     stop_if_refused(reply);
-    printf("paid back, code %d: %" PRIu64 " token\n", (int)reply.code, limiter_available(settings, words, len, now, hash, modem).number);
+    printf("paid back, code %d", (int)reply.code);
+    reply = limiter_available(d->settings, d->words, d->len, now, d->hash, d->modem);
+    stop_if_refused(reply);
+    printf(": %" PRIu64 " token\n", reply.number);
+}
 
-    printf("%" PRIu64 " modem known\n", limiter_length(settings, words, len).number);
-    reply = limiter_remove(settings, words, len, hash, modem);
-    printf("removed, code %d; removed again, code %d\n", (int)reply.code, (int)limiter_remove(settings, words, len, hash, modem).code);
-    reply = limiter_clear(settings, words, len);
-    printf("cleared, code %d: %" PRIu64 " modems known\n", (int)reply.code, limiter_length(settings, words, len).number);
+/* The modem is forgotten, and then everything. */
+static void forget(const desk *d)
+{
+    limiter_reply reply;
+    printf("%" PRIu64 " modem known\n", limiter_length(d->settings, d->words, d->len).number);
+    reply = limiter_remove(d->settings, d->words, d->len, d->hash, d->modem);
+    printf("removed, code %d", (int)reply.code);
+    reply = limiter_remove(d->settings, d->words, d->len, d->hash, d->modem);
+    printf("; removed again, code %d\n", (int)reply.code);
+    reply = limiter_clear(d->settings, d->words, d->len);
+    printf("cleared, code %d: %" PRIu64 " modems known\n", (int)reply.code, limiter_length(d->settings, d->words, d->len).number);
+}
+
+int main(void)
+{
+    desk d;
+    limiter_reply reply;
+
+    d.settings = village();
+    d.modem = UINT64_C(0x00112233445566);
+    d.hash = limiter_key_hash(d.modem);
+    d.len = (size_t)limiter_words(d.settings);
+    d.words = (uint64_t *)malloc(d.len * sizeof *d.words);
+    if (d.words == NULL)
+        return 1;
+    printf("interface %s, %" PRIu64 " words\n", LIMITER_VERSION, (uint64_t)d.len);
+    stop_if_refused(limiter_set_up(d.settings, d.words, d.len));
+
+    look_and_refund(&d, spend(&d, 5 * SECOND));
+    forget(&d);
 
     /* A moment that is too late is refused, and nothing happens. */
-    reply = limiter_try(settings, words, len, UINT64_MAX, hash, modem, 1);
+    reply = limiter_try(d.settings, d.words, d.len, UINT64_MAX, d.hash, d.modem, 1);
     printf("refused as %d: %s\n", (int)(reply.code - LIMITER_REFUSED), limiter_refusal_text(reply.code));
-    free(words);
+    free(d.words);
     return 0;
 }
