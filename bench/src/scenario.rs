@@ -19,11 +19,6 @@ impl Setup {
     pub const fn cap(&self) -> usize {
         self.max_keys.div_ceil(self.shards)
     }
-
-    /// The words that our library is lent.
-    pub const fn words(&self) -> usize {
-        self.shards * (5 + 8 * self.cap())
-    }
 }
 
 #[derive(Clone, Copy)]

@@ -1,60 +1,116 @@
-/* A modem asks until it is told to wait, and then has its next requests reserved. Run with bindings/c/run-example. */
-#include <assert.h>
-#include <stdint.h>
+/* A support desk's view of one modem: it asks until it is told to wait, reserves, and is looked at, paid back and forgotten. Every function of the
+ * library is called, with every setting set. Compiles as C99 and as C++. Run with bindings/c/run-example. */
+#include <inttypes.h>
 #include <stdio.h>
+#include <stdlib.h>
 
 #include "limiter.h"
 
-static_assert(sizeof(limiter_settings) == 64, "the layout that the library expects");
+/* A second and a minute in nanoseconds. */
+#define SECOND UINT64_C(1000000000)
+#define MINUTE (60 * SECOND)
 
-/* Room for 100 modems in 4 shards. */
-static uint64_t words[4 * (5 + 8 * 25)];
-#define LEN (sizeof words / sizeof words[0])
-
-/* FNV-1a over the eight bytes of a key, lowest first. */
-static uint64_t hash_of(uint64_t key)
+/* Says why a call was refused, and ends. */
+static void stop_if_refused(limiter_reply reply)
 {
-    uint64_t hash = 14695981039346656037u;
-    for (int byte = 0; byte < 8; byte++)
-        hash = (hash ^ (key >> 8 * byte & 0xff)) * 1099511628211u;
-    return hash;
+    if (reply.code > LIMITER_REFUSED) {
+        printf("refused as %d: %s\n", (int)(reply.code - LIMITER_REFUSED), limiter_refusal_text(reply.code));
+        exit(1);
+    }
+}
+
+/* 2 tokens a second, at most 4, 3 in a new bucket; room for 100 modems in 4 shards; forgotten after a minute without a request. */
+static limiter_settings village(void)
+{
+    limiter_settings settings;
+    settings.period = SECOND;
+    settings.max_keys = 100;
+    settings.shards = 4;
+    settings.idle = MINUTE;
+    settings.closed = 0;
+    settings.amount = 2;
+    settings.has_burst = 1;
+    settings.burst = 4;
+    settings.has_initial = 1;
+    settings.initial = 3;
+    settings.has_idle = 1;
+    settings.forget_debt = 0;
+    return settings;
+}
+
+/* A store, and the modem that asks it. */
+typedef struct desk {
+    limiter_settings settings;
+    uint64_t *words;
+    size_t len;
+    uint64_t modem, hash;
+} desk;
+
+/* The modem asks until there are no tokens left, and reserves two more, if they come within two seconds. Tells when these may be used. */
+static uint64_t spend(const desk *d, uint64_t now)
+{
+    limiter_reply reply;
+    int granted = 0;
+    while ((reply = limiter_try(d->settings, d->words, d->len, now, d->hash, d->modem, 1)).code == LIMITER_DONE)
+        granted++;
+    stop_if_refused(reply);
+    printf("%d granted, then code %d: retry after %" PRIu64 " ns\n", granted, (int)reply.code, reply.number);
+
+    reply = limiter_reserve(d->settings, d->words, d->len, now, d->hash, d->modem, 2, 2 * SECOND);
+    stop_if_refused(reply);
+    printf("reserved, code %d: usable after %" PRIu64 " ns\n", (int)reply.code, reply.number);
+    return now + reply.number;
+}
+
+/* Looks, which change nothing, and a refund of one token of the two. */
+static void look_and_refund(const desk *d, uint64_t now)
+{
+    limiter_reply reply = limiter_peek(d->settings, d->words, d->len, now, d->hash, d->modem, 1);
+    stop_if_refused(reply);
+    printf("then the next one, code %d: after another %" PRIu64 " ns\n", (int)reply.code, reply.number);
+
+    reply = limiter_refund(d->settings, d->words, d->len, d->hash, d->modem, 1);
+    stop_if_refused(reply);
+    printf("paid back, code %d", (int)reply.code);
+    reply = limiter_available(d->settings, d->words, d->len, now, d->hash, d->modem);
+    stop_if_refused(reply);
+    printf(": %" PRIu64 " token\n", reply.number);
+}
+
+/* The modem is forgotten, and then everything. */
+static void forget(const desk *d)
+{
+    limiter_reply reply;
+    printf("%" PRIu64 " modem known\n", limiter_length(d->settings, d->words, d->len).number);
+    reply = limiter_remove(d->settings, d->words, d->len, d->hash, d->modem);
+    printf("removed, code %d", (int)reply.code);
+    reply = limiter_remove(d->settings, d->words, d->len, d->hash, d->modem);
+    printf("; removed again, code %d\n", (int)reply.code);
+    reply = limiter_clear(d->settings, d->words, d->len);
+    printf("cleared, code %d: %" PRIu64 " modems known\n", (int)reply.code, limiter_length(d->settings, d->words, d->len).number);
 }
 
 int main(void)
 {
-    /* 2 tokens a second, at most 4; forgotten after a minute without a request. */
-    limiter_settings settings = {
-        .amount = 2, .period = 1000000000, .has_burst = 1, .burst = 4,
-        .max_keys = 100, .shards = 4, .has_idle = 1, .idle = 60000000000,
-    };
-    uint64_t modem = 0x00112233445566, hash = hash_of(modem), now = 5000000000;
+    desk d;
+    limiter_reply reply;
 
-    if (limiter_words(settings) != LEN) {
-        printf("lend %zu words\n", limiter_words(settings));
+    d.settings = village();
+    d.modem = UINT64_C(0x00112233445566);
+    d.hash = limiter_key_hash(d.modem);
+    d.len = (size_t)limiter_words(d.settings);
+    d.words = (uint64_t *)malloc(d.len * sizeof *d.words);
+    if (d.words == NULL)
         return 1;
-    }
-    limiter_reply reply = limiter_set_up(settings, words, LEN);
-    if (reply.code != LIMITER_DONE) {
-        printf("refused as %d\n", (int)(reply.code - LIMITER_REFUSED));
-        return 1;
-    }
+    printf("interface %s, %" PRIu64 " words\n", LIMITER_VERSION, (uint64_t)d.len);
+    stop_if_refused(limiter_set_up(d.settings, d.words, d.len));
 
-    /* Ask until there are no tokens left. */
-    int granted = 0;
-    while ((reply = limiter_try(settings, words, LEN, now, hash, modem, 1)).code == LIMITER_DONE)
-        granted++;
-    printf("%d granted, then code %d: retry after %llu ns\n", granted, (int)reply.code, (unsigned long long)reply.number);
-
-    /* Reserve two tokens, if they come within two seconds. */
-    reply = limiter_reserve(settings, words, LEN, now, hash, modem, 2, 2000000000);
-    printf("reserved, code %d: usable after %llu ns\n", (int)reply.code, (unsigned long long)reply.number);
-
-    reply = limiter_peek(settings, words, LEN, now + reply.number, hash, modem, 1);
-    printf("then the next one, code %d: after another %llu ns\n", (int)reply.code, (unsigned long long)reply.number);
-    printf("%llu modem known\n", (unsigned long long)limiter_length(settings, words, LEN).number);
+    look_and_refund(&d, spend(&d, 5 * SECOND));
+    forget(&d);
 
     /* A moment that is too late is refused, and nothing happens. */
-    reply = limiter_try(settings, words, LEN, UINT64_MAX, hash, modem, 1);
-    printf("refused as %d\n", (int)(reply.code - LIMITER_REFUSED));
+    reply = limiter_try(d.settings, d.words, d.len, UINT64_MAX, d.hash, d.modem, 1);
+    printf("refused as %d: %s\n", (int)(reply.code - LIMITER_REFUSED), limiter_refusal_text(reply.code));
+    free(d.words);
     return 0;
 }

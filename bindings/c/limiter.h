@@ -1,12 +1,13 @@
-/* The per-modem limiter store: C interface of liblimiter.a (`rt staticlib limiter`), x86-64.
+/* The per-modem limiter store: C interface of liblimiter.a (`rt staticlib limiter`), x86-64. C99 or later, or C++.
  *
  * Every key (a modem) has a token bucket. The store says whether a request of so many tokens is answered now, later, or never. It has
- * no memory, clock or hash of its own: each call is given the settings, the lent words, and the moment and the key where they matter.
+ * no memory, clock or lock of its own: each call is given the settings, the lent words, and the moment and the key where they matter.
  *
  * No argument is required to be sound. Settings of any content, any moment, hash, key and cost, and words of any content are safe:
  * the call ends, touches nothing but the words, and either does what it says or refuses by number and changes no word. The
  * pointer and length have to be those of 64-bit words that may be read and, unless const, written; while a call writes them no
- * other may use them. Calls on const words may run side by side.
+ * other may use them. Calls on const words may run side by side. NULL with length 0 is safe too: no store has 0 words, so such a
+ * call is refused as 5, unless something of its settings is refused before that.
  *
  * Give all calls on the same words the same settings; only then do the words mean what they should.
  */
@@ -16,6 +17,12 @@
 #include <stddef.h>
 #include <stdint.h>
 
+/* The version of this interface. A change that a caller has to know of raises the minor number while the major one is 0. */
+#define LIMITER_VERSION_MAJOR 0
+#define LIMITER_VERSION_MINOR 2
+#define LIMITER_VERSION_PATCH 0
+#define LIMITER_VERSION "0.2.0"
+
 #ifdef __cplusplus
 extern "C" {
 #endif
@@ -23,7 +30,8 @@ extern "C" {
 /* What a store is set up with. Times are in nanoseconds. A flag is set if it is not 0. */
 typedef struct limiter_settings {
     uint64_t period;      /* the time in which `amount` tokens come back: 1 to 2^46 */
-    uint64_t max_keys;    /* the keys to make room for, 0 to 4,096; each shard has room for an equal share, rounded up, at least 1 */
+    uint64_t max_keys;    /* the keys to make room for, 0 to 4,096; each shard has room for an equal share, rounded up, at least 1. Keys fall
+                             on the shards unevenly, so a shard can be full while the store is not: ask for more than there are modems */
     uint64_t shards;      /* the shards asked for: 0 to 64; 0 is taken as 1 and all others are rounded up to a power of two */
     uint64_t idle;        /* a full bucket that was idle for this long may be forgotten; read only if has_idle is set */
     uint32_t closed;      /* set: there is no rate and only a cost of 0 is granted; amount, period, burst and initial are not read */
@@ -42,17 +50,44 @@ typedef struct limiter_reply {
     uint64_t number; /* a wait in ns, tokens, or a count of keys, as the call says; else 0 */
 } limiter_reply;
 
-/* Codes. */
+/* The layout that the library has. */
+#if defined(__cplusplus) && __cplusplus >= 201103L
+#define LIMITER_ASSERT(what, holds) static_assert(holds, "limiter: " #what)
+#elif defined(__STDC_VERSION__) && __STDC_VERSION__ >= 201112L
+#define LIMITER_ASSERT(what, holds) _Static_assert(holds, "limiter: " #what)
+#else
+#define LIMITER_ASSERT(what, holds) typedef char limiter_assert_##what[(holds) ? 1 : -1]
+#endif
+#define LIMITER_OFFSET(type, field, bytes) LIMITER_ASSERT(type##_##field, offsetof(limiter_##type, field) == (bytes))
+LIMITER_ASSERT(size_t, sizeof(size_t) == 8);
+LIMITER_ASSERT(settings, sizeof(limiter_settings) == 64);
+LIMITER_OFFSET(settings, period, 0);
+LIMITER_OFFSET(settings, max_keys, 8);
+LIMITER_OFFSET(settings, shards, 16);
+LIMITER_OFFSET(settings, idle, 24);
+LIMITER_OFFSET(settings, closed, 32);
+LIMITER_OFFSET(settings, amount, 36);
+LIMITER_OFFSET(settings, has_burst, 40);
+LIMITER_OFFSET(settings, burst, 44);
+LIMITER_OFFSET(settings, has_initial, 48);
+LIMITER_OFFSET(settings, initial, 52);
+LIMITER_OFFSET(settings, has_idle, 56);
+LIMITER_OFFSET(settings, forget_debt, 60);
+LIMITER_ASSERT(reply, sizeof(limiter_reply) == 16);
+LIMITER_OFFSET(reply, code, 0);
+LIMITER_OFFSET(reply, number, 8);
+#undef LIMITER_OFFSET
+#undef LIMITER_ASSERT
+
 enum {
+    /* Codes. */
     LIMITER_DONE = 0,       /* granted, accepted, known, counted */
     LIMITER_RETRY = 1,      /* not now; number is the wait in ns */
     LIMITER_IMPOSSIBLE = 2, /* never: the cost is over the burst, or the limiter is closed */
     LIMITER_NONE = 3,       /* no reservation; or the key is unknown */
-    LIMITER_REFUSED = 10    /* this and the number of a refusal */
-};
+    LIMITER_REFUSED = 10,   /* this and the number of a refusal */
 
-/* Refusals: code - LIMITER_REFUSED. The lowest that applies is given. */
-enum {
+    /* Refusals: code - LIMITER_REFUSED. The lowest that applies is given. */
     LIMITER_BAD_AMOUNT = 1,   /* not 1 to 65,535 */
     LIMITER_BAD_PERIOD = 2,   /* not 1 to 2^46 ns */
     LIMITER_BAD_BURST = 3,    /* not 1 to 65,535 */
@@ -63,18 +98,27 @@ enum {
     LIMITER_BAD_MAX_WAIT = 7  /* max_wait is over 2^46 ns */
 };
 
-/* How many words to lend for these settings: shards, rounded up to a power of two (0 as 1), times 5 + 8 x cap, where cap is max_keys over
- * these shards, rounded up, at least 1. 0 for sizes that are refused. */
-static inline size_t limiter_words(limiter_settings s)
+/* What a refusal says, for a log. `code` is that of a reply. */
+static inline const char *limiter_refusal_text(uint64_t code)
 {
-    uint64_t shards = 1, cap;
-    if (s.max_keys > 4096 || s.shards > 64)
-        return 0;
-    while (shards < s.shards)
-        shards *= 2;
-    cap = (s.max_keys + shards - 1) / shards;
-    return (size_t)(shards * (5 + 8 * (cap == 0 ? 1 : cap)));
+    switch (code) {
+    case LIMITER_REFUSED + LIMITER_BAD_AMOUNT: return "the amount is not 1 to 65,535";
+    case LIMITER_REFUSED + LIMITER_BAD_PERIOD: return "the period is not 1 to 2^46 ns";
+    case LIMITER_REFUSED + LIMITER_BAD_BURST: return "the burst is not 1 to 65,535";
+    case LIMITER_REFUSED + LIMITER_BAD_SIZES: return "more than 4,096 keys or 64 shards";
+    case LIMITER_REFUSED + LIMITER_BAD_MEMORY: return "the words are not those of a store with these settings";
+    case LIMITER_REFUSED + LIMITER_BAD_MOMENT: return "the moment is after 2^62 ns";
+    case LIMITER_REFUSED + LIMITER_BAD_MAX_WAIT: return "the longest wait is over 2^46 ns";
+    default: return code <= LIMITER_REFUSED ? "not refused" : "refused for a reason that this header does not know";
+    }
 }
+
+/* How many words to lend for these settings: at least 1, or 0 for sizes that are refused (LIMITER_BAD_SIZES). It follows from max_keys and
+ * shards alone; where only the rate is refused it is what it would be with another rate. */
+uint64_t limiter_words(limiter_settings s);
+
+/* A hash of a key, for callers who have none of their own: FNV-1a over its eight bytes, lowest first. It has no secret. */
+uint64_t limiter_key_hash(uint64_t key);
 
 /* In all calls below: `words` and `len` are the lent memory. `hash` and `key` together are a key's identity. The hash is the caller's, any
  * 64-bit hash that is the same at every call; its bits 40 to 45 choose the shard. Keys with one hash share a remembered debt, so

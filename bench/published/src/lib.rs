@@ -22,16 +22,14 @@ use perkey::PerKey;
 pub use eviction::{Eviction, WhenFull};
 pub use key::Key;
 
-/// The key of this number, hashed by FNV-1a over its eight bytes, lowest first.
+/// The key of this number, with our library's hash: FNV-1a over its eight bytes, lowest first.
 #[inline]
 #[must_use]
 pub fn key(number: u64) -> Key {
-    let mix = |hash: u64, byte: u8| (hash ^ u64::from(byte)).wrapping_mul(1_099_511_628_211);
-    let hash = number
-        .to_le_bytes()
-        .into_iter()
-        .fold(14_695_981_039_346_656_037, mix);
-    Key { hash, key: number }
+    Key {
+        hash: limiter_sys::limiter_key_hash(number),
+        key: number,
+    }
 }
 
 /// An answer's code and number, as the library numbers them.

@@ -4,28 +4,28 @@
 
 use std::time::Duration;
 
-use limiter::{Decision, Key, Rate, Refusal, Settings, Store};
+use limiter::{Decision, Key, OwnedStore, Rate, Refusal, Settings};
 
 const MODEMS: u64 = 12;
 
 fn main() -> Result<(), Refusal> {
     // Two answers a second for each modem, at most four at once. Room for eight modems, and for the debts of eight more.
-    let settings = Settings::new(Rate::per_second(2).burst(4), 8).idle(Duration::from_secs(60));
-    let mut words = vec![0; settings.words().unwrap_or(0)];
-    let mut store = Store::set_up(settings, &mut words)?;
+    let settings = Settings::new(Rate::per_second(2).burst(4), 8).idle(Duration::from_mins(1));
+    let mut store = OwnedStore::new(settings)?;
 
     let now = Duration::from_secs(100);
     for modem in 1..=MODEMS {
         let mut answered = 0;
         let told = loop {
-            match store.try_acquire(now, Key::fnv1a(modem), 1)? {
-                Decision::Acquired => answered += 1,
-                told => break told,
+            let decision = store.try_acquire(now, Key::fnv1a(modem), 1)?;
+            if !decision.is_acquired() {
+                break decision;
             }
+            answered += 1;
         };
         match told {
-            Decision::Retry { after } => {
-                println!("modem {modem}: {answered} answered, ask again in {after:?}")
+            Decision::Retry { after, .. } => {
+                println!("modem {modem}: {answered} answered, ask again in {after:?}");
             }
             other => println!("modem {modem}: {answered} answered, then {other:?}"),
         }
@@ -36,7 +36,10 @@ fn main() -> Result<(), Refusal> {
     let first = Key::fnv1a(1);
     println!("modem 1 has {} tokens", store.available(now, first)?);
     match store.reserve(now, first, 2, Duration::from_secs(2))? {
-        Some(wait) => println!("modem 1: two more are reserved, to be used in {wait:?}"),
+        Some(reserved) => println!(
+            "modem 1: two more are reserved, to be used in {:?}",
+            reserved.wait
+        ),
         None => println!("modem 1: no reservation within two seconds"),
     }
     Ok(())

@@ -3,14 +3,23 @@
 use core::fmt;
 use core::time::Duration;
 
-use crate::raw::Reply;
+use limiter_sys::{
+    LIMITER_BAD_AMOUNT, LIMITER_BAD_BURST, LIMITER_BAD_MAX_WAIT, LIMITER_BAD_MEMORY,
+    LIMITER_BAD_MOMENT, LIMITER_BAD_PERIOD, LIMITER_BAD_SIZES, LIMITER_DONE, LIMITER_IMPOSSIBLE,
+    LIMITER_NONE, LIMITER_REFUSED, LIMITER_RETRY, LimiterReply,
+};
 
 /// The answer to a try or a peek.
-#[derive(Debug, Clone, Copy, PartialEq, Eq)]
+///
+/// Match on it with `..` and a last arm: a later version may tell more of an outcome, or have another one.
+#[non_exhaustive]
+#[derive(Debug, Clone, Copy, PartialEq, Eq, Hash)]
 pub enum Decision {
     /// The tokens are taken; to a peek, they are there.
-    Acquired,
+    #[non_exhaustive]
+    Acquired {},
     /// Not now.
+    #[non_exhaustive]
     Retry {
         /// How long to wait before trying again.
         after: Duration,
@@ -23,41 +32,61 @@ impl Decision {
     /// Whether the tokens are taken, or there.
     #[must_use]
     pub const fn is_acquired(self) -> bool {
-        matches!(self, Self::Acquired)
+        matches!(self, Self::Acquired { .. })
+    }
+
+    /// Whether no wait helps.
+    #[must_use]
+    pub const fn is_impossible(self) -> bool {
+        matches!(self, Self::Impossible)
     }
 
     /// How long to wait before trying again, if that helps.
     #[must_use]
     pub const fn retry_after(self) -> Option<Duration> {
         match self {
-            Self::Retry { after } => Some(after),
-            Self::Acquired | Self::Impossible => None,
+            Self::Retry { after, .. } => Some(after),
+            Self::Acquired { .. } | Self::Impossible => None,
         }
     }
 }
 
+/// Tokens that are taken, and may be used after a wait.
+#[non_exhaustive]
+#[derive(Debug, Clone, Copy, PartialEq, Eq, Hash)]
+pub struct Reservation {
+    /// The wait after which they may be used.
+    pub wait: Duration,
+}
+
 /// Why a call was refused. A refused call changes nothing. The first that applies is given.
-#[derive(Debug, Clone, Copy, PartialEq, Eq)]
-#[repr(u8)]
+#[non_exhaustive]
+#[derive(Debug, Clone, Copy, PartialEq, Eq, Hash)]
 pub enum Refusal {
     /// The amount is not 1 to 65,535.
-    Amount = 1,
+    Amount,
     /// The period is not 1 to 2^46 ns.
-    Period = 2,
+    Period,
     /// The burst is not 1 to 65,535.
-    Burst = 3,
+    Burst,
     /// More than 4,096 keys or 64 shards.
-    Sizes = 4,
+    Sizes,
     /// Another number of words than [`Settings::words`](crate::Settings::words), or a count in them that is more than a shard holds.
-    Memory = 5,
+    Memory,
     /// The moment is after 2^62 ns.
-    Moment = 6,
+    Moment,
     /// The longest wait is over 2^46 ns.
-    MaxWait = 7,
+    MaxWait,
+    /// The library answered as this crate does not know: the two are of different versions. Here the call may have done something.
+    Unknown {
+        /// The code that the library gave.
+        code: u64,
+    },
 }
 
 impl Refusal {
-    const ALL: [Self; 7] = [
+    /// Those that have a number.
+    const NUMBERED: [Self; 7] = [
         Self::Amount,
         Self::Period,
         Self::Burst,
@@ -67,10 +96,29 @@ impl Refusal {
         Self::MaxWait,
     ];
 
-    /// The refusal's number.
+    /// The code that the library answered with: 10 and the number of the refusal.
     #[must_use]
-    pub const fn number(self) -> u8 {
-        self as u8
+    pub const fn code(self) -> u64 {
+        LIMITER_REFUSED
+            + match self {
+                Self::Amount => LIMITER_BAD_AMOUNT,
+                Self::Period => LIMITER_BAD_PERIOD,
+                Self::Burst => LIMITER_BAD_BURST,
+                Self::Sizes => LIMITER_BAD_SIZES,
+                Self::Memory => LIMITER_BAD_MEMORY,
+                Self::Moment => LIMITER_BAD_MOMENT,
+                Self::MaxWait => LIMITER_BAD_MAX_WAIT,
+                Self::Unknown { code } => return code,
+            }
+    }
+
+    /// What a reply says that is none of those which its call is known to give.
+    #[cold]
+    fn told(reply: LimiterReply) -> Self {
+        Self::NUMBERED
+            .into_iter()
+            .find(|refusal| refusal.code() == reply.code)
+            .unwrap_or(Self::Unknown { code: reply.code })
     }
 }
 
@@ -81,54 +129,93 @@ impl fmt::Display for Refusal {
             Self::Period => "the period is not 1 to 2^46 ns",
             Self::Burst => "the burst is not 1 to 65,535",
             Self::Sizes => "more than 4,096 keys or 64 shards",
-            Self::Memory => "the lent words are not those of a store with these settings",
+            Self::Memory => "the words are not those of a store with these settings",
             Self::Moment => "the moment is after 2^62 ns",
             Self::MaxWait => "the longest wait is over 2^46 ns",
+            Self::Unknown { code } => {
+                return write!(f, "the library answered with the unknown code {code}");
+            }
         })
     }
 }
 
 impl core::error::Error for Refusal {}
 
-/// The reply of a call that is not refused. The functions below panic on a reply that bindings/c/limiter.h does not name, which the library
-/// never gives.
-pub(crate) fn accepted(reply: Reply) -> Result<Reply, Refusal> {
-    let refusal = |refusal: &Refusal| reply.code == 10 + u64::from(refusal.number());
-    match Refusal::ALL.into_iter().find(refusal) {
-        Some(refusal) => Err(refusal),
-        None => Ok(reply),
-    }
-}
-
-/// A call that gives a number.
-pub(crate) fn number(reply: Reply) -> Result<u64, Refusal> {
-    match accepted(reply)? {
-        Reply { code: 0, number } => Ok(number),
-        reply => unknown(reply),
-    }
-}
-
-/// A call that gives a number or nothing.
-pub(crate) fn optional(reply: Reply) -> Result<Option<u64>, Refusal> {
-    match accepted(reply)? {
-        Reply { code: 0, number } => Ok(Some(number)),
-        Reply { code: 3, .. } => Ok(None),
-        reply => unknown(reply),
-    }
-}
-
-/// A try or a look.
-pub(crate) fn decision(reply: Reply) -> Result<Decision, Refusal> {
-    match accepted(reply)? {
-        Reply { code: 0, .. } => Ok(Decision::Acquired),
-        Reply { code: 1, number } => Ok(Decision::Retry {
-            after: Duration::from_nanos(number),
+/// A try or a peek.
+pub(crate) fn decision(reply: LimiterReply) -> Result<Decision, Refusal> {
+    match reply.code {
+        LIMITER_DONE => Ok(Decision::Acquired {}),
+        LIMITER_RETRY => Ok(Decision::Retry {
+            after: Duration::from_nanos(reply.number),
         }),
-        Reply { code: 2, .. } => Ok(Decision::Impossible),
-        reply => unknown(reply),
+        LIMITER_IMPOSSIBLE => Ok(Decision::Impossible),
+        _ => Err(Refusal::told(reply)),
     }
 }
 
-fn unknown(reply: Reply) -> ! {
-    panic!("the library answered {} {}", reply.code, reply.number)
+/// A reservation, if there is one.
+pub(crate) fn reservation(reply: LimiterReply) -> Result<Option<Reservation>, Refusal> {
+    match reply.code {
+        LIMITER_DONE => Ok(Some(Reservation {
+            wait: Duration::from_nanos(reply.number),
+        })),
+        LIMITER_NONE => Ok(None),
+        _ => Err(Refusal::told(reply)),
+    }
+}
+
+/// Whether a key was known.
+pub(crate) fn known(reply: LimiterReply) -> Result<bool, Refusal> {
+    match reply.code {
+        LIMITER_DONE => Ok(true),
+        LIMITER_NONE => Ok(false),
+        _ => Err(Refusal::told(reply)),
+    }
+}
+
+/// Tokens or keys.
+pub(crate) fn count(reply: LimiterReply) -> Result<u64, Refusal> {
+    match reply.code {
+        LIMITER_DONE => Ok(reply.number),
+        _ => Err(Refusal::told(reply)),
+    }
+}
+
+/// A call that says nothing but that it is done.
+pub(crate) fn done(reply: LimiterReply) -> Result<(), Refusal> {
+    count(reply).map(|_| ())
+}
+
+#[cfg(test)]
+mod tests {
+    use super::*;
+
+    const fn reply(code: u64) -> LimiterReply {
+        LimiterReply { code, number: 9 }
+    }
+
+    #[test]
+    fn a_code_that_is_not_known_is_an_error() {
+        for code in [3, 4, 9, 10, 18, 99, u64::MAX] {
+            let unknown = Refusal::Unknown { code };
+            assert_eq!(decision(reply(code)), Err(unknown));
+            assert_eq!(done(reply(code)), Err(unknown));
+            assert_eq!(unknown.code(), code);
+        }
+        // 1 and 2 are codes of a try alone.
+        for code in [1, 2, 4] {
+            let unknown = Refusal::Unknown { code };
+            assert_eq!(reservation(reply(code)), Err(unknown));
+            assert_eq!(known(reply(code)), Err(unknown));
+            assert_eq!(count(reply(code)), Err(unknown));
+        }
+    }
+
+    #[test]
+    fn a_refusal_has_the_code_that_it_was_told_by() {
+        for (code, refusal) in (11..).zip(Refusal::NUMBERED) {
+            assert_eq!(refusal.code(), code);
+            assert_eq!(known(reply(code)), Err(refusal));
+        }
+    }
 }

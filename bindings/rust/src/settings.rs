@@ -2,14 +2,18 @@
 
 use core::time::Duration;
 
-use crate::raw;
+use limiter_sys::{LimiterSettings, limiter_words};
+
+use crate::Refusal;
 
 /// What a store is set up with. Any values can be given; [`Store::set_up`](crate::Store::set_up) refuses those that are out of range.
-#[derive(Debug, Clone, Copy, PartialEq, Eq)]
+#[non_exhaustive]
+#[derive(Debug, Clone, Copy, PartialEq, Eq, Hash)]
 pub struct Settings {
     /// The rate that every key has. `None` is a closed limiter, which grants a cost of 0 alone.
     pub rate: Option<Rate>,
-    /// The keys to make room for, 0 to 4,096; each shard has room for an equal share, rounded up, at least 1.
+    /// The keys to make room for, 0 to 4,096; each shard has room for an equal share, rounded up, at least 1. Keys fall on the shards unevenly, so
+    /// a shard can be full while the store as a whole is not: ask for more keys than there are modems.
     pub max_keys: u64,
     /// The shards asked for: 0 to 64; 0 is taken as 1, all others are rounded up to a power of two.
     pub shards: u64,
@@ -20,7 +24,8 @@ pub struct Settings {
 }
 
 /// A rate, with the bucket's size and first fill.
-#[derive(Debug, Clone, Copy, PartialEq, Eq)]
+#[non_exhaustive]
+#[derive(Debug, Clone, Copy, PartialEq, Eq, Hash)]
 pub struct Rate {
     /// Tokens that come back in a period: 1 to 65,535.
     pub amount: u32,
@@ -33,7 +38,8 @@ pub struct Rate {
 }
 
 /// What happens to a new key when its shard finds no room for it and the debts.
-#[derive(Debug, Clone, Copy, PartialEq, Eq, Default)]
+#[non_exhaustive]
+#[derive(Debug, Clone, Copy, PartialEq, Eq, Hash, Default)]
 pub enum WhenFull {
     /// It is turned away, and told when room is expected; no debt is forgotten.
     #[default]
@@ -76,7 +82,8 @@ impl Rate {
 }
 
 impl Settings {
-    /// A store of one shard for up to `max_keys` keys with this rate.
+    /// A store of one shard for up to `max_keys` keys with this rate. A call looks through the keys of one shard, so a large store is faster with
+    /// 64 [`shards`](Settings::shards()).
     #[must_use]
     pub const fn new(rate: Rate, max_keys: u64) -> Self {
         Self {
@@ -118,22 +125,58 @@ impl Settings {
         self
     }
 
-    /// How many words to lend; `None` for sizes that are refused.
-    #[must_use]
-    pub fn words(&self) -> Option<usize> {
-        if self.max_keys > 4_096 || self.shards > 64 {
-            return None;
+    /// How many words a store with these settings takes. It follows from the sizes alone; the rate is not looked at.
+    ///
+    /// # Errors
+    ///
+    /// [`Refusal::Sizes`]: more than 4,096 keys or 64 shards.
+    pub fn words(&self) -> Result<usize, Refusal> {
+        match usize::try_from(limiter_words(self.raw())) {
+            Ok(0) | Err(_) => Err(Refusal::Sizes),
+            Ok(words) => Ok(words),
         }
-        let shards = self.shards.max(1).next_power_of_two();
-        let cap = self.max_keys.div_ceil(shards).max(1);
-        usize::try_from(shards * (5 + 8 * cap)).ok()
+    }
+
+    /// The settings as twelve numbers, in the order of the C struct. Keep them with the words of a store: words mean what they should only under the
+    /// settings that they had. Equal settings have equal numbers, and so have settings that no store can tell apart.
+    #[must_use]
+    pub fn numbers(&self) -> [u64; 12] {
+        let raw = self.raw();
+        let flags_and_tokens = [
+            raw.closed,
+            raw.amount,
+            raw.has_burst,
+            raw.burst,
+            raw.has_initial,
+            raw.initial,
+            raw.has_idle,
+            raw.forget_debt,
+        ];
+        let mut numbers = [
+            raw.period,
+            raw.max_keys,
+            raw.shards,
+            raw.idle,
+            0,
+            0,
+            0,
+            0,
+            0,
+            0,
+            0,
+            0,
+        ];
+        for (place, number) in numbers[4..].iter_mut().zip(flags_and_tokens) {
+            *place = number.into();
+        }
+        numbers
     }
 
     /// The record that the library takes. A time past 64 bits of nanoseconds is held to them; such a period is refused anyway, and such
     /// an idle time never passes.
-    pub(crate) fn raw(&self) -> raw::Settings {
+    pub(crate) fn raw(&self) -> LimiterSettings {
         let rate = self.rate.unwrap_or(Rate::new(0, Duration::ZERO));
-        raw::Settings {
+        LimiterSettings {
             period: nanos(rate.period),
             max_keys: self.max_keys,
             shards: self.shards,

@@ -1,8 +1,10 @@
 //! The store as a server uses it. The numbers are edges of document 01.
 
 use core::time::Duration;
+use std::collections::HashSet;
+use std::sync::RwLock;
 
-use limiter::{Decision, Key, Rate, Refusal, Settings, Store, WhenFull};
+use limiter::{Decision, Key, LentStore, Look, Rate, Refusal, Settings, Store, WhenFull};
 
 const SECOND: Duration = Duration::from_secs(1);
 const HALF: Duration = Duration::from_millis(500);
@@ -11,51 +13,90 @@ const ZERO: Duration = Duration::ZERO;
 /// 2 tokens a second, at most 4.
 const R: Rate = Rate::per_second(2).burst(4);
 
-fn lend(settings: &Settings) -> Vec<u64> {
-    // Set-up clears whatever was there.
-    vec![7; settings.words().expect("sizes within bounds")]
+/// The keys that are asked for.
+fn modems<const N: usize>(keys: [u64; N]) -> [Key; N] {
+    keys.map(Key::fnv1a)
 }
 
-const fn retry(after: Duration) -> Result<Decision, Refusal> {
-    Ok(Decision::Retry { after })
+/// A store on words that held something else before: set-up clears them.
+fn store(settings: Settings) -> Store<Vec<u64>> {
+    let words = settings.words().expect("sizes within bounds");
+    Store::set_up(settings, vec![7; words]).expect("settings within bounds")
+}
+
+fn granted(answer: Result<Decision, Refusal>) -> bool {
+    answer.expect("not refused").is_acquired()
+}
+
+fn retry(answer: Result<Decision, Refusal>) -> Option<Duration> {
+    answer.expect("not refused").retry_after()
 }
 
 #[test]
 fn words_to_lend() {
-    assert_eq!(Settings::new(R, 0).shards(0).words(), Some(13));
-    assert_eq!(Settings::new(R, 5).shards(3).words(), Some(84));
-    assert_eq!(Settings::new(R, 4_097).words(), None);
-    assert_eq!(Settings::new(R, 1).shards(65).words(), None);
+    assert_eq!(Settings::new(R, 0).shards(0).words(), Ok(13));
+    assert_eq!(Settings::new(R, 5).shards(3).words(), Ok(84));
+    assert_eq!(Settings::new(R, 4_097).words(), Err(Refusal::Sizes));
+    let many_shards = Settings::new(R, 1).shards(65);
+    assert_eq!(many_shards.words(), Err(Refusal::Sizes));
+    // The rate is not looked at.
+    let no_rate = Settings::new(Rate::per_second(0), 5).shards(3);
+    assert_eq!(no_rate.words(), Ok(84));
+    // Every size that has words is accepted with these, and with no others.
+    for (keys, shards) in [(0, 0), (1, 1), (100, 3), (4_096, 1), (4_096, 64)] {
+        let settings = Settings::new(R, keys).shards(shards);
+        let words = settings.words().expect("sizes within bounds");
+        assert!(Store::set_up(settings, vec![0; words]).is_ok());
+        let other = Store::set_up(settings, vec![0; words + 1]);
+        assert_eq!(other.expect_err("refused"), Refusal::Memory);
+    }
+}
+
+#[test]
+fn the_hash_is_fnv1a() {
+    // From the FNV authors' test suite: the eight bytes "chongo w".
+    let published = Key::fnv1a(u64::from_le_bytes(*b"chongo w"));
+    assert_eq!(published.hash, 0xd1ed_d10b_5073_44d0);
+    // As crates/fnv_vectors has them.
+    let vectors = [
+        (0, 12_161_962_213_042_174_405),
+        (1, 9_929_646_806_074_584_996),
+        (7, 5_465_015_992_139_406_178),
+        (8, 11_573_741_395_073_338_061),
+        (9, 9_341_425_988_105_748_652),
+        (u64::MAX, 10_157_053_723_145_373_757),
+    ];
+    for (key, hash) in vectors {
+        assert_eq!(Key::fnv1a(key), Key::new(hash, key));
+    }
 }
 
 #[test]
 fn a_modem_waits_and_reserves() {
-    let settings = Settings::new(R, 2);
-    let mut words = lend(&settings);
-    let mut store = Store::set_up(settings, &mut words).expect("accepted");
-    let [seven, eight, nine] = [7, 8, 9].map(Key::fnv1a);
+    let mut store = store(Settings::new(R, 2));
+    let [seven, eight, nine] = modems([7, 8, 9]);
     for (modem, cost) in [(seven, 4), (eight, 1), (nine, 1)] {
-        assert_eq!(store.try_acquire(ZERO, modem, cost), Ok(Decision::Acquired));
+        assert!(granted(store.try_acquire(ZERO, modem, cost)));
     }
-    assert_eq!(store.try_acquire(HALF, seven, 3), retry(SECOND));
-    assert_eq!(store.try_acquire(HALF, seven, 5), Ok(Decision::Impossible));
-    assert_eq!(store.reserve(HALF, seven, 3, SECOND), Ok(Some(SECOND)));
+    assert_eq!(retry(store.try_acquire(HALF, seven, 3)), Some(SECOND));
+    let never = store.try_acquire(HALF, seven, 5).expect("not refused");
+    assert!(never.is_impossible() && never.retry_after().is_none());
+    let reserved = store.reserve(HALF, seven, 3, SECOND).expect("not refused");
+    assert_eq!(reserved.expect("reserved").wait, SECOND);
     assert_eq!(store.reserve(HALF, seven, 3, SECOND), Ok(None));
-    assert_eq!(store.peek(HALF, seven, 1), retry(SECOND + HALF));
+    assert_eq!(retry(store.peek(HALF, seven, 1)), Some(SECOND + HALF));
     assert_eq!(store.available(HALF, seven), Ok(0));
     assert_eq!(store.len(), Ok(2));
 }
 
 #[test]
 fn a_forgotten_modem_keeps_its_debt() {
-    let settings = Settings::new(R, 1);
-    let mut words = lend(&settings);
-    let mut store = Store::set_up(settings, &mut words).expect("accepted");
-    let [seven, eight, nine] = [7, 8, 9].map(Key::fnv1a);
-    assert_eq!(store.try_acquire(ZERO, seven, 4), Ok(Decision::Acquired));
-    assert_eq!(store.try_acquire(ZERO, eight, 1), Ok(Decision::Acquired));
-    assert_eq!(store.try_acquire(ZERO, nine, 1), retry(HALF));
-    assert_eq!(store.try_acquire(ZERO, seven, 1), retry(HALF));
+    let mut store = store(Settings::new(R, 1));
+    let [seven, eight, nine] = modems([7, 8, 9]);
+    assert!(granted(store.try_acquire(ZERO, seven, 4)));
+    assert!(granted(store.try_acquire(ZERO, eight, 1)));
+    assert_eq!(retry(store.try_acquire(ZERO, nine, 1)), Some(HALF));
+    assert_eq!(retry(store.try_acquire(ZERO, seven, 1)), Some(HALF));
     assert_eq!(store.refund(eight, 1), Ok(true));
     assert_eq!(store.refund(nine, 1), Ok(false));
     assert_eq!(store.remove(seven), Ok(true));
@@ -67,23 +108,37 @@ fn a_forgotten_modem_keeps_its_debt() {
 
 #[test]
 fn a_debt_can_be_forgotten() {
-    let settings = Settings::new(R, 1).when_full(WhenFull::ForgetDebt);
-    let mut words = lend(&settings);
-    let mut store = Store::set_up(settings, &mut words).expect("accepted");
+    let mut store = store(Settings::new(R, 1).when_full(WhenFull::ForgetDebt));
     for modem in 7..12 {
-        let decision = store.try_acquire(ZERO, Key::fnv1a(modem), 4);
-        assert_eq!(decision, Ok(Decision::Acquired));
+        assert!(granted(store.try_acquire(ZERO, Key::fnv1a(modem), 4)));
     }
 }
 
 #[test]
+fn a_new_modem_has_the_initial_tokens() {
+    let mut store = store(Settings::new(R.initial(1), 1));
+    let [seven] = modems([7]);
+    assert_eq!(store.available(ZERO, seven), Ok(1));
+    assert_eq!(retry(store.try_acquire(ZERO, seven, 2)), Some(HALF));
+}
+
+#[test]
+fn an_idle_modem_goes() {
+    let idle = Duration::from_secs(3);
+    let mut store = store(Settings::new(R, 2).idle(idle));
+    let [seven, eight] = modems([7, 8]);
+    assert!(granted(store.try_acquire(ZERO, seven, 1)));
+    assert!(granted(store.try_acquire(4 * SECOND, eight, 1)));
+    assert_eq!(store.len(), Ok(1));
+}
+
+#[test]
 fn a_closed_limiter_grants_nothing() {
-    let settings = Settings::closed(1);
-    let mut words = lend(&settings);
-    let mut store = Store::set_up(settings, &mut words).expect("accepted");
-    let modem = Key::fnv1a(7);
-    assert_eq!(store.try_acquire(ZERO, modem, 0), Ok(Decision::Acquired));
-    assert_eq!(store.try_acquire(ZERO, modem, 1), Ok(Decision::Impossible));
+    let mut store = store(Settings::closed(1));
+    let [modem] = modems([7]);
+    assert!(granted(store.try_acquire(ZERO, modem, 0)));
+    let one = store.try_acquire(ZERO, modem, 1).expect("not refused");
+    assert!(one.is_impossible());
     assert_eq!(store.reserve(ZERO, modem, 0, ZERO), Ok(None));
     assert_eq!(store.available(ZERO, modem), Ok(0));
     assert_eq!(store.refund(modem, 1), Ok(false));
@@ -92,24 +147,22 @@ fn a_closed_limiter_grants_nothing() {
 #[test]
 fn every_refusal() {
     let refusal = |settings: Settings, words: usize| {
-        Store::set_up(settings, &mut vec![0; words])
-            .map(|_| ())
-            .expect_err("refused")
+        let set_up = Store::set_up(settings, vec![0; words]);
+        set_up.expect_err("refused")
     };
     let rate = |rate| Settings::new(rate, 1);
     assert_eq!(refusal(rate(Rate::per_second(0)), 13), Refusal::Amount);
     assert_eq!(refusal(rate(Rate::new(1, ZERO)), 13), Refusal::Period);
-    assert_eq!(
-        refusal(rate(Rate::new(1, Duration::MAX)), 13),
-        Refusal::Period
-    );
+    let longest = Rate::new(1, Duration::MAX);
+    assert_eq!(refusal(rate(longest), 13), Refusal::Period);
     assert_eq!(refusal(rate(R.burst(65_536)), 13), Refusal::Burst);
     assert_eq!(refusal(Settings::new(R, 4_097), 13), Refusal::Sizes);
     assert_eq!(refusal(rate(R), 14), Refusal::Memory);
+    assert_eq!(refusal(rate(R), 0), Refusal::Memory);
 
-    let mut words = [0; 13];
-    let mut store = Store::set_up(rate(R), &mut words).expect("accepted");
-    let (modem, last) = (Key::fnv1a(7), Duration::from_nanos(1 << 62));
+    let mut store = store(rate(R));
+    let [modem] = modems([7]);
+    let last = Duration::from_nanos(1 << 62);
     let late = last + Duration::from_nanos(1);
     let long = Duration::from_nanos((1 << 46) + 1);
     assert_eq!(store.available(last, modem), Ok(4));
@@ -117,23 +170,112 @@ fn every_refusal() {
     assert_eq!(store.peek(Duration::MAX, modem, 1), Err(Refusal::Moment));
     assert_eq!(store.reserve(late, modem, 1, long), Err(Refusal::Moment));
     assert_eq!(store.reserve(ZERO, modem, 1, long), Err(Refusal::MaxWait));
-    assert_eq!(Refusal::MaxWait.number(), 7);
+    assert_eq!(Refusal::MaxWait.code(), 17);
     assert_eq!(store.len(), Ok(0));
 }
 
 #[test]
+fn refusals_read_as_in_the_header() {
+    let header = include_str!("../../c/limiter.h");
+    let refusals = [
+        Refusal::Amount,
+        Refusal::Period,
+        Refusal::Burst,
+        Refusal::Sizes,
+        Refusal::Memory,
+        Refusal::Moment,
+        Refusal::MaxWait,
+    ];
+    for refusal in refusals {
+        let line = format!("return \"{refusal}\";");
+        assert!(header.contains(&line), "{line}");
+    }
+}
+
+#[test]
 fn a_store_is_resumed() {
-    let settings = Settings::new(R, 10).shards(4).idle(Duration::from_secs(60));
-    let mut words = lend(&settings);
-    let mut store = Store::set_up(settings, &mut words).expect("accepted");
-    let modem = Key::fnv1a(7);
-    assert_eq!(store.try_acquire(SECOND, modem, 4), Ok(Decision::Acquired));
-    let mut store = Store::resume(settings, &mut words);
-    assert_eq!(store.try_acquire(SECOND, modem, 1), retry(HALF));
-    // Words that no store has.
+    let settings = Settings::new(R, 10).shards(4).idle(Duration::from_mins(1));
+    let mut first = store(settings);
+    let [modem] = modems([7]);
+    assert!(granted(first.try_acquire(SECOND, modem, 4)));
+    let mut words = first.into_words();
+    let mut second = LentStore::resume(settings, &mut words).expect("the same settings");
+    assert_eq!(retry(second.try_acquire(SECOND, modem, 1)), Some(HALF));
+    // Another number of words, and words that no store has.
+    let refused = |words: &[u64]| Look::resume(settings, words).expect_err("refused");
+    assert_eq!(refused(&words[1..]), Refusal::Memory);
     words.fill(u64::MAX);
-    let mut store = Store::resume(settings, &mut words);
-    assert_eq!(store.try_acquire(SECOND, modem, 1), Err(Refusal::Memory));
-    assert_eq!(store.len(), Err(Refusal::Memory));
+    assert_eq!(refused(&words), Refusal::Memory);
     assert!(words.iter().all(|&word| word == u64::MAX));
+}
+
+#[test]
+fn other_settings_have_other_numbers() {
+    let settings = Settings::new(R, 100).shards(4);
+    let others = [
+        Settings::new(R, 101).shards(4),
+        settings.shards(8),
+        settings.idle(SECOND),
+        settings.idle(ZERO),
+        settings.when_full(WhenFull::ForgetDebt),
+        Settings::new(R.burst(5), 100).shards(4),
+        Settings::new(R.initial(4), 100).shards(4),
+        Settings::new(Rate::new(2, HALF).burst(4), 100).shards(4),
+        Settings::new(Rate::per_second(3).burst(4), 100).shards(4),
+        Settings::new(Rate::per_second(4), 100).shards(4),
+        Settings::closed(100).shards(4),
+    ];
+    let all: HashSet<_> = others
+        .iter()
+        .chain([&settings])
+        .map(Settings::numbers)
+        .collect();
+    assert_eq!(all.len(), others.len() + 1);
+    assert_eq!(
+        settings.numbers(),
+        Settings::new(R, 100).shards(4).numbers()
+    );
+}
+
+#[test]
+fn readers_look_while_others_look() {
+    let locked = RwLock::new(store(Settings::new(R, 10)));
+    let [modem] = modems([7]);
+    assert!(granted(
+        locked
+            .write()
+            .expect("unlocked")
+            .try_acquire(ZERO, modem, 3)
+    ));
+    let (one, other) = (
+        locked.read().expect("no writer"),
+        locked.read().expect("no writer"),
+    );
+    let look = other.look();
+    std::thread::scope(|threads| {
+        let peeking = threads.spawn(|| granted(one.peek(ZERO, modem, 1)));
+        assert_eq!(look.available(ZERO, modem), Ok(1));
+        assert_eq!(look.len(), Ok(1));
+        assert!(peeking.join().expect("no panic"));
+    });
+}
+
+#[cfg(feature = "alloc")]
+#[test]
+fn a_store_owns_its_words() {
+    use limiter::OwnedStore;
+
+    let settings = Settings::new(R, 4_096).shards(64);
+    let mut store = OwnedStore::new(settings).expect("accepted");
+    let [modem] = modems([7]);
+    assert!(granted(store.try_acquire(ZERO, modem, 1)));
+    assert_eq!(Ok(store.words().len()), settings.words());
+    let refused = OwnedStore::new(Settings::new(R, 4_097));
+    assert_eq!(refused.expect_err("refused"), Refusal::Sizes);
+    // Short, whatever the words are.
+    let text = format!("{store:?}");
+    assert!(
+        text.contains("max_keys: 4096") && text.len() < 300,
+        "{text}"
+    );
 }

@@ -1,4 +1,4 @@
--- What the flags of a settings struct say, off and on, and how an outcome of the rules is told.
+-- What the flags of a settings struct say, off and on, how an outcome of the rules is told, and the words to lend.
 use Prim.Native.Nat.{ℕ}
 use mathlib.Core.Path.{_≡_, ap}
 use mathlib.Core.List.{List}
@@ -6,11 +6,13 @@ use borrow.Author.Tests.{eq-eqb, ne-eqb}
 use Rattle.rows.specs.Outcome.{Outcome, outcome}
 use Rattle.units.specs.declared.OptionNanos.the-variants as nanos
 use Rattle.settings.specs.declared.Limit.the-variants.{Closed, Open}
+use Rattle.settings.specs.declared.Settings.{Settings}
 use Rattle.settings.specs.declared.rate.OptionTokens.the-variants as tokens
+use Rattle.settings.specs.Settings.{sizeRefusal, wordsOf}
 use Rattle.perkey.specs.declared.Reply.{Reply}
 use Rattle.limiter.specs.declared.LimiterSettings.{LimiterSettings}
 use Rattle.limiter.specs.declared.LimiterReply.{LimiterReply}
-use Rattle.limiter.specs.Exported.{tokensOf, idleOf, rateOf, limitOf, nanosOf, replyOf, told}
+use Rattle.limiter.specs.Exported.{tokensOf, idleOf, rateOf, limitOf, nanosOf, replyOf, told, wordsToLend}
 
 module _ (flag n : ℕ) where
   pub tokens-unset : flag ≡ 0 → tokens.None ≡ tokensOf flag n
@@ -41,3 +43,13 @@ module _ (s : LimiterSettings) where
 -- An outcome of the rules, and the reply's code and number in its place.
 pub outcome-is-told : {r : Reply} {l : LimiterReply} {ws : List ℕ} {o : Outcome Reply (List ℕ)} → outcome r ws ≡ o → l ≡ replyOf r → outcome l ws ≡ told o
 outcome-is-told gave is = rw is (ap told gave)
+
+-- The words to lend where the sizes are refused, and where they are not.
+module _ (s : Settings) where
+  pub refused-sizes-have-no-words : (sizeRefusal s ≡ 0 → ⊥) → 0 ≡ wordsToLend s
+  unfolding wordsToLend
+  refused-sizes-have-no-words refused = rw (ne-eqb _ _ refused)
+
+  pub accepted-sizes-have-the-stores-words : sizeRefusal s ≡ 0 → wordsOf s ≡ wordsToLend s
+  unfolding wordsToLend
+  accepted-sizes-have-the-stores-words accepted = rw (eq-eqb _ _ accepted)

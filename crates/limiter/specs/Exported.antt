@@ -1,4 +1,5 @@
--- The limiter on plain numbers, as C and Rust call it: which settings the numbers of a settings struct are, and the two numbers that a reply is.
+-- The limiter on plain numbers, as C and Rust call it: which settings the numbers of a settings struct are, the two numbers that a reply is, the words
+-- to lend, and the hash of a key.
 use Prim.Native.Nat.{ℕ}
 use mathlib.Core.Bool.{cond}
 use mathlib.Core.List.{List}
@@ -14,7 +15,10 @@ use Rattle.settings.specs.declared.eviction.Eviction.{Eviction}
 use Rattle.settings.specs.declared.rate.OptionTokens.{OptionTokens}
 use Rattle.settings.specs.declared.rate.OptionTokens.the-variants as tokens
 use Rattle.settings.specs.declared.rate.Rate.{Rate}
-use Rattle.settings.specs.Eviction.{whenFullOf}
+use Rattle.settings.specs.declared.eviction.WhenFull.the-variants.{RefuseNew}
+use Rattle.settings.specs.Eviction.{bounds, whenFullOf, withWhenFull}
+use Rattle.settings.specs.Settings.{sizeRefusal, wordsOf}
+use Rattle.hash.specs.Fnv.{fnv1a, lowestFirst}
 use Rattle.store.specs.declared.Identity.{Identity}
 use Rattle.perkey.specs.declared.Reply.{Reply}
 use Rattle.perkey.specs.Rules.{codeOf, numberOf}
@@ -39,12 +43,12 @@ rateOf s = record {
 unfoldable pub limitOf : LimiterSettings → Limit
 limitOf s = cond (eqb (s .closed) 0) (Open (rateOf s)) Closed
 
+-- The cap on keys and the idle time, if there is one; then the rule when full as well.
+abbrev pub boundsOf : LimiterSettings → Eviction
+boundsOf s = bounds (s .«max_keys») (idleOf (s .«has_idle») (s .idle)) RefuseNew
+
 abbrev pub evictionOf : LimiterSettings → Eviction
-evictionOf s = record {
-  «max_keys» = s .«max_keys»;
-  «idle_ttl» = idleOf (s .«has_idle») (s .idle);
-  «when_full» = whenFullOf (s .«forget_debt»);
-}
+evictionOf s = withWhenFull (boundsOf s) (whenFullOf (s .«forget_debt»))
 
 -- The settings that the numbers are.
 abbrev pub settingsOf : LimiterSettings → Settings
@@ -63,3 +67,11 @@ replyOf r = record { code = codeOf r; number = numberOf r }
 
 abbrev pub told : Outcome Reply (List ℕ) → Outcome LimiterReply (List ℕ)
 told o = outcome (replyOf (o .answer)) (o .after)
+
+-- The words to lend: those of the whole store, and 0 for sizes that are refused.
+unfoldable pub wordsToLend : Settings → ℕ
+wordsToLend s = cond (eqb (sizeRefusal s) 0) (wordsOf s) 0
+
+-- The hash of a key that is offered to callers: FNV-1a over its eight bytes, lowest first.
+abbrev pub hashOf : ℕ → ℕ
+hashOf key = fnv1a (lowestFirst 8 key)

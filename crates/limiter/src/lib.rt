@@ -1,8 +1,10 @@
-// The limiter for callers in C and Rust: the nine operations on plain numbers and lent words. Whatever a caller gives, a call ends and answers.
+// The limiter for callers in C and Rust: the nine operations on plain numbers and lent words, the words to lend, and a hash for keys. Whatever a
+// caller gives, a call ends and answers. What each operation does is the rule of `perkey` that its contract names; its reply is told as numbers.
 ghost use mathlib.Core.Path.{_≡_};
 ghost use Rattle.rows.specs.Outcome.{outcome};
 ghost use Rattle.perkey.specs.Rules as Rules;
-ghost use Rattle.limiter.specs.Exported as Exported;
+ghost use Rattle.limiter.specs.Exported.{nanosOf, identityOf, told, replyOf, wordsToLend, hashOf};
+ghost use Rattle.limiter.specs.Exported.{settingsOf, limitOf, rateOf, tokensOf, boundsOf, evictionOf};
 use perkey::Reply;
 use settings::Limit;
 use settings::Settings;
@@ -12,7 +14,6 @@ use settings::rate::OptionTokens;
 use settings::rate::Rate;
 use store::Identity;
 use units::Nanos;
-use units::OptionNanos;
 
 // The settings as numbers. A flag is off at 0 and on at any other number.
 #[repr(C)]
@@ -44,13 +45,15 @@ pub struct LimiterReply {
     pub number: u64,
 }
 
+// Makes the words an empty store of these settings. Every word is written; what stood in them does not matter.
 #[no_mangle]
 pub extern "C" fn limiter_set_up(settings: LimiterSettings, ws: &mut [u64]) -> LimiterReply
-    ensures { λ r. ⌜ outcome r (now (ws .exit)) ≡ Exported.told (Rules.setUp (Exported.settingsOf settings) (now (ws .entry))) ⌝ }
+    ensures { λ r. ⌜ outcome r (now (ws .exit)) ≡ told (Rules.setUp (settingsOf settings) (now (ws .entry))) ⌝ }
 {
     reply(perkey::set_up(settings_of(settings), ws))
 }
 
+// Takes `cost` tokens for a key at the moment `at`, if its bucket has them: granted, to be tried again after a wait, or impossible.
 #[no_mangle]
 pub extern "C" fn limiter_try(
     settings: LimiterSettings,
@@ -60,7 +63,7 @@ pub extern "C" fn limiter_try(
     key: u64,
     cost: u32,
 ) -> LimiterReply
-    ensures { λ r. ⌜ outcome r (now (ws .exit)) ≡ Exported.told (Rules.tryAcquire (Exported.settingsOf settings) (Exported.nanosOf at) (Exported.identityOf hash key) cost (now (ws .entry))) ⌝ }
+    ensures { λ r. ⌜ outcome r (now (ws .exit)) ≡ told (Rules.tryAcquire (settingsOf settings) (nanosOf at) (identityOf hash key) cost (now (ws .entry))) ⌝ }
 {
     reply(perkey::try_acquire_with_cost(
         settings_of(settings),
@@ -71,6 +74,7 @@ pub extern "C" fn limiter_try(
     ))
 }
 
+// Takes `cost` tokens for a key that become usable after a wait, if that wait is at most `max_wait`. The number is the wait.
 #[no_mangle]
 pub extern "C" fn limiter_reserve(
     settings: LimiterSettings,
@@ -81,7 +85,8 @@ pub extern "C" fn limiter_reserve(
     cost: u32,
     max_wait: u64,
 ) -> LimiterReply
-    ensures { λ r. ⌜ outcome r (now (ws .exit)) ≡ Exported.told (Rules.reserve (Exported.settingsOf settings) (Exported.nanosOf at) (Exported.identityOf hash key) cost (Exported.nanosOf «max_wait») (now (ws .entry))) ⌝ }
+    ensures { λ r. ⌜ outcome r (now (ws .exit)) ≡
+        told (Rules.reserve (settingsOf settings) (nanosOf at) (identityOf hash key) cost (nanosOf «max_wait») (now (ws .entry))) ⌝ }
 {
     reply(perkey::reserve(
         settings_of(settings),
@@ -93,6 +98,7 @@ pub extern "C" fn limiter_reserve(
     ))
 }
 
+// What the key's bucket would answer to a try at the moment `at`. It takes nothing, and says nothing of room for a new key.
 #[no_mangle]
 pub extern "C" fn limiter_peek(
     settings: LimiterSettings,
@@ -102,7 +108,7 @@ pub extern "C" fn limiter_peek(
     key: u64,
     cost: u32,
 ) -> LimiterReply
-    ensures { λ r. ⌜ outcome r (now (ws .entry)) ≡ Exported.told (Rules.peek (Exported.settingsOf settings) (Exported.nanosOf at) (Exported.identityOf hash key) cost (now (ws .entry))) ⌝ }
+    ensures { λ r. ⌜ outcome r (now (ws .entry)) ≡ told (Rules.peek (settingsOf settings) (nanosOf at) (identityOf hash key) cost (now (ws .entry))) ⌝ }
 {
     reply(perkey::peek(
         settings_of(settings),
@@ -113,6 +119,7 @@ pub extern "C" fn limiter_peek(
     ))
 }
 
+// The tokens that a key has at the moment `at`.
 #[no_mangle]
 pub extern "C" fn limiter_available(
     settings: LimiterSettings,
@@ -121,11 +128,12 @@ pub extern "C" fn limiter_available(
     hash: u64,
     key: u64,
 ) -> LimiterReply
-    ensures { λ r. ⌜ outcome r (now (ws .entry)) ≡ Exported.told (Rules.available (Exported.settingsOf settings) (Exported.nanosOf at) (Exported.identityOf hash key) (now (ws .entry))) ⌝ }
+    ensures { λ r. ⌜ outcome r (now (ws .entry)) ≡ told (Rules.available (settingsOf settings) (nanosOf at) (identityOf hash key) (now (ws .entry))) ⌝ }
 {
     reply(perkey::available(settings_of(settings), ws, Nanos(at), Identity { hash, key }))
 }
 
+// Gives `cost` tokens back to a key, or to the debt that is remembered for its hash; unknown if there is neither.
 #[no_mangle]
 pub extern "C" fn limiter_refund(
     settings: LimiterSettings,
@@ -134,11 +142,12 @@ pub extern "C" fn limiter_refund(
     key: u64,
     cost: u32,
 ) -> LimiterReply
-    ensures { λ r. ⌜ outcome r (now (ws .exit)) ≡ Exported.told (Rules.refund (Exported.settingsOf settings) (Exported.identityOf hash key) cost (now (ws .entry))) ⌝ }
+    ensures { λ r. ⌜ outcome r (now (ws .exit)) ≡ told (Rules.refund (settingsOf settings) (identityOf hash key) cost (now (ws .entry))) ⌝ }
 {
     reply(perkey::refund(settings_of(settings), ws, Identity { hash, key }, cost))
 }
 
+// Forgets a key, and the debt that is remembered for its hash; unknown if there is neither.
 #[no_mangle]
 pub extern "C" fn limiter_remove(
     settings: LimiterSettings,
@@ -146,28 +155,52 @@ pub extern "C" fn limiter_remove(
     hash: u64,
     key: u64,
 ) -> LimiterReply
-    ensures { λ r. ⌜ outcome r (now (ws .exit)) ≡ Exported.told (Rules.remove (Exported.settingsOf settings) (Exported.identityOf hash key) (now (ws .entry))) ⌝ }
+    ensures { λ r. ⌜ outcome r (now (ws .exit)) ≡ told (Rules.remove (settingsOf settings) (identityOf hash key) (now (ws .entry))) ⌝ }
 {
     reply(perkey::remove(settings_of(settings), ws, Identity { hash, key }))
 }
 
+// Forgets all keys and debts.
 #[no_mangle]
 pub extern "C" fn limiter_clear(settings: LimiterSettings, ws: &mut [u64]) -> LimiterReply
-    ensures { λ r. ⌜ outcome r (now (ws .exit)) ≡ Exported.told (Rules.clear (Exported.settingsOf settings) (now (ws .entry))) ⌝ }
+    ensures { λ r. ⌜ outcome r (now (ws .exit)) ≡ told (Rules.clear (settingsOf settings) (now (ws .entry))) ⌝ }
 {
     reply(perkey::clear(settings_of(settings), ws))
 }
 
+// The number of keys that have a slot.
 #[no_mangle]
 pub extern "C" fn limiter_length(settings: LimiterSettings, ws: &[u64]) -> LimiterReply
-    ensures { λ r. ⌜ outcome r (now (ws .entry)) ≡ Exported.told (Rules.len (Exported.settingsOf settings) (now (ws .entry))) ⌝ }
+    ensures { λ r. ⌜ outcome r (now (ws .entry)) ≡ told (Rules.len (settingsOf settings) (now (ws .entry))) ⌝ }
 {
     reply(perkey::len(settings_of(settings), ws))
 }
 
+// The words to lend for these settings: the length that every operation asks of `ws`. It follows from the sizes alone, so where only the rate is
+// refused it is the same as with a rate that is accepted. 0 where the sizes are refused: no length is right then, and no store has 0 words.
+#[no_mangle]
+pub extern "C" fn limiter_words(settings: LimiterSettings) -> u64
+    ensures { λ r. ⌜ r ≡ wordsToLend (settingsOf settings) ⌝ }
+{
+    let settings = settings_of(settings);
+    if settings.size_refusal() != 0 {
+        return 0;
+    }
+    settings.words() as u64
+}
+
+// A hash for a key, for callers who have no hash of their own: FNV-1a over its eight bytes, lowest first. It has no secret: where strangers choose
+// the keys, they can choose keys that share a shard or a hash.
+#[no_mangle]
+pub extern "C" fn limiter_key_hash(key: u64) -> u64
+    ensures { λ r. ⌜ r ≡ hashOf key ⌝ }
+{
+    hash::key_hash(key)
+}
+
 // The code and the number of a reply.
 fn reply(reply: Reply) -> LimiterReply
-    ensures { λ r. ⌜ r ≡ Exported.replyOf reply ⌝ }
+    ensures { λ r. ⌜ r ≡ replyOf reply ⌝ }
 {
     LimiterReply {
         code: reply.code(),
@@ -177,7 +210,7 @@ fn reply(reply: Reply) -> LimiterReply
 
 // The settings that the numbers are.
 fn settings_of(settings: LimiterSettings) -> Settings
-    ensures { λ r. ⌜ r ≡ Exported.settingsOf settings ⌝ }
+    ensures { λ r. ⌜ r ≡ settingsOf settings ⌝ }
 {
     Settings {
         limit: limit(settings),
@@ -186,8 +219,9 @@ fn settings_of(settings: LimiterSettings) -> Settings
     }
 }
 
+// The rate, unless the limiter is closed.
 fn limit(settings: LimiterSettings) -> Limit
-    ensures { λ r. ⌜ r ≡ Exported.limitOf settings ⌝ }
+    ensures { λ r. ⌜ r ≡ limitOf settings ⌝ }
 {
     if settings.closed == 0 {
         Limit::Open(rate(settings))
@@ -196,8 +230,9 @@ fn limit(settings: LimiterSettings) -> Limit
     }
 }
 
+// The rate that the numbers are.
 fn rate(settings: LimiterSettings) -> Rate
-    ensures { λ r. ⌜ r ≡ Exported.rateOf settings ⌝ }
+    ensures { λ r. ⌜ r ≡ rateOf settings ⌝ }
 {
     Rate {
         amount: settings.amount,
@@ -207,8 +242,9 @@ fn rate(settings: LimiterSettings) -> Rate
     }
 }
 
+// A number of tokens, if its flag is set.
 fn tokens(flag: u32, tokens: u32) -> OptionTokens
-    ensures { λ r. ⌜ r ≡ Exported.tokensOf flag tokens ⌝ }
+    ensures { λ r. ⌜ r ≡ tokensOf flag tokens ⌝ }
 {
     if flag == 0 {
         OptionTokens::None
@@ -217,22 +253,20 @@ fn tokens(flag: u32, tokens: u32) -> OptionTokens
     }
 }
 
+// The bounds on the memory, with the rule when full.
 fn eviction(settings: LimiterSettings) -> Eviction
-    ensures { λ r. ⌜ r ≡ Exported.evictionOf settings ⌝ }
+    ensures { λ r. ⌜ r ≡ evictionOf settings ⌝ }
 {
-    Eviction {
-        max_keys: settings.max_keys as usize,
-        idle_ttl: idle(settings.has_idle, settings.idle),
-        when_full: WhenFull::numbered(settings.forget_debt as u64),
-    }
+    bounds(settings).with_when_full(WhenFull::numbered(settings.forget_debt as u64))
 }
 
-fn idle(flag: u32, nanos: u64) -> OptionNanos
-    ensures { λ r. ⌜ r ≡ Exported.idleOf flag nanos ⌝ }
+// The cap on keys, and the idle time if there is one.
+fn bounds(settings: LimiterSettings) -> Eviction
+    ensures { λ r. ⌜ r ≡ boundsOf settings ⌝ }
 {
-    if flag == 0 {
-        OptionNanos::None
+    if settings.has_idle == 0 {
+        Eviction::capacity(settings.max_keys as usize)
     } else {
-        OptionNanos::Some(Nanos(nanos))
+        Eviction::new(settings.max_keys as usize, Nanos(settings.idle))
     }
 }

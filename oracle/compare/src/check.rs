@@ -3,7 +3,7 @@
 use core::fmt;
 use std::time::{Duration, Instant};
 
-use oracle::refusals::{MOST_KEYS, Shape};
+use oracle::refusals::{MOST_KEYS, MOST_SHARDS, Shape};
 use oracle::{Answer, Limiter, Settings, WhenFull};
 
 use crate::branches::{Hits, Origin};
@@ -72,7 +72,7 @@ impl Bench {
 
     /// Sets a store up three times, on memory that was used before, and loads it.
     pub fn start(&mut self, start: &Start) -> Checked<Trio> {
-        let settings = start.raw.meaning();
+        let settings = library::meaning(&start.raw);
         let shape = Shape::of(&settings);
         self.hits.origin = if start.loaded.is_some() {
             Origin::Loaded
@@ -85,6 +85,7 @@ impl Bench {
             raw: start.raw,
             call: Call::SetUp,
         };
+        compare_words(&settings, &step)?;
         let (limiter, rust) = Limiter::new(settings);
         let ruled = rules::answer(&settings, &mut words, &step.call, &mut self.hits);
         let ours = library::ask(step.raw, self.lent.words(), &step.call);
@@ -109,7 +110,7 @@ impl Bench {
     pub fn step(&mut self, trio: &mut Trio, step: &Step) -> Checked<()> {
         let rust = step.call.ask(&trio.limiter);
         let ruled = rules::answer(
-            &step.raw.meaning(),
+            &library::meaning(&step.raw),
             &mut trio.words,
             &step.call,
             &mut self.hits,
@@ -121,11 +122,12 @@ impl Bench {
     /// One call on words of any content. The rules decide; where the Rust can hold the words, it is asked too.
     pub fn aside(&mut self, aside: &Aside) -> Checked<()> {
         self.hits.origin = Origin::Any;
-        let settings = aside.raw.meaning();
+        let settings = library::meaning(&aside.raw);
         let step = Step {
             raw: aside.raw,
             call: aside.call,
         };
+        compare_words(&settings, &step)?;
         let mut words = aside.words.clone();
         let ruled = rules::answer(&settings, &mut words, &aside.call, &mut self.hits);
         self.scratch.fill(&aside.words);
@@ -284,6 +286,24 @@ impl Trio {
     }
 }
 
+/// Holds the words that the library asks for against those that 01 gives; 0 for sizes that are refused.
+fn compare_words(settings: &Settings, step: &Step) -> Checked<()> {
+    let refused = settings.max_keys > MOST_KEYS || settings.shards > MOST_SHARDS;
+    let ruled = if refused {
+        0
+    } else {
+        Shape::of(settings).words()
+    };
+    let ours = library::words(&step.raw);
+    if ours == ruled {
+        return Ok(());
+    }
+    let asked = |number| Answer { code: 0, number };
+    let answers = vec![("library", asked(ours)), ("01's rules", asked(ruled))];
+    let sides = "the words that the library asks for and 01's";
+    Err(differing(sides, step, answers, &[], &[]))
+}
+
 /// The Rust on an aside's words: its answer, and its words if it can hold any. None if the Rust cannot hold the words.
 fn the_rust_on(settings: &Settings, aside: &Aside) -> Option<(Answer, Option<Vec<u64>>)> {
     let (limiter, accepted) = Limiter::set_up(*settings, aside.words.len() as u64);
@@ -330,7 +350,7 @@ fn differing(
 
 impl fmt::Display for Difference {
     fn fmt(&self, f: &mut fmt::Formatter<'_>) -> fmt::Result {
-        let settings = self.step.raw.meaning();
+        let settings = library::meaning(&self.step.raw);
         writeln!(f, "{} differ", self.sides)?;
         writeln!(f, "  {settings:?}")?;
         writeln!(f, "  given as {:?}", self.step.raw)?;

@@ -17,7 +17,6 @@ use std::time::{Duration, Instant};
 
 use check::{Bench, Difference, Start, Step};
 use generate::{Aside, LARGE, Plan};
-use library::RawSettings;
 use random::Random;
 
 /// How many calls it takes to be sure that every branch is taken.
@@ -147,7 +146,7 @@ impl Run {
         load: bool,
         calls: u64,
     ) -> Result<(), Failed> {
-        let raw = RawSettings::of(&plan.settings, random);
+        let raw = library::given(&plan.settings, random);
         let start = Start {
             raw,
             loaded: load.then(|| plan.contents(random)),
@@ -162,7 +161,7 @@ impl Run {
         let wrong = if plan.shape.words() > 10_000 { 1 } else { 6 };
         for _ in 0..calls {
             let step = Step {
-                raw: RawSettings::of(&plan.settings, random),
+                raw: library::given(&plan.settings, random),
                 call: plan.call(random, trio.words()),
             };
             steps.push(step);
@@ -197,7 +196,7 @@ impl Run {
             call: aside.call,
         });
         self.bench.aside(aside).map_err(|difference| {
-            let settings = aside.raw.meaning();
+            let settings = library::meaning(&aside.raw);
             let head = check::trace_head(&settings, aside.words.len(), Some(&aside.words));
             let text = format!("{head}{}\ndump\n", aside.call);
             Failed { difference, text }
@@ -215,7 +214,7 @@ impl Run {
     /// The trace, shortened, for the oracle program, and the difference that it ends in.
     fn failed(&mut self, start: &Start, steps: &[Step], difference: Box<Difference>) -> Failed {
         let (steps, difference) = self.bench.shorten(start, steps, difference);
-        let settings = start.raw.meaning();
+        let settings = library::meaning(&start.raw);
         let words = oracle::refusals::Shape::of(&settings).words() as usize;
         let mut text = check::trace_head(&settings, words, start.loaded.as_deref());
         for step in steps {

@@ -3,8 +3,8 @@ use borrow.Author.Needs.{needs}
 use Rattle.limiter.proofs.eviction.Statement.{statement}
 use Rattle.limiter.proofs.eviction.Tie as tie
 
-idle-requires : tie.Need-idle-requires
-idle-requires c κs = search needs
+bounds-requires : tie.Need-bounds-requires
+bounds-requires c κs = search needs
 
 cast-numbered : tie.Need-cast-numbered
 cast-numbered c = search needs
@@ -12,8 +12,13 @@ cast-numbered c = search needs
 numbered-requires : tie.Need-numbered-requires
 numbered-requires c κs = search needs
 
+with-when-full-requires : tie.Need-with-when-full-requires
+with-when-full-requires c κs = search needs
+
 returns : tie.Need-returns
-returns c = rw (c .before .before .idle .ensures, c .numbered .ensures)
+returns c = rw (c .with-when-full .ensures, c .before .numbered .ensures, c .before .before .before .bounds .ensures)
 
 pub eviction-spec : {M : Type 1} → statement M
-eviction-spec = tie.close (tie.spec idle-requires cast-numbered numbered-requires returns)
+eviction-spec =
+    tie.close
+    (tie.spec bounds-requires cast-numbered numbered-requires with-when-full-requires returns)

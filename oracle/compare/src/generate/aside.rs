@@ -6,7 +6,7 @@ use oracle::refusals::{
 
 use super::{LARGE, Plan, SMALL};
 use crate::call::Call;
-use crate::library::RawSettings;
+use crate::library::{self, RawSettings};
 use crate::random::Random;
 
 /// A call with any settings on any words.
@@ -34,7 +34,7 @@ impl Aside {
         plan.pace = 0;
         let call = plan.any_call(random);
         let mut aside = Self {
-            raw: RawSettings::of(&plan.settings, random),
+            raw: library::given(&plan.settings, random),
             words,
             call,
         };
@@ -54,7 +54,7 @@ impl Aside {
     pub fn wrong(random: &mut Random, plan: &mut Plan, words: &[u64]) -> Self {
         let call = plan.any_call(random);
         let mut aside = Self {
-            raw: RawSettings::of(&plan.settings, random),
+            raw: library::given(&plan.settings, random),
             words: words.to_vec(),
             call,
         };
@@ -98,7 +98,7 @@ impl Aside {
         if self.raw.max_keys > MOST_KEYS {
             return;
         }
-        let shape = Shape::of(&self.raw.meaning());
+        let shape = Shape::of(&library::meaning(&self.raw));
         let own = self.call.key().map_or(0, |key| shape.shard_of(key.hash));
         let shard = if random.chance(75) {
             own
@@ -160,7 +160,7 @@ fn other(random: &mut Random, raw: &RawSettings) -> RawSettings {
     let sizes = (raw.max_keys.min(MOST_KEYS), raw.shards.min(MOST_SHARDS));
     let closed = random.chance(20);
     let settings = Plan::new(random, sizes, closed).settings;
-    RawSettings::of(&settings, random)
+    library::given(&settings, random)
 }
 
 /// Damages words in ways that the Rust's memory cannot be damaged: items twice, words past a count, odd marks and counts.

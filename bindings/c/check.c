@@ -1,0 +1,173 @@
+/* What limiter.h says of any caller's arguments: no words at all, every refusal with its text, the hash's vectors, and each field of the settings
+ * read as the field that it is. Compiles as C99, C11 and C++. Run with bindings/c/run-example. */
+#include <stdio.h>
+#include <stdlib.h>
+
+#include "limiter.h"
+
+#define SECOND UINT64_C(1000000000)
+#define MOST_WORDS 40000
+
+static uint64_t words[MOST_WORDS];
+static int checks;
+
+static void check(int holds, int line)
+{
+    if (!holds) {
+        printf("check.c:%d: does not hold\n", line);
+        exit(1);
+    }
+    checks++;
+}
+#define CHECK(holds) check((holds) != 0, __LINE__)
+
+/* 2 tokens a second, one key, one shard. */
+static limiter_settings small(void)
+{
+    limiter_settings s = { 0, 0, 0, 0, 0, 0, 0, 0, 0, 0, 0, 0 };
+    s.period = SECOND;
+    s.max_keys = 1;
+    s.amount = 2;
+    return s;
+}
+
+static uint64_t set_up_code(limiter_settings s, size_t len)
+{
+    return limiter_set_up(s, words, len).code;
+}
+
+/* Set up as the settings need it. */
+static size_t set_up(limiter_settings s)
+{
+    size_t len = (size_t)limiter_words(s);
+    CHECK(len > 0 && len <= MOST_WORDS);
+    CHECK(set_up_code(s, len) == LIMITER_DONE);
+    return len;
+}
+
+/* NULL with length 0 is refused as 5, and a bad rate before that. */
+static void no_words(void)
+{
+    const uint64_t refused = LIMITER_REFUSED + LIMITER_BAD_MEMORY;
+    limiter_settings s = small(), bad = small();
+    CHECK(limiter_set_up(s, NULL, 0).code == refused);
+    CHECK(limiter_try(s, NULL, 0, 0, 7, 7, 1).code == refused);
+    CHECK(limiter_reserve(s, NULL, 0, 0, 7, 7, 1, 0).code == refused);
+    CHECK(limiter_peek(s, NULL, 0, 0, 7, 7, 1).code == refused);
+    CHECK(limiter_available(s, NULL, 0, 0, 7, 7).code == refused);
+    CHECK(limiter_refund(s, NULL, 0, 7, 7, 1).code == refused);
+    CHECK(limiter_remove(s, NULL, 0, 7, 7).code == refused);
+    CHECK(limiter_clear(s, NULL, 0).code == refused);
+    CHECK(limiter_length(s, NULL, 0).code == refused);
+    bad.amount = 0;
+    CHECK(limiter_length(bad, NULL, 0).code == LIMITER_REFUSED + LIMITER_BAD_AMOUNT);
+}
+
+static void words_to_lend(void)
+{
+    limiter_settings s = small();
+    CHECK(limiter_words(s) == 13);
+    s.max_keys = 4096;
+    CHECK(set_up(s) == 32773);
+    s.shards = 64;
+    CHECK(set_up_code(s, set_up(s) + 1) == LIMITER_REFUSED + LIMITER_BAD_MEMORY);
+    s.max_keys = 4097;
+    CHECK(limiter_words(s) == 0 && set_up_code(s, 1) == LIMITER_REFUSED + LIMITER_BAD_SIZES);
+    s = small();
+    s.shards = 65;
+    CHECK(limiter_words(s) == 0 && set_up_code(s, 1) == LIMITER_REFUSED + LIMITER_BAD_SIZES);
+    /* The rate is not looked at. */
+    s = small();
+    s.amount = 0;
+    CHECK(limiter_words(s) == 13);
+}
+
+/* The eight bytes "chongo w" of the FNV authors' test suite, and keys as crates/fnv_vectors has them. */
+static void hash_vectors(void)
+{
+    CHECK(limiter_key_hash(UINT64_C(0x77206f676e6f6863)) == UINT64_C(0xd1edd10b507344d0));
+    CHECK(limiter_key_hash(0) == UINT64_C(12161962213042174405));
+    CHECK(limiter_key_hash(7) == UINT64_C(5465015992139406178));
+    CHECK(limiter_key_hash(UINT64_MAX) == UINT64_C(10157053723145373757));
+}
+
+/* The fields of the rate: each alone is bad, or changes what is answered. */
+static void rate_fields(void)
+{
+    limiter_settings s = small();
+    s.amount = 65536;
+    CHECK(set_up_code(s, 13) == LIMITER_REFUSED + LIMITER_BAD_AMOUNT);
+    s = small();
+    s.period = (UINT64_C(1) << 46) + 1;
+    CHECK(set_up_code(s, 13) == LIMITER_REFUSED + LIMITER_BAD_PERIOD);
+    s = small();
+    s.burst = 65536;
+    CHECK(set_up_code(s, 13) == LIMITER_DONE);
+    s.has_burst = 1;
+    CHECK(set_up_code(s, 13) == LIMITER_REFUSED + LIMITER_BAD_BURST);
+    s.closed = 1;
+    CHECK(set_up_code(s, 13) == LIMITER_DONE);
+    CHECK(limiter_try(s, words, 13, 0, 7, 7, 1).code == LIMITER_IMPOSSIBLE);
+    s = small();
+    s.initial = 1;
+    set_up(s);
+    CHECK(limiter_available(s, words, 13, 0, 7, 7).number == 2);
+    s.has_initial = 1;
+    CHECK(limiter_available(s, words, 13, 0, 7, 7).number == 1);
+}
+
+/* The other fields: what a full store does, and whom it forgets. */
+static void store_fields(void)
+{
+    limiter_settings s = small();
+    set_up(s);
+    CHECK(limiter_try(s, words, 13, 0, 7, 7, 2).code == LIMITER_DONE);
+    CHECK(limiter_try(s, words, 13, 0, 8, 8, 2).code == LIMITER_DONE);
+    CHECK(limiter_try(s, words, 13, 0, 9, 9, 2).code == LIMITER_RETRY);
+    s.forget_debt = 1;
+    CHECK(limiter_try(s, words, 13, 0, 9, 9, 2).code == LIMITER_DONE);
+    s = small();
+    s.max_keys = 2;
+    s.idle = 2 * SECOND;
+    set_up(s);
+    CHECK(limiter_try(s, words, 21, 0, 7, 7, 1).code == LIMITER_DONE);
+    CHECK(limiter_try(s, words, 21, 9 * SECOND, 8, 8, 1).code == LIMITER_DONE);
+    CHECK(limiter_length(s, words, 21).number == 2);
+    s.has_idle = 1;
+    CHECK(limiter_try(s, words, 21, 18 * SECOND, 9, 9, 1).code == LIMITER_DONE);
+    CHECK(limiter_length(s, words, 21).number == 1);
+}
+
+static void moments_and_waits(void)
+{
+    limiter_settings s = small();
+    uint64_t last = UINT64_C(1) << 62, longest = UINT64_C(1) << 46;
+    set_up(s);
+    CHECK(limiter_peek(s, words, 13, last, 7, 7, 1).code == LIMITER_DONE);
+    CHECK(limiter_peek(s, words, 13, last + 1, 7, 7, 1).code == LIMITER_REFUSED + LIMITER_BAD_MOMENT);
+    CHECK(limiter_reserve(s, words, 13, 0, 7, 7, 1, longest + 1).code == LIMITER_REFUSED + LIMITER_BAD_MAX_WAIT);
+    CHECK(limiter_reserve(s, words, 13, 0, 7, 7, 1, longest).code == LIMITER_DONE);
+}
+
+/* Every refusal has a text of its own, and so has any other code. */
+static void texts(void)
+{
+    uint64_t one, other;
+    for (one = 10; one <= 18; one++)
+        for (other = 10; other < one; other++)
+            CHECK(limiter_refusal_text(one) != limiter_refusal_text(other));
+    CHECK(limiter_refusal_text(LIMITER_DONE)[0] == 'n' && limiter_refusal_text(UINT64_MAX)[0] == 'r');
+}
+
+int main(void)
+{
+    no_words();
+    words_to_lend();
+    hash_vectors();
+    rate_fields();
+    store_fields();
+    moments_and_waits();
+    texts();
+    printf("%d checks hold\n", checks);
+    return 0;
+}

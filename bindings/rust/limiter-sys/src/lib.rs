@@ -1,0 +1,161 @@
+//! The C interface of the verified library `liblimiter.a`, as Rust declares it.
+//!
+//! `bindings/c/limiter.h` says what each call means, what it asks and what it answers; the names here are those of the header. The crate
+//! `limiter` is the safe and convenient way to call the library. [`slices`] has the same calls on slices, where a caller wants the numbers as
+//! they are.
+
+#![no_std]
+
+pub mod slices;
+
+/// The settings of a store: `limiter_settings` of the header. A flag is set if it is not 0.
+#[repr(C)]
+#[derive(Debug, Clone, Copy, PartialEq, Eq, Hash, Default)]
+pub struct LimiterSettings {
+    /// The nanoseconds in which `amount` tokens come back.
+    pub period: u64,
+    /// The keys to make room for.
+    pub max_keys: u64,
+    /// The shards asked for.
+    pub shards: u64,
+    /// The idle time in nanoseconds, read only if `has_idle` is set.
+    pub idle: u64,
+    /// Set: there is no rate, and `amount`, `period`, `burst` and `initial` are not read.
+    pub closed: u32,
+    /// The tokens that come back in a period.
+    pub amount: u32,
+    /// Not set: the burst is the amount.
+    pub has_burst: u32,
+    /// The most tokens in a bucket.
+    pub burst: u32,
+    /// Not set: a new bucket is full.
+    pub has_initial: u32,
+    /// The tokens in a new bucket, cut to the burst.
+    pub initial: u32,
+    /// Not set: no key is forgotten for being idle.
+    pub has_idle: u32,
+    /// When full: not set, a new key is turned away; set, a debt is forgotten.
+    pub forget_debt: u32,
+}
+
+/// An answer: `limiter_reply` of the header.
+#[repr(C)]
+#[derive(Debug, Clone, Copy, PartialEq, Eq, Hash)]
+pub struct LimiterReply {
+    /// One of the codes below, or [`LIMITER_REFUSED`] and the number of a refusal.
+    pub code: u64,
+    /// A wait in nanoseconds, tokens, or a count of keys, as the call says; else 0.
+    pub number: u64,
+}
+
+// The layout that crates/limiter/src/lib.rt declares and the header asserts.
+const _: () = {
+    use core::mem::offset_of;
+    assert!(size_of::<usize>() == 8, "the library is for 64 bits");
+    assert!(size_of::<LimiterSettings>() == 64 && align_of::<LimiterSettings>() == 8);
+    assert!(offset_of!(LimiterSettings, period) == 0);
+    assert!(offset_of!(LimiterSettings, max_keys) == 8);
+    assert!(offset_of!(LimiterSettings, shards) == 16);
+    assert!(offset_of!(LimiterSettings, idle) == 24);
+    assert!(offset_of!(LimiterSettings, closed) == 32);
+    assert!(offset_of!(LimiterSettings, amount) == 36);
+    assert!(offset_of!(LimiterSettings, has_burst) == 40);
+    assert!(offset_of!(LimiterSettings, burst) == 44);
+    assert!(offset_of!(LimiterSettings, has_initial) == 48);
+    assert!(offset_of!(LimiterSettings, initial) == 52);
+    assert!(offset_of!(LimiterSettings, has_idle) == 56);
+    assert!(offset_of!(LimiterSettings, forget_debt) == 60);
+    assert!(size_of::<LimiterReply>() == 16 && align_of::<LimiterReply>() == 8);
+    assert!(offset_of!(LimiterReply, code) == 0);
+    assert!(offset_of!(LimiterReply, number) == 8);
+};
+
+/// Granted, accepted, known, counted.
+pub const LIMITER_DONE: u64 = 0;
+/// Not now; the number is the wait in nanoseconds.
+pub const LIMITER_RETRY: u64 = 1;
+/// Never: the cost is over the burst, or the limiter is closed.
+pub const LIMITER_IMPOSSIBLE: u64 = 2;
+/// No reservation; or the key is unknown.
+pub const LIMITER_NONE: u64 = 3;
+/// This and the number of a refusal.
+pub const LIMITER_REFUSED: u64 = 10;
+
+/// Refused: the amount is not 1 to 65,535.
+pub const LIMITER_BAD_AMOUNT: u64 = 1;
+/// Refused: the period is not 1 to 2^46 ns.
+pub const LIMITER_BAD_PERIOD: u64 = 2;
+/// Refused: the burst is not 1 to 65,535.
+pub const LIMITER_BAD_BURST: u64 = 3;
+/// Refused: more than 4,096 keys or 64 shards.
+pub const LIMITER_BAD_SIZES: u64 = 4;
+/// Refused: another number of words than [`limiter_words`], or a count in them is more than a shard holds.
+pub const LIMITER_BAD_MEMORY: u64 = 5;
+/// Refused: the moment is after 2^62 ns.
+pub const LIMITER_BAD_MOMENT: u64 = 6;
+/// Refused: the longest wait is over 2^46 ns.
+pub const LIMITER_BAD_MAX_WAIT: u64 = 7;
+
+// The two functions that are lent no words are safe with any arguments. The others ask of a caller that `words` and `len` are words that it may
+// read, and write unless they are `const`, for the length of the call, or that `len` is 0; `words` may be null then.
+#[allow(missing_docs, reason = "bindings/c/limiter.h has a comment on each")]
+unsafe extern "C" {
+    pub safe fn limiter_words(settings: LimiterSettings) -> u64;
+    pub safe fn limiter_key_hash(key: u64) -> u64;
+
+    pub fn limiter_set_up(settings: LimiterSettings, words: *mut u64, len: usize) -> LimiterReply;
+    pub fn limiter_try(
+        settings: LimiterSettings,
+        words: *mut u64,
+        len: usize,
+        now: u64,
+        hash: u64,
+        key: u64,
+        cost: u32,
+    ) -> LimiterReply;
+    pub fn limiter_reserve(
+        settings: LimiterSettings,
+        words: *mut u64,
+        len: usize,
+        now: u64,
+        hash: u64,
+        key: u64,
+        cost: u32,
+        max_wait: u64,
+    ) -> LimiterReply;
+    pub fn limiter_peek(
+        settings: LimiterSettings,
+        words: *const u64,
+        len: usize,
+        now: u64,
+        hash: u64,
+        key: u64,
+        cost: u32,
+    ) -> LimiterReply;
+    pub fn limiter_available(
+        settings: LimiterSettings,
+        words: *const u64,
+        len: usize,
+        now: u64,
+        hash: u64,
+        key: u64,
+    ) -> LimiterReply;
+    pub fn limiter_refund(
+        settings: LimiterSettings,
+        words: *mut u64,
+        len: usize,
+        hash: u64,
+        key: u64,
+        cost: u32,
+    ) -> LimiterReply;
+    pub fn limiter_remove(
+        settings: LimiterSettings,
+        words: *mut u64,
+        len: usize,
+        hash: u64,
+        key: u64,
+    ) -> LimiterReply;
+    pub fn limiter_clear(settings: LimiterSettings, words: *mut u64, len: usize) -> LimiterReply;
+    pub fn limiter_length(settings: LimiterSettings, words: *const u64, len: usize)
+    -> LimiterReply;
+}

@@ -1,0 +1,105 @@
+//! The interface as it is declared here, against the library and against the C header.
+
+use core::ptr::{null, null_mut};
+
+use limiter_sys::*;
+
+const HEADER: &str = include_str!("../../../c/limiter.h");
+
+/// 2 tokens a second, one key, one shard: 13 words.
+const SMALL: LimiterSettings = LimiterSettings {
+    period: 1_000_000_000,
+    max_keys: 1,
+    shards: 1,
+    idle: 0,
+    closed: 0,
+    amount: 2,
+    has_burst: 0,
+    burst: 0,
+    has_initial: 0,
+    initial: 0,
+    has_idle: 0,
+    forget_debt: 0,
+};
+
+#[test]
+fn no_words_may_be_null() {
+    // SAFETY: no words are lent.
+    let replies = unsafe {
+        [
+            limiter_set_up(SMALL, null_mut(), 0),
+            limiter_try(SMALL, null_mut(), 0, 0, 7, 7, 1),
+            limiter_reserve(SMALL, null_mut(), 0, 0, 7, 7, 1, 0),
+            limiter_peek(SMALL, null(), 0, 0, 7, 7, 1),
+            limiter_available(SMALL, null(), 0, 0, 7, 7),
+            limiter_refund(SMALL, null_mut(), 0, 7, 7, 1),
+            limiter_remove(SMALL, null_mut(), 0, 7, 7),
+            limiter_clear(SMALL, null_mut(), 0),
+            limiter_length(SMALL, null(), 0),
+        ]
+    };
+    let refused = LimiterReply {
+        code: LIMITER_REFUSED + LIMITER_BAD_MEMORY,
+        number: 0,
+    };
+    assert_eq!(replies, [refused; 9]);
+}
+
+#[test]
+fn the_words_to_lend() {
+    assert_eq!(limiter_words(SMALL), 13);
+    assert_eq!(limiter_words(LimiterSettings::default()), 13);
+    let keys = |max_keys| limiter_words(LimiterSettings { max_keys, ..SMALL });
+    assert_eq!([keys(4_096), keys(4_097), keys(u64::MAX)], [32_773, 0, 0]);
+    let shards = |shards| limiter_words(LimiterSettings { shards, ..SMALL });
+    assert_eq!([shards(64), shards(65), shards(u64::MAX)], [64 * 13, 0, 0]);
+}
+
+#[test]
+fn the_header_has_the_same_codes() {
+    let codes = [
+        ("DONE", LIMITER_DONE),
+        ("RETRY", LIMITER_RETRY),
+        ("IMPOSSIBLE", LIMITER_IMPOSSIBLE),
+        ("NONE", LIMITER_NONE),
+        ("REFUSED", LIMITER_REFUSED),
+        ("BAD_AMOUNT", LIMITER_BAD_AMOUNT),
+        ("BAD_PERIOD", LIMITER_BAD_PERIOD),
+        ("BAD_BURST", LIMITER_BAD_BURST),
+        ("BAD_SIZES", LIMITER_BAD_SIZES),
+        ("BAD_MEMORY", LIMITER_BAD_MEMORY),
+        ("BAD_MOMENT", LIMITER_BAD_MOMENT),
+        ("BAD_MAX_WAIT", LIMITER_BAD_MAX_WAIT),
+    ];
+    for (name, code) in codes {
+        let line = format!("LIMITER_{name} = {code}");
+        assert!(HEADER.contains(&line), "{line}");
+    }
+    // And no others.
+    let entries = HEADER
+        .lines()
+        .filter(|line| line.trim().starts_with("LIMITER_"));
+    assert_eq!(
+        entries.filter(|line| line.contains(" = ")).count(),
+        codes.len()
+    );
+}
+
+#[test]
+fn the_header_has_the_same_fields_and_version() {
+    let fields: Vec<&str> = HEADER
+        .lines()
+        .filter_map(|line| line.strip_prefix("    uint"))
+        .filter_map(|line| line.split_once("_t ")?.1.split_once(';'))
+        .map(|(name, _)| name)
+        .collect();
+    let ours = format!("{SMALL:?} {:?}", LimiterReply { code: 0, number: 0 });
+    let ours: Vec<&str> = ours
+        .split(['{', ',', '}'])
+        .filter_map(|part| part.split_once(": "))
+        .map(|(name, _)| name.trim())
+        .collect();
+    assert_eq!(fields, ours);
+    let version = format!("#define LIMITER_VERSION \"{}\"", env!("CARGO_PKG_VERSION"));
+    assert!(HEADER.contains(&version), "{version}");
+}

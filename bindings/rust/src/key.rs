@@ -1,0 +1,25 @@
+//! Who asks.
+
+/// The identity of a key: the key and its hash, which is the caller's.
+#[derive(Debug, Clone, Copy, PartialEq, Eq, PartialOrd, Ord, Hash)]
+pub struct Key {
+    /// Any 64-bit hash that is the same at every call. Its bits 40 to 45 choose the shard. Keys with one hash share a remembered debt, so use
+    /// a hash with a secret where strangers choose the keys.
+    pub hash: u64,
+    /// The key.
+    pub key: u64,
+}
+
+impl Key {
+    /// A key with a hash of the caller's own.
+    #[must_use]
+    pub const fn new(hash: u64, key: u64) -> Self {
+        Self { hash, key }
+    }
+
+    /// A key with the library's hash: FNV-1a over the key's eight bytes, lowest first. It has no secret.
+    #[must_use]
+    pub fn fnv1a(key: u64) -> Self {
+        Self::new(limiter_sys::limiter_key_hash(key), key)
+    }
+}
