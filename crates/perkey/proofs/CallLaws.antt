@@ -8,6 +8,7 @@ use lib.Dec.{ltb, eqb}
 use Rattle.arith.proofs.Cases.{by-test, by-eq}
 use Rattle.rows.specs.Outcome.{Outcome, outcome}
 use Rattle.bucket.specs.declared.BucketDecision.the-variants.{Allowed, Denied}
+use Rattle.bucket.specs.declared.Request.{Request}
 use Rattle.bucket.specs.declared.Request.the-variants.{Acquire, Reserve}
 use Rattle.units.specs.declared.Nanos.{Nanos}
 use Rattle.settings.specs.declared.Settings.{Settings}
@@ -34,37 +35,35 @@ use Rattle.shards.specs.Refusals.{keyedRefusal, timedRefusal, reserveRefusal, l
 use Rattle.perkey.specs.Rules as Rules
 use Rattle.perkey.proofs.RefusedLaws.{unless-refused-accepts, unless-refused-refuses}
 use Rattle.rows.specs.Held.{sum}
-use Rattle.perkey.specs.Calls.{Call, try, reserve, peek, available, len, refund, remove, rules, Answered, Kind, decides, reserves, counts, knows, kindOf, numbered, accepted}
+use Rattle.perkey.specs.Calls.{Look, Call, request, look, return, len, peeks, tokens, refunds, removes, rules, Answered, numbered, accepted}
+use Rattle.perkey.specs.Calls.{Kind, decides, reserves, counts, knows, kindOf}
 
 -- The number by which a call is refused, 0 if it is not.
 abbrev pub refusalOf : Call → List ℕ → ℕ
-refusalOf (try s at id cost) ws = timedRefusal s (id .hash) at ws
-refusalOf (reserve s at id cost longest) ws = reserveRefusal s (id .hash) at longest ws
-refusalOf (peek s at id cost) ws = timedRefusal s (id .hash) at ws
-refusalOf (available s at id) ws = timedRefusal s (id .hash) at ws
+refusalOf (request s at id Acquire cost) ws = timedRefusal s (id .hash) at ws
+refusalOf (request s at id (Reserve longest) cost) ws = reserveRefusal s (id .hash) at longest ws
+refusalOf (look s at id l) ws = timedRefusal s (id .hash) at ws
 refusalOf (len s) ws = lenRefusal s ws
-refusalOf (refund s id cost) ws = keyedRefusal s (id .hash) ws
-refusalOf (remove s id) ws = keyedRefusal s (id .hash) ws
+refusalOf (return s id r) ws = keyedRefusal s (id .hash) ws
 
 -- What a call gives where it is not refused.
 abbrev pub ruleOf : Call → List ℕ → Outcome Reply (List ℕ)
-ruleOf (try s at id cost) ws = Rules.triedBy (s .limit) s at id cost ws
-ruleOf (reserve s at id cost longest) ws = Rules.reservedBy (s .limit) s at id cost longest ws
-ruleOf (peek s at id cost) ws = outcome (Rules.peekedBy (s .limit) s at id cost ws) ws
-ruleOf (available s at id) ws = outcome (Count (Rules.availableBy (s .limit) s at id ws)) ws
+ruleOf (request s at id r cost) ws = Rules.askedBy r (s .limit) s at id cost ws
+ruleOf (look s at id (peeks cost)) ws = outcome (Rules.peekedBy (s .limit) s at id cost ws) ws
+ruleOf (look s at id tokens) ws = outcome (Count (Rules.availableBy (s .limit) s at id ws)) ws
 ruleOf (len s) ws = outcome (Count (sum (shardCount s) (λ i. slotCount (capOf s) i ws))) ws
-ruleOf (refund s id cost) ws = Rules.refundedBy (s .limit) s id cost ws
-ruleOf (remove s id) ws = Rules.keyed s id ws (Store.removed id (shardAt s (id .hash) ws))
+ruleOf (return s id (refunds cost)) ws = Rules.refundedBy (s .limit) s id cost ws
+ruleOf (return s id removes) ws = Rules.keyed s id ws (Store.removed id (shardAt s (id .hash) ws))
 
 rules-are : (c : Call) (ws : List ℕ) → rules c ws ≡ Rules.unlessRefused (refusalOf c ws) ws (ruleOf c ws)
 unfolding Rules.tryAcquire Rules.reserve Rules.peek Rules.available Rules.len Rules.refund Rules.remove
-rules-are (try s at id cost) ws = refl
-rules-are (reserve s at id cost longest) ws = refl
-rules-are (peek s at id cost) ws = refl
-rules-are (available s at id) ws = refl
+rules-are (request s at id Acquire cost) ws = refl
+rules-are (request s at id (Reserve longest) cost) ws = refl
+rules-are (look s at id (peeks cost)) ws = refl
+rules-are (look s at id tokens) ws = refl
 rules-are (len s) ws = refl
-rules-are (refund s id cost) ws = refl
-rules-are (remove s id) ws = refl
+rules-are (return s id (refunds cost)) ws = refl
+rules-are (return s id removes) ws = refl
 
 pub not-refused-is-ruled : (c : Call) (ws : List ℕ) → refusalOf c ws ≡ 0 → rules c ws ≡ ruleOf c ws
 not-refused-is-ruled c ws none = rules-are c ws ∙ unless-refused-accepts (refusalOf c ws) ws (ruleOf c ws) none
@@ -117,18 +116,32 @@ unfolding Rules.unlessTrivial
 trivial-in-kind kind rate cost ws asked a b c =
     by-test (ltb (configOf rate .capacity) cost) (λ t. rw t a) (λ t. by-test (eqb cost 0) (λ u. rw (t, u) b) (λ u. rw (t, u) c))
 
-tried-in-kind : (c : Limit) (s : Settings) (at : Nanos) (id : Identity) (cost : ℕ) (ws : List ℕ) → OfKind decides (Rules.triedBy c s at id cost ws .answer)
-tried-in-kind Closed s at id cost ws = decided (Rules.closed cost)
-tried-in-kind (Open rate) s at id cost ws =
-    let store = Store.withOrInsert (Rules.policyOf s rate) id Acquire cost at (shardAt s (id .hash) ws) in
-    trivial-in-kind decides rate cost ws _ (decided Impossible) (decided Acquired) (try-decides (store .answer))
+-- The kind of a request.
+abbrev asKind : Request → Kind
+asKind Acquire = decides
+asKind (Reserve longest) = reserves
 
-reserved-in-kind : (c : Limit) (s : Settings) (at : Nanos) (id : Identity) (cost : ℕ) (longest : Nanos) (ws : List ℕ)
-    → OfKind reserves (Rules.reservedBy c s at id cost longest ws .answer)
-reserved-in-kind Closed s at id cost longest ws = not-reserved
-reserved-in-kind (Open rate) s at id cost longest ws =
-    let store = Store.withOrInsert (Rules.policyOf s rate) id (Reserve longest) cost at (shardAt s (id .hash) ws) in
-    trivial-in-kind reserves rate cost ws _ not-reserved (reserved Rules.noWait) (reserve-reserves (store .answer))
+reply-in-kind : (r : Request) (a : Answer) → OfKind (asKind r) (Rules.replyTo r a)
+reply-in-kind Acquire a = try-decides a
+reply-in-kind (Reserve longest) a = reserve-reserves a
+
+too-much-in-kind : (r : Request) → OfKind (asKind r) (Rules.tooMuch r)
+too-much-in-kind Acquire = decided Impossible
+too-much-in-kind (Reserve longest) = not-reserved
+
+at-once-in-kind : (r : Request) → OfKind (asKind r) (Rules.atOnce r)
+at-once-in-kind Acquire = decided Acquired
+at-once-in-kind (Reserve longest) = reserved Rules.noWait
+
+closed-in-kind : (r : Request) (cost : ℕ) → OfKind (asKind r) (Rules.closedTo r cost)
+closed-in-kind Acquire cost = decided (Rules.closed cost)
+closed-in-kind (Reserve longest) cost = not-reserved
+
+asked-in-kind : (r : Request) (c : Limit) (s : Settings) (at : Nanos) (id : Identity) (cost : ℕ) (ws : List ℕ)
+    → OfKind (asKind r) (Rules.askedBy r c s at id cost ws .answer)
+asked-in-kind r Closed s at id cost ws = closed-in-kind r cost
+asked-in-kind r (Open rate) s at id cost ws =
+    trivial-in-kind (asKind r) rate cost ws _ (too-much-in-kind r) (at-once-in-kind r) (reply-in-kind r _)
 
 wait-decides : (wait : Nanos) → OfKind decides (Rules.waitReply wait)
 unfolding Rules.waitReply
@@ -145,13 +158,13 @@ refunded-in-kind Closed s id cost ws = unknown
 refunded-in-kind (Open rate) s id cost ws = key-is-known-or-not (Store.refunded (configOf rate) id cost (shardAt s (id .hash) ws) .answer)
 
 pub rule-answers-in-kind : (c : Call) (ws : List ℕ) → OfKind (kindOf c) (ruleOf c ws .answer)
-rule-answers-in-kind (try s at id cost) ws = tried-in-kind (s .limit) s at id cost ws
-rule-answers-in-kind (reserve s at id cost longest) ws = reserved-in-kind (s .limit) s at id cost longest ws
-rule-answers-in-kind (peek s at id cost) ws = peeked-in-kind (s .limit) s at id cost ws
-rule-answers-in-kind (available s at id) ws = counted _
+rule-answers-in-kind (request s at id Acquire cost) ws = asked-in-kind Acquire (s .limit) s at id cost ws
+rule-answers-in-kind (request s at id (Reserve longest) cost) ws = asked-in-kind (Reserve longest) (s .limit) s at id cost ws
+rule-answers-in-kind (look s at id (peeks cost)) ws = peeked-in-kind (s .limit) s at id cost ws
+rule-answers-in-kind (look s at id tokens) ws = counted _
 rule-answers-in-kind (len s) ws = counted _
-rule-answers-in-kind (refund s id cost) ws = refunded-in-kind (s .limit) s id cost ws
-rule-answers-in-kind (remove s id) ws = key-is-known-or-not (Store.removed id (shardAt s (id .hash) ws) .answer)
+rule-answers-in-kind (return s id (refunds cost)) ws = refunded-in-kind (s .limit) s id cost ws
+rule-answers-in-kind (return s id removes) ws = key-is-known-or-not (Store.removed id (shardAt s (id .hash) ws) .answer)
 
 -- So no rule answers with a number of a refusal.
 in-kind-not-numbered : {kind : Kind} {r : Reply} → OfKind kind r → numbered r ≡ false
@@ -174,21 +187,20 @@ numbered-is-refused c ws told none =
 pub refused-changes-nothing : (c : Call) (ws : List ℕ) → numbered (rules c ws .answer) ≡ true → rules c ws .after ≡ ws
 refused-changes-nothing c ws told = ap (λ (o : Outcome Reply (List ℕ)). o .after) (refused-is-told c ws (numbered-is-refused c ws told))
 
--- Looks change no word: a peek, a look at available, a look at the length.
-pub data Look : Call → Type 0 where
-  peeks : {s : Settings} {at : Nanos} {id : Identity} {cost : ℕ} → Look (peek s at id cost)
-  looks-available : {s : Settings} {at : Nanos} {id : Identity} → Look (available s at id)
-  looks-length : {s : Settings} → Look (len s)
+-- Looks change no word: a look at a key, and the look at the length.
+pub data Reads : Call → Type 0 where
+  looks : {s : Settings} {at : Nanos} {id : Identity} {l : Look} → Reads (look s at id l)
+  counts-keys : {s : Settings} → Reads (len s)
 
-looked-unchanged : {c : Call} (ws : List ℕ) → Look c → ruleOf c ws .after ≡ ws
-looked-unchanged ws peeks = refl
-looked-unchanged ws looks-available = refl
-looked-unchanged ws looks-length = refl
+looked-unchanged : (c : Call) (ws : List ℕ) → Reads c → ruleOf c ws .after ≡ ws
+looked-unchanged (look s at id (peeks cost)) ws looks = refl
+looked-unchanged (look s at id tokens) ws looks = refl
+looked-unchanged (len s) ws counts-keys = refl
 
-pub looks-change-nothing : {c : Call} (ws : List ℕ) → Look c → rules c ws .after ≡ ws
-looks-change-nothing {c} ws look =
+pub looks-change-nothing : (c : Call) (ws : List ℕ) → Reads c → rules c ws .after ≡ ws
+looks-change-nothing c ws reads =
     by-eq (refusalOf c ws) 0
-    (λ none. ap (λ (o : Outcome Reply (List ℕ)). o .after) (not-refused-is-ruled c ws none) ∙ looked-unchanged ws look)
+    (λ none. ap (λ (o : Outcome Reply (List ℕ)). o .after) (not-refused-is-ruled c ws none) ∙ looked-unchanged c ws reads)
     (λ some. ap (λ (o : Outcome Reply (List ℕ)). o .after) (refused-is-told c ws some))
 
 -- An accepted call has no number of a refusal, and is decided by its rule; one that is not accepted leaves the words as they are.

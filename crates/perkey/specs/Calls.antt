@@ -4,6 +4,8 @@ use mathlib.Core.Bool.{Bool, true, false, not}
 use mathlib.Core.List.{List, [], _∷_}
 use Rattle.rows.specs.Outcome.{Outcome}
 use Rattle.units.specs.declared.Nanos.{Nanos}
+use Rattle.bucket.specs.declared.Request.{Request}
+use Rattle.bucket.specs.declared.Request.the-variants.{Acquire, Reserve}
 use Rattle.settings.specs.declared.Settings.{Settings}
 use Rattle.settings.specs.declared.decision.Decision.the-variants.{Acquired, Retry, Impossible}
 use Rattle.store.specs.declared.Identity.{Identity}
@@ -11,28 +13,55 @@ use Rattle.perkey.specs.declared.Reply.{Reply}
 use Rattle.perkey.specs.declared.Reply.the-variants.{Tried, Reserved, Nothing, Done, Count, Refused}
 use Rattle.perkey.specs.Rules as Rules
 
--- A call: an operation with all its arguments, its own settings among them. Set-up and clear are no calls of a list.
+-- What a look at a key asks: what a try for so many tokens would be told, or how many tokens there are. What a return does: it gives so many tokens back,
+-- or forgets the key.
+pub data Look : Type 0 where
+  peeks : ℕ → Look
+  tokens : Look
+
+pub data Return : Type 0 where
+  refunds : ℕ → Return
+  removes : Return
+
+-- A call: what it names, which is its settings, its moment and its key, if it has them, and what it asks: a request, a try or a reservation, of so many
+-- tokens; a look; a return; or how many keys have a slot. Set-up and clear are no calls of a list.
 pub data Call : Type 0 where
-  try : Settings → Nanos → Identity → ℕ → Call
-  reserve : Settings → Nanos → Identity → ℕ → Nanos → Call
-  peek : Settings → Nanos → Identity → ℕ → Call
-  available : Settings → Nanos → Identity → Call
+  request : Settings → Nanos → Identity → Request → ℕ → Call
+  look : Settings → Nanos → Identity → Look → Call
+  return : Settings → Identity → Return → Call
   len : Settings → Call
-  refund : Settings → Identity → ℕ → Call
-  remove : Settings → Identity → Call
+
+-- The calls by the names of their operations.
+abbrev pub try : Settings → Nanos → Identity → ℕ → Call
+try s at id cost = request s at id Acquire cost
+
+abbrev pub reserve : Settings → Nanos → Identity → ℕ → Nanos → Call
+reserve s at id cost longest = request s at id (Reserve longest) cost
+
+abbrev pub peek : Settings → Nanos → Identity → ℕ → Call
+peek s at id cost = look s at id (peeks cost)
+
+abbrev pub available : Settings → Nanos → Identity → Call
+available s at id = look s at id tokens
+
+abbrev pub refund : Settings → Identity → ℕ → Call
+refund s id cost = return s id (refunds cost)
+
+abbrev pub remove : Settings → Identity → Call
+remove s id = return s id removes
 
 -- An implementation answers a call and leaves words. The rules are one.
 abbrev pub Implementation : Type 0
 Implementation = Call → List ℕ → Outcome Reply (List ℕ)
 
 abbrev pub rules : Implementation
-rules (try s at id cost) ws = Rules.tryAcquire s at id cost ws
-rules (reserve s at id cost longest) ws = Rules.reserve s at id cost longest ws
-rules (peek s at id cost) ws = Rules.peek s at id cost ws
-rules (available s at id) ws = Rules.available s at id ws
+rules (request s at id Acquire cost) ws = Rules.tryAcquire s at id cost ws
+rules (request s at id (Reserve longest) cost) ws = Rules.reserve s at id cost longest ws
+rules (look s at id (peeks cost)) ws = Rules.peek s at id cost ws
+rules (look s at id tokens) ws = Rules.available s at id ws
+rules (return s id (refunds cost)) ws = Rules.refund s id cost ws
+rules (return s id removes) ws = Rules.remove s id ws
 rules (len s) ws = Rules.len s ws
-rules (refund s id cost) ws = Rules.refund s id cost ws
-rules (remove s id) ws = Rules.remove s id ws
 
 -- A call as it was answered: the call, the reply, and the words that the rules had made before it.
 pub record Answered : Type 0 where
@@ -48,41 +77,29 @@ replies f (c ∷ cs) ws rulesWords =
 
 -- What a call names: its settings; the moment to which it brings the clock, from the moment before it; what is said of the key that it names.
 abbrev pub settingsOf : Call → Settings
-settingsOf (try s at id cost) = s
-settingsOf (reserve s at id cost longest) = s
-settingsOf (peek s at id cost) = s
-settingsOf (available s at id) = s
+settingsOf (request s at id r cost) = s
+settingsOf (look s at id l) = s
+settingsOf (return s id r) = s
 settingsOf (len s) = s
-settingsOf (refund s id cost) = s
-settingsOf (remove s id) = s
 
 abbrev pub momentOf : Call → ℕ → ℕ
-momentOf (try s at id cost) before = at .0
-momentOf (reserve s at id cost longest) before = at .0
-momentOf (peek s at id cost) before = at .0
-momentOf (available s at id) before = at .0
+momentOf (request s at id r cost) before = at .0
+momentOf (look s at id l) before = at .0
+momentOf (return s id r) before = before
 momentOf (len s) before = before
-momentOf (refund s id cost) before = before
-momentOf (remove s id) before = before
 
 abbrev pub ofKey : (Identity → Type 0) → Call → Type 0
-ofKey Q (try s at id cost) = Q id
-ofKey Q (reserve s at id cost longest) = Q id
-ofKey Q (peek s at id cost) = Q id
-ofKey Q (available s at id) = Q id
+ofKey Q (request s at id r cost) = Q id
+ofKey Q (look s at id l) = Q id
+ofKey Q (return s id r) = Q id
 ofKey Q (len s) = Unit {0}
-ofKey Q (refund s id cost) = Q id
-ofKey Q (remove s id) = Q id
 
--- What is said of the key of a refund or a removal.
+-- What is said of the key of a return.
 abbrev pub ofReturned : (Identity → Type 0) → Call → Type 0
-ofReturned Q (try s at id cost) = Unit {0}
-ofReturned Q (reserve s at id cost longest) = Unit {0}
-ofReturned Q (peek s at id cost) = Unit {0}
-ofReturned Q (available s at id) = Unit {0}
+ofReturned Q (request s at id r cost) = Unit {0}
+ofReturned Q (look s at id l) = Unit {0}
+ofReturned Q (return s id r) = Q id
 ofReturned Q (len s) = Unit {0}
-ofReturned Q (refund s id cost) = Q id
-ofReturned Q (remove s id) = Q id
 
 -- What is made of the wait of a reply that grants, else another value. Acquired and a reservation both grant, whichever call is answered so: an
 -- implementation cannot hide the grant of a try in a reservation's reply, nor the other way round.
@@ -105,13 +122,12 @@ pub data Kind : Type 0 where
   knows : Kind
 
 abbrev pub kindOf : Call → Kind
-kindOf (try s at id cost) = decides
-kindOf (reserve s at id cost longest) = reserves
-kindOf (peek s at id cost) = decides
-kindOf (available s at id) = counts
+kindOf (request s at id Acquire cost) = decides
+kindOf (request s at id (Reserve longest) cost) = reserves
+kindOf (look s at id (peeks cost)) = decides
+kindOf (look s at id tokens) = counts
+kindOf (return s id r) = knows
 kindOf (len s) = counts
-kindOf (refund s id cost) = knows
-kindOf (remove s id) = knows
 
 -- Whether a reply is a refusal by number.
 abbrev pub numbered : Reply → Bool

@@ -88,6 +88,11 @@ reserveReply (Decided (Allowed wait)) = Reserved wait
 reserveReply (Decided (Denied wait)) = Nothing
 reserveReply (NoSpace wait) = Nothing
 
+-- The answer to a request.
+abbrev pub replyTo : Request → Answer → Reply
+replyTo Acquire answer = tryReply answer
+replyTo (Reserve longest) answer = reserveReply answer
+
 -- No wait at all.
 abbrev pub noWait : Nanos
 noWait = record { 0 = 0 }
@@ -108,20 +113,34 @@ unlessTrivial rate cost tooMuch atOnce ws asked =
 unfoldable pub closed : ℕ → Decision
 closed cost = cond (eqb cost 0) Acquired Impossible
 
+-- What a request is told without a look at the store: on a closed limiter; for more tokens than a full bucket holds; and for none, which are granted.
+abbrev pub closedTo : Request → ℕ → Reply
+closedTo Acquire cost = Tried (closed cost)
+closedTo (Reserve longest) cost = Nothing
+
+abbrev pub tooMuch : Request → Reply
+tooMuch Acquire = Tried Impossible
+tooMuch (Reserve longest) = Nothing
+
+abbrev pub atOnce : Request → Reply
+atOnce Acquire = Tried Acquired
+atOnce (Reserve longest) = Reserved noWait
+
+-- A request: a try or a reservation.
+abbrev pub askedBy : Request → Limit → Settings → Nanos → Identity → ℕ → List ℕ → Outcome Reply (List ℕ)
+askedBy r Closed s at id cost ws = outcome (closedTo r cost) ws
+askedBy r (Open rate) s at id cost ws = unlessTrivial rate cost (tooMuch r) (atOnce r) ws (requested s rate id r cost at ws (replyTo r))
+
 -- A try.
 abbrev pub triedBy : Limit → Settings → Nanos → Identity → ℕ → List ℕ → Outcome Reply (List ℕ)
-triedBy Closed s at id cost ws = outcome (Tried (closed cost)) ws
-triedBy (Open rate) s at id cost ws =
-    unlessTrivial rate cost (Tried Impossible) (Tried Acquired) ws (requested s rate id Acquire cost at ws tryReply)
+triedBy limit s at id cost ws = askedBy Acquire limit s at id cost ws
 
 unfoldable pub tryAcquire : Settings → Nanos → Identity → ℕ → List ℕ → Outcome Reply (List ℕ)
 tryAcquire s at id cost ws = unlessRefused (timedRefusal s (id .hash) at ws) ws (triedBy (s .limit) s at id cost ws)
 
 -- A reservation.
 abbrev pub reservedBy : Limit → Settings → Nanos → Identity → ℕ → Nanos → List ℕ → Outcome Reply (List ℕ)
-reservedBy Closed s at id cost longest ws = outcome Nothing ws
-reservedBy (Open rate) s at id cost longest ws =
-    unlessTrivial rate cost Nothing (Reserved noWait) ws (requested s rate id (Reserve longest) cost at ws reserveReply)
+reservedBy limit s at id cost longest ws = askedBy (Reserve longest) limit s at id cost ws
 
 unfoldable pub reserve : Settings → Nanos → Identity → ℕ → Nanos → List ℕ → Outcome Reply (List ℕ)
 reserve s at id cost longest ws = unlessRefused (reserveRefusal s (id .hash) at longest ws) ws (reservedBy (s .limit) s at id cost longest ws)

@@ -11,8 +11,8 @@ use Rattle.settings.specs.declared.decision.Decision.the-variants.{Acquired, Re
 use Rattle.store.specs.declared.Identity.{Identity}
 use Rattle.perkey.specs.declared.Reply.{Reply}
 use Rattle.perkey.specs.declared.Reply.the-variants.{Tried, Reserved, Nothing, Done, Count, Refused}
-use Rattle.perkey.specs.Calls.{Call, try, reserve, peek, available, len, refund, remove, rules, Answered, replies, ofKey, ofGrant, accepted, Every}
-use Rattle.window.specs.Demands.{usable, tokensOf, tokensUsable, Agree, NoSharedHash}
+use Rattle.perkey.specs.Calls.{Call, request, look, return, len, rules, Answered, replies, ofKey, ofGrant, accepted, Every}
+use Rattle.window.specs.Demands.{usable, usableFrom, tokensOf, tokensUsable, Agree, NoSharedHash}
 use Rattle.perkey.proofs.CallLaws.{unaccepted-refused}
 use Rattle.window.proofs.CallSteps.{ruled}
 
@@ -21,13 +21,10 @@ unfoldable pub is : Identity → Identity → Bool
 is k id = cond (eqb (id .hash) (k .hash)) (eqb (id .key) (k .key)) false
 
 abbrev pub names : Identity → Call → Bool
-names k (try s at id cost) = is k id
-names k (reserve s at id cost longest) = is k id
-names k (peek s at id cost) = is k id
-names k (available s at id) = is k id
+names k (request s at id r cost) = is k id
+names k (look s at id l) = is k id
+names k (return s id r) = is k id
 names k (len s) = false
-names k (refund s id cost) = is k id
-names k (remove s id) = is k id
 
 is-same : (k id : Identity) → is k id ≡ true → id ≡ k
 unfolding is
@@ -40,23 +37,17 @@ is-same k id e =
 
 -- What holds of the key that a call names holds of k, if the call names k.
 named : (k : Identity) (Q : Identity → Type 0) (c : Call) → names k c ≡ true → ofKey Q c → Q k
-named k Q (try s at id cost) e q = subst Q (is-same k id e) q
-named k Q (reserve s at id cost longest) e q = subst Q (is-same k id e) q
-named k Q (peek s at id cost) e q = subst Q (is-same k id e) q
-named k Q (available s at id) e q = subst Q (is-same k id e) q
+named k Q (request s at id r cost) e q = subst Q (is-same k id e) q
+named k Q (look s at id l) e q = subst Q (is-same k id e) q
+named k Q (return s id r) e q = subst Q (is-same k id e) q
 named k Q (len s) e q = absurd (true≢false (sym e))
-named k Q (refund s id cost) e q = subst Q (is-same k id e) q
-named k Q (remove s id) e q = subst Q (is-same k id e) q
 
 -- What follows for every identity follows for the one that a call names.
 key-implies : (Q R : Identity → Type 0) → ((id : Identity) → Q id → R id) → (c : Call) → ofKey Q c → ofKey R c
-key-implies Q R f (try s at id cost) q = f id q
-key-implies Q R f (reserve s at id cost longest) q = f id q
-key-implies Q R f (peek s at id cost) q = f id q
-key-implies Q R f (available s at id) q = f id q
+key-implies Q R f (request s at id r cost) q = f id q
+key-implies Q R f (look s at id l) q = f id q
+key-implies Q R f (return s id r) q = f id q
 key-implies Q R f (len s) q = tt
-key-implies Q R f (refund s id cost) q = f id q
-key-implies Q R f (remove s id) q = f id q
 
 -- An accepted call names no other key of the hash.
 abbrev pub Alone : Identity → Answered → Type 0
@@ -105,13 +96,10 @@ own-key : (k id : Identity) → is k id ≡ true → id .hash ≡ k .hash → id
 own-key k id e hash = ap (λ (i : Identity). i .key) (is-same k id e)
 
 own-alone : (k : Identity) (c : Call) → names k c ≡ true → ofKey (λ id. id .hash ≡ k .hash → id .key ≡ k .key) c
-own-alone k (try s at id cost) e = own-key k id e
-own-alone k (reserve s at id cost longest) e = own-key k id e
-own-alone k (peek s at id cost) e = own-key k id e
-own-alone k (available s at id) e = own-key k id e
+own-alone k (request s at id r cost) e = own-key k id e
+own-alone k (look s at id l) e = own-key k id e
+own-alone k (return s id r) e = own-key k id e
 own-alone k (len s) e = tt
-own-alone k (refund s id cost) e = own-key k id e
-own-alone k (remove s id) e = own-key k id e
 
 pub appearing-is-alone : (k : Identity) (answered : List Answered) → appears k answered ≡ true → NoSharedHash answered → Every (Alone k) answered
 unfolding appears NoSharedHash
@@ -139,22 +127,16 @@ unnamed-granted k t u id m cost e (Count n) = refl
 unnamed-granted k t u id m cost e (Refused n) = refl
 
 unnamed-tokens : (k : Identity) (t u : ℕ) (c : Call) (reply : Reply) → names k c ≡ false → tokensOf k t u c reply ≡ 0
-unnamed-tokens k t u (try s at id cost) reply e = unnamed-granted k t u id (λ wait. at .0) cost e reply
-unnamed-tokens k t u (reserve s at id cost longest) reply e = unnamed-granted k t u id (λ wait. at .0 + wait) cost e reply
-unnamed-tokens k t u (peek s at id cost) reply e = refl
-unnamed-tokens k t u (available s at id) reply e = refl
+unnamed-tokens k t u (request s at id r cost) reply e = unnamed-granted k t u id (usableFrom r at) cost e reply
+unnamed-tokens k t u (look s at id l) reply e = refl
+unnamed-tokens k t u (return s id r) reply e = refl
 unnamed-tokens k t u (len s) reply e = refl
-unnamed-tokens k t u (refund s id cost) reply e = refl
-unnamed-tokens k t u (remove s id) reply e = refl
 
 refused-tokens : (k : Identity) (t u : ℕ) (c : Call) (n : ℕ) → tokensOf k t u c (Refused n) ≡ 0
-refused-tokens k t u (try s at id cost) n = refl
-refused-tokens k t u (reserve s at id cost longest) n = refl
-refused-tokens k t u (peek s at id cost) n = refl
-refused-tokens k t u (available s at id) n = refl
+refused-tokens k t u (request s at id r cost) n = refl
+refused-tokens k t u (look s at id l) n = refl
+refused-tokens k t u (return s id r) n = refl
 refused-tokens k t u (len s) n = refl
-refused-tokens k t u (refund s id cost) n = refl
-refused-tokens k t u (remove s id) n = refl
 
 uncalled-tokens : (k : Identity) (t u : ℕ) (c : Call) (ws : List ℕ) → calls k (ruled c ws) ≡ false → tokensOf k t u c (rules c ws .answer) ≡ 0
 unfolding calls

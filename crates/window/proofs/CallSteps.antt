@@ -9,7 +9,6 @@ use Rattle.arith.proofs.Cases.{by-test, by-eq, by-le}
 use Rattle.rows.specs.Outcome.{Outcome, outcome}
 use Rattle.units.specs.declared.Nanos.{Nanos}
 use Rattle.bucket.specs.declared.Request.{Request}
-use Rattle.bucket.specs.declared.Request.the-variants.{Acquire, Reserve}
 use Rattle.bucket.specs.Bucket.{Accepted, longestWait}
 use Rattle.settings.specs.declared.Limit.{Limit}
 use Rattle.settings.specs.declared.Limit.the-variants.{Open}
@@ -24,21 +23,20 @@ use Rattle.store.specs.declared.Answer.{Answer}
 use Rattle.store.specs.Model as Store
 use Rattle.store.proofs.StoreLaws.{ask-same-room, refund-same-room, remove-same-room}
 use Rattle.perkey.specs.declared.Reply.{Reply}
-use Rattle.perkey.specs.declared.Reply.the-variants.{Tried, Reserved, Nothing}
 use Rattle.shards.specs.Memory.{shardAt, inShard}
-use Rattle.perkey.specs.Rules.{unlessTrivial, noWait, triedBy, reservedBy, requested, policyOf, tryReply, reserveReply, keyed, refundedBy}
-use Rattle.shards.proofs.RefusalLaws.{keyed-not-refused, timed-not-refused, reserve-not-refused}
-use Rattle.perkey.specs.Calls.{Call, try, reserve, peek, available, len, refund, remove, rules, Answered, settingsOf, momentOf, ofKey, ofReturned, accepted}
-use Rattle.window.specs.Demands.{clock}
+use Rattle.perkey.specs.Rules.{unlessTrivial, noWait, askedBy, tooMuch, atOnce, requested, policyOf, replyTo, keyed, refundedBy}
+use Rattle.shards.proofs.RefusalLaws.{keyed-not-refused}
+use Rattle.perkey.specs.Calls.{Call, request, look, return, len, refunds, removes, refund, remove, rules, Answered, settingsOf, momentOf, ofKey, ofReturned, accepted}
+use Rattle.window.specs.Demands.{usableFrom, clock}
 use Rattle.window.proofs.GrantLaws.{Grant, bounded-nil}
 use Rattle.window.proofs.BucketKept.{grantsOfAnswer}
 use Rattle.window.proofs.RequestLaws.{invariant-keeps, own-request, other-request, other-refund, other-removal}
-use Rattle.perkey.proofs.CallLaws.{refusalOf, not-refused-is-ruled, accepted-not-refused, unaccepted-refused}
-use Rattle.window.proofs.OwnBucket.{in-range-is-asked}
-use Rattle.window.proofs.TryLaws.{store-grants-at-once}
+use Rattle.perkey.proofs.CallLaws.{refusalOf, not-refused-is-ruled, looks, counts-keys, looks-change-nothing, accepted-not-refused, unaccepted-refused}
+use Rattle.window.proofs.OwnBucket.{in-range-is-asked, request-not-refused}
+use Rattle.window.proofs.TryLaws.{store-grants-as-asked}
 use Rattle.window.proofs.StandingLaws.{moment, Standing, standing-later, operation-stands}
-use Rattle.window.proofs.GivenLaws.{ifOwn, granting, usableAtOnce, usableAfter, given}
-use Rattle.window.proofs.GivenLaws.{own-call, other-hash, same-either-way, refusal-gives-nothing, try-grants, reserve-grants}
+use Rattle.window.proofs.GivenLaws.{ifOwn, granting, given}
+use Rattle.window.proofs.GivenLaws.{own-call, other-hash, same-either-way, refusal-gives-nothing, reply-grants, too-much-grants-nothing, at-once-grants}
 
 -- The call as the rules answer it in some words.
 abbrev pub ruled : Call → List ℕ → Answered
@@ -60,29 +58,29 @@ module _ (s : Settings) (rate : Rate) (k : Identity) (a : Accepted (configOf rat
 
   -- What the store in the key's shard gives for a request.
   abbrev storeGives : Request → Nanos → Identity → ℕ → List ℕ → Outcome Answer Shard.Shard
-  storeGives request at id cost ws = Store.withOrInsert (policyOf s rate) id request cost at (shardAt s (id .hash) ws)
+  storeGives r at id cost ws = Store.withOrInsert (policyOf s rate) id r cost at (shardAt s (id .hash) ws)
 
   -- A request of any kind, put to the store, under a reply that grants as the store's answer does: its tokens are usable from a moment by the wait answered.
-  module _ (request : Request) (told : Answer → Reply) (from : ℕ → ℕ) (at : Nanos) (id : Identity) (cost : ℕ) (ws : List ℕ) (gs : List Grant)
-      (grants : granting from cost gs (told (storeGives request at id cost ws .answer)) ≡ grantsOfAnswer at cost (storeGives request at id cost ws .answer) gs)
-      (patient : longestWait request ≤ 2 ^ 46)
+  module _ (r : Request) (from : ℕ → ℕ) (at : Nanos) (id : Identity) (cost : ℕ) (ws : List ℕ) (gs : List Grant)
+      (grants : granting from cost gs (replyTo r (storeGives r at id cost ws .answer)) ≡ grantsOfAnswer at cost (storeGives r at id cost ws .answer) gs)
+      (patient : longestWait r ≤ 2 ^ 46)
       (sound : Shard.Sound (shardAt s (id .hash) ws)) (alone : id .hash ≡ k .hash → id .key ≡ k .key) (v : Stands (at .0) ws gs) where
     abbrev answered : Outcome Answer Shard.Shard
-    answered = storeGives request at id cost ws
+    answered = storeGives r at id cost ws
 
     request-stands : 1 ≤ cost → cost ≤ burstOf rate
-        → Stands (at .0) (inShard s (id .hash) ws answered .after) (ifOwn k id (granting from cost gs (told (answered .answer))) gs)
+        → Stands (at .0) (inShard s (id .hash) ws answered .after) (ifOwn k id (granting from cost gs (replyTo r (answered .answer))) gs)
     request-stands least most =
         by-eq (id .hash) (k .hash)
         (λ hash.
-        rw (own-call k id (granting from cost gs (told (answered .answer))) gs hash (alone hash), grants)
-        (operation-stands s rate k (id .hash) (at .0) ws v answered (ask-same-room (shardAt s (id .hash) ws) sound (policyOf s rate) id request cost at) _
-        (λ same b. own-request (policyOf s rate) id request cost at (shardAt s (id .hash) ws) a never sound (k .hash) (k .key) hash (alone hash) least most patient b)
+        rw (own-call k id (granting from cost gs (replyTo r (answered .answer))) gs hash (alone hash), grants)
+        (operation-stands s rate k (id .hash) (at .0) ws v answered (ask-same-room (shardAt s (id .hash) ws) sound (policyOf s rate) id r cost at) _
+        (λ same b. own-request (policyOf s rate) id r cost at (shardAt s (id .hash) ws) a never sound (k .hash) (k .key) hash (alone hash) least most patient b)
         (λ apart. absurd (apart (ap (shardOf s) (sym hash))))))
         (λ differs.
-        rw (other-hash k id (granting from cost gs (told (answered .answer))) gs differs)
-        (operation-stands s rate k (id .hash) (at .0) ws v answered (ask-same-room (shardAt s (id .hash) ws) sound (policyOf s rate) id request cost at) _
-        (λ same b. invariant-keeps (configOf rate) (k .hash) (k .key) at _ _ (other-request (policyOf s rate) id request cost at (shardAt s (id .hash) ws) a never sound (k .hash) (k .key) differs) b)
+        rw (other-hash k id (granting from cost gs (replyTo r (answered .answer))) gs differs)
+        (operation-stands s rate k (id .hash) (at .0) ws v answered (ask-same-room (shardAt s (id .hash) ws) sound (policyOf s rate) id r cost at) _
+        (λ same b. invariant-keeps (configOf rate) (k .hash) (k .key) at _ _ (other-request (policyOf s rate) id r cost at (shardAt s (id .hash) ws) a never sound (k .hash) (k .key) differs) b)
         (λ apart. refl)))
 
     -- A grant of no tokens bounds as before.
@@ -102,17 +100,16 @@ module _ (s : Settings) (rate : Rate) (k : Identity) (a : Accepted (configOf rat
         (λ differs. rw (other-hash k id (record { usable = from 0; tokens = cost } ∷ gs) gs differs) v)
 
     -- What a request gives and leaves, whatever its cost.
-    pub any-request-stands : (none atOnce : Reply) → granting from cost gs none ≡ gs
-        → granting from cost gs atOnce ≡ record { usable = from 0; tokens = cost } ∷ gs →
-        let o = unlessTrivial rate cost none atOnce ws (requested s rate id request cost at ws told) in
+    pub any-request-stands : granting from cost gs (tooMuch r) ≡ gs → granting from cost gs (atOnce r) ≡ record { usable = from 0; tokens = cost } ∷ gs →
+        let o = unlessTrivial rate cost (tooMuch r) (atOnce r) ws (requested s rate id r cost at ws (replyTo r)) in
         Stands (at .0) (o .after) (ifOwn k id (granting from cost gs (o .answer)) gs)
-    any-request-stands none atOnce ungranted granted =
-        let asked = requested s rate id request cost at ws told in
+    any-request-stands ungranted granted =
+        let asked = requested s rate id r cost at ws (replyTo r) in
         by-le cost (burstOf rate)
         (λ most. by-eq cost 0
-        (λ zero. rw (no-cost rate cost none atOnce ws asked zero, granted) (nothing-granted-stands zero))
-        (λ some. rw (in-range-is-asked rate cost none atOnce ws asked (omega (arith, some)) most) (request-stands (omega (arith, some)) most)))
-        (λ more. rw (too-much rate cost none atOnce ws asked more, ungranted, same-either-way k id gs) v)
+        (λ zero. rw (no-cost rate cost (tooMuch r) (atOnce r) ws asked zero, granted) (nothing-granted-stands zero))
+        (λ some. rw (in-range-is-asked rate cost (tooMuch r) (atOnce r) ws asked (omega (arith, some)) most) (request-stands (omega (arith, some)) most)))
+        (λ more. rw (too-much rate cost (tooMuch r) (atOnce r) ws asked more, ungranted, same-either-way k id gs) v)
 
   -- Accepted calls, with the settings of set-up.
   module _ (rated : s .limit ≡ Open rate) where
@@ -125,16 +122,10 @@ module _ (s : Settings) (rate : Rate) (k : Identity) (a : Accepted (configOf rat
       pub unreturned : ofReturned (λ id. id .hash ≡ k .hash → id .key ≡ k .key → ⊥) c
 
     -- The rule of a call with the settings and the rate written in.
-    tried : (s′ : Settings) (at : Nanos) (id : Identity) (cost : ℕ) (ws : List ℕ) → s′ ≡ s
-        → triedBy (s′ .limit) s′ at id cost ws
-        ≡ unlessTrivial rate cost (Tried Impossible) (Tried Acquired) ws (requested s rate id Acquire cost at ws tryReply)
-    tried s′ at id cost ws e = ap (λ (x : Settings). triedBy (x .limit) x at id cost ws) e ∙ ap (λ (l : Limit). triedBy l s at id cost ws) rated
-
-    reserved : (s′ : Settings) (at : Nanos) (id : Identity) (cost : ℕ) (longest : Nanos) (ws : List ℕ) → s′ ≡ s
-        → reservedBy (s′ .limit) s′ at id cost longest ws
-        ≡ unlessTrivial rate cost Nothing (Reserved noWait) ws (requested s rate id (Reserve longest) cost at ws reserveReply)
-    reserved s′ at id cost longest ws e =
-        ap (λ (x : Settings). reservedBy (x .limit) x at id cost longest ws) e ∙ ap (λ (l : Limit). reservedBy l s at id cost longest ws) rated
+    asking : (r : Request) (s′ : Settings) (at : Nanos) (id : Identity) (cost : ℕ) (ws : List ℕ) → s′ ≡ s
+        → askedBy r (s′ .limit) s′ at id cost ws
+        ≡ unlessTrivial rate cost (tooMuch r) (atOnce r) ws (requested s rate id r cost at ws (replyTo r))
+    asking r s′ at id cost ws e = ap (λ (x : Settings). askedBy r (x .limit) x at id cost ws) e ∙ ap (λ (l : Limit). askedBy r l s at id cost ws) rated
 
     refunding : (s′ : Settings) (id : Identity) (cost : ℕ) (ws : List ℕ) → s′ ≡ s
         → refundedBy (s′ .limit) s′ id cost ws ≡ keyed s id ws (Store.refunded (configOf rate) id cost (shardAt s (id .hash) ws))
@@ -145,30 +136,24 @@ module _ (s : Settings) (rate : Rate) (k : Identity) (a : Accepted (configOf rat
       After c = Stands (momentOf c n) (rules c ws .after) (given k c (rules c ws .answer) gs)
 
       accepted-stands : (c : Call) → refusalOf c ws ≡ 0 → Fair n c → After c
-      accepted-stands (try s′ at id cost) none fair =
-          let sound = rw (fair .settings) at (timed-not-refused s′ (id .hash) ws at none .0 .sound) in
-          rw (not-refused-is-ruled (try s′ at id cost) ws none, tried s′ at id cost ws (fair .settings))
-          (any-request-stands Acquire tryReply (usableAtOnce at) at id cost ws gs
-          (try-grants at cost gs (storeGives Acquire at id cost ws .answer) (store-grants-at-once (policyOf s rate) id cost at (shardAt s (id .hash) ws) sound))
-          (omega arith) sound (fair .alone) (standing-later s rate k n (at .0) ws (fair .later) v) (Tried Impossible) (Tried Acquired) refl refl)
-      accepted-stands (reserve s′ at id cost longest) none fair =
-          let open′ = reserve-not-refused s′ (id .hash) ws at longest none in
+      accepted-stands (request s′ at id r cost) none fair =
+          let open′ = request-not-refused s′ at id r cost ws none in
           let sound = rw (fair .settings) at (open′ .0 .sound) in
-          rw (not-refused-is-ruled (reserve s′ at id cost longest) ws none, reserved s′ at id cost longest ws (fair .settings))
-          (any-request-stands (Reserve longest) reserveReply (usableAfter at) at id cost ws gs
-          (reserve-grants at cost gs (storeGives (Reserve longest) at id cost ws .answer))
-          (open′ .2) sound (fair .alone) (standing-later s rate k n (at .0) ws (fair .later) v) Nothing (Reserved noWait) refl refl)
-      accepted-stands (peek s′ at id cost) none fair = rw (not-refused-is-ruled (peek s′ at id cost) ws none) (standing-later s rate k n (at .0) ws (fair .later) v)
-      accepted-stands (available s′ at id) none fair = rw (not-refused-is-ruled (available s′ at id) ws none) (standing-later s rate k n (at .0) ws (fair .later) v)
-      accepted-stands (len s′) none fair = rw (not-refused-is-ruled (len s′) ws none) v
-      accepted-stands (refund s′ id cost) none fair =
+          rw (not-refused-is-ruled (request s′ at id r cost) ws none, asking r s′ at id cost ws (fair .settings))
+          (any-request-stands r (usableFrom r at) at id cost ws gs
+          (reply-grants r at cost gs (storeGives r at id cost ws .answer) (store-grants-as-asked (policyOf s rate) id r cost at (shardAt s (id .hash) ws) sound))
+          (open′ .2) sound (fair .alone) (standing-later s rate k n (at .0) ws (fair .later) v) (too-much-grants-nothing r at cost gs) (at-once-grants r at cost gs))
+      accepted-stands (look s′ at id l) none fair =
+          rw (looks-change-nothing (look s′ at id l) ws looks) (standing-later s rate k n (at .0) ws (fair .later) v)
+      accepted-stands (len s′) none fair = rw (looks-change-nothing (len s′) ws counts-keys) v
+      accepted-stands (return s′ id (refunds cost)) none fair =
           let sound = rw (fair .settings) at (keyed-not-refused s′ (id .hash) ws none .sound) in
           let differs : id .hash ≡ k .hash → ⊥ = λ hash. fair .unreturned hash (fair .alone hash) in
           rw (not-refused-is-ruled (refund s′ id cost) ws none, refunding s′ id cost ws (fair .settings))
           (operation-stands s rate k (id .hash) n ws v (Store.refunded (configOf rate) id cost (shardAt s (id .hash) ws)) (refund-same-room (shardAt s (id .hash) ws) sound (configOf rate) id cost) gs
           (λ same b. invariant-keeps (configOf rate) (k .hash) (k .key) (moment n) _ _ (other-refund (configOf rate) (k .hash) (k .key) (moment n) (shardAt s (id .hash) ws) sound id differs cost) b)
           (λ apart. refl))
-      accepted-stands (remove s′ id) none fair =
+      accepted-stands (return s′ id removes) none fair =
           let sound = rw (fair .settings) at (keyed-not-refused s′ (id .hash) ws none .sound) in
           let differs : id .hash ≡ k .hash → ⊥ = λ hash. fair .unreturned hash (fair .alone hash) in
           rw (not-refused-is-ruled (remove s′ id) ws none, fair .settings)

@@ -5,8 +5,9 @@ use mathlib.Core.Bool.{true}
 use mathlib.Core.List.{List}
 use contract.Lifetimes.{Lfts}
 use Rattle.rows.specs.Outcome.{Outcome, outcome}
-use Rattle.perkey.specs.Calls.{Call, try, reserve, peek, available, len, refund, remove, rules}
-use Rattle.perkey.proofs.CallLaws.{Look, peeks, looks-available, looks-length, looks-change-nothing}
+use Rattle.bucket.specs.declared.Request.the-variants.{Acquire, Reserve}
+use Rattle.perkey.specs.Calls.{Call, peek, available, request, look, return, len, peeks, tokens, refunds, removes, rules}
+use Rattle.perkey.proofs.CallLaws.{Reads, looks, counts-keys, looks-change-nothing}
 use Rattle.window.specs.Widths.{fits, lendable}
 use Rattle.window.specs.Demands.{Limiter, answering, Demand2, Demand3}
 use Rattle.window.specs.Contracts.{LooksOnly, Contracts}
@@ -24,17 +25,17 @@ module _ (κs : Lfts 1) (ptr : ℕ × ℕ) (name : ℕ) where
     clears = λ s ws _ _ _. refl;
     tries = λ s at id cost ws _ _ _. refl;
     reserves = λ s at id cost longest ws _ _ _. refl;
-    peeks = λ s at id cost ws _ _ _. looked-as-ruled (peek s at id cost) ws peeks;
-    availables = λ s at id ws _ _ _. looked-as-ruled (available s at id) ws looks-available;
-    lens = λ s ws _ _ _. looked-as-ruled (len s) ws looks-length;
+    peeks = λ s at id cost ws _ _ _. looked-as-ruled (peek s at id cost) ws looks;
+    availables = λ s at id ws _ _ _. looked-as-ruled (available s at id) ws looks;
+    lens = λ s ws _ _ _. looked-as-ruled (len s) ws counts-keys;
     refunds = λ s id cost ws _ _ _. refl;
     removes = λ s id ws _ _ _. refl;
   }
     where
-      looked-as-ruled : (c : Call) (ws : List ℕ) → Look c → outcome (rules c ws .answer) ws ≡ rules c ws
-      looked-as-ruled c ws look = ap (outcome (rules c ws .answer)) (sym (looks-change-nothing ws look))
+      looked-as-ruled : (c : Call) (ws : List ℕ) → Reads c → outcome (rules c ws .answer) ws ≡ rules c ws
+      looked-as-ruled c ws reads = ap (outcome (rules c ws .answer)) (sym (looks-change-nothing c ws reads))
 
-  module _ (l : Limiter) (looks : LooksOnly l) (c : Contracts κs ptr name l) where
+  module _ (l : Limiter) (lent-to-read : LooksOnly l) (c : Contracts κs ptr name l) where
     -- No operation asks anything of its caller: `tt` shows all that is asked.
     pub contracts-meet-demand2 : Demand2 l
     contracts-meet-demand2 = record {
@@ -44,13 +45,13 @@ module _ (κs : Lfts 1) (ptr : ℕ × ℕ) (name : ℕ) where
     }
       where
         ruled : (call : Call) (ws : List ℕ) → fits call ≡ true → lendable ws ≡ true → l .answers call ws ≡ rules call ws
-        ruled (try s at id cost) ws = λ fit lent. c .tries s at id cost ws fit lent tt
-        ruled (reserve s at id cost longest) ws = λ fit lent. c .reserves s at id cost longest ws fit lent tt
-        ruled (peek s at id cost) ws = λ fit lent. looked (looks .peeks s at id cost ws) (c .peeks s at id cost ws fit lent tt)
-        ruled (available s at id) ws = λ fit lent. looked (looks .availables s at id ws) (c .availables s at id ws fit lent tt)
-        ruled (len s) ws = λ fit lent. looked (looks .lens s ws) (c .lens s ws fit lent tt)
-        ruled (refund s id cost) ws = λ fit lent. c .refunds s id cost ws fit lent tt
-        ruled (remove s id) ws = λ fit lent. c .removes s id ws fit lent tt
+        ruled (request s at id Acquire cost) ws = λ fit lent. c .tries s at id cost ws fit lent tt
+        ruled (request s at id (Reserve longest) cost) ws = λ fit lent. c .reserves s at id cost longest ws fit lent tt
+        ruled (look s at id (peeks cost)) ws = λ fit lent. looked (lent-to-read .peeks s at id cost ws) (c .peeks s at id cost ws fit lent tt)
+        ruled (look s at id tokens) ws = λ fit lent. looked (lent-to-read .availables s at id ws) (c .availables s at id ws fit lent tt)
+        ruled (len s) ws = λ fit lent. looked (lent-to-read .lens s ws) (c .lens s ws fit lent tt)
+        ruled (return s id (refunds cost)) ws = λ fit lent. c .refunds s id cost ws fit lent tt
+        ruled (return s id removes) ws = λ fit lent. c .removes s id ws fit lent tt
 
     pub contracts-meet-demand3 : Demand3 l
     contracts-meet-demand3 = demand2-gives-demand3 l contracts-meet-demand2

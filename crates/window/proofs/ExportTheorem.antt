@@ -12,6 +12,7 @@ use Rattle.arith.proofs.Cases.{by-eq}
 use Rattle.rows.specs.Outcome.{Outcome, outcome}
 use Rattle.units.specs.declared.OptionNanos.{OptionNanos}
 use Rattle.units.specs.declared.OptionNanos.the-variants as nanos
+use Rattle.bucket.specs.declared.Request.the-variants.{Acquire, Reserve}
 use Rattle.settings.specs.declared.Limit.{Limit}
 use Rattle.settings.specs.declared.Limit.the-variants.{Closed, Open}
 use Rattle.settings.specs.declared.Settings.{Settings}
@@ -19,7 +20,7 @@ use Rattle.settings.specs.declared.decision.Decision.the-variants.{Acquired, Re
 use Rattle.settings.specs.declared.eviction.WhenFull.{WhenFull}
 use Rattle.settings.specs.declared.eviction.WhenFull.the-variants.{RefuseNew, ForgetDebt}
 use Rattle.settings.specs.declared.rate.OptionTokens.{OptionTokens}
-use Rattle.settings.specs.declared.rate.OptionTokens.the-variants as tokens
+use Rattle.settings.specs.declared.rate.OptionTokens.the-variants as burst
 use Rattle.settings.specs.declared.rate.Rate.{Rate}
 use Rattle.settings.specs.Eviction.{whenFullOf}
 use Rattle.settings.specs.Settings.{wordsOf}
@@ -28,9 +29,10 @@ use Rattle.perkey.specs.declared.Reply.the-variants.{Done, Refused}
 use Rattle.shards.specs.Refusals.{setUpRefusal}
 use Rattle.perkey.specs.Rules.{setUp, clear}
 use Rattle.perkey.proofs.RefusedLaws.{unless-refused-accepts, unless-refused-refuses}
-use Rattle.perkey.specs.Calls.{Call, try, reserve, peek, available, len, refund, remove, rules, Kind, decides, reserves, counts, knows, kindOf}
+use Rattle.perkey.specs.Calls.{Call, try, reserve, peek, available, len, refund, remove, rules}
+use Rattle.perkey.specs.Calls.{request, look, return, peeks, tokens, refunds, removes, Kind, decides, reserves, counts, knows, kindOf}
 use Rattle.perkey.proofs.CallLaws.{OfKind, decided, reserved, not-reserved, counted, known, unknown}
-use Rattle.perkey.proofs.CallLaws.{Look, peeks, looks-available, looks-length, looks-change-nothing}
+use Rattle.perkey.proofs.CallLaws.{Reads, looks, counts-keys, looks-change-nothing}
 use Rattle.perkey.proofs.CallLaws.{refusalOf, ruleOf, not-refused-is-ruled, refused-is-told, rule-answers-in-kind}
 use Rattle.limiter.specs.Exported as Exported
 use Rattle.window.specs.Widths.{settingsFit, fits, lendable}
@@ -44,8 +46,8 @@ use Rattle.window.proofs.CodeTheorem.{looked}
 -- Settings that are written as numbers are read by the exports as they were.
 tokens-come-back : (n : OptionTokens) → Exported.tokensOf (flag n) (number n) ≡ n
 unfolding Exported.tokensOf
-tokens-come-back tokens.None = refl
-tokens-come-back (tokens.Some n) = refl
+tokens-come-back burst.None = refl
+tokens-come-back (burst.Some n) = refl
 
 idle-comes-back : (idle : OptionNanos) → Exported.idleOf (idleFlag idle) (idleNumber idle) ≡ idle
 unfolding Exported.idleOf
@@ -131,8 +133,8 @@ toldRules = record {
   remove = λ n hash key ws. Exported.told (rules (remove (Exported.settingsOf n) (Exported.identityOf hash key)) ws);
 }
 
-told-look : (c : Call) (ws : List ℕ) → Look c → outcome (Exported.told (rules c ws) .answer) ws ≡ Exported.told (rules c ws)
-told-look c ws look = ap (outcome (Exported.replyOf (rules c ws .answer))) (sym (looks-change-nothing ws look))
+told-look : (c : Call) (ws : List ℕ) → Reads c → outcome (Exported.told (rules c ws) .answer) ws ≡ Exported.told (rules c ws)
+told-look c ws reads = ap (outcome (Exported.replyOf (rules c ws .answer))) (sym (looks-change-nothing c ws reads))
 
 pub rules-are-as-the-exports-tell : (κs : Lfts 1) (ptr : ℕ × ℕ) (name : ℕ) → ExportContracts κs ptr name toldRules
 rules-are-as-the-exports-tell κs ptr name = record {
@@ -140,25 +142,25 @@ rules-are-as-the-exports-tell κs ptr name = record {
   clears = λ s ws _ _ _. refl;
   tries = λ s at id cost ws _ _ _. refl;
   reserves = λ s at id cost longest ws _ _ _. refl;
-  peeks = λ s at id cost ws _ _ _. told-look (peek (Exported.settingsOf (written s)) at id cost) ws peeks;
-  availables = λ s at id ws _ _ _. told-look (available (Exported.settingsOf (written s)) at id) ws looks-available;
-  lens = λ s ws _ _ _. told-look (len (Exported.settingsOf (written s))) ws looks-length;
+  peeks = λ s at id cost ws _ _ _. told-look (peek (Exported.settingsOf (written s)) at id cost) ws looks;
+  availables = λ s at id ws _ _ _. told-look (available (Exported.settingsOf (written s)) at id) ws looks;
+  lens = λ s ws _ _ _. told-look (len (Exported.settingsOf (written s))) ws counts-keys;
   refunds = λ s id cost ws _ _ _. refl;
   removes = λ s id ws _ _ _. refl;
 }
 
-module _ (κs : Lfts 1) (ptr : ℕ × ℕ) (name : ℕ) (e : Exports) (looks : LooksOnly (called e)) (c : ExportContracts κs ptr name e) where
+module _ (κs : Lfts 1) (ptr : ℕ × ℕ) (name : ℕ) (e : Exports) (lent-to-read : LooksOnly (called e)) (c : ExportContracts κs ptr name e) where
   -- What a call gives through the exports is what the rules give, told as numbers.
   told-as-ruled : (call : Call) (ws : List ℕ) → fits call ≡ true → lendable ws ≡ true → through e call ws ≡ Exported.told (rules call ws)
-  told-as-ruled (try s at id cost) ws = λ fit lent. rw (settings-come-back s) at (c .tries s at id cost ws fit lent tt)
-  told-as-ruled (reserve s at id cost longest) ws = λ fit lent. rw (settings-come-back s) at (c .reserves s at id cost longest ws fit lent tt)
-  told-as-ruled (peek s at id cost) ws = λ fit lent.
-      looked (looks .peeks s at id cost ws) (rw (settings-come-back s) at (c .peeks s at id cost ws fit lent tt))
-  told-as-ruled (available s at id) ws = λ fit lent.
-      looked (looks .availables s at id ws) (rw (settings-come-back s) at (c .availables s at id ws fit lent tt))
-  told-as-ruled (len s) ws = λ fit lent. looked (looks .lens s ws) (rw (settings-come-back s) at (c .lens s ws fit lent tt))
-  told-as-ruled (refund s id cost) ws = λ fit lent. rw (settings-come-back s) at (c .refunds s id cost ws fit lent tt)
-  told-as-ruled (remove s id) ws = λ fit lent. rw (settings-come-back s) at (c .removes s id ws fit lent tt)
+  told-as-ruled (request s at id Acquire cost) ws = λ fit lent. rw (settings-come-back s) at (c .tries s at id cost ws fit lent tt)
+  told-as-ruled (request s at id (Reserve longest) cost) ws = λ fit lent. rw (settings-come-back s) at (c .reserves s at id cost longest ws fit lent tt)
+  told-as-ruled (look s at id (peeks cost)) ws = λ fit lent.
+      looked (lent-to-read .peeks s at id cost ws) (rw (settings-come-back s) at (c .peeks s at id cost ws fit lent tt))
+  told-as-ruled (look s at id tokens) ws = λ fit lent.
+      looked (lent-to-read .availables s at id ws) (rw (settings-come-back s) at (c .availables s at id ws fit lent tt))
+  told-as-ruled (len s) ws = λ fit lent. looked (lent-to-read .lens s ws) (rw (settings-come-back s) at (c .lens s ws fit lent tt))
+  told-as-ruled (return s id (refunds cost)) ws = λ fit lent. rw (settings-come-back s) at (c .refunds s id cost ws fit lent tt)
+  told-as-ruled (return s id removes) ws = λ fit lent. rw (settings-come-back s) at (c .removes s id ws fit lent tt)
 
   pub exports-meet-demand2 : Demand2 (called e)
   exports-meet-demand2 = record {

@@ -9,16 +9,18 @@ use borrow.Author.Tests.{eq-eqb, ne-eqb}
 use Rattle.arith.proofs.Cases.{by-test}
 use Rattle.units.specs.declared.Nanos.{Nanos}
 use Rattle.bucket.specs.declared.BucketDecision.the-variants.{Allowed, Denied}
+use Rattle.bucket.specs.declared.Request.{Request}
+use Rattle.bucket.specs.declared.Request.the-variants.{Acquire, Reserve}
 use Rattle.settings.specs.declared.decision.Decision.the-variants.{Acquired, Retry, Impossible}
 use Rattle.store.specs.declared.Identity.{Identity}
 use Rattle.store.specs.declared.Answer.{Answer}
 use Rattle.store.specs.declared.Answer.the-variants.{Decided, NoSpace}
 use Rattle.perkey.specs.declared.Reply.{Reply}
 use Rattle.perkey.specs.declared.Reply.the-variants.{Tried, Reserved, Nothing, Done, Count, Refused}
-use Rattle.perkey.specs.Rules.{tryReply, reserveReply}
-use Rattle.perkey.specs.Calls.{Call, try, reserve, peek, available, len, refund, remove, ofGrant}
-use Rattle.window.specs.Demands.{usable, tokensOf}
-use Rattle.window.proofs.TryLaws.{AtOnce}
+use Rattle.perkey.specs.Rules.{replyTo, tooMuch, atOnce}
+use Rattle.perkey.specs.Calls.{Call, request, look, return, len, ofGrant}
+use Rattle.window.specs.Demands.{usable, usableFrom, tokensOf}
+use Rattle.window.proofs.TryLaws.{AsAsked}
 use Rattle.window.proofs.GrantLaws.{Grant, within}
 use Rattle.window.proofs.BucketKept.{grantsOfAnswer}
 
@@ -30,22 +32,12 @@ ifOwn k id own other = cond (eqb (id .hash) (k .hash)) (cond (eqb (id .key) (k .
 abbrev pub granting : (ℕ → ℕ) → ℕ → List Grant → Reply → List Grant
 granting from cost gs reply = ofGrant (λ wait. record { usable = from wait; tokens = cost } ∷ gs) gs reply
 
--- A try's tokens are usable at once, a reservation's after the wait.
-abbrev pub usableAtOnce : Nanos → ℕ → ℕ
-usableAtOnce at wait = at .0
-
-abbrev pub usableAfter : Nanos → ℕ → ℕ
-usableAfter at wait = at .0 + wait
-
 -- The grants to the key after a call.
 abbrev pub given : Identity → Call → Reply → List Grant → List Grant
-given k (try s at id cost) reply gs = ifOwn k id (granting (usableAtOnce at) cost gs reply) gs
-given k (reserve s at id cost longest) reply gs = ifOwn k id (granting (usableAfter at) cost gs reply) gs
-given k (peek s at id cost) reply gs = gs
-given k (available s at id) reply gs = gs
+given k (request s at id r cost) reply gs = ifOwn k id (granting (usableFrom r at) cost gs reply) gs
+given k (look s at id l) reply gs = gs
+given k (return s id r) reply gs = gs
 given k (len s) reply gs = gs
-given k (refund s id cost) reply gs = gs
-given k (remove s id) reply gs = gs
 
 module _ (k id : Identity) (own other : List Grant) where
   pub own-call : id .hash ≡ k .hash → id .key ≡ k .key → ifOwn k id own other ≡ own
@@ -63,25 +55,30 @@ same-either-way k id gs =
 
 -- A refusal by number grants nothing.
 pub refusal-gives-nothing : (k : Identity) (c : Call) (n : ℕ) (gs : List Grant) → given k c (Refused n) gs ≡ gs
-refusal-gives-nothing k (try s at id cost) n gs = same-either-way k id gs
-refusal-gives-nothing k (reserve s at id cost longest) n gs = same-either-way k id gs
-refusal-gives-nothing k (peek s at id cost) n gs = refl
-refusal-gives-nothing k (available s at id) n gs = refl
+refusal-gives-nothing k (request s at id r cost) n gs = same-either-way k id gs
+refusal-gives-nothing k (look s at id l) n gs = refl
+refusal-gives-nothing k (return s id r) n gs = refl
 refusal-gives-nothing k (len s) n gs = refl
-refusal-gives-nothing k (refund s id cost) n gs = refl
-refusal-gives-nothing k (remove s id) n gs = refl
 
 -- What a reply tells is granted as the store's answer grants it.
-pub try-grants : (at : Nanos) (cost : ℕ) (gs : List Grant) (a : Answer) → AtOnce a
-    → granting (usableAtOnce at) cost gs (tryReply a) ≡ grantsOfAnswer at cost a gs
-try-grants at cost gs (Decided (Allowed wait)) none = ap {B = List Grant} (λ m. record { usable = m; tokens = cost } ∷ gs) (omega (arith, none))
-try-grants at cost gs (Decided (Denied wait)) none = refl
-try-grants at cost gs (NoSpace wait) none = refl
+pub reply-grants : (r : Request) (at : Nanos) (cost : ℕ) (gs : List Grant) (a : Answer) → AsAsked r a
+    → granting (usableFrom r at) cost gs (replyTo r a) ≡ grantsOfAnswer at cost a gs
+reply-grants Acquire at cost gs (Decided (Allowed wait)) none = ap {B = List Grant} (λ m. record { usable = m; tokens = cost } ∷ gs) (omega (arith, none))
+reply-grants Acquire at cost gs (Decided (Denied wait)) none = refl
+reply-grants Acquire at cost gs (NoSpace wait) none = refl
+reply-grants (Reserve longest) at cost gs (Decided (Allowed wait)) none = refl
+reply-grants (Reserve longest) at cost gs (Decided (Denied wait)) none = refl
+reply-grants (Reserve longest) at cost gs (NoSpace wait) none = refl
 
-pub reserve-grants : (at : Nanos) (cost : ℕ) (gs : List Grant) (a : Answer) → granting (usableAfter at) cost gs (reserveReply a) ≡ grantsOfAnswer at cost a gs
-reserve-grants at cost gs (Decided (Allowed wait)) = refl
-reserve-grants at cost gs (Decided (Denied wait)) = refl
-reserve-grants at cost gs (NoSpace wait) = refl
+-- Too large a cost is granted nothing; no cost at all is granted at once.
+pub too-much-grants-nothing : (r : Request) (at : Nanos) (cost : ℕ) (gs : List Grant) → granting (usableFrom r at) cost gs (tooMuch r) ≡ gs
+too-much-grants-nothing Acquire at cost gs = refl
+too-much-grants-nothing (Reserve longest) at cost gs = refl
+
+pub at-once-grants : (r : Request) (at : Nanos) (cost : ℕ) (gs : List Grant)
+    → granting (usableFrom r at) cost gs (atOnce r) ≡ record { usable = usableFrom r at 0; tokens = cost } ∷ gs
+at-once-grants Acquire at cost gs = refl
+at-once-grants (Reserve longest) at cost gs = refl
 
 -- The tokens of a window, call by call.
 module _ (k : Identity) (t u : ℕ) (gs : List Grant) where
@@ -105,10 +102,7 @@ module _ (k : Identity) (t u : ℕ) (gs : List Grant) where
   request-within from id cost (Refused n) = rw (same-either-way k id gs) (omega arith)
 
   pub given-within : (c : Call) (reply : Reply) → within t u (given k c reply gs) ≡ tokensOf k t u c reply + within t u gs
-  given-within (try s at id cost) reply = request-within (usableAtOnce at) id cost reply
-  given-within (reserve s at id cost longest) reply = request-within (usableAfter at) id cost reply
-  given-within (peek s at id cost) reply = omega arith
-  given-within (available s at id) reply = omega arith
+  given-within (request s at id r cost) reply = request-within (usableFrom r at) id cost reply
+  given-within (look s at id l) reply = omega arith
+  given-within (return s id r) reply = omega arith
   given-within (len s) reply = omega arith
-  given-within (refund s id cost) reply = omega arith
-  given-within (remove s id) reply = omega arith

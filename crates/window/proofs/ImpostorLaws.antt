@@ -7,7 +7,7 @@ use mathlib.Core.Path.{_≡_, refl}
 use mathlib.Core.List.{List, [], _∷_}
 use Rattle.store.specs.declared.Identity.{Identity}
 use Rattle.perkey.specs.Rules.{setUp}
-use Rattle.perkey.specs.Calls.{Call, try, reserve, peek, available, len, refund, remove, rules, replies}
+use Rattle.perkey.specs.Calls.{Call, request, look, return, len, rules, replies}
 use Rattle.window.specs.Demands.{Limiter, answering, Demand2, tokensOf, tokensUsable, WindowAdding, Window, OwnBucket, Demand3}
 use Rattle.window.specs.Impostors.{impossibleToAll, retryBeforeALook, alwaysAcquired, grantsWithoutStoring, firstDebtOnly, inventedLength}
 use Rattle.window.specs.Impostors.{turnsSlotlessAway, turnsNewcomersAway, blindToKeys}
@@ -34,13 +34,10 @@ impossible-to-all-fails-demand2 = by-demand3 _ impossible-to-all-fails-demand3
 
 -- It grants nothing, and so keeps the window: it is the own bucket that shuts it out.
 impossible-is-no-grant : (k : Identity) (t u : ℕ) (c : Call) (ws : List ℕ) → tokensOf k t u c (impossibleToAll c ws .answer) ≡ 0
-impossible-is-no-grant k t u (try s at id cost) ws = refl
-impossible-is-no-grant k t u (reserve s at id cost longest) ws = refl
-impossible-is-no-grant k t u (peek s at id cost) ws = refl
-impossible-is-no-grant k t u (available s at id) ws = refl
+impossible-is-no-grant k t u (request s at id r cost) ws = refl
+impossible-is-no-grant k t u (look s at id l) ws = refl
+impossible-is-no-grant k t u (return s id r) ws = refl
 impossible-is-no-grant k t u (len s) ws = refl
-impossible-is-no-grant k t u (refund s id cost) ws = refl
-impossible-is-no-grant k t u (remove s id) ws = refl
 
 nothing-usable : (k : Identity) (t u : ℕ) (cs : List Call) (ws law : List ℕ) → tokensUsable k t u (replies impossibleToAll cs ws law) ≡ 0
 unfolding replies tokensUsable

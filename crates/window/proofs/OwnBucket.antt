@@ -5,18 +5,22 @@ use mathlib.Core.List.{List, [], _∷_}
 use native.Mathlib.Omega.{arith}
 use borrow.Author.Tests.{le-ltb, ne-eqb}
 use Rattle.rows.specs.Outcome.{Outcome}
+use Rattle.units.specs.declared.Nanos.{Nanos}
+use Rattle.bucket.specs.declared.Request.{Request}
 use Rattle.bucket.specs.declared.Request.the-variants.{Acquire, Reserve}
+use Rattle.bucket.specs.Bucket.{longestWait}
 use Rattle.settings.specs.declared.Limit.{Limit}
-use Rattle.settings.specs.declared.decision.Decision.the-variants.{Acquired, Impossible}
+use Rattle.settings.specs.declared.Settings.{Settings}
 use Rattle.settings.specs.declared.rate.Rate.{Rate}
 use Rattle.settings.specs.Rate.{burstOf}
+use Rattle.store.specs.declared.Identity.{Identity}
 use Rattle.store.proofs.OwnBucketLaws.{own-bucket-decides}
 use Rattle.perkey.specs.declared.Reply.{Reply}
-use Rattle.perkey.specs.declared.Reply.the-variants.{Tried, Reserved, Nothing}
 use Rattle.shards.specs.Memory.{shardAt}
-use Rattle.perkey.specs.Rules.{unlessTrivial, noWait, triedBy, reservedBy, requested, policyOf, tryReply, reserveReply}
-use Rattle.shards.proofs.RefusalLaws.{timed-not-refused, reserve-not-refused}
-use Rattle.perkey.specs.Calls.{Call, try, reserve, peek, available, len, refund, remove, rules, Answered, replies, Every}
+use Rattle.perkey.specs.Rules.{unlessTrivial, askedBy, tooMuch, atOnce, requested, policyOf, replyTo}
+use Rattle.shards.specs.Refusals.{latestMoment, longestMaxWait}
+use Rattle.shards.proofs.RefusalLaws.{Accepted, timed-not-refused, reserve-not-refused}
+use Rattle.perkey.specs.Calls.{Call, request, look, return, len, rules, Answered, replies, Every}
 use Rattle.window.specs.Demands.{decidedBy}
 use Rattle.perkey.proofs.CallLaws.{refusalOf, ruleOf, not-refused-is-ruled, accepted-not-refused}
 
@@ -34,28 +38,24 @@ reply-of-rule c ws none = ap (λ (o : Outcome Reply (List ℕ)). o .answer) (not
 abbrev ruled : Call → List ℕ → Answered
 ruled c ws = record { call = c; reply = rules c ws .answer; rulesWords = ws }
 
+-- What is known of a request that is not refused: its memory is accepted, its moment is not late, and it does not ask for a wait that is too long.
+pub request-not-refused : (s : Settings) (at : Nanos) (id : Identity) (r : Request) (cost : ℕ) (ws : List ℕ) → refusalOf (request s at id r cost) ws ≡ 0
+    → Accepted s (id .hash) ws × (at .0 ≤ latestMoment) × (longestWait r ≤ longestMaxWait)
+request-not-refused s at id Acquire cost ws none = let timed = timed-not-refused s (id .hash) ws at none in (timed .0, timed .1, omega arith)
+request-not-refused s at id (Reserve longest) cost ws none = reserve-not-refused s (id .hash) ws at longest none
+
 decided : (c : Call) (ws : List ℕ) → decidedBy (ruled c ws) c
-decided (try s at id cost) ws = λ taken rate rated least most holding.
-    let none = accepted-not-refused (ruled (try s at id cost) ws) taken in
-    let sound = timed-not-refused s (id .hash) ws at none .0 .sound in
-    reply-of-rule (try s at id cost) ws none
-    ∙ ap (λ (limit : Limit). triedBy limit s at id cost ws .answer) rated
+decided (request s at id r cost) ws = λ taken rate rated least most holding.
+    let none = accepted-not-refused (ruled (request s at id r cost) ws) taken in
+    let sound = request-not-refused s at id r cost ws none .0 .sound in
+    reply-of-rule (request s at id r cost) ws none
+    ∙ ap (λ (limit : Limit). askedBy r limit s at id cost ws .answer) rated
     ∙ ap (λ (o : Outcome Reply (List ℕ)). o .answer)
-    (in-range-is-asked rate cost (Tried Impossible) (Tried Acquired) ws (requested s rate id Acquire cost at ws tryReply) least most)
-    ∙ ap tryReply (own-bucket-decides (policyOf s rate) id Acquire cost at (shardAt s (id .hash) ws) sound holding)
-decided (reserve s at id cost longest) ws = λ taken rate rated least most holding.
-    let none = accepted-not-refused (ruled (reserve s at id cost longest) ws) taken in
-    let sound = reserve-not-refused s (id .hash) ws at longest none .0 .sound in
-    reply-of-rule (reserve s at id cost longest) ws none
-    ∙ ap (λ (limit : Limit). reservedBy limit s at id cost longest ws .answer) rated
-    ∙ ap (λ (o : Outcome Reply (List ℕ)). o .answer)
-    (in-range-is-asked rate cost Nothing (Reserved noWait) ws (requested s rate id (Reserve longest) cost at ws reserveReply) least most)
-    ∙ ap reserveReply (own-bucket-decides (policyOf s rate) id (Reserve longest) cost at (shardAt s (id .hash) ws) sound holding)
-decided (peek s at id cost) ws = tt
-decided (available s at id) ws = tt
+    (in-range-is-asked rate cost (tooMuch r) (atOnce r) ws (requested s rate id r cost at ws (replyTo r)) least most)
+    ∙ ap (replyTo r) (own-bucket-decides (policyOf s rate) id r cost at (shardAt s (id .hash) ws) sound holding)
+decided (look s at id l) ws = tt
+decided (return s id r) ws = tt
 decided (len s) ws = tt
-decided (refund s id cost) ws = tt
-decided (remove s id) ws = tt
 
 pub rules-decide-by-own-bucket : (ws : List ℕ) (cs : List Call) → Every (λ a. decidedBy a (a .call)) (replies rules cs ws ws)
 unfolding replies

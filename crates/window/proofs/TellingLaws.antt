@@ -3,17 +3,22 @@
 use Prim.Native.Nat.{ℕ, _≤_}
 use native.Mathlib.Omega.{arith}
 use native.Mathlib.Nat.{mul-le-mul-right, le-trans}
-use mathlib.Core.Path.{sym, _∙_}
+use mathlib.Core.Path.{_≡_, refl, sym, _∙_}
 use mathlib.Core.Bool.{true≢false}
 use mathlib.Core.List.{List, [], _∷_}
 use Rattle.arith.proofs.Cases.{by-test}
+use Rattle.units.specs.declared.Nanos.{Nanos}
+use Rattle.bucket.specs.declared.Request.{Request}
+use Rattle.bucket.specs.declared.Request.the-variants.{Acquire, Reserve}
+use Rattle.evict.specs.Evict.{minRefusalWait}
+use Rattle.store.specs.declared.Answer.the-variants.{NoSpace}
 use Rattle.store.specs.declared.Identity.{Identity}
 use Rattle.store.specs.Model.{holds}
 use Rattle.perkey.specs.declared.Reply.{Reply}
 use Rattle.shards.specs.Memory.{shardAt}
-use Rattle.perkey.specs.Rules.{setUp}
-use Rattle.perkey.specs.Calls.{Call, try, reserve, peek, available, len, refund, remove, Implementation, rules, Answered, replies, accepted, Every}
-use Rattle.window.specs.Demands.{TimesNeverFall, NoSharedHash, tokensOf, tokensUsable, decidedBy, answering, Window, Demand3}
+use Rattle.perkey.specs.Rules.{setUp, replyTo}
+use Rattle.perkey.specs.Calls.{Call, request, look, return, len, Implementation, rules, Answered, replies, ofGrant, accepted, Every}
+use Rattle.window.specs.Demands.{TimesNeverFall, NoSharedHash, usable, usableFrom, tokensOf, tokensUsable, decidedBy, answering, Window, Demand3}
 use Rattle.window.specs.Impostors.{telling, invented, inventedLength, turnedAwayUnless, turnsNewcomersAway}
 use Rattle.window.proofs.CallSteps.{ruled}
 use Rattle.window.proofs.OwnBucket.{rules-decide-by-own-bucket}
@@ -86,33 +91,31 @@ ruled-is-cautious : (c : Call) (ws : List ℕ) → Cautious c ws (rules c ws .an
 ruled-is-cautious c ws = record { grants-no-more = λ k t u. omega arith; tells-holders = λ d. d }
 
 -- So is turning a newcomer away: it holds nothing, and is granted nothing.
+no-space-is-no-grant : (r : Request) (f : ℕ → ℕ) (wait : Nanos) → ofGrant f 0 (replyTo r (NoSpace wait)) ≡ 0
+no-space-is-no-grant Acquire f wait = refl
+no-space-is-no-grant (Reserve longest) f wait = refl
+
 newcomers-turned-away-cautiously : (c : Call) (ws : List ℕ) → Cautious c ws (turnedAwayUnless holds c ws)
-newcomers-turned-away-cautiously (try s at id cost) ws =
+newcomers-turned-away-cautiously (request s at id r cost) ws =
     by-test (holds id (shardAt s (id .hash) ws))
-    (λ h. rw h (ruled-is-cautious (try s at id cost) ws))
-    (λ h. rw h (record { grants-no-more = λ k t u. omega arith; tells-holders = λ d _ _ _ _ _ holding. absurd (true≢false (sym holding ∙ h)) }))
-newcomers-turned-away-cautiously (reserve s at id cost longest) ws =
-    by-test (holds id (shardAt s (id .hash) ws))
-    (λ h. rw h (ruled-is-cautious (reserve s at id cost longest) ws))
-    (λ h. rw h (record { grants-no-more = λ k t u. omega arith; tells-holders = λ d _ _ _ _ _ holding. absurd (true≢false (sym holding ∙ h)) }))
-newcomers-turned-away-cautiously (peek s at id cost) ws = ruled-is-cautious (peek s at id cost) ws
-newcomers-turned-away-cautiously (available s at id) ws = ruled-is-cautious (available s at id) ws
+    (λ h. rw h (ruled-is-cautious (request s at id r cost) ws))
+    (λ h. rw h (record {
+      grants-no-more = λ k t u. omega (arith, no-space-is-no-grant r (λ wait. usable k t u id (usableFrom r at wait) cost) (record { 0 = minRefusalWait }));
+      tells-holders = λ d _ _ _ _ _ holding. absurd (true≢false (sym holding ∙ h));
+    }))
+newcomers-turned-away-cautiously (look s at id l) ws = ruled-is-cautious (look s at id l) ws
+newcomers-turned-away-cautiously (return s id r) ws = ruled-is-cautious (return s id r) ws
 newcomers-turned-away-cautiously (len s) ws = ruled-is-cautious (len s) ws
-newcomers-turned-away-cautiously (refund s id cost) ws = ruled-is-cautious (refund s id cost) ws
-newcomers-turned-away-cautiously (remove s id) ws = ruled-is-cautious (remove s id) ws
 
 pub turns-newcomers-away-meets-demand3 : Demand3 (answering turnsNewcomersAway)
 turns-newcomers-away-meets-demand3 = telling-meets-demand3 (turnedAwayUnless holds) newcomers-turned-away-cautiously
 
 -- And so is an invented length: a length is no grant, and no request.
 length-invented-cautiously : (c : Call) (ws : List ℕ) → Cautious c ws (invented c ws)
-length-invented-cautiously (try s at id cost) ws = ruled-is-cautious (try s at id cost) ws
-length-invented-cautiously (reserve s at id cost longest) ws = ruled-is-cautious (reserve s at id cost longest) ws
-length-invented-cautiously (peek s at id cost) ws = ruled-is-cautious (peek s at id cost) ws
-length-invented-cautiously (available s at id) ws = ruled-is-cautious (available s at id) ws
+length-invented-cautiously (request s at id r cost) ws = ruled-is-cautious (request s at id r cost) ws
+length-invented-cautiously (look s at id l) ws = ruled-is-cautious (look s at id l) ws
+length-invented-cautiously (return s id r) ws = ruled-is-cautious (return s id r) ws
 length-invented-cautiously (len s) ws = record { grants-no-more = λ k t u. omega arith; tells-holders = λ d. tt }
-length-invented-cautiously (refund s id cost) ws = ruled-is-cautious (refund s id cost) ws
-length-invented-cautiously (remove s id) ws = ruled-is-cautious (remove s id) ws
 
 pub invented-length-meets-demand3 : Demand3 (answering inventedLength)
 invented-length-meets-demand3 = telling-meets-demand3 invented length-invented-cautiously

@@ -8,7 +8,8 @@ use Rattle.units.specs.declared.Nanos.{Nanos}
 use Rattle.bucket.specs.declared.BucketConfig.{BucketConfig}
 use Rattle.bucket.specs.declared.BucketCore.{BucketCore}
 use Rattle.bucket.specs.declared.BucketDecision.the-variants.{Allowed, Denied}
-use Rattle.bucket.specs.declared.Request.the-variants.{Acquire}
+use Rattle.bucket.specs.declared.Request.{Request}
+use Rattle.bucket.specs.declared.Request.the-variants.{Acquire, Reserve}
 use Rattle.bucket.specs.Bucket.{waitAt, asked}
 use Rattle.bucket.proofs.BucketLaws.{granted-within-longest, denied-beyond-longest}
 use Rattle.shard_map.specs.Model.{Shard, Sound, slotAt}
@@ -19,11 +20,15 @@ use Rattle.store.specs.declared.Policy.{Policy}
 use Rattle.store.specs.Model.{withOrInsert}
 use Rattle.store.proofs.StoreLaws.{Asking, slot-asked, key-joins, no-space, ask-cases}
 
--- An answer that grants without a wait, or grants nothing.
-abbrev pub AtOnce : Answer → Type 0
+-- An answer as its request asks for it: where a try is granted, there is no wait.
+abbrev AtOnce : Answer → Type 0
 AtOnce (Decided (Allowed wait)) = wait .0 ≡ 0
 AtOnce (Decided (Denied wait)) = Unit {0}
 AtOnce (NoSpace wait) = Unit {0}
+
+abbrev pub AsAsked : Request → Answer → Type 0
+AsAsked Acquire answer = AtOnce answer
+AsAsked (Reserve longest) answer = Unit {0}
 
 bucket-grants-at-once : (c : BucketConfig) (b : BucketCore) (cost : ℕ) (at : Nanos) → AtOnce (Decided (asked c Acquire b cost at .decision))
 bucket-grants-at-once c b cost at =
@@ -31,8 +36,9 @@ bucket-grants-at-once c b cost at =
     (λ none. rw (granted-within-longest c Acquire b cost at none) (omega (arith, none)))
     (λ some. rw (denied-beyond-longest c Acquire b cost at some) tt)
 
-pub store-grants-at-once : (p : Policy) (id : Identity) (cost : ℕ) (at : Nanos) (s : Shard) → Sound s → AtOnce (withOrInsert p id Acquire cost at s .answer)
-store-grants-at-once p id cost at s u = go (ask-cases p id Acquire cost at s u)
+pub store-grants-as-asked : (p : Policy) (id : Identity) (r : Request) (cost : ℕ) (at : Nanos) (s : Shard) → Sound s → AsAsked r (withOrInsert p id r cost at s .answer)
+store-grants-as-asked p id (Reserve longest) cost at s u = tt
+store-grants-as-asked p id Acquire cost at s u = go (ask-cases p id Acquire cost at s u)
   where
     go : {o : Outcome Answer Shard} → Asking p id Acquire cost at s o → AtOnce (o .answer)
     go (slot-asked i slot e f r) = bucket-grants-at-once (p .config) (slotAt s i .bucket) cost at

@@ -53,8 +53,8 @@ use Rattle.store.specs.Model.{holds}
 use Rattle.perkey.specs.declared.Reply.{Reply}
 use Rattle.perkey.specs.declared.Reply.the-variants.{Done}
 use Rattle.shards.specs.Memory.{shardAt}
-use Rattle.perkey.specs.Rules.{setUp, clear, tryReply, reserveReply, bucketOf}
-use Rattle.perkey.specs.Calls.{Call, try, reserve, peek, available, len, refund, remove, Implementation, rules, Answered, replies}
+use Rattle.perkey.specs.Rules.{setUp, clear, replyTo, bucketOf}
+use Rattle.perkey.specs.Calls.{Call, request, look, return, len, Implementation, rules, Answered, replies}
 use Rattle.perkey.specs.Calls.{settingsOf, momentOf, ofKey, ofReturned, ofGrant, accepted, Every}
 use Rattle.window.specs.Widths.{settingsFit, fits, allFit, lendable}
 
@@ -105,14 +105,15 @@ usable k t u id moment cost =
 
 -- A grant is a try answered Acquired or a reservation that is answered with its wait; either reply to the other call counts as well, so that no grant is
 -- hidden in it. A try's tokens are usable at once, a reservation's from the call's moment plus the wait answered.
+abbrev pub usableFrom : Request → Nanos → ℕ → ℕ
+usableFrom Acquire at wait = at .0
+usableFrom (Reserve longest) at wait = at .0 + wait
+
 abbrev pub tokensOf : Identity → ℕ → ℕ → Call → Reply → ℕ
-tokensOf k t u (try s at id cost) reply = ofGrant (λ wait. usable k t u id (at .0) cost) 0 reply
-tokensOf k t u (reserve s at id cost longest) reply = ofGrant (λ wait. usable k t u id (at .0 + wait) cost) 0 reply
-tokensOf k t u (peek s at id cost) reply = 0
-tokensOf k t u (available s at id) reply = 0
+tokensOf k t u (request s at id r cost) reply = ofGrant (λ wait. usable k t u id (usableFrom r at wait) cost) 0 reply
+tokensOf k t u (look s at id l) reply = 0
+tokensOf k t u (return s id r) reply = 0
 tokensOf k t u (len s) reply = 0
-tokensOf k t u (refund s id cost) reply = 0
-tokensOf k t u (remove s id) reply = 0
 
 unfoldable pub tokensUsable : Identity → ℕ → ℕ → List Answered → ℕ
 tokensUsable k t u [] = 0
@@ -141,23 +142,20 @@ Window l = WindowAdding 1 l
 
 -- What a key's own bucket answers to a request: its slot's bucket, else a fresh one in its debt.
 abbrev pub ownAnswer : Settings → Rate → Nanos → Identity → Request → ℕ → List ℕ → Answer
-ownAnswer s rate at id request cost ws = Decided (asked (configOf rate) request (bucketOf s rate id at ws) cost at .decision)
+ownAnswer s rate at id r cost ws = Decided (asked (configOf rate) r (bucketOf s rate id at ws) cost at .decision)
 
 -- An accepted request with a rate and a cost from 1 to the burst, for a key that holds a slot or a debt, is answered so.
-abbrev pub ByOwnBucket : Answered → Settings → Nanos → Identity → Request → ℕ → (Answer → Reply) → Type 0
-ByOwnBucket a s at id request cost told =
+abbrev pub ByOwnBucket : Answered → Settings → Nanos → Identity → Request → ℕ → Type 0
+ByOwnBucket a s at id r cost =
     accepted a ≡ true → (rate : Rate) → s .limit ≡ Open rate → 1 ≤ cost → cost ≤ burstOf rate →
     holds id (shardAt s (id .hash) (a .rulesWords)) ≡ true →
-    a .reply ≡ told (ownAnswer s rate at id request cost (a .rulesWords))
+    a .reply ≡ replyTo r (ownAnswer s rate at id r cost (a .rulesWords))
 
 abbrev pub decidedBy : Answered → Call → Type 0
-decidedBy a (try s at id cost) = ByOwnBucket a s at id Acquire cost tryReply
-decidedBy a (reserve s at id cost longest) = ByOwnBucket a s at id (Reserve longest) cost reserveReply
-decidedBy a (peek s at id cost) = Unit {0}
-decidedBy a (available s at id) = Unit {0}
+decidedBy a (request s at id r cost) = ByOwnBucket a s at id r cost
+decidedBy a (look s at id l) = Unit {0}
+decidedBy a (return s id r) = Unit {0}
 decidedBy a (len s) = Unit {0}
-decidedBy a (refund s id cost) = Unit {0}
-decidedBy a (remove s id) = Unit {0}
 
 -- Demand 3, second part: the own bucket. From any words, whatever the settings, times and hashes, no such request is decided by want of space.
 abbrev pub OwnBucket : Limiter → Type 0

@@ -11,6 +11,7 @@ use Rattle.rows.specs.Outcome.{Outcome, outcome}
 use Rattle.units.specs.declared.Nanos.{Nanos}
 use Rattle.units.specs.declared.OptionNanos.{OptionNanos}
 use Rattle.units.specs.declared.OptionNanos.the-variants as nanos
+use Rattle.bucket.specs.declared.Request.the-variants.{Acquire, Reserve}
 use Rattle.settings.specs.declared.Limit.{Limit}
 use Rattle.settings.specs.declared.Limit.the-variants.{Closed, Open}
 use Rattle.settings.specs.declared.Settings.{Settings}
@@ -18,12 +19,13 @@ use Rattle.settings.specs.declared.decision.Decision.the-variants.{Acquired, Re
 use Rattle.settings.specs.declared.eviction.WhenFull.{WhenFull}
 use Rattle.settings.specs.declared.eviction.WhenFull.the-variants.{RefuseNew, ForgetDebt}
 use Rattle.settings.specs.declared.rate.OptionTokens.{OptionTokens}
-use Rattle.settings.specs.declared.rate.OptionTokens.the-variants as tokens
+use Rattle.settings.specs.declared.rate.OptionTokens.the-variants as burst
 use Rattle.settings.specs.declared.rate.Rate.{Rate}
 use Rattle.perkey.specs.declared.Reply.{Reply}
 use Rattle.perkey.specs.declared.Reply.the-variants.{Tried, Reserved, Nothing, Done, Count, Refused}
 use Rattle.store.specs.declared.Identity.{Identity}
 use Rattle.perkey.specs.Calls.{Call, try, reserve, peek, available, len, refund, remove}
+use Rattle.perkey.specs.Calls.{request, look, return, peeks, tokens, refunds, removes}
 use Rattle.perkey.specs.Calls.{Kind, decides, reserves, counts, knows, kindOf}
 use Rattle.limiter.specs.declared.LimiterSettings.{LimiterSettings}
 use Rattle.limiter.specs.declared.LimiterReply.{LimiterReply}
@@ -56,12 +58,12 @@ pub record Exports : Type 0 where
 
 -- Settings as a caller writes them: a flag and a number for what may be unset, and zeros for the rate of a closed limiter.
 abbrev pub flag : OptionTokens → ℕ
-flag tokens.None = 0
-flag (tokens.Some n) = 1
+flag burst.None = 0
+flag (burst.Some n) = 1
 
 abbrev pub number : OptionTokens → ℕ
-number tokens.None = 0
-number (tokens.Some n) = n
+number burst.None = 0
+number (burst.Some n) = n
 
 abbrev pub idleFlag : OptionNanos → ℕ
 idleFlag nanos.None = 0
@@ -76,7 +78,7 @@ forgetsDebt RefuseNew = 0
 forgetsDebt ForgetDebt = 1
 
 abbrev pub noRate : Rate
-noRate = record { amount = 0; period = record { 0 = 0 }; burst = tokens.None; initial = tokens.None }
+noRate = record { amount = 0; period = record { 0 = 0 }; burst = burst.None; initial = burst.None }
 
 abbrev pub withRate : ℕ → Rate → Settings → LimiterSettings
 withRate closed rate s = record {
@@ -119,13 +121,13 @@ readAs kind o = outcome (reading kind (o .answer)) (o .after)
 
 -- The export that a call is made by, with its numbers.
 abbrev pub through : Exports → Call → Gives
-through e (try s at id cost) = e .try (written s) (at .0) (id .hash) (id .key) cost
-through e (reserve s at id cost longest) = e .reserve (written s) (at .0) (id .hash) (id .key) cost (longest .0)
-through e (peek s at id cost) = e .peek (written s) (at .0) (id .hash) (id .key) cost
-through e (available s at id) = e .available (written s) (at .0) (id .hash) (id .key)
+through e (request s at id Acquire cost) = e .try (written s) (at .0) (id .hash) (id .key) cost
+through e (request s at id (Reserve longest) cost) = e .reserve (written s) (at .0) (id .hash) (id .key) cost (longest .0)
+through e (look s at id (peeks cost)) = e .peek (written s) (at .0) (id .hash) (id .key) cost
+through e (look s at id tokens) = e .available (written s) (at .0) (id .hash) (id .key)
+through e (return s id (refunds cost)) = e .refund (written s) (id .hash) (id .key) cost
+through e (return s id removes) = e .remove (written s) (id .hash) (id .key)
 through e (len s) = e .length (written s)
-through e (refund s id cost) = e .refund (written s) (id .hash) (id .key) cost
-through e (remove s id) = e .remove (written s) (id .hash) (id .key)
 
 -- The limiter that such a caller has.
 abbrev pub called : Exports → Limiter

@@ -16,28 +16,22 @@ use Rattle.perkey.specs.declared.Reply.{Reply}
 use Rattle.settings.specs.declared.decision.Decision.the-variants.{Impossible}
 use Rattle.perkey.specs.declared.Reply.the-variants.{Tried, Count}
 use Rattle.shards.specs.Memory.{shardAt, inShard}
-use Rattle.perkey.specs.Rules.{numberOf, noWait, tryReply, reserveReply}
-use Rattle.perkey.specs.Calls.{Call, try, reserve, peek, available, len, refund, remove, Implementation, rules, settingsOf, numbered}
+use Rattle.perkey.specs.Rules.{numberOf, noWait, replyTo}
+use Rattle.perkey.specs.Calls.{Call, request, look, return, len, Implementation, rules, settingsOf, numbered}
 
 -- What is made of a request, told as a try or as a reservation tells its answer; of a length; of any other call.
 abbrev byKind : {A : Type 0} → ((Answer → Reply) → A) → A → A → Call → A
-byKind request length other (try s at id cost) = request tryReply
-byKind request length other (reserve s at id cost longest) = request reserveReply
-byKind request length other (peek s at id cost) = other
-byKind request length other (available s at id) = other
-byKind request length other (len s) = length
-byKind request length other (refund s id cost) = other
-byKind request length other (remove s id) = other
+byKind requested length other (request s at id r cost) = requested (replyTo r)
+byKind requested length other (look s at id l) = other
+byKind requested length other (return s id r) = other
+byKind requested length other (len s) = length
 
 -- The key that a call names. A length names none, and has the hash 0 here, whose shard is the first.
 abbrev identityOf : Call → Identity
-identityOf (try s at id cost) = id
-identityOf (reserve s at id cost longest) = id
-identityOf (peek s at id cost) = id
-identityOf (available s at id) = id
+identityOf (request s at id r cost) = id
+identityOf (look s at id l) = id
+identityOf (return s id r) = id
 identityOf (len s) = record { hash = 0; key = 0 }
-identityOf (refund s id cost) = id
-identityOf (remove s id) = id
 
 -- The shard of that key.
 abbrev ownShard : Call → List ℕ → Shard
@@ -109,13 +103,10 @@ abbrev blind : Identity → Identity
 blind id = record { hash = id .hash; key = id .hash }
 
 abbrev blindly : Call → Call
-blindly (try s at id cost) = try s at (blind id) cost
-blindly (reserve s at id cost longest) = reserve s at (blind id) cost longest
-blindly (peek s at id cost) = peek s at (blind id) cost
-blindly (available s at id) = available s at (blind id)
+blindly (request s at id r cost) = request s at (blind id) r cost
+blindly (look s at id l) = look s at (blind id) l
+blindly (return s id r) = return s (blind id) r
 blindly (len s) = len s
-blindly (refund s id cost) = refund s (blind id) cost
-blindly (remove s id) = remove s (blind id)
 
 abbrev pub blindToKeys : Implementation
 blindToKeys c ws = rules (blindly c) ws

@@ -6,14 +6,16 @@ use lib.Dec.{ltb}
 use lib.ListN.{length}
 use Rattle.units.specs.declared.OptionNanos.{OptionNanos}
 use Rattle.units.specs.declared.OptionNanos.the-variants as nanos
+use Rattle.bucket.specs.declared.Request.{Request}
+use Rattle.bucket.specs.declared.Request.the-variants.{Acquire, Reserve}
 use Rattle.settings.specs.declared.Limit.{Limit}
 use Rattle.settings.specs.declared.Limit.the-variants.{Closed, Open}
 use Rattle.settings.specs.declared.Settings.{Settings}
 use Rattle.settings.specs.declared.rate.OptionTokens.{OptionTokens}
-use Rattle.settings.specs.declared.rate.OptionTokens.the-variants as tokens
+use Rattle.settings.specs.declared.rate.OptionTokens.the-variants as burst
 use Rattle.settings.specs.declared.rate.Rate.{Rate}
 use Rattle.store.specs.declared.Identity.{Identity}
-use Rattle.perkey.specs.Calls.{Call, try, reserve, peek, available, len, refund, remove}
+use Rattle.perkey.specs.Calls.{Look, peeks, tokens, Return, refunds, removes, Call, request, look, return, len}
 
 -- A number fits 64 bits (`u64`, `usize`), or 32 bits (`u32`).
 abbrev pub fits64 : ℕ → Bool
@@ -24,8 +26,8 @@ fits32 n = ltb n (2 ^ 32)
 
 -- The numbers of a settings record fit.
 abbrev pub tokensFit : OptionTokens → Bool
-tokensFit tokens.None = true
-tokensFit (tokens.Some n) = fits32 n
+tokensFit burst.None = true
+tokensFit (burst.Some n) = fits32 n
 
 abbrev pub idleFits : OptionNanos → Bool
 idleFits nanos.None = true
@@ -45,14 +47,23 @@ settingsFit s = limitFits (s .limit) && fits64 (s .eviction .«max_keys») && id
 abbrev pub keyFits : Identity → Bool
 keyFits id = fits64 (id .hash) && fits64 (id .key)
 
+abbrev pub requestFits : Request → Bool
+requestFits Acquire = true
+requestFits (Reserve longest) = fits64 (longest .0)
+
+abbrev pub lookFits : Look → Bool
+lookFits (peeks cost) = fits32 cost
+lookFits tokens = true
+
+abbrev pub returnFits : Return → Bool
+returnFits (refunds cost) = fits32 cost
+returnFits removes = true
+
 abbrev pub fits : Call → Bool
-fits (try s at id cost) = settingsFit s && fits64 (at .0) && keyFits id && fits32 cost
-fits (reserve s at id cost longest) = settingsFit s && fits64 (at .0) && keyFits id && fits32 cost && fits64 (longest .0)
-fits (peek s at id cost) = settingsFit s && fits64 (at .0) && keyFits id && fits32 cost
-fits (available s at id) = settingsFit s && fits64 (at .0) && keyFits id
+fits (request s at id r cost) = settingsFit s && fits64 (at .0) && keyFits id && requestFits r && fits32 cost
+fits (look s at id l) = settingsFit s && fits64 (at .0) && keyFits id && lookFits l
+fits (return s id r) = settingsFit s && keyFits id && returnFits r
 fits (len s) = settingsFit s
-fits (refund s id cost) = settingsFit s && keyFits id && fits32 cost
-fits (remove s id) = settingsFit s && keyFits id
 
 abbrev pub allFit : List Call → Bool
 allFit [] = true
