@@ -8,7 +8,6 @@ pub mod TryLaws
 pub mod GivenLaws
 pub mod CallSteps
 pub mod AppearsLaws
-pub mod LendableLaws
 pub mod Theorem
 pub mod CodeTheorem
 pub mod ExportTheorem

@@ -30,7 +30,7 @@ use Rattle.window.proofs.WidthLaws.{both-true}
 use Rattle.window.specs.Widths.{fits, allFit, lendable}
 use Rattle.window.specs.Demands.{SameSettings, clock, TimesNeverFall, NoSharedHash, NeverReturned, tokensOf, tokensUsable, WithinWindow}
 use Rattle.window.specs.Demands.{Limiter, answering, Demand2, Window, OwnBucket, Demand3}
-use Rattle.window.proofs.LendableLaws.{rules-leave-words-lendable, set-up-leaves-words-lendable}
+use Rattle.window.proofs.LendableTheorem.{rules-leave-words-lendable, set-up-leaves-words-lendable}
 use Rattle.window.proofs.GrantLaws.{Grant, within, window-from-bound}
 use Rattle.window.proofs.RequestLaws.{invariant-empty}
 use Rattle.window.proofs.OwnBucket.{rules-decide-by-own-bucket}
