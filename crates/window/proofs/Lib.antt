@@ -11,3 +11,5 @@ pub mod AppearsLaws
 pub mod Theorem
 pub mod CodeTheorem
 pub mod ExportTheorem
+pub mod EveryLaws
+pub mod WordFits
