@@ -13,3 +13,8 @@ pub mod CodeTheorem
 pub mod ExportTheorem
 pub mod EveryLaws
 pub mod WordFits
+pub mod BucketFits
+pub mod LedgerFits
+pub mod ShardFits
+pub mod LayoutFits
+pub mod EvictFits
