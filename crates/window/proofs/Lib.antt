@@ -18,3 +18,5 @@ pub mod LedgerFits
 pub mod ShardFits
 pub mod LayoutFits
 pub mod EvictFits
+pub mod StoreFits
+pub mod LendableTheorem

@@ -1,0 +1,155 @@
+-- Under the rules, words that can be lent stay words that can be lent: no call, and no set-up, leaves a word that does not fit 64 bits, or another number of
+-- words.
+use Prim.Native.Nat.{ℕ, _≤_, _^_}
+use mathlib.Core.Path.{_≡_, refl, sym, ap, _∙_}
+use mathlib.Core.Bool.{true, _&&_}
+use mathlib.Core.List.{List, _++_}
+use native.Mathlib.Omega.{arith}
+use lib.ListN.{take, drop, length, replicate, length-replicate}
+use lib.Dec.{ltb, eqb}
+use borrow.Author.Tests.{ltb-true, ltb-false}
+use Rattle.arith.proofs.Cases.{by-test, by-eq}
+use Rattle.rows.specs.Outcome.{Outcome, outcome}
+use Rattle.units.specs.declared.Nanos.{Nanos}
+use Rattle.bucket.specs.declared.Request.{Request}
+use Rattle.bucket.specs.declared.Request.the-variants.{Acquire, Reserve}
+use Rattle.settings.specs.declared.Limit.{Limit}
+use Rattle.settings.specs.declared.Limit.the-variants.{Closed, Open}
+use Rattle.settings.specs.declared.Settings.{Settings}
+use Rattle.settings.specs.declared.decision.Decision.the-variants.{Acquired, Impossible}
+use Rattle.settings.specs.declared.rate.Rate.{Rate}
+use Rattle.settings.specs.Rate.{burstOf, configOf}
+use Rattle.settings.specs.Settings.{limitRefusal, capOf, shardWords, shapeOf, wordsOf}
+use Rattle.settings.proofs.RateLaws.{accepted-rate}
+use Rattle.settings.proofs.SettingsLaws.{accepted-parts, cap-most}
+use Rattle.shard_map.specs.Model.{Shard}
+use Rattle.shard_map.specs.Layout as Layout
+use Rattle.store.specs.declared.Answer.{Answer}
+use Rattle.store.specs.declared.Identity.{Identity}
+use Rattle.store.specs.Model as Store
+use Rattle.store.proofs.StoreLaws.{SameRoom, ask-same-room, refund-same-room, remove-same-room}
+use Rattle.shards.specs.Memory.{withPart, partStart, shardAt, inShard}
+use Rattle.shards.specs.Refusals.{setUpRefusal}
+use Rattle.shards.proofs.MemoryLaws.{shard-at-cap, shard-at-debt-cap, in-shard-length}
+use Rattle.shards.proofs.RefusalLaws.{Accepted, set-up-not-refused, keyed-not-refused, timed-not-refused, reserve-not-refused}
+use Rattle.perkey.specs.declared.Reply.{Reply}
+use Rattle.perkey.specs.declared.Reply.the-variants.{Tried, Reserved, Nothing, Done}
+use Rattle.perkey.specs.Rules.{setUp, policyOf, unlessTrivial, requested, noWait, tryReply, reserveReply, triedBy, reservedBy, keyed, refundedBy}
+use Rattle.perkey.specs.Calls.{Call, try, reserve, peek, available, len, refund, remove, rules, Every}
+use Rattle.perkey.proofs.RefusedLaws.{set-up-refusal-is-told, set-up-zeroes}
+use Rattle.perkey.proofs.CallLaws.{refusalOf, ruleOf, not-refused-is-ruled, refused-is-told}
+use Rattle.window.specs.Widths.{settingsFit, fits64, fits32, keyFits, fits, lendable}
+use Rattle.window.proofs.WidthLaws.{both-true}
+use Rattle.window.proofs.EveryLaws.{of-either, every-taken, every-left, every-joined, every-copy, every-in-part}
+use Rattle.window.proofs.WordFits.{Word, lendable-length, lendable-words, words-are-lendable}
+use Rattle.window.proofs.ShardFits.{ShardFits}
+use Rattle.window.proofs.LayoutFits.{shard-read-fits, shard-words-fit}
+use Rattle.window.proofs.StoreFits.{ask-fits, refund-fits, removal-fits}
+
+-- Words that fit in the place of a part of words that fit.
+part-replaced-fits : (a n : ℕ) (ws new : List ℕ) → Every Word ws → Every Word new → Every Word (withPart a n ws new)
+part-replaced-fits a n ws new every more =
+    every-joined Word (take a ws) (new ++ drop n (drop a ws)) (every-taken Word a ws every)
+    (every-joined Word new (drop n (drop a ws)) more (every-left Word n (drop a ws) (every-left Word a ws every)))
+
+-- An operation on the shard of a hash, in words that can be lent.
+module _ (s : Settings) (hash : ℕ) (ws : List ℕ) (lent : lendable ws ≡ true) (accepted : Accepted s hash ws) where
+  shard-fits : ShardFits (shardAt s hash ws)
+  shard-fits =
+      let few : capOf s ≤ 4096 = cap-most s (accepted-parts s (accepted .set-up .settings) .1) in
+      shard-read-fits (capOf s) _ (omega (arith, few)) (every-in-part Word (partStart (shapeOf s) hash) (shardWords (capOf s)) ws (lendable-words ws lent))
+
+  operation-leaves-lendable : {A : Type 0} (o : Outcome A Shard) → SameRoom (shardAt s hash ws) (o .after) → ShardFits (o .after)
+      → lendable (inShard s hash ws o .after) ≡ true
+  operation-leaves-lendable o room f =
+      let same : length (inShard s hash ws o .after) ≡ wordsOf s =
+          in-shard-length s hash ws o (accepted .set-up .size) (room .cap ∙ shard-at-cap s hash ws) (room .ledger-cap ∙ shard-at-debt-cap s hash ws) in
+      words-are-lendable (inShard s hash ws o .after)
+      (omega (arith, same, accepted .set-up .size, lendable-length ws lent))
+      (part-replaced-fits (partStart (shapeOf s) hash) (shardWords (capOf s)) ws (Layout.wordsOf (o .after)) (lendable-words ws lent) (shard-words-fit (o .after) f))
+
+-- A cost that never reaches the store changes no word.
+trivial-leaves-lendable : (rate : Rate) (cost : ℕ) (tooMuch atOnce : Reply) (ws : List ℕ) (asked : Outcome Reply (List ℕ)) → lendable ws ≡ true
+    → (cost ≤ burstOf rate → lendable (asked .after) ≡ true) → lendable (unlessTrivial rate cost tooMuch atOnce ws asked .after) ≡ true
+unfolding unlessTrivial
+trivial-leaves-lendable rate cost tooMuch atOnce ws asked lent in-range =
+    by-test (ltb (burstOf rate) cost)
+    (λ more. rw more lent)
+    (λ most. rw most (of-either (λ (o : Outcome Reply (List ℕ)). lendable (o .after) ≡ true) (eqb cost 0) _ asked lent (in-range (ltb-false _ _ most))))
+
+-- Calls that are not refused. A closed limiter changes no word.
+module _ (s : Settings) (id : Identity) (ws : List ℕ) (lent : lendable ws ≡ true) (accepted : Accepted s (id .hash) ws) where
+  rate-not-refused : limitRefusal (s .limit) ≡ 0
+  rate-not-refused = accepted-parts s (accepted .set-up .settings) .0
+
+  -- A request by a key that fits, at a moment that is not too late.
+  module _ (at : Nanos) (cost : ℕ) (early : at .0 ≤ 2 ^ 62) (key : keyFits id ≡ true) where
+    request-leaves-lendable : (rate : Rate) → limitRefusal (Open rate) ≡ 0 → (request : Request) (reply : Answer → Reply) → cost ≤ burstOf rate
+        → lendable (requested s rate id request cost at ws reply .after) ≡ true
+    request-leaves-lendable rate passed request reply within =
+        let sound = accepted .sound in
+        let parts = both-true (fits64 (id .hash)) (fits64 (id .key)) key in
+        let asked = Store.withOrInsert (policyOf s rate) id request cost at (shardAt s (id .hash) ws) in
+        operation-leaves-lendable s (id .hash) ws lent accepted asked (ask-same-room _ sound (policyOf s rate) id request cost at)
+        (ask-fits (policyOf s rate) id request cost at (accepted-rate rate passed) early within (ltb-true _ _ (parts .0)) (ltb-true _ _ (parts .1)) _ sound
+        (shard-fits s (id .hash) ws lent accepted))
+
+    try-leaves-lendable : (limit : Limit) → limitRefusal limit ≡ 0 → lendable (triedBy limit s at id cost ws .after) ≡ true
+    try-leaves-lendable Closed passed = lent
+    try-leaves-lendable (Open rate) passed = trivial-leaves-lendable rate cost _ _ ws _ lent (request-leaves-lendable rate passed Acquire tryReply)
+
+    reserve-leaves-lendable : (longest : Nanos) (limit : Limit) → limitRefusal limit ≡ 0 → lendable (reservedBy limit s at id cost longest ws .after) ≡ true
+    reserve-leaves-lendable longest Closed passed = lent
+    reserve-leaves-lendable longest (Open rate) passed =
+        trivial-leaves-lendable rate cost _ _ ws _ lent (request-leaves-lendable rate passed (Reserve longest) reserveReply)
+
+  refund-leaves-lendable : (cost : ℕ) (limit : Limit) → lendable (refundedBy limit s id cost ws .after) ≡ true
+  refund-leaves-lendable cost Closed = lent
+  refund-leaves-lendable cost (Open rate) =
+      let refunded = Store.refunded (configOf rate) id cost (shardAt s (id .hash) ws) in
+      operation-leaves-lendable s (id .hash) ws lent accepted refunded (refund-same-room _ (accepted .sound) (configOf rate) id cost)
+      (refund-fits (configOf rate) id cost _ (shard-fits s (id .hash) ws lent accepted))
+
+  removal-leaves-lendable : lendable (keyed s id ws (Store.removed id (shardAt s (id .hash) ws)) .after) ≡ true
+  removal-leaves-lendable =
+      let removed = Store.removed id (shardAt s (id .hash) ws) in
+      operation-leaves-lendable s (id .hash) ws lent accepted removed (remove-same-room _ (accepted .sound) id)
+      (removal-fits id _ (shard-fits s (id .hash) ws lent accepted))
+
+-- The key of a call that fits.
+tried-key-fits : (s : Settings) (at : Nanos) (id : Identity) (cost : ℕ) → fits (try s at id cost) ≡ true → keyFits id ≡ true
+tried-key-fits s at id cost fit =
+    let earlier = settingsFit s && fits64 (at .0) in
+    both-true earlier (keyFits id) (both-true (earlier && keyFits id) (fits32 cost) fit .0) .1
+
+rule-leaves-words-lendable : (c : Call) (ws : List ℕ) → refusalOf c ws ≡ 0 → fits c ≡ true → lendable ws ≡ true → lendable (ruleOf c ws .after) ≡ true
+rule-leaves-words-lendable (try s at id cost) ws none fit lent =
+    let open′ = timed-not-refused s (id .hash) ws at none in
+    try-leaves-lendable s id ws lent (open′ .0) at cost (open′ .1) (tried-key-fits s at id cost fit) (s .limit) (rate-not-refused s id ws lent (open′ .0))
+rule-leaves-words-lendable (reserve s at id cost longest) ws none fit lent =
+    let open′ = reserve-not-refused s (id .hash) ws at longest none in
+    let key : keyFits id ≡ true = tried-key-fits s at id cost (both-true (fits (try s at id cost)) (fits64 (longest .0)) fit .0) in
+    reserve-leaves-lendable s id ws lent (open′ .0) at cost (open′ .1) key longest (s .limit) (rate-not-refused s id ws lent (open′ .0))
+rule-leaves-words-lendable (peek s at id cost) ws none fit lent = lent
+rule-leaves-words-lendable (available s at id) ws none fit lent = lent
+rule-leaves-words-lendable (len s) ws none fit lent = lent
+rule-leaves-words-lendable (refund s id cost) ws none fit lent =
+    refund-leaves-lendable s id ws lent (keyed-not-refused s (id .hash) ws none) cost (s .limit)
+rule-leaves-words-lendable (remove s id) ws none fit lent = removal-leaves-lendable s id ws lent (keyed-not-refused s (id .hash) ws none)
+
+-- Every call, refused or not.
+pub rules-leave-words-lendable : (c : Call) (ws : List ℕ) → fits c ≡ true → lendable ws ≡ true → lendable (rules c ws .after) ≡ true
+rules-leave-words-lendable c ws fit lent =
+    by-eq (refusalOf c ws) 0
+    (λ none. ap (λ (o : Outcome Reply (List ℕ)). lendable (o .after)) (not-refused-is-ruled c ws none) ∙ rule-leaves-words-lendable c ws none fit lent)
+    (λ some. ap (λ (o : Outcome Reply (List ℕ)). lendable (o .after)) (refused-is-told c ws some) ∙ lent)
+
+-- Set-up, and clear, which is the same.
+zeros-are-lendable : (n : ℕ) → Word n → lendable (replicate n 0) ≡ true
+zeros-are-lendable n few = words-are-lendable (replicate n 0) (rw (length-replicate {A = ℕ} n 0) few) (every-copy Word n 0 (omega arith))
+
+pub set-up-leaves-words-lendable : (s : Settings) (ws : List ℕ) → settingsFit s ≡ true → lendable ws ≡ true → lendable (setUp s ws .after) ≡ true
+set-up-leaves-words-lendable s ws fit lent =
+    by-eq (setUpRefusal s ws) 0
+    (λ none. ap (λ (o : Outcome Reply (List ℕ)). lendable (o .after)) (sym (set-up-zeroes s ws refl none)) ∙ zeros-are-lendable (length ws) (lendable-length ws lent))
+    (λ some. ap (λ (o : Outcome Reply (List ℕ)). lendable (o .after)) (sym (set-up-refusal-is-told s ws refl some)) ∙ lent)
