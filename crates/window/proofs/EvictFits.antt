@@ -1,5 +1,5 @@
 -- What an eviction leaves of a shard that fits 64 bits fits, at an accepted rate and at a moment that is not too late.
-use Prim.Native.Nat.{ℕ, zero, suc, _+_, _<_, _≤_, _^_}
+use Prim.Native.Nat.{ℕ, zero, suc, _<_, _≤_, _^_}
 use mathlib.Core.Path.{refl}
 use mathlib.Core.Bool.{Bool}
 use native.Mathlib.Omega.{arith}
@@ -25,7 +25,7 @@ looked-fits : (s : Shard) → ShardFits s → ShardFits (looked s (handOf s))
 looked-fits s f =
     let old : SlotFits (slotAt s (handOf s)) = slot-at-fits s f (handOf s) in
     let unmarked : SlotFits (withMark (slotAt s (handOf s)) 0) =
-        record { hash = old .hash; key = old .key; bucket = old .bucket; mark = omega arith; seen = old .seen } in
+    record { hash = old .hash; key = old .key; bucket = old .bucket; mark = omega arith; seen = old .seen } in
     moved-hand-fits _ (changed-slot-fits s f (handOf s) _ unmarked) _ (next-place-fits (s .hand) (s .slots .count) (f .slots .count))
 
 walk-from-fits : (c : BucketConfig) (at : Nanos) (left : ℕ) (s : Shard) (w : Walk) → ShardFits s → ShardFits (walkFrom c at left s w .after)

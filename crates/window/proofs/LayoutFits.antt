@@ -49,7 +49,10 @@ debt-read-fits row every = record { hash = word-fits row 0 every; settles = word
 
 ledger-read-fits : (cap : ℕ) (ws : List ℕ) → Word cap → Every Word ws → LedgerFits (Debts.ledger cap ws)
 unfolding Debts.ledger
-ledger-read-fits cap ws room every = record { debts = held-read-fits DebtFits Debts.debtOf 2 cap 0 2 ws debt-read-fits room every; cursor = word-fits ws 1 every }
+ledger-read-fits cap ws room every = record {
+  debts = held-read-fits DebtFits Debts.debtOf 2 cap 0 2 ws debt-read-fits room every;
+  cursor = word-fits ws 1 every;
+}
 
 pub shard-read-fits : (cap : ℕ) (ws : List ℕ) → Word cap → Every Word ws → ShardFits (shard cap ws)
 unfolding shard

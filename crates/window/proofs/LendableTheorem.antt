@@ -9,14 +9,13 @@ use lib.ListN.{take, drop, length, replicate, length-replicate}
 use lib.Dec.{ltb, eqb}
 use borrow.Author.Tests.{ltb-true, ltb-false}
 use Rattle.arith.proofs.Cases.{by-test, by-eq}
-use Rattle.rows.specs.Outcome.{Outcome, outcome}
+use Rattle.rows.specs.Outcome.{Outcome}
 use Rattle.units.specs.declared.Nanos.{Nanos}
 use Rattle.bucket.specs.declared.Request.{Request}
 use Rattle.bucket.specs.declared.Request.the-variants.{Acquire, Reserve}
 use Rattle.settings.specs.declared.Limit.{Limit}
 use Rattle.settings.specs.declared.Limit.the-variants.{Closed, Open}
 use Rattle.settings.specs.declared.Settings.{Settings}
-use Rattle.settings.specs.declared.decision.Decision.the-variants.{Acquired, Impossible}
 use Rattle.settings.specs.declared.rate.Rate.{Rate}
 use Rattle.settings.specs.Rate.{burstOf, configOf}
 use Rattle.settings.specs.Settings.{limitRefusal, capOf, shardWords, shapeOf, wordsOf}
@@ -31,10 +30,9 @@ use Rattle.store.proofs.StoreLaws.{SameRoom, ask-same-room, refund-same-room, r
 use Rattle.shards.specs.Memory.{withPart, partStart, shardAt, inShard}
 use Rattle.shards.specs.Refusals.{setUpRefusal}
 use Rattle.shards.proofs.MemoryLaws.{shard-at-cap, shard-at-debt-cap, in-shard-length}
-use Rattle.shards.proofs.RefusalLaws.{Accepted, set-up-not-refused, keyed-not-refused, timed-not-refused, reserve-not-refused}
+use Rattle.shards.proofs.RefusalLaws.{Accepted, keyed-not-refused, timed-not-refused, reserve-not-refused}
 use Rattle.perkey.specs.declared.Reply.{Reply}
-use Rattle.perkey.specs.declared.Reply.the-variants.{Tried, Reserved, Nothing, Done}
-use Rattle.perkey.specs.Rules.{setUp, policyOf, unlessTrivial, requested, noWait, tryReply, reserveReply, triedBy, reservedBy, keyed, refundedBy}
+use Rattle.perkey.specs.Rules.{setUp, policyOf, unlessTrivial, requested, tryReply, reserveReply, triedBy, reservedBy, keyed, refundedBy}
 use Rattle.perkey.specs.Calls.{Call, try, reserve, peek, available, len, refund, remove, rules, Every}
 use Rattle.perkey.proofs.RefusedLaws.{set-up-refusal-is-told, set-up-zeroes}
 use Rattle.perkey.proofs.CallLaws.{refusalOf, ruleOf, not-refused-is-ruled, refused-is-told}
@@ -63,10 +61,11 @@ module _ (s : Settings) (hash : ℕ) (ws : List ℕ) (lent : lendable ws ≡ tru
       → lendable (inShard s hash ws o .after) ≡ true
   operation-leaves-lendable o room f =
       let same : length (inShard s hash ws o .after) ≡ wordsOf s =
-          in-shard-length s hash ws o (accepted .set-up .size) (room .cap ∙ shard-at-cap s hash ws) (room .ledger-cap ∙ shard-at-debt-cap s hash ws) in
+      in-shard-length s hash ws o (accepted .set-up .size) (room .cap ∙ shard-at-cap s hash ws) (room .ledger-cap ∙ shard-at-debt-cap s hash ws) in
+      let new : Every Word (Layout.wordsOf (o .after)) = shard-words-fit (o .after) f in
       words-are-lendable (inShard s hash ws o .after)
       (omega (arith, same, accepted .set-up .size, lendable-length ws lent))
-      (part-replaced-fits (partStart (shapeOf s) hash) (shardWords (capOf s)) ws (Layout.wordsOf (o .after)) (lendable-words ws lent) (shard-words-fit (o .after) f))
+      (part-replaced-fits (partStart (shapeOf s) hash) (shardWords (capOf s)) ws (Layout.wordsOf (o .after)) (lendable-words ws lent) new)
 
 -- A cost that never reaches the store changes no word.
 trivial-leaves-lendable : (rate : Rate) (cost : ℕ) (tooMuch atOnce : Reply) (ws : List ℕ) (asked : Outcome Reply (List ℕ)) → lendable ws ≡ true
@@ -137,12 +136,16 @@ rule-leaves-words-lendable (refund s id cost) ws none fit lent =
     refund-leaves-lendable s id ws lent (keyed-not-refused s (id .hash) ws none) cost (s .limit)
 rule-leaves-words-lendable (remove s id) ws none fit lent = removal-leaves-lendable s id ws lent (keyed-not-refused s (id .hash) ws none)
 
+-- What an equal outcome leaves.
+equal-leaves-lendable : {o given : Outcome Reply (List ℕ)} → o ≡ given → lendable (given .after) ≡ true → lendable (o .after) ≡ true
+equal-leaves-lendable same lent = ap (λ (o : Outcome Reply (List ℕ)). lendable (o .after)) same ∙ lent
+
 -- Every call, refused or not.
 pub rules-leave-words-lendable : (c : Call) (ws : List ℕ) → fits c ≡ true → lendable ws ≡ true → lendable (rules c ws .after) ≡ true
 rules-leave-words-lendable c ws fit lent =
     by-eq (refusalOf c ws) 0
-    (λ none. ap (λ (o : Outcome Reply (List ℕ)). lendable (o .after)) (not-refused-is-ruled c ws none) ∙ rule-leaves-words-lendable c ws none fit lent)
-    (λ some. ap (λ (o : Outcome Reply (List ℕ)). lendable (o .after)) (refused-is-told c ws some) ∙ lent)
+    (λ none. equal-leaves-lendable (not-refused-is-ruled c ws none) (rule-leaves-words-lendable c ws none fit lent))
+    (λ some. equal-leaves-lendable (refused-is-told c ws some) lent)
 
 -- Set-up, and clear, which is the same.
 zeros-are-lendable : (n : ℕ) → Word n → lendable (replicate n 0) ≡ true
@@ -151,5 +154,5 @@ zeros-are-lendable n few = words-are-lendable (replicate n 0) (rw (length-replic
 pub set-up-leaves-words-lendable : (s : Settings) (ws : List ℕ) → settingsFit s ≡ true → lendable ws ≡ true → lendable (setUp s ws .after) ≡ true
 set-up-leaves-words-lendable s ws fit lent =
     by-eq (setUpRefusal s ws) 0
-    (λ none. ap (λ (o : Outcome Reply (List ℕ)). lendable (o .after)) (sym (set-up-zeroes s ws refl none)) ∙ zeros-are-lendable (length ws) (lendable-length ws lent))
-    (λ some. ap (λ (o : Outcome Reply (List ℕ)). lendable (o .after)) (sym (set-up-refusal-is-told s ws refl some)) ∙ lent)
+    (λ none. equal-leaves-lendable (sym (set-up-zeroes s ws refl none)) (zeros-are-lendable (length ws) (lendable-length ws lent)))
+    (λ some. equal-leaves-lendable (sym (set-up-refusal-is-told s ws refl some)) lent)

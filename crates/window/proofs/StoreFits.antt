@@ -1,5 +1,5 @@
 -- What a request, a refund and a removal leave of a shard that fits 64 bits fits.
-use Prim.Native.Nat.{ℕ, _/_, _≤_, _^_}
+use Prim.Native.Nat.{ℕ, _≤_, _^_}
 use mathlib.Core.Path.{_≡_, refl}
 use mathlib.Core.Bool.{Bool}
 use native.Mathlib.Nat.{div-le-self}
@@ -14,17 +14,17 @@ use Rattle.bucket.specs.declared.Request.{Request}
 use Rattle.bucket.specs.Bucket.{Accepted}
 use Rattle.rows.specs.declared.Place.{Place}
 use Rattle.rows.specs.declared.Place.the-variants.{At, Nowhere}
-use Rattle.rows.specs.Outcome.{Outcome, outcome}
+use Rattle.rows.specs.Outcome.{Outcome}
 use Rattle.settings.specs.Eviction.{ttlSweep, ledgerScan}
 use Rattle.slot.specs.declared.Slot.{Slot}
 use Rattle.slot.specs.Slot.{touched, withBucket}
 use Rattle.ledger.specs.Model as Ledger
-use Rattle.shard_map.specs.Model.{Shard, Sound, capOf, slotAt, placeOf}
+use Rattle.shard_map.specs.Model.{Shard, Sound, slotAt, placeOf}
 use Rattle.evict.specs.declared.Room.{Room}
 use Rattle.evict.specs.declared.Room.the-variants.{Made, Refused}
 use Rattle.store.specs.declared.Identity.{Identity}
 use Rattle.store.specs.declared.Policy.{Policy}
-use Rattle.store.specs.Model.{tracks, known, makeRoom, returning, admitted, new, askedFrom, withOrInsert, refundedFrom, refunded, removed}
+use Rattle.store.specs.Model.{tracks, known, makeRoom, admitted, new, askedFrom, withOrInsert, refundedFrom, refunded, removed}
 use Rattle.store.proofs.RoomLaws.{room-keeps, room-made-leaves-room}
 use Rattle.store.proofs.StoreLaws.{debtTaken, roomFor, debt-taken-sound, refused-took-nothing, Removing, slot-removed, no-slot, remove-cases}
 use Rattle.window.proofs.EveryLaws.{of-either}
@@ -32,7 +32,8 @@ use Rattle.window.proofs.WordFits.{Word}
 use Rattle.window.proofs.BucketFits.{BucketFits, returning-fits, asked-fits}
 use Rattle.window.proofs.BucketFits as Bucket
 use Rattle.window.proofs.LedgerFits.{sweep-fits, taken-fits, paid-fits}
-use Rattle.window.proofs.ShardFits.{SlotFits, ShardFits, slot-at-fits, changed-slot-fits, removed-slot-fits, inserted-slot-fits, changed-ledger-fits, sweep-idle-fits}
+use Rattle.window.proofs.ShardFits.{SlotFits, ShardFits, slot-at-fits, changed-slot-fits, removed-slot-fits, inserted-slot-fits}
+use Rattle.window.proofs.ShardFits.{changed-ledger-fits, sweep-idle-fits}
 use Rattle.window.proofs.EvictFits.{evicted-fits}
 
 -- A slot with another bucket, and one that is touched.
@@ -40,7 +41,7 @@ rebucketed-fits : (slot : Slot) (b : BucketCore) → SlotFits slot → BucketFit
 rebucketed-fits slot b f fits = record { hash = f .hash; key = f .key; bucket = fits; mark = f .mark; seen = f .seen }
 
 touched-fits : (slot : Slot) (stamp : Millis) (track : Bool) → SlotFits slot → Word (stamp .0) → SlotFits (touched slot stamp track)
-touched-fits slot stamp track f now-fits = record {
+touched-fits slot stamp track f stamped = record {
   hash = f .hash;
   key = f .key;
   bucket = f .bucket;
@@ -62,7 +63,7 @@ module _ (p : Policy) (id : Identity) (request : Request) (cost : ℕ) (at : Nan
   unfolding known
   known-fits s i f =
       let old : SlotFits (touched (slotAt s i) (millisOf at) (tracks (p .«idle_ttl»))) =
-          touched-fits (slotAt s i) (millisOf at) (tracks (p .«idle_ttl»)) (slot-at-fits s f i) stamp-fits in
+      touched-fits (slotAt s i) (millisOf at) (tracks (p .«idle_ttl»)) (slot-at-fits s f i) stamp-fits in
       changed-slot-fits s f i _ (rebucketed-fits _ _ old (asked-fits (p .config) at a early request _ cost within (old .bucket)))
 
   -- Room is made by the two sweeps and an eviction.
@@ -87,7 +88,8 @@ module _ (p : Policy) (id : Identity) (request : Request) (cost : ℕ) (at : Nan
       made-fits : ShardFits (roomFor p id at s .after)
       made-fits = room-fits (debtTaken id s) (debt-taken-sound id s u) (debt-taken-fits id s f)
 
-      go : (answer : Room) → roomFor p id at s .answer ≡ answer → ShardFits (admitted p id request cost at (debt .answer) (roomFor p id at s .after) answer .after)
+      go : (answer : Room) → roomFor p id at s .answer ≡ answer
+          → ShardFits (admitted p id request cost at (debt .answer) (roomFor p id at s .after) answer .after)
       go Made made =
           let free = room-made-leaves-room p at (debtTaken id s) (debt-taken-sound id s u) made in
           inserted-slot-fits _ made-fits _

@@ -1,4 +1,4 @@
--- Numbers that fit a word, lists of them, and items held in places of them: what a store, an addition and a removal leave fits.
+-- Numbers that fit a word, lists of them, and held items that fit: what a store, an addition and a removal leave fits.
 use Prim.Native.Nat.{ℕ, _+_, _-_, _<_, _^_}
 use mathlib.Core.Path.{_≡_, refl}
 use mathlib.Core.Bool.{Bool, true, _&&_}
@@ -19,7 +19,7 @@ abbrev pub Word : ℕ → Type 0
 Word n = n < 2 ^ 64
 
 -- Words can be lent just where each of them, and their number, fits a word.
-pub are-both-true : (a b : Bool) → a ≡ true → b ≡ true → (a && b) ≡ true
+are-both-true : (a b : Bool) → a ≡ true → b ≡ true → (a && b) ≡ true
 are-both-true a b first second = rw (first, second)
 
 pub lendable-length : (ws : List ℕ) → lendable ws ≡ true → Word (length ws)
