@@ -1,8 +1,17 @@
+pub mod EveryLaws
 pub mod WidthLaws
+pub mod WordFits
+pub mod BucketFits
+pub mod LedgerFits
+pub mod ShardFits
+pub mod LayoutFits
+pub mod EvictFits
+pub mod StoreFits
 pub mod GrantLaws
 pub mod BucketKept
 pub mod RequestLaws
 pub mod OwnBucket
+pub mod LendableTheorem
 pub mod StandingLaws
 pub mod TryLaws
 pub mod GivenLaws
