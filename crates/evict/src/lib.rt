@@ -124,7 +124,7 @@ pub fn evict_one(ws: &mut [u64], cap: usize, config: BucketConfig, at: Nanos, fo
     ensures { λ r. ⌜ outcome r (shard cap (now (ws .exit))) ≡ Evict.evicted config at forget (shard cap (now (ws .entry))) ⌝ }
 {
     let first = words::hand(ws, cap);
-    let mut left = arith::fewer(Eviction::CLOCK_SCAN, shard_map::len(ws, cap));
+    let mut left = arith::fewer(Eviction::hand_looks(), shard_map::len(ws, cap));
     let mut walk = Walk::new();
     let victim = loop {
         if left == 0 {

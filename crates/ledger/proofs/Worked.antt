@@ -1,11 +1,12 @@
 -- The sentences of document 01 on the ledger, each worked on a small one. Hashes are small numbers and moments count from 0; a free place is `noDebt`.
-use Prim.Native.Nat.{ℕ, _^_, _-_}
+use Prim.Native.Nat.{ℕ, _+_, _^_, _-_}
 use mathlib.Core.Path.{_≡_, refl}
 use mathlib.Core.Bool.{true, false}
 use mathlib.Core.List.{List, [], _∷_, _++_}
 use lib.ListN.{replicate}
 use Rattle.units.specs.declared.OptionNanos.the-variants.{Some}
 use Rattle.bucket.specs.declared.BucketConfig.{BucketConfig}
+use Rattle.settings.specs.Eviction.{ledgerScan}
 use Rattle.rows.specs.Held.{lowestFrom, removed}
 use Rattle.rows.specs.Outcome.{outcome}
 use Rattle.ledger.specs.declared.Debt.{Debt}
@@ -29,17 +30,18 @@ sweep-goes-round : sweep 5 3 (holding 3 2 (owing 1 4 ∷ owing 2 10 ∷ owing 3 
 unfolding sweep look lookAt removeAt removed
 sweep-goes-round = refl
 
--- Eight looks, and no more: of nine settled debts one is left.
-a-sweep-is-eight-looks : sweep 5 8 (holding 9 0 (replicate 9 (owing 1 5))) ≡ holding 1 0 (owing 1 5 ∷ replicate 8 noDebt)
+-- A sweep takes its looks, and no more: of settled debts one more than there are looks, one is left.
+a-sweep-takes-its-looks :
+    sweep 5 ledgerScan (holding (ledgerScan + 1) 0 (replicate (ledgerScan + 1) (owing 1 5))) ≡ holding 1 0 (owing 1 5 ∷ replicate ledgerScan noDebt)
 unfolding sweep look lookAt removeAt removed
-a-sweep-is-eight-looks = refl
+a-sweep-takes-its-looks = refl
 
 -- The looks end once no debt is left, and the cursor stays as it is.
-sweep-ends-when-empty : sweep 5 8 (holding 1 0 (owing 1 5 ∷ noDebt ∷ [])) ≡ holding 0 0 (noDebt ∷ noDebt ∷ [])
+sweep-ends-when-empty : sweep 5 ledgerScan (holding 1 0 (owing 1 5 ∷ noDebt ∷ [])) ≡ holding 0 0 (noDebt ∷ noDebt ∷ [])
 unfolding sweep look lookAt removeAt removed
 sweep-ends-when-empty = refl
 
-empty-sweep-leaves-the-cursor : sweep 5 8 (holding 0 7 (noDebt ∷ [])) ≡ holding 0 7 (noDebt ∷ [])
+empty-sweep-leaves-the-cursor : sweep 5 ledgerScan (holding 0 7 (noDebt ∷ [])) ≡ holding 0 7 (noDebt ∷ [])
 unfolding sweep look lookAt removeAt removed
 empty-sweep-leaves-the-cursor = refl
 
@@ -78,13 +80,14 @@ refusal-tells-the-wait : recorded (noneSettled 0) (owing 4 50) 5 false ≡ outco
 unfolding recorded recordedAt placeOf lowestFrom makeRoom scan scanFrom dropChosen
 refusal-tells-the-wait = refl
 
--- Eight looks, and no more: the ninth debt, the soonest, is not seen, and the wait is that of the soonest of the other eight.
-abbrev nineDebts : ℕ → Ledger
-nineDebts cursor = holding 9 cursor (replicate 3 (owing 1 90) ++ owing 2 80 ∷ replicate 4 (owing 3 90) ++ owing 4 40 ∷ [])
+-- Recording takes its looks, and no more. Here is one debt more than there are looks: the last one, the soonest, is not seen, and the wait is that of the
+-- soonest of the others.
+abbrev oneTooMany : ℕ → Ledger
+oneTooMany cursor = holding (ledgerScan + 1) cursor (replicate 3 (owing 1 90) ++ owing 2 80 ∷ replicate (ledgerScan - 4) (owing 3 90) ++ owing 4 40 ∷ [])
 
-recording-looks-at-eight : recorded (nineDebts 0) (owing 5 50) 30 false ≡ outcome (NoRoom (record { 0 = 50 })) (nineDebts 8)
+recording-takes-its-looks : recorded (oneTooMany 0) (owing 5 50) 30 false ≡ outcome (NoRoom (record { 0 = 50 })) (oneTooMany ledgerScan)
 unfolding recorded recordedAt placeOf lowestFrom makeRoom scan scanFrom dropChosen
-recording-looks-at-eight = refl
+recording-takes-its-looks = refl
 
 -- A debt is taken out: its moment is told, and the last debt moves into its place.
 taken-out : taken (noneSettled 0) 1 ≡ outcome (Some (record { 0 = 30 })) (holding 2 0 (owing 3 20 ∷ owing 2 20 ∷ noDebt ∷ []))

@@ -146,7 +146,7 @@ fn scan(ws: &mut [u64], cap: usize, at: Nanos) -> Choice
     requires { ⌜ Lent cap (now ws) × (0 < ledger cap (now ws) .debts .count) ⌝ }
     ensures { λ r. ⌜ outcome r (ledger cap (now (ws .exit))) ≡ Model.scan (at .0) (ledger cap (now (ws .entry))) ⌝ }
 {
-    let mut left = arith::fewer(Eviction::LEDGER_SCAN, words::count(ws, cap));
+    let mut left = arith::fewer(Eviction::ledger_looks(), words::count(ws, cap));
     let mut best = words::cursor(ws, cap);
     while 0 < left {
         let cursor = words::cursor(ws, cap);

@@ -1,6 +1,6 @@
 // How the store bounds its memory.
 ghost use mathlib.Core.Path.{_≡_};
-ghost use Rattle.settings.specs.Eviction.{capacityOf, idleOf, boundedBy, withCapacity, withIdle, withWhenFull, whenFullOf};
+ghost use Rattle.settings.specs.Eviction.{ttlSweep, ledgerScan, clockScan, capacityOf, idleOf, boundedBy, withCapacity, withIdle, withWhenFull, whenFullOf};
 use units::Nanos;
 use units::OptionNanos;
 
@@ -43,6 +43,25 @@ impl Eviction {
 
     // How many slots the CLOCK hand looks at to evict one.
     pub const CLOCK_SCAN: usize = 32;
+
+    // The store uses the three constants through the next three functions: their contracts say that each is the number of its definition.
+    pub fn idle_looks() -> usize
+        ensures { λ r. ⌜ r ≡ ttlSweep ⌝ }
+    {
+        Eviction::TTL_SWEEP
+    }
+
+    pub fn ledger_looks() -> usize
+        ensures { λ r. ⌜ r ≡ ledgerScan ⌝ }
+    {
+        Eviction::LEDGER_SCAN
+    }
+
+    pub fn hand_looks() -> usize
+        ensures { λ r. ⌜ r ≡ clockScan ⌝ }
+    {
+        Eviction::CLOCK_SCAN
+    }
 
     // A cap on keys, with no idle time.
     pub fn capacity(max_keys: usize) -> Eviction

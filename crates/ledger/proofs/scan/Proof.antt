@@ -24,6 +24,9 @@ Inv-loop ws₀ cap at left₀ best₀ ws left best = Scanning ws₀ cap (at .0) 
 abbrev μ-loop : tie.MeasureT-loop
 μ-loop ws₀ cap at left₀ best₀ ws left best = left
 
+ledger-looks-requires : tie.Need-ledger-looks-requires Inv-loop μ-loop
+ledger-looks-requires c κs = search needs
+
 count-requires : tie.Need-count-requires Inv-loop μ-loop
 count-requires c κs = search needs
 
@@ -35,13 +38,14 @@ cursor-requires c κs = search needs
 
 loop-holds : tie.Need-loop-holds Inv-loop μ-loop
 loop-holds c =
-    let pre′ = c .before .before .before .before .before .before .pre in
+    let pre′ = c .before .before .before .before .before .before .before .pre in
     let cursor′ = c .cursor in
+    let ledger-looks′ = c .before .before .before .before .before .ledger-looks in
     record {
       lent = pre′ .0;
       some = pre′ .1;
       below = rw (cursor′ .ensures) (lent-cursor (pre′ .0) (pre′ .1));
-      same = rw (cursor′ .ensures, c .before .before .fewer .ensures, c .before .before .before .count .ensures) (scan-start _ _);
+      same = rw (cursor′ .ensures, c .before .before .fewer .ensures, c .before .before .before .count .ensures, ledger-looks′ .ensures) (scan-start _ _);
     }
 
 cursor-requires-2 : tie.Need-cursor-requires-2 Inv-loop μ-loop
@@ -122,6 +126,7 @@ scan-spec =
     (tie.spec
     Inv-loop
     μ-loop
+    ledger-looks-requires
     count-requires
     fewer-requires
     cursor-requires
