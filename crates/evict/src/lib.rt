@@ -200,7 +200,7 @@ fn evict_limited(
     soonest: Nanos,
 ) -> Room
     requires { ⌜ Lent cap (now ws) × Accepted config × (at .0 ≤ 2 ^ 62) × (pos < shard cap (now ws) .slots .count) ⌝ }
-    ensures { λ r. ⌜ outcome r (shard cap (now (ws .exit))) ≡ Evict.evictLimited config at forget (shard cap (now (ws .entry))) pos (soonest .0) ⌝ }
+    ensures { λ r. ⌜ outcome r (shard cap (now (ws .exit))) ≡ Evict.evictLimited config at forget (shard cap (now (ws .entry))) pos soonest ⌝ }
 {
     let slot = shard_map::get(ws, cap, pos);
     let recovers_in = slot.recovers_in(config, at);

@@ -59,7 +59,7 @@ sweptIdle p at s (millis.Some limit) = sweepIdle (p .config) at limit ttlSweep s
 abbrev pub swept : Policy → Nanos → Shard → Shard
 swept p at s =
     let idle = sweptIdle p at s (idleLimitIn p) in
-    withLedger idle (Ledger.sweep (at .0) ledgerScan (idle .ledger))
+    withLedger idle (Ledger.sweep at ledgerScan (idle .ledger))
 
 unfoldable pub makeRoom : Policy → Nanos → Shard → Outcome Room Shard
 makeRoom p at s =
@@ -81,7 +81,7 @@ joined p id request cost at owed s =
 -- A debt that was taken out goes back into the ledger.
 abbrev pub putBack : ℕ → Nanos → OptionNanos → Shard → Shard
 putBack hash at nanos.None s = s
-putBack hash at (nanos.Some settles) s = withLedger s (Ledger.recorded (s .ledger) (record { hash = hash; settles = settles }) (at .0) false .after)
+putBack hash at (nanos.Some settles) s = withLedger s (Ledger.recorded (s .ledger) (record { hash = hash; settles = settles }) at false .after)
 
 -- No room: the key is turned away for want of space, and its debt put back; what was swept, cleared or moved stays so.
 abbrev pub admitted : Policy → Identity → Request → ℕ → Nanos → OptionNanos → Shard → Room → Outcome Answer Shard
