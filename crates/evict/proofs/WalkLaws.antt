@@ -143,7 +143,8 @@ pub data Evicting (c : BucketConfig) (at : Nanos) (forget : Bool) (s : Shard) : 
   none-goes : (p : ℕ) (wait ledger-wait : Nanos) → p < s .slots .count → debtRecorded c at forget s p .answer ≡ NoRoom ledger-wait → minRefusalWait ≤ wait .0
       → Evicting c at forget s (outcome (Refused wait) (withLedger s (debtRecorded c at forget s p .after)))
 
-limited-cases : (c : BucketConfig) (at : Nanos) (forget : Bool) (s : Shard) (p : ℕ) (soonest : Nanos) → p < s .slots .count → Evicting c at forget s (evictLimited c at forget s p soonest)
+limited-cases : (c : BucketConfig) (at : Nanos) (forget : Bool) (s : Shard) (p : ℕ) (soonest : Nanos) → p < s .slots .count
+    → Evicting c at forget s (evictLimited c at forget s p soonest)
 limited-cases c at forget s p soonest below = go (debtRecorded c at forget s p .answer) refl
   where
     go : (answer : Recorded) → debtRecorded c at forget s p .answer ≡ answer → Evicting c at forget s (evictOwing s p soonest (debtRecorded c at forget s p .after) answer)

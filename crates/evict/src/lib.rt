@@ -107,7 +107,7 @@ fn goes_at_once(slot: Slot, config: BucketConfig, at: Nanos) -> bool
     false
 }
 
-// A look of the hand: the slot as it is, its mark then cleared, and the hand stepped on.
+// A look of the hand. It gives the slot as it is; then it clears the slot's mark and steps the hand on.
 fn look(ws: &mut [u64], cap: usize, pos: usize) -> Slot
     requires { ⌜ Lent cap (now ws) × (pos < cap) ⌝ }
     ensures { λ r. ⌜ outcome r (shard cap (now (ws .exit))) ≡ outcome (Model.slotAt (shard cap (now (ws .entry))) pos) (Evict.looked (shard cap (now (ws .entry))) pos) ⌝ }

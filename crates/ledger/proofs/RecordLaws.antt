@@ -85,11 +85,13 @@ scan-sound at l some s = go (scan-cases at l some)
 -- How room is made: a debt leaves, which is settled unless debts may be forgotten; or none does, where only the cursor moves and the wait is that of an
 -- unsettled debt.
 data MakingRoom (l : Ledger) (at : Nanos) (forget : Bool) : Outcome Recorded Ledger → Type 0 where
-  one-leaves : (p c : ℕ) → p < l .debts .count → (forget ≡ false → settlesAt l p .0 ≤ at .0) → MakingRoom l at forget (outcome Done (removeAt (withCursor l c) p))
+  one-leaves : (p c : ℕ) → p < l .debts .count → (forget ≡ false → settlesAt l p .0 ≤ at .0)
+      → MakingRoom l at forget (outcome Done (removeAt (withCursor l c) p))
   none-leaves : (p c : ℕ) → p < l .debts .count → forget ≡ false → at .0 < settlesAt l p .0
       → MakingRoom l at forget (outcome (NoRoom (record { 0 = settlesAt l p .0 - at .0 })) (withCursor l c))
 
-drop-cases : (l : Ledger) (at : Nanos) (forget : Bool) {o : Outcome Choice Ledger} → Scanned at l o → MakingRoom l at forget (dropChosen at forget (o .after) (o .answer))
+drop-cases : (l : Ledger) (at : Nanos) (forget : Bool) {o : Outcome Choice Ledger} → Scanned at l o
+    → MakingRoom l at forget (dropChosen at forget (o .after) (o .answer))
 unfolding dropChosen
 drop-cases l at forget (one-settled p c below t) = one-leaves p c below (λ _. t)
 drop-cases l at true (all-unsettled p c below t) = one-leaves p c below (λ e. absurd (true≢false e))

@@ -68,7 +68,9 @@ unfolding recorded recordedAt placeOf lowestFrom append
 new-debt-goes-last = refl
 
 -- At cap the first settled debt is dropped, here the second one looked at, and the cursor rests there. The other debt that is settled stays.
-settled-debt-makes-room : recorded (holding 3 0 (owing 1 30 ∷ owing 2 5 ∷ owing 3 4 ∷ [])) (owing 4 50) (moment 5) true ≡ outcome Done (holding 3 1 (owing 1 30 ∷ owing 3 4 ∷ owing 4 50 ∷ []))
+settled-debt-makes-room :
+    recorded (holding 3 0 (owing 1 30 ∷ owing 2 5 ∷ owing 3 4 ∷ [])) (owing 4 50) (moment 5) true
+    ≡ outcome Done (holding 3 1 (owing 1 30 ∷ owing 3 4 ∷ owing 4 50 ∷ []))
 unfolding recorded recordedAt placeOf lowestFrom makeRoom scan scanFrom dropChosen append removeAt removed
 settled-debt-makes-room = refl
 

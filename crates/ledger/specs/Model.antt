@@ -107,7 +107,7 @@ unfoldable pub sweep : Nanos → ℕ → Ledger → Ledger
 sweep at zero l = l
 sweep at (suc left) l = sweep at left (look at l)
 
--- The sooner of two debts, by place; the first of equals.
+-- Of two debts, the place of the one that settles sooner; `best` where both settle at one moment.
 abbrev pub sooner : Ledger → ℕ → ℕ → ℕ
 sooner l best c = cond (ltb (settlesAt l c .0) (settlesAt l best .0)) c best
 

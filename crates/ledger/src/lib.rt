@@ -1,5 +1,5 @@
-// The debts of keys that were evicted before their buckets were full, by the hash of the key. A key that comes back starts with its debt.
-// The debts lie in lent words: the count, the cursor, then two words for each of `cap` debts.
+// The debts of keys that were evicted before their buckets were full, by the hash of the key. A key that comes back starts with its
+// debt, if the ledger still has it. The debts lie in lent words: the count, the cursor, then two words for each of `cap` debts.
 ghost use mathlib.Core.Path.{_≡_};
 ghost use Prim.Native.Nat.{_<_};
 ghost use lib.ListN.{length};
@@ -34,7 +34,7 @@ pub enum Recorded {
     NoRoom(Nanos),
 }
 
-// How many debts are held. It asks for the length alone, so that a count that is too large can be told.
+// How many debts are held. It requires the length alone, so that it can tell a count that is too large.
 pub fn len(ws: &[u64], cap: usize) -> usize
     requires { ⌜ length (now ws) ≡ ledgerWords cap ⌝ }
     ensures { λ r. ⌜ r ≡ ledger cap (now (ws .entry)) .debts .count ⌝ }
@@ -130,7 +130,7 @@ pub fn sweep(ws: &mut [u64], cap: usize, at: Nanos, budget: usize)
     }
 }
 
-// The place of the sooner of two debts; the first of equals.
+// Of two debts, the place of the one that settles sooner; `best` where both settle at one moment.
 fn sooner(ws: &[u64], cap: usize, best: usize, looked: usize) -> usize
     requires { ⌜ Lent cap (now ws) × (best < cap) × (looked < cap) ⌝ }
     ensures { λ r. ⌜ r ≡ Model.sooner (ledger cap (now (ws .entry))) best looked ⌝ }
@@ -165,7 +165,7 @@ fn scan(ws: &mut [u64], cap: usize, at: Nanos) -> Choice
     Choice::Soonest(best)
 }
 
-// Drops a debt of a full ledger: a settled one, or under `forget` the soonest looked at; else tells how long that one still takes.
+// Drops a debt of a full ledger: a settled one, else under `forget` the soonest looked at. Where it drops none, it tells how long the soonest still takes.
 fn make_room(ws: &mut [u64], cap: usize, at: Nanos, forget: bool) -> Recorded
     requires { ⌜ Lent cap (now ws) × (0 < ledger cap (now ws) .debts .count) ⌝ }
     ensures { λ r. ⌜ outcome r (ledger cap (now (ws .exit))) ≡ Model.makeRoom at forget (ledger cap (now (ws .entry))) ⌝ }
@@ -248,7 +248,8 @@ fn keep_later(ws: &mut [u64], cap: usize, pos: usize, settles: Nanos)
     );
 }
 
-// Pays tokens off the debt of the hash: it settles sooner by the time that they take to come back, rounded down. Tells whether there was a debt.
+// Pays tokens off the debt of the hash: for each token it settles sooner by the time that a token takes to come back, rounded down. Tells whether there was
+// a debt.
 pub fn pay_down(ws: &mut [u64], cap: usize, hash: u64, cost: u32, config: BucketConfig) -> bool
     requires { ⌜ Lent cap (now ws) × Accepted config ⌝ }
     ensures { λ r. ⌜ outcome r (ledger cap (now (ws .exit))) ≡ Model.paidDown (ledger cap (now (ws .entry))) hash cost config ⌝ }

@@ -1,4 +1,4 @@
--- The bounds that the builders of `Eviction` make. `capacity`, `idle` and `new` start from RefuseNew; the with builders change one field.
+-- The numbers of looks, and the bounds that the builders of `Eviction` make. `capacity`, `idle` and `new` set RefuseNew; each with_ builder changes one field.
 use Prim.Native.Nat.{ℕ}
 use mathlib.Core.Bool.{cond}
 use lib.Dec.{eqb}
@@ -17,7 +17,7 @@ ttlSweep = 8
 abbrev pub ledgerScan : ℕ
 ledgerScan = 8
 
--- How many slots the CLOCK hand looks at to evict one.
+-- How many slots the CLOCK hand looks at, at most, to evict one.
 abbrev pub clockScan : ℕ
 clockScan = 32
 

@@ -61,7 +61,8 @@ idle-sweep-goes-round = refl
 
 -- An idle sweep takes its looks, and no more: of idle slots one more than there are looks, one is left.
 an-idle-sweep-takes-its-looks :
-    sweptAtTwo ttlSweep (shard (ttlSweep + 1) 0 0 (replicate (ttlSweep + 1) (slot 1 0 0 0)) noDebts) ≡ shard 1 0 0 (slot 1 0 0 0 ∷ replicate ttlSweep noSlot) noDebts
+    sweptAtTwo ttlSweep (shard (ttlSweep + 1) 0 0 (replicate (ttlSweep + 1) (slot 1 0 0 0)) noDebts)
+    ≡ shard 1 0 0 (slot 1 0 0 0 ∷ replicate ttlSweep noSlot) noDebts
 unfolding sweepIdle idleLook idleLookAt shortfallAt removeAt removed
 an-idle-sweep-takes-its-looks = refl
 

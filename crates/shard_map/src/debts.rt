@@ -13,7 +13,7 @@ use ledger::Recorded;
 use units::Nanos;
 use units::OptionNanos;
 
-// How many debts are held. Like `shard_map::len`, it asks for the length alone.
+// How many debts are held. Like `shard_map::len`, it requires the length alone.
 pub fn len(ws: &[u64], cap: usize) -> usize
     requires { ⌜ length (now ws) ≡ shardWords cap ⌝ }
     ensures { λ r. ⌜ r ≡ shard cap (now (ws .entry)) .ledger .debts .count ⌝ }

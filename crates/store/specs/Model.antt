@@ -88,7 +88,7 @@ abbrev pub admitted : Policy → Identity → Request → ℕ → Nanos → Opti
 admitted p id request cost at owed s Made = joined p id request cost at owed s
 admitted p id request cost at owed s (Refused wait) = outcome (NoSpace wait) (putBack (id .hash) at owed s)
 
--- A new key takes its debt out first, so that the debt's own place in the ledger is free for the room that it needs.
+-- A new key's own debt is taken out first: its place in the ledger is then free for the debt of a slot that has to go.
 unfoldable pub new : Policy → Identity → Request → ℕ → Nanos → Shard → Outcome Answer Shard
 new p id request cost at s =
     let own = Ledger.taken (s .ledger) (id .hash) in

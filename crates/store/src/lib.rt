@@ -88,8 +88,8 @@ fn with_bucket(slot: Slot, bucket: BucketCore) -> Slot
     }
 }
 
-// A request of a new key. It takes its debt out first, so that the debt's own place in the ledger is free for the room that it needs. A key that left a debt is
-// therefore never turned away for space, and no debt has to be put back.
+// A request of a new key. The key's own debt is taken out first: its place in the ledger is then free for the debt of a slot that has to go. So a key that
+// left a debt is never turned away for space, and no debt has to be put back.
 pub fn new(
     ws: &mut [u64],
     cap: usize,

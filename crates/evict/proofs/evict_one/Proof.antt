@@ -50,7 +50,12 @@ loop-holds : tie.Need-loop-holds Inv-loop μ-loop
 loop-holds c =
     let pre′ = c .before .before .before .before .before .before .before .before .pre in
     let hand-looks′ = c .before .before .before .before .hand-looks in
-    record { lent = pre′ .0; some = pre′ .2; long = refl; same = rw (c .new .ensures, c .before .fewer .ensures, c .before .before .len .ensures, hand-looks′ .ensures) (walk-start _ _ _) }
+    record {
+      lent = pre′ .0;
+      some = pre′ .2;
+      long = refl;
+      same = rw (c .new .ensures, c .before .fewer .ensures, c .before .before .len .ensures, hand-looks′ .ensures) (walk-start _ _ _);
+    }
 
 hand-requires-2 : tie.Need-hand-requires-2 Inv-loop μ-loop
 hand-requires-2 c κs = search needs
