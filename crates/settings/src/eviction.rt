@@ -46,19 +46,21 @@ impl Eviction {
     // How many slots the CLOCK hand looks at, at most, to evict one.
     pub const CLOCK_SCAN: usize = 32;
 
-    // The store uses the three constants through the next three functions: their contracts say that each is the number of its definition.
+    // `TTL_SWEEP`. The store takes its looks from this function and the next two: their contracts tie each constant to its definition.
     pub fn idle_looks() -> usize
         ensures { λ r. ⌜ r ≡ ttlSweep ⌝ }
     {
         Eviction::TTL_SWEEP
     }
 
+    // `LEDGER_SCAN`.
     pub fn ledger_looks() -> usize
         ensures { λ r. ⌜ r ≡ ledgerScan ⌝ }
     {
         Eviction::LEDGER_SCAN
     }
 
+    // `CLOCK_SCAN`.
     pub fn hand_looks() -> usize
         ensures { λ r. ⌜ r ≡ clockScan ⌝ }
     {
