@@ -38,7 +38,7 @@ pub fn saturating_add(a: u64, b: u64) -> u64
     if a <= u64::MAX - b { a + b } else { u64::MAX }
 }
 
-// The product, held to 64 bits. The halves of a are multiplied apart, so that neither product wraps; the only division is by a power of two.
+// The product, held to 64 bits. The two halves of a are multiplied separately, so that neither product wraps. The only division is by a power of two.
 pub fn saturating_mul(a: u64, b: u32) -> u64
     ensures { λ r. ⌜ r ≡ held (a * b) ⌝ }
 {

@@ -54,8 +54,8 @@ fullAt c b at = eqb (shortfallAt c b at) 0
 abbrev pub fresh : BucketConfig → Nanos → BucketCore
 fresh c at = record { shortfall = partsOf c (c .capacity - c .initial); stamp = at }
 
--- How long a cost has to wait: 0 for cost 0; else until the parts that the bucket lacks for it have come back, rounded up, counted as if the stamp
--- were not after the moment.
+-- How long a cost has to wait: 0 for cost 0, else until the parts that the bucket lacks for it have come back, rounded up. A stamp after the moment
+-- does not make the wait longer.
 unfoldable pub waitAt : BucketConfig → BucketCore → ℕ → Nanos → ℕ
 waitAt c b cost at = cond (eqb cost 0) 0 (ceilDiv (shortfallAt c b at + partsOf c cost - fullParts c) (c .amount))
 

@@ -12,23 +12,24 @@ use Rattle.bucket.specs.Bucket.{partsOf, mostShortfall, shortfallAt, ava
 abbrev pub missingTokens : BucketConfig → ℕ → ℕ
 missingTokens c remaining = ceilDiv (remaining * c .amount) (c .period .0)
 
--- So many tokens taken out, into debt where they are not there; the shortfall stops at its largest.
+-- The bucket after so many tokens are taken out. A bucket that has fewer goes into debt; the shortfall stops at its largest.
 abbrev pub charged : BucketConfig → BucketCore → ℕ → Nanos → BucketCore
 charged c b tokens at = record {
   shortfall = min (shortfallAt c b at + partsOf c tokens) (mostShortfall c);
   stamp = record { 0 = max (b .stamp .0) (at .0) };
 }
 
--- The same where any are to be taken; none changes nothing.
+-- As `charged`, but 0 tokens leave the bucket untouched.
 unfoldable pub takenOut : BucketConfig → BucketCore → ℕ → Nanos → BucketCore
 takenOut c b tokens at = cond (eqb tokens 0) b (charged c b tokens at)
 
--- The tokens missing: what is available is cut to what they leave of the capacity, if it is more; those beyond the capacity are charged.
+-- The bucket with so many tokens missing. What is available beyond the capacity less the missing tokens is taken out. Missing tokens beyond the capacity
+-- are taken out too, as a debt.
 unfoldable pub lacking : BucketConfig → BucketCore → ℕ → Nanos → BucketCore
 lacking c b missing at =
     takenOut c (takenOut c b (availableAt c b at - (c .capacity - missing)) at) (missing - c .capacity) at
 
--- A bucket in the debt that settles at a moment; a settled debt changes nothing.
+-- The bucket put into the debt that settles at a moment. A debt that has settled changes nothing.
 unfoldable pub restored : BucketConfig → BucketCore → Nanos → Nanos → BucketCore
 restored c b at settles =
     cond (eqb (settles .0 - at .0) 0) b (lacking c b (missingTokens c (settles .0 - at .0)) at)

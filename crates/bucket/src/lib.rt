@@ -1,4 +1,4 @@
-// The token bucket, by value: a shortfall in parts and the moment it was taken at. Every function is exact for any stored words.
+// The token bucket, by value: its shortfall in parts, and the moment at which that was the shortfall. Every function is exact for any stored words.
 ghost use mathlib.Core.Path.{_≡_};
 ghost use Prim.Native.Nat.{_≤_};
 ghost use Rattle.arith.specs.Arith.{held};
@@ -14,7 +14,7 @@ pub struct BucketConfig {
     pub initial: u32,
 }
 
-// A bucket: the parts it is below full, as of the stamp. A token is `period` parts.
+// A bucket: how many parts it lacked to be full at the moment of the stamp. A token is `period` parts.
 pub struct BucketCore {
     pub shortfall: u64,
     pub stamp: Nanos,
@@ -56,7 +56,7 @@ impl BucketConfig {
         self.full_parts() + 0x4000_0000_0000_0000
     }
 
-    // The tokens that come back in a span, rounded up and held to 64 bits. Quotient and rest by the period are taken apart, so nothing wraps.
+    // The tokens that come back in a span, rounded up and held to 64 bits. Whole periods and the rest are counted separately, so that nothing wraps.
     pub fn missing_tokens(self, remaining: Nanos) -> u64
         requires { ⌜ Accepted self ⌝ }
         ensures { λ r. ⌜ r ≡ held (missingTokens self (remaining .0)) ⌝ }
@@ -81,7 +81,7 @@ impl BucketCore {
         }
     }
 
-    // The stored shortfall as it is read: whatever word is stored, no more than the most.
+    // The stored shortfall as it is read: a word that is larger than the most shortfall reads as the most shortfall.
     fn read_shortfall(self, config: BucketConfig) -> u64
         requires { ⌜ Accepted config ⌝ }
         ensures { λ r. ⌜ r ≡ readShortfall config self ⌝ }
@@ -189,7 +189,7 @@ impl BucketCore {
         }
     }
 
-    // The bucket with so many tokens taken out, into debt where they are not there.
+    // The bucket after so many tokens are taken out. A bucket that has fewer goes into debt.
     pub fn charge_at(self, config: BucketConfig, tokens: u64, at: Nanos) -> BucketCore
         requires { ⌜ Accepted config ⌝ }
         ensures { λ r. ⌜ r ≡ charged config self tokens at ⌝ }
@@ -210,7 +210,7 @@ impl BucketCore {
         }
     }
 
-    // The same where any tokens are to be taken; none changes nothing.
+    // As `charge_at`, but 0 tokens leave the bucket untouched.
     pub fn take_out(self, config: BucketConfig, tokens: u64, at: Nanos) -> BucketCore
         requires { ⌜ Accepted config ⌝ }
         ensures { λ r. ⌜ r ≡ takenOut config self tokens at ⌝ }

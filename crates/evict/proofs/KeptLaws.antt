@@ -75,13 +75,13 @@ module _ (c : BucketConfig) (h k : ℕ) where
       let l : Ledger.Ledger = debtRecorded c at forget s p .after in
       let v : Sound (withLedger s l) = debt-recorded-sound c at forget s p u in
       record {
-        fewer = omega (arith, count-removed h k (withLedger s l) p v below, record-adds-at-most h one (s .ledger) (u .ledger) d (at .0) forget done, debt-counts-no-more at slot);
+        fewer = omega (arith, count-removed h k (withLedger s l) p v below, record-adds-at-most h one (s .ledger) (u .ledger) d at forget done, debt-counts-no-more at slot);
         more = λ single.
             let alone : owed h one (s .ledger) + weigh h one d ≤ 1 = omega (arith, count-removed h k s p u below, ap (owed h one) (removal-ledger s p), debt-counts-no-more at slot) in
             omega (
               arith,
               held-removed c h at (withLedger s l) p v below,
-              record-keeps-unsettled h (unpaid c at) (s .ledger) (u .ledger) d (at .0) forget never (unpaid-settled c at) alone done,
+              record-keeps-unsettled h (unpaid c at) (s .ledger) (u .ledger) d at forget never (unpaid-settled c at) alone done,
               debt-holds-as-much at slot a,
             );
       }
@@ -91,8 +91,8 @@ module _ (c : BucketConfig) (h k : ℕ) where
   refusal-loses-nothing at forget s p wait u told =
       let d : Debt = debtLeft c at (slotAt s p) in
       record {
-        fewer = omega (arith, refusal-keeps h one (s .ledger) (u .ledger) d (at .0) forget wait told);
-        more = λ single. omega (arith, refusal-keeps h (unpaid c at) (s .ledger) (u .ledger) d (at .0) forget wait told);
+        fewer = omega (arith, refusal-keeps h one (s .ledger) (u .ledger) d at forget wait told);
+        more = λ single. omega (arith, refusal-keeps h (unpaid c at) (s .ledger) (u .ledger) d at forget wait told);
       }
 
   -- An eviction loses nothing, whether it makes room or is refused, where debts may not be forgotten.

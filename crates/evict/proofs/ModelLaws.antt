@@ -88,7 +88,7 @@ module _ {cap : ℕ} {ws ws′ : List ℕ} (lent : Lent cap ws) (same : length w
         count = ap (λ s. s .slots .count) (after-is gave);
       }
 
-  pub after-record : {r : Recorded} (d : Debt) (at : ℕ) (forget : Bool)
+  pub after-record : {r : Recorded} (d : Debt) (at : Nanos) (forget : Bool)
       → outcome r (shard cap ws′) ≡ inLedger (shard cap ws) (Ledger.recorded (shard cap ws .ledger) d at forget) → StillLent cap ws ws′
   after-record d at forget gave = record {
     lent = lent-after-answer lent same gave (ledger-sound (shard cap ws) _ (lent .sound) (recorded-sound (shard cap ws .ledger) d at forget (lent .sound .ledger)));
@@ -145,13 +145,13 @@ module _ (c : BucketConfig) (at : Nanos) (forget : Bool) (s : Shard) {victim : P
   evicted-noted is = rw (ended, is)
 
 -- The eviction of a slot that leaves a debt, once the debt is recorded, or is not.
-module _ (c : BucketConfig) (at : Nanos) (forget : Bool) (p soonest : ℕ) {cap : ℕ} {ws : List ℕ} {r : Recorded} {t : Shard} (lent : Lent cap ws)
-    (gave : outcome r t ≡ inLedger (shard cap ws) (Ledger.recorded (shard cap ws .ledger) (debtLeft c at (slotAt (shard cap ws) p)) (at .0) forget)) where
+module _ (c : BucketConfig) (at : Nanos) (forget : Bool) (p : ℕ) (soonest : Nanos) {cap : ℕ} {ws : List ℕ} {r : Recorded} {t : Shard} (lent : Lent cap ws)
+    (gave : outcome r t ≡ inLedger (shard cap ws) (Ledger.recorded (shard cap ws .ledger) (debtLeft c at (slotAt (shard cap ws) p)) at forget)) where
   pub limited-made : r ≡ Done → outcome Made (evictAt t p) ≡ evictLimited c at forget (shard cap ws) p soonest
   limited-made is = rw (after-is gave, sym (answer-is gave) ∙ is)
 
   pub limited-refused : {wait : Nanos} → r ≡ NoRoom wait
-      → outcome (Refused (record { 0 = max (min soonest (wait .0)) minRefusalWait })) t ≡ evictLimited c at forget (shard cap ws) p soonest
+      → outcome (Refused (record { 0 = max (min (soonest .0) (wait .0)) minRefusalWait })) t ≡ evictLimited c at forget (shard cap ws) p soonest
   limited-refused is = rw (after-is gave, sym (answer-is gave) ∙ is)
 
 -- A recovery takes no longer than the largest shortfall has parts, so the moment at which a debt settles fits 64 bits.

@@ -129,10 +129,10 @@ remarked-full c at s t p r f = record { below = omega (arith, r .count, f .below
 
 -- The debt of the slot at p is recorded in the ledger of its shard.
 abbrev pub debtRecorded : BucketConfig → Nanos → Bool → Shard → ℕ → Outcome Recorded Ledger.Ledger
-debtRecorded c at forget s p = Ledger.recorded (s .ledger) (debtLeft c at (slotAt s p)) (at .0) forget
+debtRecorded c at forget s p = Ledger.recorded (s .ledger) (debtLeft c at (slotAt s p)) at forget
 
 pub debt-recorded-sound : (c : BucketConfig) (at : Nanos) (forget : Bool) (s : Shard) (p : ℕ) → Sound s → Sound (withLedger s (debtRecorded c at forget s p .after))
-debt-recorded-sound c at forget s p u = ledger-sound s _ u (recorded-sound (s .ledger) (debtLeft c at (slotAt s p)) (at .0) forget (u .ledger))
+debt-recorded-sound c at forget s p u = ledger-sound s _ u (recorded-sound (s .ledger) (debtLeft c at (slotAt s p)) at forget (u .ledger))
 
 -- How an eviction ends, by the shard that the walk left: a full slot goes; a slot goes once its debt is in the ledger; or none goes, since the ledger had
 -- no room, and the wait told is at least a millisecond.
@@ -143,12 +143,13 @@ pub data Evicting (c : BucketConfig) (at : Nanos) (forget : Bool) (s : Shard) : 
   none-goes : (p : ℕ) (wait ledger-wait : Nanos) → p < s .slots .count → debtRecorded c at forget s p .answer ≡ NoRoom ledger-wait → minRefusalWait ≤ wait .0
       → Evicting c at forget s (outcome (Refused wait) (withLedger s (debtRecorded c at forget s p .after)))
 
-limited-cases : (c : BucketConfig) (at : Nanos) (forget : Bool) (s : Shard) (p soonest : ℕ) → p < s .slots .count → Evicting c at forget s (evictLimited c at forget s p soonest)
+limited-cases : (c : BucketConfig) (at : Nanos) (forget : Bool) (s : Shard) (p : ℕ) (soonest : Nanos) → p < s .slots .count
+    → Evicting c at forget s (evictLimited c at forget s p soonest)
 limited-cases c at forget s p soonest below = go (debtRecorded c at forget s p .answer) refl
   where
     go : (answer : Recorded) → debtRecorded c at forget s p .answer ≡ answer → Evicting c at forget s (evictOwing s p soonest (debtRecorded c at forget s p .after) answer)
     go Done e = owing-goes p below e
-    go (NoRoom wait) e = none-goes p (record { 0 = max (min soonest (wait .0)) minRefusalWait }) wait below e (omega arith)
+    go (NoRoom wait) e = none-goes p (record { 0 = max (min (soonest .0) (wait .0)) minRefusalWait }) wait below e (omega arith)
 
 pub evict-cases : (c : BucketConfig) (at : Nanos) (forget : Bool) (s : Shard) → Sound s → 0 < s .slots .count → Evicting c at forget (walked c at s .after) (evicted c at forget s)
 unfolding evicted
@@ -169,7 +170,7 @@ evict-cases c at forget s u some = by-victim (walked c at s .victim) (kept .vict
 
     by-full : (place : Place) → fullIfAny c at s place → Evicting c at forget t (evictNoted c at forget t (handOf s) w place)
     by-full (At p) f = full-goes p (remarked-full c at s t p (kept .same) f)
-    by-full Nowhere f = limited-cases c at forget t (placeOr (w .unmarked) (handOf s)) (w .soonest .0) (chosen-below (w .unmarked) (kept .unmarked))
+    by-full Nowhere f = limited-cases c at forget t (placeOr (w .unmarked) (handOf s)) (w .soonest) (chosen-below (w .unmarked) (kept .unmarked))
 
     by-victim : (place : Place) → fullIfAny c at s place → Evicting c at forget t (evictWalked c at forget t (handOf s) w place)
     by-victim (At p) f = full-goes p (remarked-full c at s t p (kept .same) f)
@@ -212,7 +213,7 @@ module _ (c : BucketConfig) (at : Nanos) (forget : Bool) (s : Shard) (u : Sound 
       go {t} v r (owing-goes p below done) = k .drops (withLedger t (debtRecorded c at forget t p .after)) p (debt-recorded-sound c at forget t p v) r
       go {t} v r (none-goes p wait ledger-wait below told least) = r
 
-  pub evict-keeps-ledger : (Q : Ledger.Ledger → Type 0) → ((l : Ledger.Ledger) (d : Debt) → Ledger.Sound l → Q l → Q (Ledger.recorded l d (at .0) forget .after))
+  pub evict-keeps-ledger : (Q : Ledger.Ledger → Type 0) → ((l : Ledger.Ledger) (d : Debt) → Ledger.Sound l → Q l → Q (Ledger.recorded l d at forget .after))
       → Q (s .ledger) → Q (evicted c at forget s .after .ledger)
   evict-keeps-ledger Q records q = go walk-sound (rw (walk-remarks .ledger) q) (evict-cases c at forget s u some)
     where
@@ -227,7 +228,7 @@ module _ (c : BucketConfig) (at : Nanos) (forget : Bool) (s : Shard) (u : Sound 
   evict-cap = evict-keeps-slots (λ h. length (h .places) ≡ capOf s) (record { remarks = λ t v r same. r .cap ∙ same; drops = λ t p v same. removal-cap t p ∙ same }) refl
 
   pub evict-ledger-cap : Ledger.capOf (evicted c at forget s .after .ledger) ≡ Ledger.capOf (s .ledger)
-  evict-ledger-cap = evict-keeps-ledger (λ l. Ledger.capOf l ≡ Ledger.capOf (s .ledger)) (λ l d v same. recorded-cap l d (at .0) forget v ∙ same) refl
+  evict-ledger-cap = evict-keeps-ledger (λ l. Ledger.capOf l ≡ Ledger.capOf (s .ledger)) (λ l d v same. recorded-cap l d at forget v ∙ same) refl
 
   pub evict-count : evicted c at forget s .after .slots .count ≤ s .slots .count
   evict-count =
@@ -238,7 +239,7 @@ module _ (c : BucketConfig) (at : Nanos) (forget : Bool) (s : Shard) (u : Sound 
   evict-sound = record {
     room = omega (arith, evict-cap, u .room);
     held = omega (arith, evict-cap, evict-count, u .held);
-    ledger = evict-keeps-ledger Ledger.Sound (λ l d v same. recorded-sound l d (at .0) forget v) (u .ledger);
+    ledger = evict-keeps-ledger Ledger.Sound (λ l d v same. recorded-sound l d at forget v) (u .ledger);
   }
 
   -- Where room was made one slot has gone, so there is room for another.
@@ -260,7 +261,7 @@ module _ (c : BucketConfig) (at : Nanos) (forget : Bool) (s : Shard) (u : Sound 
       go r v (full-goes p f) e = made-is-no-refusal e
       go r v (owing-goes p below done) e = made-is-no-refusal e
       go {t} r v (none-goes p w ledger-wait below told least) e =
-          let q : Refusal (t .ledger) forget ledger-wait (debtRecorded c at forget t p .after) = refusal (t .ledger) _ (at .0) forget ledger-wait (v .ledger) told in
+          let q : Refusal (t .ledger) forget ledger-wait (debtRecorded c at forget t p .after) = refusal (t .ledger) _ at forget ledger-wait (v .ledger) told in
           let same : w .0 ≡ wait .0 = cc in
           record {
             full = rw (← r .ledger) (q .full);

@@ -1,11 +1,12 @@
 -- The sentences of document 01 on eviction, each worked on a small shard, as the idle sweep is in the Worked of the shard.
-use Prim.Native.Nat.{ℕ}
+use Prim.Native.Nat.{ℕ, _+_, _-_}
 use mathlib.Core.Path.{_≡_, refl}
 use mathlib.Core.Bool.{true, false}
 use mathlib.Core.List.{[], _∷_, _++_}
 use lib.ListN.{replicate}
 use Rattle.arith.specs.Arith.{ceilDiv}
 use Rattle.bucket.specs.Bucket.{shortfallAt, waitAt}
+use Rattle.settings.specs.Eviction.{clockScan}
 use Rattle.rows.specs.Held.{lowestFrom, removed}
 use Rattle.rows.specs.Outcome.{outcome}
 use Rattle.ledger.specs.declared.Debt.{Debt}
@@ -54,12 +55,12 @@ hand-past-the-slots-reads-as-the-first :
 unfolding evicted walked walkFrom noted shortfallAt removeAt removed
 hand-past-the-slots-reads-as-the-first = refl
 
--- Thirty-two looks, and no more: the full slot at the 33rd place is not seen, and the first looked at goes.
-an-eviction-is-thirty-two-looks :
-    evicted rate (moment 0) false (shard 33 0 0 (replicate 32 (slot 1 8 1 0) ++ slot 2 0 0 0 ∷ []) noDebts)
-    ≡ outcome Made (shard 32 1 0 (slot 2 0 0 0 ∷ replicate 31 (slot 1 8 0 0) ++ noSlot ∷ []) (ledger 1 0 (owing 1 4 ∷ [])))
+-- An eviction takes its looks, and no more: the full slot in the next place is not seen, and the first looked at goes.
+an-eviction-takes-its-looks :
+    evicted rate (moment 0) false (shard (clockScan + 1) 0 0 (replicate clockScan (slot 1 8 1 0) ++ slot 2 0 0 0 ∷ []) noDebts)
+    ≡ outcome Made (shard clockScan 1 0 (slot 2 0 0 0 ∷ replicate (clockScan - 1) (slot 1 8 0 0) ++ noSlot ∷ []) (ledger 1 0 (owing 1 4 ∷ [])))
 unfolding evicted walked walkFrom noted shortfallAt waitAt ceilDiv removeAt removed Ledger.recorded Ledger.recordedAt Ledger.placeOf Ledger.append lowestFrom
-an-eviction-is-thirty-two-looks = refl
+an-eviction-takes-its-looks = refl
 
 -- The ledger is full of an unsettled debt: none goes. The slots stay, their marks cleared, and the hand and the ledger's cursor have moved.
 abbrev twoSlots : ℕ → ℕ → ℕ → ℕ → ℕ → ℕ → Shard

@@ -93,20 +93,20 @@ debtLeft c at slot = record { hash = slot .hash; settles = record { 0 = at .0 + 
 
 -- The slot at p goes once its debt is in the ledger. If there is no room for the debt it stays, and the wait is the shorter of the soonest
 -- recovery and the ledger's wait, but at least a millisecond.
-abbrev pub evictOwing : Shard → ℕ → ℕ → Ledger.Ledger → Recorded → Outcome Room Shard
+abbrev pub evictOwing : Shard → ℕ → Nanos → Ledger.Ledger → Recorded → Outcome Room Shard
 evictOwing s p soonest l Done = outcome Made (evictAt (withLedger s l) p)
-evictOwing s p soonest l (NoRoom wait) = outcome (Refused (record { 0 = max (min soonest (wait .0)) minRefusalWait })) (withLedger s l)
+evictOwing s p soonest l (NoRoom wait) = outcome (Refused (record { 0 = max (min (soonest .0) (wait .0)) minRefusalWait })) (withLedger s l)
 
-abbrev pub evictLimited : BucketConfig → Nanos → Bool → Shard → ℕ → ℕ → Outcome Room Shard
+abbrev pub evictLimited : BucketConfig → Nanos → Bool → Shard → ℕ → Nanos → Outcome Room Shard
 evictLimited c at forget s p soonest =
     evictOwing s p soonest
-    (Ledger.recorded (s .ledger) (debtLeft c at (slotAt s p)) (at .0) forget .after)
-    (Ledger.recorded (s .ledger) (debtLeft c at (slotAt s p)) (at .0) forget .answer)
+    (Ledger.recorded (s .ledger) (debtLeft c at (slotAt s p)) at forget .after)
+    (Ledger.recorded (s .ledger) (debtLeft c at (slotAt s p)) at forget .answer)
 
 -- Who goes: the slot at which the walk ended; else the first full one; else the first unmarked one, or the first looked at, leaving its debt.
 abbrev pub evictNoted : BucketConfig → Nanos → Bool → Shard → ℕ → Walk → Place → Outcome Room Shard
 evictNoted c at forget s first w (At p) = outcome Made (evictAt s p)
-evictNoted c at forget s first w Nowhere = evictLimited c at forget s (placeOr (w .unmarked) first) (w .soonest .0)
+evictNoted c at forget s first w Nowhere = evictLimited c at forget s (placeOr (w .unmarked) first) (w .soonest)
 
 abbrev pub evictWalked : BucketConfig → Nanos → Bool → Shard → ℕ → Walk → Place → Outcome Room Shard
 evictWalked c at forget s first w (At p) = outcome Made (evictAt s p)

@@ -107,7 +107,7 @@ fn goes_at_once(slot: Slot, config: BucketConfig, at: Nanos) -> bool
     false
 }
 
-// A look of the hand: the slot as it is, its mark then cleared, and the hand stepped on.
+// A look of the hand. It gives the slot as it is; then it clears the slot's mark and steps the hand on.
 fn look(ws: &mut [u64], cap: usize, pos: usize) -> Slot
     requires { ⌜ Lent cap (now ws) × (pos < cap) ⌝ }
     ensures { λ r. ⌜ outcome r (shard cap (now (ws .exit))) ≡ outcome (Model.slotAt (shard cap (now (ws .entry))) pos) (Evict.looked (shard cap (now (ws .entry))) pos) ⌝ }
@@ -124,7 +124,7 @@ pub fn evict_one(ws: &mut [u64], cap: usize, config: BucketConfig, at: Nanos, fo
     ensures { λ r. ⌜ outcome r (shard cap (now (ws .exit))) ≡ Evict.evicted config at forget (shard cap (now (ws .entry))) ⌝ }
 {
     let first = words::hand(ws, cap);
-    let mut left = arith::fewer(Eviction::CLOCK_SCAN, shard_map::len(ws, cap));
+    let mut left = arith::fewer(Eviction::hand_looks(), shard_map::len(ws, cap));
     let mut walk = Walk::new();
     let victim = loop {
         if left == 0 {
@@ -200,7 +200,7 @@ fn evict_limited(
     soonest: Nanos,
 ) -> Room
     requires { ⌜ Lent cap (now ws) × Accepted config × (at .0 ≤ 2 ^ 62) × (pos < shard cap (now ws) .slots .count) ⌝ }
-    ensures { λ r. ⌜ outcome r (shard cap (now (ws .exit))) ≡ Evict.evictLimited config at forget (shard cap (now (ws .entry))) pos (soonest .0) ⌝ }
+    ensures { λ r. ⌜ outcome r (shard cap (now (ws .exit))) ≡ Evict.evictLimited config at forget (shard cap (now (ws .entry))) pos soonest ⌝ }
 {
     let slot = shard_map::get(ws, cap, pos);
     let recovers_in = slot.recovers_in(config, at);

@@ -12,7 +12,7 @@ abbrev pub prime : ℕ
 prime = 1099511628211
 
 -- One byte into the hash h: XOR first, then the product with the prime, of which the low 64 bits stay (FNV-1 has the two steps the other way round).
--- The byte stands first because `bitXor` takes as many steps as its first argument: 255 at most, where a hash would take up to 2^64.
+-- The byte stands first because `bitXor` takes a step for each binary digit of its first argument: 8 at most for a byte, up to 64 for a hash.
 unfoldable pub mixed : ℕ → ℕ → ℕ
 mixed h b = (bitXor b h * prime) % 2 ^ 64
 

@@ -40,8 +40,8 @@ worth value None = 0
 worth value (Some t) = value (t .0)
 
 -- A value of which a debt that is settled at a moment has nothing.
-abbrev pub SettledIsNothing : ℕ → (ℕ → ℕ) → Type 0
-SettledIsNothing at value = (s : ℕ) → s ≤ at → value s ≡ 0
+abbrev pub SettledIsNothing : Nanos → (ℕ → ℕ) → Type 0
+SettledIsNothing at value = (s : ℕ) → s ≤ at .0 → value s ≡ 0
 
 module _ (h : ℕ) (value : ℕ → ℕ) where
   -- What one debt adds to the sum.
@@ -53,7 +53,7 @@ module _ (h : ℕ) (value : ℕ → ℕ) where
   unfolding weigh
   weigh-other d other = rw (ne-eqb (d .hash) h other)
 
-  pub weigh-settled : (at : ℕ) → SettledIsNothing at value → (d : Debt) → d .settles .0 ≤ at → weigh h value d ≡ 0
+  pub weigh-settled : (at : Nanos) → SettledIsNothing at value → (d : Debt) → d .settles .0 ≤ at .0 → weigh h value d ≡ 0
   weigh-settled at nothing d settled = by-eq (d .hash) h (λ own. weigh-own d own ∙ nothing _ settled) (λ other. weigh-other d other)
 
   -- The later of two moments has the value of one of them.
@@ -63,9 +63,9 @@ module _ (h : ℕ) (value : ℕ → ℕ) where
       (λ le. let q : n ≡ a = omega arith in rw q (omega arith))
       (λ gt. let q : n ≡ b = omega arith in rw q (omega arith))
 
-  weigh-later : (x d : Debt) → x .hash ≡ d .hash → weigh h value (later x (d .settles .0)) ≤ weigh h value x + weigh h value d
+  weigh-later : (x d : Debt) → x .hash ≡ d .hash → weigh h value (later x (d .settles)) ≤ weigh h value x + weigh h value d
   weigh-later x d same =
-      let merged : Debt = later x (d .settles .0) in
+      let merged : Debt = later x (d .settles) in
       by-eq (x .hash) h
       (λ own. omega (arith, value-later (merged .settles .0) (x .settles .0) (d .settles .0) (omega arith), weigh-own merged own, weigh-own x own, weigh-own d (sym same ∙ own)))
       (λ other. omega (arith, weigh-other merged other))
@@ -95,13 +95,13 @@ module _ (h : ℕ) (value : ℕ → ℕ) where
       omega (arith, owed-appended (removeAt moved p) d (removal-leaves-room moved p (s .held) below), owed-removed moved p (cursor-sound l c s) below, owed-cursor l c)
 
   -- A sweep never adds, and of what is unsettled it loses nothing.
-  pub sweep-never-adds : (at n : ℕ) (l : Ledger) → Sound l → owed h value (sweep at n l) ≤ owed h value l
+  pub sweep-never-adds : (at : Nanos) (n : ℕ) (l : Ledger) → Sound l → owed h value (sweep at n l) ≤ owed h value l
   sweep-never-adds at n l s =
       sweep-keeps at (λ m. owed h value m ≤ owed h value l)
       (record { moves = λ m c less. omega (arith, owed-cursor m c); drops = λ m p t below settled less. omega (arith, owed-removed m p t below) })
       n l s (omega arith)
 
-  pub sweep-keeps-unsettled : (at n : ℕ) (l : Ledger) → Sound l → SettledIsNothing at value → owed h value (sweep at n l) ≡ owed h value l
+  pub sweep-keeps-unsettled : (at : Nanos) (n : ℕ) (l : Ledger) → Sound l → SettledIsNothing at value → owed h value (sweep at n l) ≡ owed h value l
   sweep-keeps-unsettled at n l s nothing =
       sweep-keeps at (λ m. owed h value m ≡ owed h value l)
       (record {
@@ -142,27 +142,27 @@ module _ (h : ℕ) (value : ℕ → ℕ) (l : Ledger) (s : Sound l) where
   found-leaves other p e = owed-removed h value l p s (found-owes l other p e .below)
 
   -- A single debt of the hash is the one that lookup finds.
-  pub found-is-all : (p : ℕ) → placeOf l h ≡ At p → owed h one l ≤ 1 → owed h value l ≡ value (settlesAt l p)
+  pub found-is-all : (p : ℕ) → placeOf l h ≡ At p → owed h one l ≤ 1 → owed h value l ≡ value (settlesAt l p .0)
   found-is-all p e single =
       let f : Owing l h p = found-owes l h p e in
       let alone : owed h one (removeAt l p) ≡ 0 = omega (arith, owed-removed h one l p s (f .below), weigh-own h one (debtAt l p) (f .own)) in
       omega (arith, owed-removed h value l p s (f .below), weigh-own h value (debtAt l p) (f .own), none-owed-nothing-owed h value (removeAt l p) alone)
 
   -- Recording adds at most the value of the debt, whether it joins, merges or takes another's place.
-  pub record-adds-at-most : (d : Debt) (at : ℕ) (forget : Bool) → recorded l d at forget .answer ≡ Done → owed h value (recorded l d at forget .after) ≤ owed h value l + weigh h value d
+  pub record-adds-at-most : (d : Debt) (at : Nanos) (forget : Bool) → recorded l d at forget .answer ≡ Done → owed h value (recorded l d at forget .after) ≤ owed h value l + weigh h value d
   record-adds-at-most d at forget = go (record-cases l d at forget s)
     where
       go : {o : Outcome Recorded Ledger} → Recording l d at forget o → o .answer ≡ Done → owed h value (o .after) ≤ owed h value l + weigh h value d
       go (merged p e) done =
           let f : Owing l (d .hash) p = found-owes l (d .hash) p e in
-          omega (arith, owed-stored h value l p (later (debtAt l p) (d .settles .0)) s (f .below), weigh-later h value (debtAt l p) d (f .own))
+          omega (arith, owed-stored h value l p (later (debtAt l p) (d .settles)) s (f .below), weigh-later h value (debtAt l p) d (f .own))
       go (joins new room) done = omega (arith, owed-appended h value l d room)
       go (replaces p c new below settled) done = omega (arith, owed-replaced h value l c p d s below)
       go (refused p c full below never unsettled) done = done-is-no-refusal (sym done)
 
   -- Where debts may not be forgotten, recording loses nothing that is unsettled: the sum grows by the debt's value. For a hash that already owes this
   -- need not hold (two moments become one), hence the bound on their number.
-  pub record-keeps-unsettled : (d : Debt) (at : ℕ) (forget : Bool) → forget ≡ false → SettledIsNothing at value → owed h one l + weigh h one d ≤ 1 → recorded l d at forget .answer ≡ Done
+  pub record-keeps-unsettled : (d : Debt) (at : Nanos) (forget : Bool) → forget ≡ false → SettledIsNothing at value → owed h one l + weigh h one d ≤ 1 → recorded l d at forget .answer ≡ Done
       → owed h value (recorded l d at forget .after) ≡ owed h value l + weigh h value d
   record-keeps-unsettled d at forget never nothing single = go (record-cases l d at forget s)
     where
@@ -174,13 +174,13 @@ module _ (h : ℕ) (value : ℕ → ℕ) (l : Ledger) (s : Sound l) where
           (λ own. absurd (omega (arith, weigh-own h one d own, weigh-own h one x (f .own ∙ own), owed-removed h one l p s (f .below))))
           (λ other.
           let foreign : x .hash ≡ h → ⊥ = λ own. other (sym (f .own) ∙ own) in
-          omega (arith, owed-stored h value l p (later x (d .settles .0)) s (f .below), weigh-other h value d other, weigh-other h value x foreign, weigh-other h value (later x (d .settles .0)) foreign))
+          omega (arith, owed-stored h value l p (later x (d .settles)) s (f .below), weigh-other h value d other, weigh-other h value x foreign, weigh-other h value (later x (d .settles)) foreign))
       go (joins new room) done = owed-appended h value l d room
       go (replaces p c new below settled) done = omega (arith, owed-replaced h value l c p d s below, weigh-settled h value at nothing (debtAt l p) (settled never))
       go (refused p c full below _ unsettled) done = done-is-no-refusal (sym done)
 
   -- A refusal changes no sum.
-  pub refusal-keeps : (d : Debt) (at : ℕ) (forget : Bool) (wait : Nanos) → recorded l d at forget .answer ≡ NoRoom wait → owed h value (recorded l d at forget .after) ≡ owed h value l
+  pub refusal-keeps : (d : Debt) (at : Nanos) (forget : Bool) (wait : Nanos) → recorded l d at forget .answer ≡ NoRoom wait → owed h value (recorded l d at forget .after) ≡ owed h value l
   unfolding owed
   refusal-keeps d at forget wait told = ap (total noDebt (weigh h value)) (refusal l d at forget wait s told .debts)
 

@@ -1,4 +1,4 @@
--- What a read or a store of a word means for the ledger that lies in the words. The only file that opens the layout.
+-- What a read or a store of a word means for the ledger that lies in the words. In this crate only this file and ReadBack open the layout.
 use Prim.Native.Nat.{ℕ, _+_, _*_, _≤_, _<_}
 use native.Mathlib.Omega.{arith}
 use native.Mathlib.Nat.{add-zero}

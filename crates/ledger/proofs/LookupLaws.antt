@@ -28,9 +28,9 @@ abbrev pub laterOf : Nanos → OptionNanos → OptionNanos
 laterOf t None = Some t
 laterOf t (Some u) = Some (record { 0 = max (u .0) (t .0) })
 
-abbrev pub paidOff : ℕ → OptionNanos → OptionNanos
+abbrev pub paidOff : Nanos → OptionNanos → OptionNanos
 paidOff off None = None
-paidOff off (Some t) = Some (record { 0 = t .0 - off })
+paidOff off (Some t) = Some (record { 0 = t .0 - off .0 })
 
 -- Two findings with the same values are the same.
 same-worth : (a b : OptionNanos) → ((value : ℕ → ℕ) → worth value a ≡ worth value b) → a ≡ b
@@ -58,22 +58,22 @@ lookup-by-sums h l s found sums =
     same-worth (owedBy l h) found (λ value. sym (sum-of-lookup h l s single value) ∙ sums value)
 
 -- Two ledgers with the same time left to the debts of a hash: an unsettled debt that lookup finds in one it finds in the other.
-unsettled-by-time-left : (at : ℕ) (found : OptionNanos) (t : Nanos) → at < t .0 → worth (λ n. n - at) found ≡ t .0 - at → found ≡ Some t
+unsettled-by-time-left : (at : Nanos) (found : OptionNanos) (t : Nanos) → at .0 < t .0 → worth (λ n. n - at .0) found ≡ t .0 - at .0 → found ≡ Some t
 unsettled-by-time-left at None t unsettled same = absurd (omega arith)
 unsettled-by-time-left at (Some u) t unsettled same = let e : u .0 ≡ t .0 = omega arith in ap (λ (n : ℕ). Some (record { 0 = n })) e
 
-same-time-left-same-lookup : (h at : ℕ) (l m : Ledger) → Sound l → Sound m → owed h one l ≤ 1 → owed h one m ≤ 1 → owed h (λ n. n - at) m ≡ owed h (λ n. n - at) l
-    → (t : Nanos) → owedBy l h ≡ Some t → at < t .0 → owedBy m h ≡ Some t
+same-time-left-same-lookup : (h : ℕ) (at : Nanos) (l m : Ledger) → Sound l → Sound m → owed h one l ≤ 1 → owed h one m ≤ 1 → owed h (λ n. n - at .0) m ≡ owed h (λ n. n - at .0) l
+    → (t : Nanos) → owedBy l h ≡ Some t → at .0 < t .0 → owedBy m h ≡ Some t
 same-time-left-same-lookup h at l m s t single single′ same moment found unsettled =
     unsettled-by-time-left at (owedBy m h) moment unsettled
-    (sym (sum-of-lookup h m t single′ (λ n. n - at)) ∙ same ∙ sum-of-lookup h l s single (λ n. n - at) ∙ ap (worth (λ n. n - at)) found)
+    (sym (sum-of-lookup h m t single′ (λ n. n - at .0)) ∙ same ∙ sum-of-lookup h l s single (λ n. n - at .0) ∙ ap (worth (λ n. n - at .0)) found)
 
 module _ (l : Ledger) (s : Sound l) (h : ℕ) (single : owed h one l ≤ 1) where
   -- After a sweep an unsettled debt is found as before.
-  pub sweep-finds-unsettled : (at n : ℕ) (t : Nanos) → owedBy l h ≡ Some t → at < t .0 → owedBy (sweep at n l) h ≡ Some t
+  pub sweep-finds-unsettled : (at : Nanos) (n : ℕ) (t : Nanos) → owedBy l h ≡ Some t → at .0 < t .0 → owedBy (sweep at n l) h ≡ Some t
   sweep-finds-unsettled at n t found unsettled =
       same-time-left-same-lookup h at l (sweep at n l) s (sweep-sound at n l s) single (omega (arith, sweep-never-adds h one at n l s))
-      (sweep-keeps-unsettled h (λ m. m - at) at n l s (λ m settled. omega arith)) t found unsettled
+      (sweep-keeps-unsettled h (λ m. m - at .0) at n l s (λ m settled. omega arith)) t found unsettled
 
   -- After a payment the debt settles so much sooner.
   pub paid-finds-sooner : (cost : ℕ) (c : BucketConfig) → owedBy (paidDown l h cost c .after) h ≡ paidOff (credit c cost) (owedBy l h)
@@ -87,7 +87,7 @@ module _ (l : Ledger) (s : Sound l) (h : ℕ) (single : owed h one l ≤ 1) wher
       (omega (arith, owed-stored h value l p x s (f .below), weigh-own h value (debtAt l p) (f .own), weigh-own h value x (f .own), found-is-all h value l s p e single)))
       (λ e. rw (← owed-where l h e) (nowhere-owes-nothing h value l e)))
 
-module _ (l : Ledger) (s : Sound l) (d : Debt) (at : ℕ) (forget : Bool) (single : owed (d .hash) one l ≤ 1) where
+module _ (l : Ledger) (s : Sound l) (d : Debt) (at : Nanos) (forget : Bool) (single : owed (d .hash) one l ≤ 1) where
   -- After a recording the hash owes until the later of the two moments.
   pub recorded-finds-later : recorded l d at forget .answer ≡ Done → owedBy (recorded l d at forget .after) (d .hash) ≡ laterOf (d .settles) (owedBy l (d .hash))
   recorded-finds-later done =
@@ -96,7 +96,7 @@ module _ (l : Ledger) (s : Sound l) (d : Debt) (at : ℕ) (forget : Bool) (singl
       go : (value : ℕ → ℕ) {o : Outcome Recorded Ledger} → Recording l d at forget o → o .answer ≡ Done → owed (d .hash) value (o .after) ≡ worth value (laterOf (d .settles) (owedBy l (d .hash)))
       go value (merged p e) q =
           let f : Owing l (d .hash) p = found-owes l (d .hash) p e in
-          let x : Debt = later (debtAt l p) (d .settles .0) in
+          let x : Debt = later (debtAt l p) (d .settles) in
           let moment : x .settles .0 ≡ max (debtAt l p .settles .0) (d .settles .0) = omega arith in
           rw (← owed-where l (d .hash) e)
           (omega (

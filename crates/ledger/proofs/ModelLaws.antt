@@ -8,6 +8,7 @@ use mathlib.Core.Bool.{Bool, true, false}
 use mathlib.Core.List.{List}
 use lib.ListN.{length}
 use borrow.Author.Tests.{eq-eqb, ne-eqb, lt-ltb, le-ltb, le-leb, lt-leb}
+use Rattle.units.specs.declared.Nanos.{Nanos}
 use Rattle.bucket.specs.declared.BucketConfig.{BucketConfig}
 use Rattle.settings.specs.Eviction.{ledgerScan}
 use Rattle.rows.specs.declared.Place.{Place}
@@ -69,12 +70,12 @@ module _ (l : Ledger) (hash : ℕ) {place : Place} (looked-up : placeOf l hash �
   paid-where cost c = rw looked-up
 
 -- A look of the sweep: at a settled debt, at an unsettled one, and where there is none.
-module _ (at : ℕ) (l : Ledger) where
-  pub look-settled : 0 < l .debts .count → settlesAt l (cursorOf l) ≤ at → removeAt (withCursor l (cursorOf l)) (cursorOf l) ≡ look at l
+module _ (at : Nanos) (l : Ledger) where
+  pub look-settled : 0 < l .debts .count → settlesAt l (cursorOf l) .0 ≤ at .0 → removeAt (withCursor l (cursorOf l)) (cursorOf l) ≡ look at l
   unfolding look lookAt
   look-settled some settled = rw (ne-eqb (l .debts .count) 0 (omega arith), le-leb _ _ settled)
 
-  pub look-unsettled : 0 < l .debts .count → at < settlesAt l (cursorOf l) → withCursor l (cursorOf l + 1) ≡ look at l
+  pub look-unsettled : 0 < l .debts .count → at .0 < settlesAt l (cursorOf l) .0 → withCursor l (cursorOf l + 1) ≡ look at l
   unfolding look lookAt
   look-unsettled some unsettled = rw (ne-eqb (l .debts .count) 0 (omega arith), lt-leb _ _ unsettled)
 
@@ -83,7 +84,7 @@ module _ (at : ℕ) (l : Ledger) where
   look-none none = rw (eq-eqb _ _ none)
 
 -- The sweep: one look more, no look left, no debt left.
-module _ (at : ℕ) (l : Ledger) (left : ℕ) where
+module _ (at : Nanos) (l : Ledger) (left : ℕ) where
   pub sweep-turn : 0 < left → sweep at left l ≡ sweep at (left - 1) (look at l)
   unfolding sweep
   sweep-turn some = let e : left ≡ suc (left - 1) = omega arith in ap (λ (n : ℕ). sweep at n l) e
@@ -92,26 +93,26 @@ module _ (at : ℕ) (l : Ledger) (left : ℕ) where
   unfolding sweep
   sweep-end none = let e : left ≡ 0 = omega arith in rw e
 
-pub sweep-none : (at : ℕ) (l : Ledger) (left : ℕ) → l .debts .count ≡ 0 → sweep at left l ≡ l
+pub sweep-none : (at : Nanos) (l : Ledger) (left : ℕ) → l .debts .count ≡ 0 → sweep at left l ≡ l
 unfolding sweep
 sweep-none at l zero none = refl
 sweep-none at l (suc left) none = rw (look-none at l none) (sweep-none at l left none)
 
 -- The scan of a full ledger: its start, no look left, a settled debt, an unsettled one.
-pub scan-start : (at : ℕ) (l : Ledger) → scanFrom at (min ledgerScan (l .debts .count)) l (cursorOf l) ≡ scan at l
+pub scan-start : (at : Nanos) (l : Ledger) → scanFrom at (min ledgerScan (l .debts .count)) l (cursorOf l) ≡ scan at l
 unfolding scan
 scan-start at l = refl
 
-module _ (at left : ℕ) (l : Ledger) (best : ℕ) where
+module _ (at : Nanos) (left : ℕ) (l : Ledger) (best : ℕ) where
   pub scan-end : left ≤ 0 → scanFrom at left l best ≡ outcome (Soonest best) l
   unfolding scanFrom
   scan-end none = let e : left ≡ 0 = omega arith in rw e
 
-  pub scan-settled : 0 < left → settlesAt l (cursorOf l) ≤ at → scanFrom at left l best ≡ outcome (Settled (cursorOf l)) (withCursor l (cursorOf l))
+  pub scan-settled : 0 < left → settlesAt l (cursorOf l) .0 ≤ at .0 → scanFrom at left l best ≡ outcome (Settled (cursorOf l)) (withCursor l (cursorOf l))
   unfolding scanFrom
   scan-settled some settled = let e : left ≡ suc (left - 1) = omega arith in rw (e, scanFrom, le-leb _ _ settled)
 
-  pub scan-turn : 0 < left → at < settlesAt l (cursorOf l)
+  pub scan-turn : 0 < left → at .0 < settlesAt l (cursorOf l) .0
       → scanFrom at left l best ≡ scanFrom at (left - 1) (withCursor l (cursorOf l + 1)) (sooner l best (cursorOf l))
   unfolding scanFrom
   scan-turn some unsettled =
@@ -119,7 +120,7 @@ module _ (at left : ℕ) (l : Ledger) (best : ℕ) where
       ap (λ (n : ℕ). scanFrom at n l best) e ∙ rw (scanFrom, lt-leb _ _ unsettled)
 
 -- Room is made, once the scan has chosen: a settled debt goes, the soonest goes where debts may be forgotten, else it stays.
-module _ (at : ℕ) (l : Ledger) {m : Ledger} {choice : Choice} (forget : Bool) (p : ℕ) (gave : outcome choice m ≡ scan at l) where
+module _ (at : Nanos) (l : Ledger) {m : Ledger} {choice : Choice} (forget : Bool) (p : ℕ) (gave : outcome choice m ≡ scan at l) where
   pub settled-dropped : choice ≡ Settled p → outcome Done (removeAt m p) ≡ makeRoom at forget l
   unfolding makeRoom dropChosen
   settled-dropped is = rw (← gave, is)
@@ -128,13 +129,13 @@ module _ (at : ℕ) (l : Ledger) {m : Ledger} {choice : Choice} (forget : Bool) 
   unfolding makeRoom dropChosen
   soonest-dropped is may = rw (← gave, is, may)
 
-  pub soonest-kept : choice ≡ Soonest p → forget ≡ false → outcome (NoRoom (record { 0 = settlesAt m p - at })) m ≡ makeRoom at forget l
+  pub soonest-kept : choice ≡ Soonest p → forget ≡ false → outcome (NoRoom (record { 0 = settlesAt m p .0 - at .0 })) m ≡ makeRoom at forget l
   unfolding makeRoom dropChosen
   soonest-kept is may = rw (← gave, is, may)
 
 -- Recording: the hash is there; it is not; and then there is room, or room was made, or not.
-module _ (l : Ledger) (d : Debt) (at : ℕ) (forget : Bool) where
-  pub recorded-existing : {p : ℕ} → placeOf l (d .hash) ≡ At p → outcome Done (withDebt l p (later (debtAt l p) (d .settles .0))) ≡ recorded l d at forget
+module _ (l : Ledger) (d : Debt) (at : Nanos) (forget : Bool) where
+  pub recorded-existing : {p : ℕ} → placeOf l (d .hash) ≡ At p → outcome Done (withDebt l p (later (debtAt l p) (d .settles))) ≡ recorded l d at forget
   unfolding recorded recordedAt
   recorded-existing looked-up = rw looked-up
 
@@ -180,7 +181,7 @@ pub record AfterScan (cap : ℕ) (ws : List ℕ) (choice : Choice) : Type 0 wher
   pub lent : Lent cap ws
   pub held : chosen choice < ledger cap ws .debts .count
 
-pub after-scan : {cap : ℕ} {ws ws′ : List ℕ} {choice : Choice} (at : ℕ) → Lent cap ws → 0 < ledger cap ws .debts .count → length ws′ ≡ length ws
+pub after-scan : {cap : ℕ} {ws ws′ : List ℕ} {choice : Choice} (at : Nanos) → Lent cap ws → 0 < ledger cap ws .debts .count → length ws′ ≡ length ws
     → outcome choice (ledger cap ws′) ≡ scan at (ledger cap ws) → AfterScan cap ws′ choice
 after-scan {cap} {ws} at lent some same gave = record {
   lent = lent-after-answer lent same gave (scan-sound at (ledger cap ws) some (lent .sound));
@@ -188,7 +189,7 @@ after-scan {cap} {ws} at lent some same gave = record {
 }
 
 -- After room was made the words are still lent, and there is room for a debt.
-pub after-make-room : {cap : ℕ} {ws ws′ : List ℕ} {r : Recorded} (at : ℕ) (forget : Bool) → Lent cap ws → 0 < ledger cap ws .debts .count → length ws′ ≡ length ws
+pub after-make-room : {cap : ℕ} {ws ws′ : List ℕ} {r : Recorded} (at : Nanos) (forget : Bool) → Lent cap ws → 0 < ledger cap ws .debts .count → length ws′ ≡ length ws
     → outcome r (ledger cap ws′) ≡ makeRoom at forget (ledger cap ws) → r ≡ Done → Lent cap ws′ × (ledger cap ws′ .debts .count < cap)
 after-make-room {cap} {ws} {ws′} at forget lent some same gave done =
     let free = make-room-makes-room (ledger cap ws) at forget some (lent .sound) (sym (answer-is gave) ∙ done) in

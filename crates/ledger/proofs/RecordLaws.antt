@@ -5,7 +5,7 @@ use mathlib.Core.Path.{_≡_, refl, sym}
 use mathlib.Core.Bool.{Bool, true, false, true≢false}
 use native.Mathlib.Omega.{arith}
 use lib.ListN.{length-set}
-use lib.Dec.{ltb, leb}
+use lib.Dec.{ltb}
 use borrow.Author.Tests.{ltb-true, ltb-false, leb-true, leb-false}
 use Rattle.arith.proofs.Cases.{by-test}
 use Rattle.units.specs.declared.Nanos.{Nanos}
@@ -17,30 +17,30 @@ use Rattle.ledger.specs.declared.Choice.{Choice}
 use Rattle.ledger.specs.declared.Choice.the-variants.{Settled, Soonest}
 use Rattle.ledger.specs.declared.Recorded.{Recorded}
 use Rattle.ledger.specs.declared.Recorded.the-variants.{Done, NoRoom}
-use Rattle.ledger.specs.Model.{Ledger, Sound, capOf, debtAt, settlesAt, cursorOf, withCursor, withDebt, placeOf, removeAt, append, sooner, scanFrom, scan, dropChosen, makeRoom, joined, later, recordedAt, recorded}
+use Rattle.ledger.specs.Model.{Ledger, Sound, capOf, debtAt, hasSettled, settlesAt, cursorOf, withCursor, withDebt, placeOf, removeAt, append, sooner, scanFrom, scan, dropChosen, makeRoom, joined, later, recordedAt, recorded}
 use Rattle.ledger.proofs.StepLaws.{cursor-below, cursor-sound, change-sound, append-sound, removal-sound, removal-cap, removal-leaves-room}
 
 -- What the looks at a full ledger come to: nothing but the cursor moves, and the place told has a settled debt, or an unsettled one.
-data Scanned (at : ℕ) (l : Ledger) : Outcome Choice Ledger → Type 0 where
-  one-settled : (p c : ℕ) → p < l .debts .count → settlesAt l p ≤ at → Scanned at l (outcome (Settled p) (withCursor l c))
-  all-unsettled : (p c : ℕ) → p < l .debts .count → at < settlesAt l p → Scanned at l (outcome (Soonest p) (withCursor l c))
+data Scanned (at : Nanos) (l : Ledger) : Outcome Choice Ledger → Type 0 where
+  one-settled : (p c : ℕ) → p < l .debts .count → settlesAt l p .0 ≤ at .0 → Scanned at l (outcome (Settled p) (withCursor l c))
+  all-unsettled : (p c : ℕ) → p < l .debts .count → at .0 < settlesAt l p .0 → Scanned at l (outcome (Soonest p) (withCursor l c))
 
 -- The place of an unsettled debt that is held.
-record Unsettled (at : ℕ) (l : Ledger) (p : ℕ) : Type 0 where
+record Unsettled (at : Nanos) (l : Ledger) (p : ℕ) : Type 0 where
   below : p < l .debts .count
-  waits : at < settlesAt l p
+  waits : at .0 < settlesAt l p .0
 
 -- The sooner of two is one of them.
 pub sooner-is-either : (l : Ledger) (best c : ℕ) (Q : ℕ → Type 0) → Q best → Q c → Q (sooner l best c)
-sooner-is-either l best c Q b d = by-test (ltb (settlesAt l c) (settlesAt l best)) (λ t. rw t d) (λ t. rw t b)
+sooner-is-either l best c Q b d = by-test (ltb (settlesAt l c .0) (settlesAt l best .0)) (λ t. rw t d) (λ t. rw t b)
 
 -- From a place of an unsettled debt on; and from the place that the first look is at, whatever stands there, if there is a look.
-scanFrom-cases : (at left : ℕ) (l : Ledger) (best : ℕ) → Unsettled at l best → Scanned at l (scanFrom at left l best)
+scanFrom-cases : (at : Nanos) (left : ℕ) (l : Ledger) (best : ℕ) → Unsettled at l best → Scanned at l (scanFrom at left l best)
 unfolding scanFrom
 scanFrom-cases at zero l best u = all-unsettled best (l .cursor) (u .below) (u .waits)
 scanFrom-cases at (suc left) l best u =
     let below : cursorOf l < l .debts .count = cursor-below l (omega (arith, u .below)) in
-    by-test (leb (settlesAt l (cursorOf l)) at)
+    by-test (hasSettled at l (cursorOf l))
     (λ t. rw (t, scanFrom) (one-settled (cursorOf l) _ below (leb-true _ _ t)))
     (λ t.
     let next : Unsettled at l (sooner l best (cursorOf l)) = sooner-is-either l best (cursorOf l) (Unsettled at l) u (record { below = below; waits = leb-false _ _ t }) in
@@ -50,16 +50,16 @@ scanFrom-cases at (suc left) l best u =
     same-debts (one-settled p c b t) = one-settled p c b t
     same-debts (all-unsettled p c b t) = all-unsettled p c b t
 
-first-look-cases : (at looks : ℕ) (l : Ledger) → 0 < looks → 0 < l .debts .count → Scanned at l (scanFrom at looks l (cursorOf l))
+first-look-cases : (at : Nanos) (looks : ℕ) (l : Ledger) → 0 < looks → 0 < l .debts .count → Scanned at l (scanFrom at looks l (cursorOf l))
 unfolding scanFrom
 first-look-cases at zero l look some = absurd (omega arith)
 first-look-cases at (suc left) l look some =
     let below : cursorOf l < l .debts .count = cursor-below l some in
-    by-test (leb (settlesAt l (cursorOf l)) at)
+    by-test (hasSettled at l (cursorOf l))
     (λ t. rw (t, scanFrom) (one-settled (cursorOf l) _ below (leb-true _ _ t)))
     (λ t. scanFrom-cases at (suc left) l (cursorOf l) (record { below = below; waits = leb-false _ _ t }))
 
-scan-cases : (at : ℕ) (l : Ledger) → 0 < l .debts .count → Scanned at l (scan at l)
+scan-cases : (at : Nanos) (l : Ledger) → 0 < l .debts .count → Scanned at l (scan at l)
 unfolding scan
 scan-cases at l some = first-look-cases at _ l (omega arith) some
 
@@ -68,14 +68,14 @@ abbrev pub chosen : Choice → ℕ
 chosen (Settled p) = p
 chosen (Soonest p) = p
 
-pub scan-chooses-held : (at : ℕ) (l : Ledger) → 0 < l .debts .count → chosen (scan at l .answer) < scan at l .after .debts .count
+pub scan-chooses-held : (at : Nanos) (l : Ledger) → 0 < l .debts .count → chosen (scan at l .answer) < scan at l .after .debts .count
 scan-chooses-held at l some = go (scan-cases at l some)
   where
     go : {o : Outcome Choice Ledger} → Scanned at l o → chosen (o .answer) < o .after .debts .count
     go (one-settled p c below settled) = below
     go (all-unsettled p c below unsettled) = below
 
-pub scan-sound : (at : ℕ) (l : Ledger) → 0 < l .debts .count → Sound l → Sound (scan at l .after)
+pub scan-sound : (at : Nanos) (l : Ledger) → 0 < l .debts .count → Sound l → Sound (scan at l .after)
 scan-sound at l some s = go (scan-cases at l some)
   where
     go : {o : Outcome Choice Ledger} → Scanned at l o → Sound (o .after)
@@ -84,18 +84,20 @@ scan-sound at l some s = go (scan-cases at l some)
 
 -- How room is made: a debt leaves, which is settled unless debts may be forgotten; or none does, where only the cursor moves and the wait is that of an
 -- unsettled debt.
-data MakingRoom (l : Ledger) (at : ℕ) (forget : Bool) : Outcome Recorded Ledger → Type 0 where
-  one-leaves : (p c : ℕ) → p < l .debts .count → (forget ≡ false → settlesAt l p ≤ at) → MakingRoom l at forget (outcome Done (removeAt (withCursor l c) p))
-  none-leaves : (p c : ℕ) → p < l .debts .count → forget ≡ false → at < settlesAt l p
-      → MakingRoom l at forget (outcome (NoRoom (record { 0 = settlesAt l p - at })) (withCursor l c))
+data MakingRoom (l : Ledger) (at : Nanos) (forget : Bool) : Outcome Recorded Ledger → Type 0 where
+  one-leaves : (p c : ℕ) → p < l .debts .count → (forget ≡ false → settlesAt l p .0 ≤ at .0)
+      → MakingRoom l at forget (outcome Done (removeAt (withCursor l c) p))
+  none-leaves : (p c : ℕ) → p < l .debts .count → forget ≡ false → at .0 < settlesAt l p .0
+      → MakingRoom l at forget (outcome (NoRoom (record { 0 = settlesAt l p .0 - at .0 })) (withCursor l c))
 
-drop-cases : (l : Ledger) (at : ℕ) (forget : Bool) {o : Outcome Choice Ledger} → Scanned at l o → MakingRoom l at forget (dropChosen at forget (o .after) (o .answer))
+drop-cases : (l : Ledger) (at : Nanos) (forget : Bool) {o : Outcome Choice Ledger} → Scanned at l o
+    → MakingRoom l at forget (dropChosen at forget (o .after) (o .answer))
 unfolding dropChosen
 drop-cases l at forget (one-settled p c below t) = one-leaves p c below (λ _. t)
 drop-cases l at true (all-unsettled p c below t) = one-leaves p c below (λ e. absurd (true≢false e))
 drop-cases l at false (all-unsettled p c below t) = none-leaves p c below refl t
 
-room-cases : (l : Ledger) (at : ℕ) (forget : Bool) → 0 < l .debts .count → MakingRoom l at forget (makeRoom at forget l)
+room-cases : (l : Ledger) (at : Nanos) (forget : Bool) → 0 < l .debts .count → MakingRoom l at forget (makeRoom at forget l)
 unfolding makeRoom
 room-cases l at forget some = drop-cases l at forget (scan-cases at l some)
 
@@ -104,7 +106,7 @@ pub done-is-no-refusal : {Q : Type 0} {wait : Nanos} → Done ≡ NoRoom wait �
 done-is-no-refusal e = let z : _≡_ {A = ℕ} 0 1 = cc in absurd (omega arith)
 
 -- Making room leaves a sound ledger, and where it is done one that has room for another debt.
-module _ (l : Ledger) (at : ℕ) (forget : Bool) (some : 0 < l .debts .count) (s : Sound l) where
+module _ (l : Ledger) (at : Nanos) (forget : Bool) (some : 0 < l .debts .count) (s : Sound l) where
   pub make-room-sound : Sound (makeRoom at forget l .after)
   make-room-sound = go (room-cases l at forget some)
     where
@@ -121,20 +123,20 @@ module _ (l : Ledger) (at : ℕ) (forget : Bool) (some : 0 < l .debts .count) (s
 
 -- How a recording goes, for every ledger that is sound: the hash is there and is merged; there is room and the debt joins; a debt leaves for it, which is
 -- settled unless debts may be forgotten; or it is refused, where only the cursor moves and the wait is that of an unsettled debt.
-pub data Recording (l : Ledger) (d : Debt) (at : ℕ) (forget : Bool) : Outcome Recorded Ledger → Type 0 where
-  merged : (p : ℕ) → placeOf l (d .hash) ≡ At p → Recording l d at forget (outcome Done (withDebt l p (later (debtAt l p) (d .settles .0))))
+pub data Recording (l : Ledger) (d : Debt) (at : Nanos) (forget : Bool) : Outcome Recorded Ledger → Type 0 where
+  merged : (p : ℕ) → placeOf l (d .hash) ≡ At p → Recording l d at forget (outcome Done (withDebt l p (later (debtAt l p) (d .settles))))
   joins : placeOf l (d .hash) ≡ Nowhere → l .debts .count < capOf l → Recording l d at forget (outcome Done (append l d))
-  replaces : (p c : ℕ) → placeOf l (d .hash) ≡ Nowhere → p < l .debts .count → (forget ≡ false → settlesAt l p ≤ at)
+  replaces : (p c : ℕ) → placeOf l (d .hash) ≡ Nowhere → p < l .debts .count → (forget ≡ false → settlesAt l p .0 ≤ at .0)
       → Recording l d at forget (outcome Done (append (removeAt (withCursor l c) p) d))
-  refused : (p c : ℕ) → capOf l ≤ l .debts .count → p < l .debts .count → forget ≡ false → at < settlesAt l p
-      → Recording l d at forget (outcome (NoRoom (record { 0 = settlesAt l p - at })) (withCursor l c))
+  refused : (p c : ℕ) → capOf l ≤ l .debts .count → p < l .debts .count → forget ≡ false → at .0 < settlesAt l p .0
+      → Recording l d at forget (outcome (NoRoom (record { 0 = settlesAt l p .0 - at .0 })) (withCursor l c))
 
-full-cases : (l : Ledger) (d : Debt) (at : ℕ) (forget : Bool) → placeOf l (d .hash) ≡ Nowhere → capOf l ≤ l .debts .count → {o : Outcome Recorded Ledger}
+full-cases : (l : Ledger) (d : Debt) (at : Nanos) (forget : Bool) → placeOf l (d .hash) ≡ Nowhere → capOf l ≤ l .debts .count → {o : Outcome Recorded Ledger}
     → MakingRoom l at forget o → Recording l d at forget (joined d (o .after) (o .answer))
 full-cases l d at forget new full (one-leaves p c below settled) = replaces p c new below settled
 full-cases l d at forget new full (none-leaves p c below never unsettled) = refused p c full below never unsettled
 
-pub record-cases : (l : Ledger) (d : Debt) (at : ℕ) (forget : Bool) → Sound l → Recording l d at forget (recorded l d at forget)
+pub record-cases : (l : Ledger) (d : Debt) (at : Nanos) (forget : Bool) → Sound l → Recording l d at forget (recorded l d at forget)
 unfolding recorded recordedAt
 record-cases l d at forget s = go (placeOf l (d .hash)) refl
   where
@@ -146,16 +148,16 @@ record-cases l d at forget s = go (placeOf l (d .hash)) refl
         (λ t. let full : capOf l ≤ l .debts .count = ltb-false _ _ t in rw (t, recordedAt) (full-cases l d at forget e full (room-cases l at forget (omega (arith, s .room)))))
 
 -- Recording leaves a sound ledger with the same room.
-pub recorded-sound : (l : Ledger) (d : Debt) (at : ℕ) (forget : Bool) → Sound l → Sound (recorded l d at forget .after)
+pub recorded-sound : (l : Ledger) (d : Debt) (at : Nanos) (forget : Bool) → Sound l → Sound (recorded l d at forget .after)
 recorded-sound l d at forget s = go (record-cases l d at forget s)
   where
     go : {o : Outcome Recorded Ledger} → Recording l d at forget o → Sound (o .after)
-    go (merged p e) = change-sound l p (later (debtAt l p) (d .settles .0)) s
+    go (merged p e) = change-sound l p (later (debtAt l p) (d .settles)) s
     go (joins new free) = append-sound l d free
     go (replaces p c new below settled) = append-sound (removeAt (withCursor l c) p) d (removal-leaves-room (withCursor l c) p (s .held) below)
     go (refused p c full below never unsettled) = cursor-sound l c s
 
-pub recorded-cap : (l : Ledger) (d : Debt) (at : ℕ) (forget : Bool) → Sound l → capOf (recorded l d at forget .after) ≡ capOf l
+pub recorded-cap : (l : Ledger) (d : Debt) (at : Nanos) (forget : Bool) → Sound l → capOf (recorded l d at forget .after) ≡ capOf l
 unfolding append
 recorded-cap l d at forget s = go (record-cases l d at forget s)
   where
@@ -166,7 +168,7 @@ recorded-cap l d at forget s = go (record-cases l d at forget s)
     go (refused p c full below never unsettled) = refl
 
 -- A debt is recorded unless the ledger is full and nothing may be forgotten.
-record-succeeds : (l : Ledger) (d : Debt) (at : ℕ) (forget : Bool) → Sound l → (forget ≡ false → l .debts .count < capOf l) → recorded l d at forget .answer ≡ Done
+record-succeeds : (l : Ledger) (d : Debt) (at : Nanos) (forget : Bool) → Sound l → (forget ≡ false → l .debts .count < capOf l) → recorded l d at forget .answer ≡ Done
 record-succeeds l d at forget s room = go (record-cases l d at forget s)
   where
     go : {o : Outcome Recorded Ledger} → Recording l d at forget o → o .answer ≡ Done
@@ -175,10 +177,10 @@ record-succeeds l d at forget s room = go (record-cases l d at forget s)
     go (replaces p c new below settled) = refl
     go (refused p c full below never unsettled) = absurd (omega (arith, room never))
 
-pub record-below-cap-never-fails : (l : Ledger) (d : Debt) (at : ℕ) (forget : Bool) → l .debts .count < capOf l → recorded l d at forget .answer ≡ Done
+pub record-below-cap-never-fails : (l : Ledger) (d : Debt) (at : Nanos) (forget : Bool) → l .debts .count < capOf l → recorded l d at forget .answer ≡ Done
 record-below-cap-never-fails l d at forget room = record-succeeds l d at forget (record { room = omega arith; held = omega arith }) (λ _. room)
 
-pub record-forgetting-never-fails : (l : Ledger) (d : Debt) (at : ℕ) → Sound l → recorded l d at true .answer ≡ Done
+pub record-forgetting-never-fails : (l : Ledger) (d : Debt) (at : Nanos) → Sound l → recorded l d at true .answer ≡ Done
 record-forgetting-never-fails l d at s = record-succeeds l d at true s (λ e. absurd (true≢false e))
 
 -- What a refusal says: the ledger is full, nothing may be forgotten, there is a wait, and of the ledger only the cursor may have moved.
@@ -188,7 +190,7 @@ pub record Refusal (l : Ledger) (forget : Bool) (wait : Nanos) (after : Ledger) 
   pub waits : 0 < wait .0
   pub debts : after .debts ≡ l .debts
 
-pub refusal : (l : Ledger) (d : Debt) (at : ℕ) (forget : Bool) (wait : Nanos) → Sound l → recorded l d at forget .answer ≡ NoRoom wait
+pub refusal : (l : Ledger) (d : Debt) (at : Nanos) (forget : Bool) (wait : Nanos) → Sound l → recorded l d at forget .answer ≡ NoRoom wait
     → Refusal l forget wait (recorded l d at forget .after)
 refusal l d at forget wait s = go (record-cases l d at forget s)
   where
@@ -197,5 +199,5 @@ refusal l d at forget wait s = go (record-cases l d at forget s)
     go (joins new room) q = done-is-no-refusal q
     go (replaces p c new below settled) q = done-is-no-refusal q
     go (refused p c full below never unsettled) q =
-        let told : settlesAt l p - at ≡ wait .0 = cc in
+        let told : settlesAt l p .0 - at .0 ≡ wait .0 = cc in
         record { full = full; never = never; waits = omega arith; debts = refl }

@@ -1,45 +1,52 @@
 -- The sentences of document 01 on the ledger, each worked on a small one. Hashes are small numbers and moments count from 0; a free place is `noDebt`.
-use Prim.Native.Nat.{ℕ, _^_, _-_}
+use Prim.Native.Nat.{ℕ, _+_, _^_, _-_}
 use mathlib.Core.Path.{_≡_, refl}
 use mathlib.Core.Bool.{true, false}
 use mathlib.Core.List.{List, [], _∷_, _++_}
 use lib.ListN.{replicate}
+use Rattle.units.specs.declared.Nanos.{Nanos}
 use Rattle.units.specs.declared.OptionNanos.the-variants.{Some}
 use Rattle.bucket.specs.declared.BucketConfig.{BucketConfig}
+use Rattle.settings.specs.Eviction.{ledgerScan}
 use Rattle.rows.specs.Held.{lowestFrom, removed}
 use Rattle.rows.specs.Outcome.{outcome}
 use Rattle.ledger.specs.declared.Debt.{Debt}
 use Rattle.ledger.specs.declared.Recorded.the-variants.{Done, NoRoom}
 use Rattle.ledger.specs.Model.{Ledger, noDebt, placeOf, removeAt, append, taken, lookAt, look, sweep, scanFrom, scan, dropChosen, makeRoom, recordedAt, recorded, paidDown}
 
+-- A moment by its nanoseconds.
+abbrev moment : ℕ → Nanos
+moment n = record { 0 = n }
+
 -- A debt, and a ledger: how many debts are held, the cursor, and what stands in all its places.
 abbrev owing : ℕ → ℕ → Debt
-owing hash moment = record { hash = hash; settles = record { 0 = moment } }
+owing hash settles = record { hash = hash; settles = moment settles }
 
 abbrev holding : ℕ → ℕ → List Debt → Ledger
 holding count cursor places = record { debts = record { count = count; places = places }; cursor = cursor }
 
 -- Two looks from place 1 at moment 5: the settled debt there goes, the last one moves into the gap, is looked at next, and goes too.
-sweep-looks-at-the-moved-debt : sweep 5 2 (holding 3 1 (owing 1 10 ∷ owing 2 5 ∷ owing 3 5 ∷ [])) ≡ holding 1 1 (owing 1 10 ∷ noDebt ∷ noDebt ∷ [])
+sweep-looks-at-the-moved-debt : sweep (moment 5) 2 (holding 3 1 (owing 1 10 ∷ owing 2 5 ∷ owing 3 5 ∷ [])) ≡ holding 1 1 (owing 1 10 ∷ noDebt ∷ noDebt ∷ [])
 unfolding sweep look lookAt removeAt removed
 sweep-looks-at-the-moved-debt = refl
 
 -- An unsettled debt stays and the cursor advances; past the last debt the looks go on from the first.
-sweep-goes-round : sweep 5 3 (holding 3 2 (owing 1 4 ∷ owing 2 10 ∷ owing 3 10 ∷ [])) ≡ holding 2 1 (owing 3 10 ∷ owing 2 10 ∷ noDebt ∷ [])
+sweep-goes-round : sweep (moment 5) 3 (holding 3 2 (owing 1 4 ∷ owing 2 10 ∷ owing 3 10 ∷ [])) ≡ holding 2 1 (owing 3 10 ∷ owing 2 10 ∷ noDebt ∷ [])
 unfolding sweep look lookAt removeAt removed
 sweep-goes-round = refl
 
--- Eight looks, and no more: of nine settled debts one is left.
-a-sweep-is-eight-looks : sweep 5 8 (holding 9 0 (replicate 9 (owing 1 5))) ≡ holding 1 0 (owing 1 5 ∷ replicate 8 noDebt)
+-- A sweep takes its looks, and no more: of settled debts one more than there are looks, one is left.
+a-sweep-takes-its-looks :
+    sweep (moment 5) ledgerScan (holding (ledgerScan + 1) 0 (replicate (ledgerScan + 1) (owing 1 5))) ≡ holding 1 0 (owing 1 5 ∷ replicate ledgerScan noDebt)
 unfolding sweep look lookAt removeAt removed
-a-sweep-is-eight-looks = refl
+a-sweep-takes-its-looks = refl
 
 -- The looks end once no debt is left, and the cursor stays as it is.
-sweep-ends-when-empty : sweep 5 8 (holding 1 0 (owing 1 5 ∷ noDebt ∷ [])) ≡ holding 0 0 (noDebt ∷ noDebt ∷ [])
+sweep-ends-when-empty : sweep (moment 5) ledgerScan (holding 1 0 (owing 1 5 ∷ noDebt ∷ [])) ≡ holding 0 0 (noDebt ∷ noDebt ∷ [])
 unfolding sweep look lookAt removeAt removed
 sweep-ends-when-empty = refl
 
-empty-sweep-leaves-the-cursor : sweep 5 8 (holding 0 7 (noDebt ∷ [])) ≡ holding 0 7 (noDebt ∷ [])
+empty-sweep-leaves-the-cursor : sweep (moment 5) ledgerScan (holding 0 7 (noDebt ∷ [])) ≡ holding 0 7 (noDebt ∷ [])
 unfolding sweep look lookAt removeAt removed
 empty-sweep-leaves-the-cursor = refl
 
@@ -47,21 +54,23 @@ empty-sweep-leaves-the-cursor = refl
 abbrev oneAndTwo : Ledger
 oneAndTwo = holding 2 0 (owing 1 10 ∷ owing 2 20 ∷ [])
 
-merge-takes-the-later-moment : recorded oneAndTwo (owing 1 15) 12 false ≡ outcome Done (holding 2 0 (owing 1 15 ∷ owing 2 20 ∷ []))
+merge-takes-the-later-moment : recorded oneAndTwo (owing 1 15) (moment 12) false ≡ outcome Done (holding 2 0 (owing 1 15 ∷ owing 2 20 ∷ []))
 unfolding recorded recordedAt placeOf lowestFrom
 merge-takes-the-later-moment = refl
 
-merge-keeps-the-later-moment : recorded oneAndTwo (owing 2 15) 12 false ≡ outcome Done oneAndTwo
+merge-keeps-the-later-moment : recorded oneAndTwo (owing 2 15) (moment 12) false ≡ outcome Done oneAndTwo
 unfolding recorded recordedAt placeOf lowestFrom
 merge-keeps-the-later-moment = refl
 
 -- Where there is room the new debt goes last.
-new-debt-goes-last : recorded (holding 1 0 (owing 1 10 ∷ noDebt ∷ [])) (owing 2 20) 15 false ≡ outcome Done oneAndTwo
+new-debt-goes-last : recorded (holding 1 0 (owing 1 10 ∷ noDebt ∷ [])) (owing 2 20) (moment 15) false ≡ outcome Done oneAndTwo
 unfolding recorded recordedAt placeOf lowestFrom append
 new-debt-goes-last = refl
 
 -- At cap the first settled debt is dropped, here the second one looked at, and the cursor rests there. The other debt that is settled stays.
-settled-debt-makes-room : recorded (holding 3 0 (owing 1 30 ∷ owing 2 5 ∷ owing 3 4 ∷ [])) (owing 4 50) 5 true ≡ outcome Done (holding 3 1 (owing 1 30 ∷ owing 3 4 ∷ owing 4 50 ∷ []))
+settled-debt-makes-room :
+    recorded (holding 3 0 (owing 1 30 ∷ owing 2 5 ∷ owing 3 4 ∷ [])) (owing 4 50) (moment 5) true
+    ≡ outcome Done (holding 3 1 (owing 1 30 ∷ owing 3 4 ∷ owing 4 50 ∷ []))
 unfolding recorded recordedAt placeOf lowestFrom makeRoom scan scanFrom dropChosen append removeAt removed
 settled-debt-makes-room = refl
 
@@ -69,25 +78,26 @@ settled-debt-makes-room = refl
 abbrev noneSettled : ℕ → Ledger
 noneSettled cursor = holding 3 cursor (owing 1 30 ∷ owing 2 20 ∷ owing 3 20 ∷ [])
 
-soonest-debt-is-forgotten : recorded (noneSettled 0) (owing 4 50) 5 true ≡ outcome Done (holding 3 3 (owing 1 30 ∷ owing 3 20 ∷ owing 4 50 ∷ []))
+soonest-debt-is-forgotten : recorded (noneSettled 0) (owing 4 50) (moment 5) true ≡ outcome Done (holding 3 3 (owing 1 30 ∷ owing 3 20 ∷ owing 4 50 ∷ []))
 unfolding recorded recordedAt placeOf lowestFrom makeRoom scan scanFrom dropChosen append removeAt removed
 soonest-debt-is-forgotten = refl
 
 -- Where they may not, nothing is dropped and the wait until the soonest settles is told; the cursor has gone past the debts looked at.
-refusal-tells-the-wait : recorded (noneSettled 0) (owing 4 50) 5 false ≡ outcome (NoRoom (record { 0 = 15 })) (noneSettled 3)
+refusal-tells-the-wait : recorded (noneSettled 0) (owing 4 50) (moment 5) false ≡ outcome (NoRoom (moment 15)) (noneSettled 3)
 unfolding recorded recordedAt placeOf lowestFrom makeRoom scan scanFrom dropChosen
 refusal-tells-the-wait = refl
 
--- Eight looks, and no more: the ninth debt, the soonest, is not seen, and the wait is that of the soonest of the other eight.
-abbrev nineDebts : ℕ → Ledger
-nineDebts cursor = holding 9 cursor (replicate 3 (owing 1 90) ++ owing 2 80 ∷ replicate 4 (owing 3 90) ++ owing 4 40 ∷ [])
+-- Recording takes its looks, and no more. Here is one debt more than there are looks: the last one, the soonest, is not seen, and the wait is that of the
+-- soonest of the others.
+abbrev oneTooMany : ℕ → Ledger
+oneTooMany cursor = holding (ledgerScan + 1) cursor (replicate 3 (owing 1 90) ++ owing 2 80 ∷ replicate (ledgerScan - 4) (owing 3 90) ++ owing 4 40 ∷ [])
 
-recording-looks-at-eight : recorded (nineDebts 0) (owing 5 50) 30 false ≡ outcome (NoRoom (record { 0 = 50 })) (nineDebts 8)
+recording-takes-its-looks : recorded (oneTooMany 0) (owing 5 50) (moment 30) false ≡ outcome (NoRoom (moment 50)) (oneTooMany ledgerScan)
 unfolding recorded recordedAt placeOf lowestFrom makeRoom scan scanFrom dropChosen
-recording-looks-at-eight = refl
+recording-takes-its-looks = refl
 
 -- A debt is taken out: its moment is told, and the last debt moves into its place.
-taken-out : taken (noneSettled 0) 1 ≡ outcome (Some (record { 0 = 30 })) (holding 2 0 (owing 3 20 ∷ owing 2 20 ∷ noDebt ∷ []))
+taken-out : taken (noneSettled 0) 1 ≡ outcome (Some (moment 30)) (holding 2 0 (owing 3 20 ∷ owing 2 20 ∷ noDebt ∷ []))
 unfolding taken placeOf lowestFrom removeAt removed
 taken-out = refl
 

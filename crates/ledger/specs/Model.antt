@@ -4,6 +4,7 @@ use mathlib.Core.Bool.{Bool, true, false, cond}
 use lib.ListN.{length}
 use lib.Dec.{ltb, leb, eqb}
 use Rattle.arith.specs.Arith.{held}
+use Rattle.units.specs.declared.Nanos.{Nanos}
 use Rattle.units.specs.declared.OptionNanos.{OptionNanos}
 use Rattle.units.specs.declared.OptionNanos.the-variants.{None, Some}
 use Rattle.bucket.specs.declared.BucketConfig.{BucketConfig}
@@ -40,8 +41,12 @@ pub record Sound (l : Ledger) : Type 0 where
 abbrev pub debtAt : Ledger → ℕ → Debt
 debtAt l i = itemAt noDebt (l .debts) i
 
-abbrev pub settlesAt : Ledger → ℕ → ℕ
-settlesAt l i = debtAt l i .settles .0
+abbrev pub settlesAt : Ledger → ℕ → Nanos
+settlesAt l i = debtAt l i .settles
+
+-- Whether the debt at a place has settled by a moment: it settles then or before.
+abbrev pub hasSettled : Nanos → Ledger → ℕ → Bool
+hasSettled at l i = leb (settlesAt l i .0) (at .0)
 
 -- The cursor as it is read: the first place where it stands at or past the count.
 abbrev pub cursorOf : Ledger → ℕ
@@ -90,42 +95,42 @@ unfoldable pub taken : Ledger → ℕ → Outcome OptionNanos Ledger
 taken l hash = takenAt l (placeOf l hash)
 
 -- A look of the sweep, at place c: a settled debt goes, and what moves into its place is looked at next; else the cursor advances.
-unfoldable pub lookAt : ℕ → Ledger → ℕ → Ledger
-lookAt at l c = cond (leb (settlesAt l c) at) (removeAt (withCursor l c) c) (withCursor l (c + 1))
+unfoldable pub lookAt : Nanos → Ledger → ℕ → Ledger
+lookAt at l c = cond (hasSettled at l c) (removeAt (withCursor l c) c) (withCursor l (c + 1))
 
 -- The next look; there is none where no debt is left.
-unfoldable pub look : ℕ → Ledger → Ledger
+unfoldable pub look : Nanos → Ledger → Ledger
 look at l = cond (eqb (l .debts .count) 0) l (lookAt at l (cursorOf l))
 
 -- The sweep: so many looks, going round again if need be.
-unfoldable pub sweep : ℕ → ℕ → Ledger → Ledger
+unfoldable pub sweep : Nanos → ℕ → Ledger → Ledger
 sweep at zero l = l
 sweep at (suc left) l = sweep at left (look at l)
 
--- The sooner of two debts, by place; the first of equals.
+-- Of two debts, the place of the one that settles sooner; `best` where both settle at one moment.
 abbrev pub sooner : Ledger → ℕ → ℕ → ℕ
-sooner l best c = cond (ltb (settlesAt l c) (settlesAt l best)) c best
+sooner l best c = cond (ltb (settlesAt l c .0) (settlesAt l best .0)) c best
 
 -- The looks at a full ledger for a debt to drop: the first settled one, with the cursor resting there; failing that the soonest looked at.
 -- A look at an unsettled debt advances the cursor.
-unfoldable pub scanFrom : ℕ → ℕ → Ledger → ℕ → Outcome Choice Ledger
+unfoldable pub scanFrom : Nanos → ℕ → Ledger → ℕ → Outcome Choice Ledger
 scanFrom at zero l best = outcome (Soonest best) l
 scanFrom at (suc left) l best =
-    cond (leb (settlesAt l (cursorOf l)) at)
+    cond (hasSettled at l (cursorOf l))
     (outcome (Settled (cursorOf l)) (withCursor l (cursorOf l)))
     (scanFrom at left (withCursor l (cursorOf l + 1)) (sooner l best (cursorOf l)))
 
 -- At most `ledgerScan` looks, and no more than there are debts. Before the first look the soonest is the place that it will look at.
-unfoldable pub scan : ℕ → Ledger → Outcome Choice Ledger
+unfoldable pub scan : Nanos → Ledger → Outcome Choice Ledger
 scan at l = scanFrom at (min ledgerScan (l .debts .count)) l (cursorOf l)
 
 -- A settled debt is dropped. An unsettled one is dropped only where debts may be forgotten; else nothing is, and how long it still takes is told.
-unfoldable pub dropChosen : ℕ → Bool → Ledger → Choice → Outcome Recorded Ledger
+unfoldable pub dropChosen : Nanos → Bool → Ledger → Choice → Outcome Recorded Ledger
 dropChosen at forget l (Settled p) = outcome Done (removeAt l p)
 dropChosen at forget l (Soonest p) =
-    cond forget (outcome Done (removeAt l p)) (outcome (NoRoom (record { 0 = settlesAt l p - at })) l)
+    cond forget (outcome Done (removeAt l p)) (outcome (NoRoom (record { 0 = settlesAt l p .0 - at .0 })) l)
 
-unfoldable pub makeRoom : ℕ → Bool → Ledger → Outcome Recorded Ledger
+unfoldable pub makeRoom : Nanos → Bool → Ledger → Outcome Recorded Ledger
 makeRoom at forget l = dropChosen at forget (scan at l .after) (scan at l .answer)
 
 -- A new debt joins once there is room for it.
@@ -134,25 +139,25 @@ joined d l Done = outcome Done (append l d)
 joined d l (NoRoom wait) = outcome (NoRoom wait) l
 
 -- The later of two moments for one hash.
-abbrev pub later : Debt → ℕ → Debt
-later d moment = record { hash = d .hash; settles = record { 0 = max (d .settles .0) moment } }
+abbrev pub later : Debt → Nanos → Debt
+later d moment = record { hash = d .hash; settles = record { 0 = max (d .settles .0) (moment .0) } }
 
 -- A debt is recorded: a hash that is there keeps the later moment; a new one comes last, after room is made where the ledger is full.
-unfoldable pub recordedAt : Ledger → Debt → ℕ → Bool → Place → Outcome Recorded Ledger
-recordedAt l d at forget (At p) = outcome Done (withDebt l p (later (debtAt l p) (d .settles .0)))
+unfoldable pub recordedAt : Ledger → Debt → Nanos → Bool → Place → Outcome Recorded Ledger
+recordedAt l d at forget (At p) = outcome Done (withDebt l p (later (debtAt l p) (d .settles)))
 recordedAt l d at forget Nowhere =
     cond (ltb (l .debts .count) (capOf l)) (joined d l Done) (joined d (makeRoom at forget l .after) (makeRoom at forget l .answer))
 
-unfoldable pub recorded : Ledger → Debt → ℕ → Bool → Outcome Recorded Ledger
+unfoldable pub recorded : Ledger → Debt → Nanos → Bool → Outcome Recorded Ledger
 recorded l d at forget = recordedAt l d at forget (placeOf l (d .hash))
 
 -- What a refund of some tokens takes off a debt: the time that each token takes to come back, rounded down, held to 64 bits.
-abbrev pub credit : BucketConfig → ℕ → ℕ
-credit c cost = held (c .period .0 / c .amount * cost)
+abbrev pub credit : BucketConfig → ℕ → Nanos
+credit c cost = record { 0 = held (c .period .0 / c .amount * cost) }
 
 -- The debt of a hash settles that much sooner, not before moment 0; whether there is one is told.
-abbrev pub paidAt : Ledger → ℕ → Place → Outcome Bool Ledger
-paidAt l off (At p) = outcome true (withDebt l p (record { hash = debtAt l p .hash; settles = record { 0 = settlesAt l p - off } }))
+abbrev pub paidAt : Ledger → Nanos → Place → Outcome Bool Ledger
+paidAt l off (At p) = outcome true (withDebt l p (record { hash = debtAt l p .hash; settles = record { 0 = settlesAt l p .0 - off .0 } }))
 paidAt l off Nowhere = outcome false l
 
 unfoldable pub paidDown : Ledger → ℕ → ℕ → BucketConfig → Outcome Bool Ledger

@@ -1,5 +1,5 @@
-// The debts of keys that were evicted before their buckets were full, by the hash of the key. A key that comes back starts with its debt.
-// The debts lie in lent words: the count, the cursor, then two words for each of `cap` debts.
+// The debts of keys that were evicted before their buckets were full, by the hash of the key. A key that comes back starts with its
+// debt, if the ledger still has it. The debts lie in lent words: the count, the cursor, then two words for each of `cap` debts.
 ghost use mathlib.Core.Path.{_≡_};
 ghost use Prim.Native.Nat.{_<_};
 ghost use lib.ListN.{length};
@@ -34,7 +34,7 @@ pub enum Recorded {
     NoRoom(Nanos),
 }
 
-// How many debts are held. It asks for the length alone, so that a count that is too large can be told.
+// How many debts are held. It requires the length alone, so that it can tell a count that is too large.
 pub fn len(ws: &[u64], cap: usize) -> usize
     requires { ⌜ length (now ws) ≡ ledgerWords cap ⌝ }
     ensures { λ r. ⌜ r ≡ ledger cap (now (ws .entry)) .debts .count ⌝ }
@@ -64,7 +64,7 @@ pub fn owed_by(ws: &[u64], cap: usize, hash: u64) -> OptionNanos
     ensures { λ r. ⌜ r ≡ Model.owedBy (ledger cap (now (ws .entry))) hash ⌝ }
 {
     match position(ws, cap, hash) {
-        Place::At(pos) => OptionNanos::Some(Nanos(words::settles_at(ws, cap, pos))),
+        Place::At(pos) => OptionNanos::Some(words::settles_at(ws, cap, pos)),
         Place::Nowhere => OptionNanos::None,
     }
 }
@@ -92,7 +92,7 @@ pub fn take(ws: &mut [u64], cap: usize, hash: u64) -> OptionNanos
 {
     match position(ws, cap, hash) {
         Place::At(pos) => {
-            let settles = Nanos(words::settles_at(ws, cap, pos));
+            let settles = words::settles_at(ws, cap, pos);
             remove_at(ws, cap, pos);
             OptionNanos::Some(settles)
         }
@@ -103,10 +103,11 @@ pub fn take(ws: &mut [u64], cap: usize, hash: u64) -> OptionNanos
 // One look of the sweep, at a ledger that holds a debt.
 fn look(ws: &mut [u64], cap: usize, at: Nanos)
     requires { ⌜ Lent cap (now ws) × (0 < ledger cap (now ws) .debts .count) ⌝ }
-    ensures { λ _. ⌜ ledger cap (now (ws .exit)) ≡ Model.look (at .0) (ledger cap (now (ws .entry))) ⌝ }
+    ensures { λ _. ⌜ ledger cap (now (ws .exit)) ≡ Model.look at (ledger cap (now (ws .entry))) ⌝ }
 {
     let cursor = words::cursor(ws, cap);
-    if words::settles_at(ws, cap, cursor) <= at.0 {
+    let settles = words::settles_at(ws, cap, cursor);
+    if settles.0 <= at.0 {
         words::set_cursor(ws, cap, cursor);
         remove_at(ws, cap, cursor);
     } else {
@@ -117,7 +118,7 @@ fn look(ws: &mut [u64], cap: usize, at: Nanos)
 // Drops settled debts among the next `budget` looks.
 pub fn sweep(ws: &mut [u64], cap: usize, at: Nanos, budget: usize)
     requires { ⌜ Lent cap (now ws) ⌝ }
-    ensures { λ _. ⌜ ledger cap (now (ws .exit)) ≡ Model.sweep (at .0) budget (ledger cap (now (ws .entry))) ⌝ }
+    ensures { λ _. ⌜ ledger cap (now (ws .exit)) ≡ Model.sweep at budget (ledger cap (now (ws .entry))) ⌝ }
 {
     let mut left = budget;
     while 0 < left {
@@ -129,12 +130,14 @@ pub fn sweep(ws: &mut [u64], cap: usize, at: Nanos, budget: usize)
     }
 }
 
-// The place of the sooner of two debts; the first of equals.
+// Of two debts, the place of the one that settles sooner; `best` where both settle at one moment.
 fn sooner(ws: &[u64], cap: usize, best: usize, looked: usize) -> usize
     requires { ⌜ Lent cap (now ws) × (best < cap) × (looked < cap) ⌝ }
     ensures { λ r. ⌜ r ≡ Model.sooner (ledger cap (now (ws .entry))) best looked ⌝ }
 {
-    if words::settles_at(ws, cap, looked) < words::settles_at(ws, cap, best) {
+    let looked_settles = words::settles_at(ws, cap, looked);
+    let best_settles = words::settles_at(ws, cap, best);
+    if looked_settles.0 < best_settles.0 {
         looked
     } else {
         best
@@ -144,13 +147,14 @@ fn sooner(ws: &[u64], cap: usize, best: usize, looked: usize) -> usize
 // Looks for a debt to drop from a full ledger: the first settled one, failing that the soonest looked at.
 fn scan(ws: &mut [u64], cap: usize, at: Nanos) -> Choice
     requires { ⌜ Lent cap (now ws) × (0 < ledger cap (now ws) .debts .count) ⌝ }
-    ensures { λ r. ⌜ outcome r (ledger cap (now (ws .exit))) ≡ Model.scan (at .0) (ledger cap (now (ws .entry))) ⌝ }
+    ensures { λ r. ⌜ outcome r (ledger cap (now (ws .exit))) ≡ Model.scan at (ledger cap (now (ws .entry))) ⌝ }
 {
-    let mut left = arith::fewer(Eviction::LEDGER_SCAN, words::count(ws, cap));
+    let mut left = arith::fewer(Eviction::ledger_looks(), words::count(ws, cap));
     let mut best = words::cursor(ws, cap);
     while 0 < left {
         let cursor = words::cursor(ws, cap);
-        if words::settles_at(ws, cap, cursor) <= at.0 {
+        let settles = words::settles_at(ws, cap, cursor);
+        if settles.0 <= at.0 {
             words::set_cursor(ws, cap, cursor);
             return Choice::Settled(cursor);
         }
@@ -161,10 +165,10 @@ fn scan(ws: &mut [u64], cap: usize, at: Nanos) -> Choice
     Choice::Soonest(best)
 }
 
-// Drops a debt of a full ledger: a settled one, or under `forget` the soonest looked at; else tells how long that one still takes.
+// Drops a debt of a full ledger: a settled one, else under `forget` the soonest looked at. Where it drops none, it tells how long the soonest still takes.
 fn make_room(ws: &mut [u64], cap: usize, at: Nanos, forget: bool) -> Recorded
     requires { ⌜ Lent cap (now ws) × (0 < ledger cap (now ws) .debts .count) ⌝ }
-    ensures { λ r. ⌜ outcome r (ledger cap (now (ws .exit))) ≡ Model.makeRoom (at .0) forget (ledger cap (now (ws .entry))) ⌝ }
+    ensures { λ r. ⌜ outcome r (ledger cap (now (ws .exit))) ≡ Model.makeRoom at forget (ledger cap (now (ws .entry))) ⌝ }
 {
     match scan(ws, cap, at) {
         Choice::Settled(pos) => {
@@ -176,10 +180,8 @@ fn make_room(ws: &mut [u64], cap: usize, at: Nanos, forget: bool) -> Recorded
                 remove_at(ws, cap, pos);
                 Recorded::Done
             } else {
-                Recorded::NoRoom(Nanos(arith::saturating_sub(
-                    words::settles_at(ws, cap, pos),
-                    at.0,
-                )))
+                let settles = words::settles_at(ws, cap, pos);
+                Recorded::NoRoom(Nanos(arith::saturating_sub(settles.0, at.0)))
             }
         }
     }
@@ -198,7 +200,7 @@ fn append(ws: &mut [u64], cap: usize, debt: Debt)
 // Records the debt of a hash that the ledger does not have.
 fn record_new(ws: &mut [u64], cap: usize, debt: Debt, at: Nanos, forget: bool) -> Recorded
     requires { ⌜ Lent cap (now ws) ⌝ }
-    ensures { λ r. ⌜ outcome r (ledger cap (now (ws .exit))) ≡ Model.recordedAt (ledger cap (now (ws .entry))) debt (at .0) forget Nowhere ⌝ }
+    ensures { λ r. ⌜ outcome r (ledger cap (now (ws .exit))) ≡ Model.recordedAt (ledger cap (now (ws .entry))) debt at forget Nowhere ⌝ }
 {
     if words::count(ws, cap) < cap {
         append(ws, cap, debt);
@@ -216,7 +218,7 @@ fn record_new(ws: &mut [u64], cap: usize, debt: Debt, at: Nanos, forget: bool) -
 // Records a debt, making room for it where the ledger is full. A hash that is there keeps the later moment.
 pub fn record(ws: &mut [u64], cap: usize, debt: Debt, at: Nanos, forget: bool) -> Recorded
     requires { ⌜ Lent cap (now ws) ⌝ }
-    ensures { λ r. ⌜ outcome r (ledger cap (now (ws .exit))) ≡ Model.recorded (ledger cap (now (ws .entry))) debt (at .0) forget ⌝ }
+    ensures { λ r. ⌜ outcome r (ledger cap (now (ws .exit))) ≡ Model.recorded (ledger cap (now (ws .entry))) debt at forget ⌝ }
 {
     match position(ws, cap, debt.hash) {
         Place::At(pos) => {
@@ -230,7 +232,7 @@ pub fn record(ws: &mut [u64], cap: usize, debt: Debt, at: Nanos, forget: bool) -
 // The debt at a place settles at the later of its moment and another.
 fn keep_later(ws: &mut [u64], cap: usize, pos: usize, settles: Nanos)
     requires { ⌜ Lent cap (now ws) × (pos < cap) ⌝ }
-    ensures { λ _. ⌜ ledger cap (now (ws .exit)) ≡ Model.withDebt (ledger cap (now (ws .entry))) pos (Model.later (Model.debtAt (ledger cap (now (ws .entry))) pos) (settles .0)) ⌝ }
+    ensures { λ _. ⌜ ledger cap (now (ws .exit)) ≡ Model.withDebt (ledger cap (now (ws .entry))) pos (Model.later (Model.debtAt (ledger cap (now (ws .entry))) pos) settles) ⌝ }
 {
     let held = words::load(ws, cap, pos);
     let held_settles = held.settles;
@@ -246,7 +248,8 @@ fn keep_later(ws: &mut [u64], cap: usize, pos: usize, settles: Nanos)
     );
 }
 
-// Pays tokens off the debt of the hash: it settles sooner by the time that they take to come back, rounded down. Tells whether there was a debt.
+// Pays tokens off the debt of the hash: for each token it settles sooner by the time that a token takes to come back, rounded down. Tells whether there was
+// a debt.
 pub fn pay_down(ws: &mut [u64], cap: usize, hash: u64, cost: u32, config: BucketConfig) -> bool
     requires { ⌜ Lent cap (now ws) × Accepted config ⌝ }
     ensures { λ r. ⌜ outcome r (ledger cap (now (ws .exit))) ≡ Model.paidDown (ledger cap (now (ws .entry))) hash cost config ⌝ }
@@ -254,10 +257,10 @@ pub fn pay_down(ws: &mut [u64], cap: usize, hash: u64, cost: u32, config: Bucket
     match position(ws, cap, hash) {
         Place::At(pos) => {
             let per_token = config.period.0 / (config.amount as u64);
-            let credit = arith::saturating_mul(per_token, cost);
+            let credit = Nanos(arith::saturating_mul(per_token, cost));
             let held = words::load(ws, cap, pos);
             let settles = held.settles;
-            let sooner = Nanos(arith::saturating_sub(settles.0, credit));
+            let sooner = Nanos(arith::saturating_sub(settles.0, credit.0));
             words::put(
                 ws,
                 cap,

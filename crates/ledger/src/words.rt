@@ -32,12 +32,12 @@ pub(crate) fn hash_at(ws: &[u64], cap: usize, i: usize) -> u64
     ws[2 + 2 * i]
 }
 
-// The moment at which the debt at a place settles, in ns.
-pub(crate) fn settles_at(ws: &[u64], cap: usize, i: usize) -> u64
+// The moment at which the debt at a place settles.
+pub(crate) fn settles_at(ws: &[u64], cap: usize, i: usize) -> Nanos
     requires { ⌜ (length (now ws) ≡ ledgerWords cap) × (i < cap) ⌝ }
     ensures { λ r. ⌜ r ≡ Model.settlesAt (ledger cap (now (ws .entry))) i ⌝ }
 {
-    ws[2 + 2 * i + 1]
+    Nanos(ws[2 + 2 * i + 1])
 }
 
 // The debt at a place.

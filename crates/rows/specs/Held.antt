@@ -1,6 +1,6 @@
 -- Items held in the first places of a fixed number of places. What stands in the places past the count is part of the value, so that a definition
--- over `Held` fixes every word. `position` finds an item, `appended` adds one, `removed` takes one out and `stored` puts one in the place of another;
--- nothing else changes which items are held.
+-- over `Held` fixes every word. An operation changes which items are held by three definitions: `appended` adds an item, `removed` takes one out, and
+-- `stored` puts one in the place of another. `position` finds an item and changes nothing. Only set-up and clear do otherwise: all words become 0.
 use Prim.Native.Nat.{ℕ, zero, suc, _+_, _-_}
 use mathlib.Core.Bool.{Bool, cond}
 use mathlib.Core.List.{List}

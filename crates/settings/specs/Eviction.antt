@@ -1,4 +1,4 @@
--- The bounds that the builders of `Eviction` make. `capacity`, `idle` and `new` start from RefuseNew; the with builders change one field.
+-- The numbers of looks, and the bounds that the builders of `Eviction` make. `capacity`, `idle` and `new` set RefuseNew; each with_ builder changes one field.
 use Prim.Native.Nat.{ℕ}
 use mathlib.Core.Bool.{cond}
 use lib.Dec.{eqb}
@@ -9,13 +9,15 @@ use Rattle.settings.specs.declared.eviction.Eviction.{Eviction}
 use Rattle.settings.specs.declared.eviction.WhenFull.{WhenFull}
 use Rattle.settings.specs.declared.eviction.WhenFull.the-variants.{RefuseNew, ForgetDebt}
 
--- How many looks the idle sweep, the ledger and the CLOCK hand take.
+-- How many slots the idle sweep looks at for each new key.
 abbrev pub ttlSweep : ℕ
 ttlSweep = 8
 
+-- How many debts the ledger looks at for each new key, and again to find room for a debt.
 abbrev pub ledgerScan : ℕ
 ledgerScan = 8
 
+-- How many slots the CLOCK hand looks at, at most, to evict one.
 abbrev pub clockScan : ℕ
 clockScan = 32
 

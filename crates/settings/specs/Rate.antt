@@ -32,7 +32,7 @@ mostTokens = 65535
 abbrev pub longestPeriod : ℕ
 longestPeriod = 2 ^ 46
 
--- A refusal number unless the value lies from 1 to the most; else what the rest of the checks say.
+-- The refusal number where the value does not lie from 1 to the most; else what the rest of the checks say.
 unfoldable pub unlessWithin : ℕ → ℕ → ℕ → ℕ → ℕ
 unlessWithin value most refusal rest = cond (ltb value 1) refusal (cond (ltb most value) refusal rest)
 

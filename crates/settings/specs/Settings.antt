@@ -42,7 +42,7 @@ firstOf first second = cond (eqb first 0) second first
 abbrev pub settingsRefusal : Settings → ℕ
 settingsRefusal s = firstOf (limitRefusal (s .limit)) (sizeRefusal s)
 
--- The first of a count, its double, the double of that and so on that is at least n; after so many doublings the last, where none is.
+-- A count is doubled until it is at least n, but no more than so many times.
 unfoldable pub doubledUpTo : ℕ → ℕ → ℕ → ℕ
 doubledUpTo zero count n = count
 doubledUpTo (suc left) count n = cond (leb n count) count (doubledUpTo left (2 * count) n)
@@ -77,13 +77,13 @@ indexIn shape hash = bitAnd (hash / 2 ^ 40) (shape .shards - 1)
 abbrev pub shardOf : Settings → ℕ → ℕ
 shardOf s hash = indexIn (shapeOf s) hash
 
--- A shape that settings of an accepted size come to; nothing that is counted in it is large.
+-- A shape that settings of an accepted size have. So its numbers are small.
 pub record ShapeOfAccepted (shape : Shape) : Type 0 where
   pub settings : Settings
   pub accepted : sizeRefusal settings ≡ 0
   pub is : shape ≡ shapeOf settings
 
--- No idle time counts as shorter than a bucket needs to be full; a closed limiter has no bucket.
+-- The least idle time that counts: how long an empty bucket takes to be full. A closed limiter has no bucket.
 abbrev pub leastIdle : Limit → ℕ
 leastIdle Closed = 0
 leastIdle (Open rate) = timeToFull (configOf rate)

@@ -1,5 +1,6 @@
 // How the store bounds its memory.
 ghost use mathlib.Core.Path.{_≡_};
+ghost use Rattle.settings.specs.Eviction.{ttlSweep, ledgerScan, clockScan};
 ghost use Rattle.settings.specs.Eviction.{capacityOf, idleOf, boundedBy, withCapacity, withIdle, withWhenFull, whenFullOf};
 use units::Nanos;
 use units::OptionNanos;
@@ -7,8 +8,9 @@ use units::OptionNanos;
 // The cap on keys where none is named. It is more than this store accepts.
 pub const DEFAULT_MAX_KEYS: usize = 1048576;
 
-// What happens to a new key when its shard and the shard's ledger are both full, no slot looked at has a full bucket and no debt looked at has settled:
-// it is turned away, or of the debts looked at the one that settles soonest is forgotten.
+// What happens to a new key when no room can be made for it. That is so where the ledger holds no debt of the key's hash, the key's shard is full, no slot
+// looked at has a full bucket, and the ledger cannot take the debt of the slot that would go: it is full, holds no debt of that slot's hash, and no debt
+// looked at has settled. Then the key is turned away, or of the debts looked at the one that settles soonest is forgotten.
 pub enum WhenFull {
     RefuseNew,
     ForgetDebt,
@@ -41,8 +43,29 @@ impl Eviction {
     // How many debts the ledger looks at for each new key, and again to find room for a debt.
     pub const LEDGER_SCAN: usize = 8;
 
-    // How many slots the CLOCK hand looks at to evict one.
+    // How many slots the CLOCK hand looks at, at most, to evict one.
     pub const CLOCK_SCAN: usize = 32;
+
+    // `TTL_SWEEP`. The store takes its looks from this function and the next two: their contracts tie each constant to its definition.
+    pub fn idle_looks() -> usize
+        ensures { λ r. ⌜ r ≡ ttlSweep ⌝ }
+    {
+        Eviction::TTL_SWEEP
+    }
+
+    // `LEDGER_SCAN`.
+    pub fn ledger_looks() -> usize
+        ensures { λ r. ⌜ r ≡ ledgerScan ⌝ }
+    {
+        Eviction::LEDGER_SCAN
+    }
+
+    // `CLOCK_SCAN`.
+    pub fn hand_looks() -> usize
+        ensures { λ r. ⌜ r ≡ clockScan ⌝ }
+    {
+        Eviction::CLOCK_SCAN
+    }
 
     // A cap on keys, with no idle time.
     pub fn capacity(max_keys: usize) -> Eviction

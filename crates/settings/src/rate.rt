@@ -11,7 +11,7 @@ pub enum OptionTokens {
     Some(u32),
 }
 
-// `amount` tokens every `period`; the most that gather (the amount if unset); what a fresh bucket holds (the burst if unset).
+// `amount` tokens come back every `period`. `burst` is the most that gather; unset, it is the amount. A fresh bucket holds `initial`; unset, the burst.
 pub struct Rate {
     pub amount: u32,
     pub period: Nanos,

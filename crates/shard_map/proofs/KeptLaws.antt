@@ -141,7 +141,7 @@ restored-lacks-the-debt c at settles a =
     rw (restored-fresh at settles a, sub-self) (omega (arith, ceilDiv-reaches ((settles .0 - at .0) * c .amount) (c .period .0) (a .period-least)))
 
 -- A debt that is settled lacks nothing. From one moment to a later one no debt falls by more than the amount for each nanosecond between them.
-pub unpaid-settled : (c : BucketConfig) (at : Nanos) → SettledIsNothing (at .0) (unpaid c at)
+pub unpaid-settled : (c : BucketConfig) (at : Nanos) → SettledIsNothing at (unpaid c at)
 unpaid-settled c at settles past = omega (arith, mul-le-mul-right {m = settles - at .0} {n = 0} (c .amount) (omega arith))
 
 unpaid-falls-slowly : (c : BucketConfig) (n m : Nanos) → n .0 ≤ m .0 → (settles : ℕ) → unpaid c n settles ≤ unpaid c m settles + (m .0 - n .0) * c .amount
@@ -176,10 +176,10 @@ module _ (c : BucketConfig) (h k : ℕ) where
       })
       n s u (keeps-refl at s)
 
-  pub ledger-sweep-keeps-held : (at : Nanos) (n : ℕ) (s : Shard) → Sound s → Keeps c h k at s (withLedger s (Ledger.sweep (at .0) n (s .ledger)))
+  pub ledger-sweep-keeps-held : (at : Nanos) (n : ℕ) (s : Shard) → Sound s → Keeps c h k at s (withLedger s (Ledger.sweep at n (s .ledger)))
   ledger-sweep-keeps-held at n s u = record {
-    fewer = omega (arith, sweep-never-adds h one (at .0) n (s .ledger) (u .ledger));
-    more = λ single. omega (arith, sweep-keeps-unsettled h (unpaid c at) (at .0) n (s .ledger) (u .ledger) (unpaid-settled c at));
+    fewer = omega (arith, sweep-never-adds h one at n (s .ledger) (u .ledger));
+    more = λ single. omega (arith, sweep-keeps-unsettled h (unpaid c at) at n (s .ledger) (u .ledger) (unpaid-settled c at));
   }
 
   -- Time passes: what a single item lacks falls by no more than the amount for each nanosecond.

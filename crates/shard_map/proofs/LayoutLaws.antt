@@ -1,5 +1,5 @@
--- What a read of a word, a store of a word, and the lending of the ledger's part mean for the shard that lies in the words. The only file that opens
--- the layout.
+-- What a read of a word, a store of a word, and the lending of the ledger's part mean for the shard that lies in the words. In this crate only
+-- this file and ReadBack open the layout.
 use Prim.Native.Nat.{ℕ, suc, _+_, _-_, _*_, _≤_, _<_}
 use native.Mathlib.Omega.{arith}
 use native.Mathlib.Nat.{add-zero}

@@ -1,6 +1,6 @@
 -- The sentences of document 01 on the idle sweep, each worked on a small shard. A slot's hash and key are the same small number, and its stamp is moment 0;
 -- a free place is `noSlot`. Two parts come back each nanosecond.
-use Prim.Native.Nat.{ℕ}
+use Prim.Native.Nat.{ℕ, _+_}
 use mathlib.Core.Path.{_≡_, refl}
 use mathlib.Core.List.{List, [], _∷_}
 use lib.ListN.{replicate}
@@ -8,6 +8,7 @@ use Rattle.units.specs.declared.Nanos.{Nanos}
 use Rattle.units.specs.declared.Millis.{Millis}
 use Rattle.bucket.specs.declared.BucketConfig.{BucketConfig}
 use Rattle.bucket.specs.Bucket.{shortfallAt}
+use Rattle.settings.specs.Eviction.{ttlSweep}
 use Rattle.rows.specs.Held.{removed}
 use Rattle.slot.specs.declared.Slot.{Slot}
 use Rattle.ledger.specs.declared.Debt.{Debt}
@@ -58,12 +59,14 @@ idle-sweep-goes-round :
 unfolding sweepIdle idleLook idleLookAt shortfallAt removeAt removed
 idle-sweep-goes-round = refl
 
--- Eight looks, and no more: of nine idle slots one is left. The looks end once no slot is left, and an empty shard's sweep stays where it is.
-an-idle-sweep-is-eight-looks :
-    sweptAtTwo 8 (shard 9 0 0 (replicate 9 (slot 1 0 0 0)) noDebts) ≡ shard 1 0 0 (slot 1 0 0 0 ∷ replicate 8 noSlot) noDebts
+-- An idle sweep takes its looks, and no more: of idle slots one more than there are looks, one is left.
+an-idle-sweep-takes-its-looks :
+    sweptAtTwo ttlSweep (shard (ttlSweep + 1) 0 0 (replicate (ttlSweep + 1) (slot 1 0 0 0)) noDebts)
+    ≡ shard 1 0 0 (slot 1 0 0 0 ∷ replicate ttlSweep noSlot) noDebts
 unfolding sweepIdle idleLook idleLookAt shortfallAt removeAt removed
-an-idle-sweep-is-eight-looks = refl
+an-idle-sweep-takes-its-looks = refl
 
-idle-sweep-ends-when-empty : sweptAtTwo 8 (shard 0 0 7 (noSlot ∷ []) noDebts) ≡ shard 0 0 7 (noSlot ∷ []) noDebts
+-- The looks end once no slot is left, and an empty shard's sweep stays where it is.
+idle-sweep-ends-when-empty : sweptAtTwo ttlSweep (shard 0 0 7 (noSlot ∷ []) noDebts) ≡ shard 0 0 7 (noSlot ∷ []) noDebts
 unfolding sweepIdle idleLook idleLookAt shortfallAt removeAt removed
 idle-sweep-ends-when-empty = refl

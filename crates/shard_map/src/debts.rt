@@ -13,7 +13,7 @@ use ledger::Recorded;
 use units::Nanos;
 use units::OptionNanos;
 
-// How many debts are held. Like `shard_map::len`, it asks for the length alone.
+// How many debts are held. Like `shard_map::len`, it requires the length alone.
 pub fn len(ws: &[u64], cap: usize) -> usize
     requires { ⌜ length (now ws) ≡ shardWords cap ⌝ }
     ensures { λ r. ⌜ r ≡ shard cap (now (ws .entry)) .ledger .debts .count ⌝ }
@@ -43,7 +43,7 @@ pub fn take(ws: &mut [u64], cap: usize, hash: u64) -> OptionNanos
 // Records a debt.
 pub fn record(ws: &mut [u64], cap: usize, debt: Debt, at: Nanos, forget: bool) -> Recorded
     requires { ⌜ Lent cap (now ws) ⌝ }
-    ensures { λ r. ⌜ outcome r (shard cap (now (ws .exit))) ≡ Model.inLedger (shard cap (now (ws .entry))) (Ledger.recorded (shard cap (now (ws .entry)) .ledger) debt (at .0) forget) ⌝ }
+    ensures { λ r. ⌜ outcome r (shard cap (now (ws .exit))) ≡ Model.inLedger (shard cap (now (ws .entry))) (Ledger.recorded (shard cap (now (ws .entry)) .ledger) debt at forget) ⌝ }
 {
     let start = 3 + 6 * cap;
     ledger::record(&mut ws[start..], cap, debt, at, forget)
@@ -52,7 +52,7 @@ pub fn record(ws: &mut [u64], cap: usize, debt: Debt, at: Nanos, forget: bool) -
 // Drops settled debts among the next `budget` looks.
 pub fn sweep(ws: &mut [u64], cap: usize, at: Nanos, budget: usize)
     requires { ⌜ Lent cap (now ws) ⌝ }
-    ensures { λ _. ⌜ shard cap (now (ws .exit)) ≡ Model.withLedger (shard cap (now (ws .entry))) (Ledger.sweep (at .0) budget (shard cap (now (ws .entry)) .ledger)) ⌝ }
+    ensures { λ _. ⌜ shard cap (now (ws .exit)) ≡ Model.withLedger (shard cap (now (ws .entry))) (Ledger.sweep at budget (shard cap (now (ws .entry)) .ledger)) ⌝ }
 {
     let start = 3 + 6 * cap;
     ledger::sweep(&mut ws[start..], cap, at, budget);

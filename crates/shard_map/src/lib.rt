@@ -60,7 +60,7 @@ pub fn set(ws: &mut [u64], cap: usize, pos: usize, slot: Slot)
     words::put(ws, cap, pos, slot);
 }
 
-// How many slots are held. It asks for the length alone, so that a count that is too large can be told.
+// How many slots are held. It requires the length alone, so that it can tell a count that is too large.
 pub fn len(ws: &[u64], cap: usize) -> usize
     requires { ⌜ length (now ws) ≡ shardWords cap ⌝ }
     ensures { λ r. ⌜ r ≡ shard cap (now (ws .entry)) .slots .count ⌝ }

@@ -1,5 +1,5 @@
-// The words of a shard, read and stored. No other function of the crate knows where a word lies, but for `debts`, which lends the ledger's part.
-// What is `pub` here is for `evict`, which does not know it either.
+// The words of a shard, read and stored. No other function of the crate knows where a word lies, except those of `debts`, which lend the ledger's part.
+// What is `pub` here is for `evict`, which does not know where a word lies either.
 ghost use mathlib.Core.Path.{_≡_};
 ghost use Prim.Native.Nat.{_<_};
 ghost use lib.ListN.{length};

@@ -38,14 +38,14 @@ shapeRefusal shape hash ws = firstOf (memoryRefusal (wordsIn shape) ws) (countRe
 abbrev pub keyedRefusal : Settings → ℕ → List ℕ → ℕ
 keyedRefusal s hash ws = firstOf (setUpRefusal s ws) (countRefusal (capOf s) (shardAt s hash ws))
 
--- Try, peek and available: then 6 for a moment that is too late.
+-- Try, peek and available: as refund, then 6 for a moment that is too late.
 unfoldable pub momentRefusal : Nanos → ℕ
 momentRefusal at = cond (ltb latestMoment (at .0)) 6 0
 
 abbrev pub timedRefusal : Settings → ℕ → Nanos → List ℕ → ℕ
 timedRefusal s hash at ws = firstOf (keyedRefusal s hash ws) (momentRefusal at)
 
--- Reserve: then 7 for a longest wait that is too long.
+-- Reserve: as try, then 7 for a longest wait that is too long.
 unfoldable pub waitRefusal : Nanos → ℕ
 waitRefusal longest = cond (ltb longestMaxWait (longest .0)) 7 0
 

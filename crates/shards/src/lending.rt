@@ -14,8 +14,8 @@ pub enum Lending {
     Lent(Part),
 }
 
-// The part of a hash's shard in memory of a shape, unless the call is refused: for the memory's length, or a count of the shard over the cap, or by
-// the number that its other arguments are refused by, in this order. The settings have been looked at before: they gave the shape.
+// Lends the part of a hash's shard in memory of a shape, unless the call is refused. It is refused for the memory's length, else for a count of the shard
+// over the cap, else by `further`, the number for its other arguments. The settings were checked before: they gave the shape.
 pub fn lend(shape: Shape, ws: &[u64], hash: u64, further: u32) -> Lending
     requires { ⌜ ShapeOfAccepted shape ⌝ }
     ensures { λ r. ⌜ r ≡ lentUnless (firstOf (shapeRefusal shape hash (now (ws .entry))) further) (partIn shape hash) ⌝ }

@@ -1,4 +1,5 @@
-// The refusals by number: the checks, and of the operations that name no key the whole refusal. The first that applies is given; 0 is none.
+// The refusals by number; 0 is none. Each check has a function, and so has the whole refusal of the operations that name no key: set-up, clear and length.
+// Of several checks the first that applies gives the number.
 ghost use mathlib.Core.Path.{_≡_};
 ghost use lib.ListN.{length};
 ghost use Rattle.settings.specs.Settings.{shardWords, firstOf};
@@ -56,7 +57,7 @@ pub fn wait_refusal(max_wait: Nanos) -> u32
     if LONGEST_MAX_WAIT < max_wait.0 { 7 } else { 0 }
 }
 
-// Set-up and clear.
+// The refusal of set-up and of clear: the settings, then the length.
 pub fn set_up_refusal(settings: Settings, ws: &[u64]) -> u32
     ensures { λ r. ⌜ r ≡ setUpRefusal settings (now (ws .entry)) ⌝ }
 {
@@ -83,7 +84,7 @@ fn slots_refusal(settings: Settings, ws: &[u64]) -> u32
     0
 }
 
-// Length.
+// The refusal of length: as set-up, then the slot counts.
 pub fn len_refusal(settings: Settings, ws: &[u64]) -> u32
     ensures { λ r. ⌜ r ≡ lenRefusal settings (now (ws .entry)) ⌝ }
 {

@@ -7,7 +7,8 @@ use bucket::BucketCore;
 use units::Millis;
 use units::Nanos;
 
-// The identity (hash and key), the bucket, the mark that an access sets and the CLOCK hand clears, and the idle stamp of the last access.
+// The identity (hash and key), the bucket, the mark that an access sets and the CLOCK hand clears, and last-seen: the idle stamp
+// of the first access, raised by later ones where an idle time is set.
 pub struct Slot {
     pub hash: u64,
     pub key: u64,
@@ -90,7 +91,7 @@ pub fn touch(slot: &mut Slot, now_ms: Millis, track_idle: bool)
     *slot = slot.touched(now_ms, track_idle);
 }
 
-// A slot that goes by value, lent to `touch` on the way.
+// As `touch`, by value: a copy of the slot is lent to `touch`, and returned.
 pub fn touch_value(slot: Slot, now_ms: Millis, track_idle: bool) -> Slot
     ensures { λ r. ⌜ r ≡ Model.touched slot «now_ms» «track_idle» ⌝ }
 {

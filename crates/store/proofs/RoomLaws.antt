@@ -31,7 +31,7 @@ use Rattle.store.specs.Model.{idleLimitIn, sweptIdle, swept, makeRoom}
 
 -- The ledger's sweep, in its shard.
 abbrev pub sweptLedger : Nanos → Shard → Shard
-sweptLedger at s = withLedger s (Ledger.sweep (at .0) ledgerScan (s .ledger))
+sweptLedger at s = withLedger s (Ledger.sweep at ledgerScan (s .ledger))
 
 -- Q is kept by the two sweeps.
 pub record KeptBySweeps (p : Policy) (at : Nanos) (Q : Shard → Type 0) : Type 0 where
@@ -47,13 +47,13 @@ module _ (p : Policy) (at : Nanos) where
   sound-by-sweeps : KeptBySweeps p at Sound
   sound-by-sweeps = record {
     idle = λ s limit u q. sweep-idle-sound (p .config) at limit ttlSweep s u;
-    ledger = λ s u q. ledger-sound s _ u (LedgerSteps.sweep-sound (at .0) ledgerScan (s .ledger) (u .ledger));
+    ledger = λ s u q. ledger-sound s _ u (LedgerSteps.sweep-sound at ledgerScan (s .ledger) (u .ledger));
   }
 
   ledger-cap-by-sweeps : (cap : ℕ) → KeptBySweeps p at (λ s. Ledger.capOf (s .ledger) ≡ cap)
   ledger-cap-by-sweeps cap = record {
     idle = λ s limit u same. rw (sweep-idle-ledger (p .config) at limit ttlSweep s u) same;
-    ledger = λ s u same. LedgerSteps.sweep-cap (at .0) ledgerScan (s .ledger) (u .ledger) ∙ same;
+    ledger = λ s u same. LedgerSteps.sweep-cap at ledgerScan (s .ledger) (u .ledger) ∙ same;
   }
 
 -- What a refusal says: the ledger is full, nothing may be forgotten, and the wait is at least a millisecond.
@@ -89,7 +89,7 @@ module _ (p : Policy) (at : Nanos) (s : Shard) (u : Sound s) where
       swept-keeps (λ t. t .ledger .debts .count ≤ s .ledger .debts .count)
       (record {
         idle = λ t limit v fewer. rw (sweep-idle-ledger (p .config) at limit ttlSweep t v) fewer;
-        ledger = λ t v fewer. omega (arith, LedgerSteps.sweep-count (at .0) ledgerScan (t .ledger) (v .ledger));
+        ledger = λ t v fewer. omega (arith, LedgerSteps.sweep-count at ledgerScan (t .ledger) (v .ledger));
       })
       (omega arith)
 

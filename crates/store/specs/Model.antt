@@ -59,7 +59,7 @@ sweptIdle p at s (millis.Some limit) = sweepIdle (p .config) at limit ttlSweep s
 abbrev pub swept : Policy → Nanos → Shard → Shard
 swept p at s =
     let idle = sweptIdle p at s (idleLimitIn p) in
-    withLedger idle (Ledger.sweep (at .0) ledgerScan (idle .ledger))
+    withLedger idle (Ledger.sweep at ledgerScan (idle .ledger))
 
 unfoldable pub makeRoom : Policy → Nanos → Shard → Outcome Room Shard
 makeRoom p at s =
@@ -81,14 +81,14 @@ joined p id request cost at owed s =
 -- A debt that was taken out goes back into the ledger.
 abbrev pub putBack : ℕ → Nanos → OptionNanos → Shard → Shard
 putBack hash at nanos.None s = s
-putBack hash at (nanos.Some settles) s = withLedger s (Ledger.recorded (s .ledger) (record { hash = hash; settles = settles }) (at .0) false .after)
+putBack hash at (nanos.Some settles) s = withLedger s (Ledger.recorded (s .ledger) (record { hash = hash; settles = settles }) at false .after)
 
 -- No room: the key is turned away for want of space, and its debt put back; what was swept, cleared or moved stays so.
 abbrev pub admitted : Policy → Identity → Request → ℕ → Nanos → OptionNanos → Shard → Room → Outcome Answer Shard
 admitted p id request cost at owed s Made = joined p id request cost at owed s
 admitted p id request cost at owed s (Refused wait) = outcome (NoSpace wait) (putBack (id .hash) at owed s)
 
--- A new key takes its debt out first, so that the debt's own place in the ledger is free for the room that it needs.
+-- A new key's own debt is taken out first: its place in the ledger is then free for the debt of a slot that has to go.
 unfoldable pub new : Policy → Identity → Request → ℕ → Nanos → Shard → Outcome Answer Shard
 new p id request cost at s =
     let own = Ledger.taken (s .ledger) (id .hash) in

@@ -88,8 +88,8 @@ fn with_bucket(slot: Slot, bucket: BucketCore) -> Slot
     }
 }
 
-// A request of a new key. It takes its debt out first, so that the debt's own place in the ledger is free for the room that it needs. A key that left a debt is
-// therefore never turned away for space, and no debt has to be put back.
+// A request of a new key. The key's own debt is taken out first: its place in the ledger is then free for the debt of a slot that has to go. So a key that
+// left a debt is never turned away for space, and no debt has to be put back.
 pub fn new(
     ws: &mut [u64],
     cap: usize,
@@ -167,7 +167,7 @@ fn sweep(ws: &mut [u64], cap: usize, policy: Policy, at: Nanos)
     ensures { λ _. ⌜ shard cap (now (ws .exit)) ≡ Model.swept policy at (shard cap (now (ws .entry))) ⌝ }
 {
     sweep_idle(ws, cap, policy, at);
-    debts::sweep(ws, cap, at, Eviction::LEDGER_SCAN);
+    debts::sweep(ws, cap, at, Eviction::ledger_looks());
 }
 
 // The idle sweep, where an idle time is set. The limit is worked out here, since only a new key needs it.
@@ -181,7 +181,7 @@ fn sweep_idle(ws: &mut [u64], cap: usize, policy: Policy, at: Nanos)
         OptionNanos::None => {}
         OptionNanos::Some(ttl) => {
             let limit = settings::idle_limit(ttl, config);
-            shard_map::sweep_idle(ws, cap, config, at, limit, Eviction::TTL_SWEEP);
+            shard_map::sweep_idle(ws, cap, config, at, limit, Eviction::idle_looks());
         }
     }
 }

@@ -15,7 +15,7 @@ pub enum OptionNanos {
     Some(Nanos),
 }
 
-// A span in milliseconds that may be missing: for the definitions, where the idle limit is one.
+// A span in milliseconds that may be missing. The definitions use it for the idle limit.
 pub enum OptionMillis {
     None,
     Some(Millis),

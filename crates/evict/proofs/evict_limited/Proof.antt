@@ -54,7 +54,7 @@ returns c =
     let record′ = c .before .before .before .before .before .before .before .before .«record» in
     let enum-told′ = c .before .before .before .before .enum-told in
     let gave = rw (recovers-in′ .ensures, get′ .ensures) at (record′ .ensures) in
-    rw (evict-at′ .ensures) (limited-made (args′ .config) (args′ .at) (args′ .forget) (args′ .pos) (args′ .soonest .0) (pre′ .0) gave (enum-told′ .given .1))
+    rw (evict-at′ .ensures) (limited-made (args′ .config) (args′ .at) (args′ .forget) (args′ .pos) (args′ .soonest) (pre′ .0) gave (enum-told′ .given .1))
 
 same-length-2 : tie.Need-same-length-2
 same-length-2 c = search needs
@@ -70,7 +70,7 @@ returns-2 c =
     let record′ = c .before .before .before .before .before .before .before .«record» in
     let wait′ = c .before .before .before .wait in
     let gave = rw (recovers-in′ .ensures, get′ .ensures) at (record′ .ensures) in
-    rw (larger′ .ensures, smaller′ .ensures) (limited-refused (args′ .config) (args′ .at) (args′ .forget) (args′ .pos) (args′ .soonest .0) (pre′ .0) gave (wait′ .given .1))
+    rw (larger′ .ensures, smaller′ .ensures) (limited-refused (args′ .config) (args′ .at) (args′ .forget) (args′ .pos) (args′ .soonest) (pre′ .0) gave (wait′ .given .1))
 
 pub evict-limited-spec : {M : Type 1} → statement M
 evict-limited-spec =

@@ -34,6 +34,9 @@ abbrev μ-loop : tie.MeasureT-loop
 hand-requires : tie.Need-hand-requires Inv-loop μ-loop
 hand-requires c κs = search needs
 
+hand-looks-requires : tie.Need-hand-looks-requires Inv-loop μ-loop
+hand-looks-requires c κs = search needs
+
 len-requires : tie.Need-len-requires Inv-loop μ-loop
 len-requires c κs = search needs
 
@@ -45,8 +48,14 @@ new-requires c κs = search needs
 
 loop-holds : tie.Need-loop-holds Inv-loop μ-loop
 loop-holds c =
-    let pre′ = c .before .before .before .before .before .before .before .pre in
-    record { lent = pre′ .0; some = pre′ .2; long = refl; same = rw (c .new .ensures, c .before .fewer .ensures, c .before .before .len .ensures) (walk-start _ _ _) }
+    let pre′ = c .before .before .before .before .before .before .before .before .pre in
+    let hand-looks′ = c .before .before .before .before .hand-looks in
+    record {
+      lent = pre′ .0;
+      some = pre′ .2;
+      long = refl;
+      same = rw (c .new .ensures, c .before .fewer .ensures, c .before .before .len .ensures, hand-looks′ .ensures) (walk-start _ _ _);
+    }
 
 hand-requires-2 : tie.Need-hand-requires-2 Inv-loop μ-loop
 hand-requires-2 c κs = search needs
@@ -57,10 +66,10 @@ look-requires c κs =
     (loop′ .inv .lent, rw (c .before .hand2 .ensures) (lent-hand (loop′ .inv .lent) (loop′ .inv .some)))
 
 goes-at-once-requires : tie.Need-goes-at-once-requires Inv-loop μ-loop
-goes-at-once-requires c κs = c .before .before .before .before .before .before .before .before .before .before .before .before .before .before .before .pre .1
+goes-at-once-requires c κs = c .before .before .before .before .before .before .before .before .before .before .before .before .before .before .before .before .pre .1
 
 noted-requires : tie.Need-noted-requires Inv-loop μ-loop
-noted-requires c κs = c .before .before .before .before .before .before .before .before .before .before .before .before .before .before .before .before .before .pre .1
+noted-requires c κs = c .before .before .before .before .before .before .before .before .before .before .before .before .before .before .before .before .before .before .pre .1
 
 sub-left : tie.Need-sub-left Inv-loop μ-loop
 sub-left c = search needs
@@ -91,7 +100,7 @@ record Ended (ws₀ : List ℕ) (cap : ℕ) (c : BucketConfig) (at : Nanos) (ws 
   same : walked c at (shard cap ws₀) ≡ record { victim = victim; walk = walk; after = shard cap ws }
 
 walk-ended : (c : tie.Joined1 Inv-loop μ-loop) →
-    let args′ = c .before .before .before .before .before .before .before .before .before .args in
+    let args′ = c .before .before .before .before .before .before .before .before .before .before .args in
     Ended (args′ .ws .now) (args′ .cap) (args′ .config) (args′ .at) (c .if1 .ws) (c .if1 .victim) (c .before .loop .walk)
 walk-ended c =
     let inv = c .before .loop .inv in
@@ -108,7 +117,7 @@ enum-known-victim c = search needs
 
 evict-at-requires : tie.Need-evict-at-requires Inv-loop μ-loop
 evict-at-requires c κs =
-    let pre′ = c .before .before .before .before .before .before .before .before .before .before .before .before .before .pre in
+    let pre′ = c .before .before .before .before .before .before .before .before .before .before .before .before .before .before .pre in
     let end = walk-ended (c .before .before .before .before) in
     let after = after-walk _ _ (pre′ .0) (pre′ .2) (end .long) (end .same) in
     (after .lent, rw (c .before .before .victim .given .1) at (after .held))
@@ -118,10 +127,10 @@ enum-told c = search needs
 
 evict-noted-requires : tie.Need-evict-noted-requires Inv-loop μ-loop
 evict-noted-requires c κs =
-    let pre′ = c .before .before .before .before .before .before .before .before .before .before .before .before .pre in
+    let pre′ = c .before .before .before .before .before .before .before .before .before .before .before .before .before .pre in
     let end = walk-ended (c .before .before .before) in
     let after = after-walk _ _ (pre′ .0) (pre′ .2) (end .long) (end .same) in
-    (after .lent, pre′ .1, pre′ .3, rw (c .before .before .before .before .before .before .before .before .before .hand .ensures) (after .within))
+    (after .lent, pre′ .1, pre′ .3, rw (c .before .before .before .before .before .before .before .before .before .before .hand .ensures) (after .within))
 
 same-length : tie.Need-same-length Inv-loop μ-loop
 same-length c = c .before .before .evict-at .kept .0 ∙ walk-ended (c .before .before .before .before .before .before .before) .long
@@ -138,7 +147,7 @@ same-length-2 c = c .before .before .evict-noted .kept .0 ∙ walk-ended (c .bef
 returns-2 : tie.Need-returns-2 Inv-loop μ-loop
 returns-2 c =
     let evict-noted′ = c .before .before .evict-noted in
-    let hand′ = c .before .before .before .before .before .before .before .before .before .before .before .before .hand in
+    let hand′ = c .before .before .before .before .before .before .before .before .before .before .before .before .before .hand in
     let enum-told′ = c .before .before .before .before .enum-told in
     evict-noted′ .ensures ∙ rw (hand′ .ensures) (evicted-noted _ _ _ _ (walk-ended (c .before .before .before .before .before .before) .same) (enum-told′ .given .1))
 
@@ -149,6 +158,7 @@ evict-one-spec =
     Inv-loop
     μ-loop
     hand-requires
+    hand-looks-requires
     len-requires
     fewer-requires
     new-requires

@@ -3,6 +3,7 @@ use mathlib.Core.Path.{_≡_, sym, _∙_}
 use mathlib.Core.List.{List}
 use Prim.Native.Nat.{ℕ, _<_}
 use native.Mathlib.Omega.{arith}
+use Rattle.units.specs.declared.Nanos.{Nanos}
 use Rattle.ledger.proofs.StepLaws.{cursor-sound}
 use Rattle.ledger.proofs.ModelLaws.{scan-start, scan-end, scan-settled, scan-turn, lent-below, lent-cursor, lent-sooner, lent-after}
 use Rattle.ledger.specs.Layout.{ledger, Lent}
@@ -12,17 +13,20 @@ use Rattle.ledger.proofs.scan.Statement.{statement}
 use Rattle.ledger.proofs.scan.Tie as tie
 
 -- The scan from here, with the looks that are left, is the scan from the start; the soonest so far is a debt that is held.
-record Scanning (ws₀ : List ℕ) (cap at : ℕ) (ws : List ℕ) (left best : ℕ) : Type 0 where
+record Scanning (ws₀ : List ℕ) (cap : ℕ) (at : Nanos) (ws : List ℕ) (left best : ℕ) : Type 0 where
   lent : Lent cap ws
   some : 0 < ledger cap ws .debts .count
   below : best < ledger cap ws .debts .count
   same : scanFrom at left (ledger cap ws) best ≡ scan at (ledger cap ws₀)
 
 abbrev Inv-loop : tie.InvT-loop
-Inv-loop ws₀ cap at left₀ best₀ ws left best = Scanning ws₀ cap (at .0) ws left best
+Inv-loop ws₀ cap at left₀ best₀ ws left best = Scanning ws₀ cap at ws left best
 
 abbrev μ-loop : tie.MeasureT-loop
 μ-loop ws₀ cap at left₀ best₀ ws left best = left
+
+ledger-looks-requires : tie.Need-ledger-looks-requires Inv-loop μ-loop
+ledger-looks-requires c κs = search needs
 
 count-requires : tie.Need-count-requires Inv-loop μ-loop
 count-requires c κs = search needs
@@ -35,13 +39,14 @@ cursor-requires c κs = search needs
 
 loop-holds : tie.Need-loop-holds Inv-loop μ-loop
 loop-holds c =
-    let pre′ = c .before .before .before .before .before .before .pre in
+    let pre′ = c .before .before .before .before .before .before .before .pre in
     let cursor′ = c .cursor in
+    let ledger-looks′ = c .before .before .before .before .before .ledger-looks in
     record {
       lent = pre′ .0;
       some = pre′ .1;
       below = rw (cursor′ .ensures) (lent-cursor (pre′ .0) (pre′ .1));
-      same = rw (cursor′ .ensures, c .before .before .fewer .ensures, c .before .before .before .count .ensures) (scan-start _ _);
+      same = rw (cursor′ .ensures, c .before .before .fewer .ensures, c .before .before .before .count .ensures, ledger-looks′ .ensures) (scan-start _ _);
     }
 
 cursor-requires-2 : tie.Need-cursor-requires-2 Inv-loop μ-loop
@@ -61,26 +66,26 @@ same-length c = search needs
 
 returns : tie.Need-returns Inv-loop μ-loop
 returns c =
-    let settles-at′ = c .before .before .before .before .before .before .settles-at in
-    let cursor2′ = c .before .before .before .before .before .before .before .before .cursor2 in
+    let settles-at′ = c .before .before .before .before .before .before .before .settles-at in
+    let cursor2′ = c .before .before .before .before .before .before .before .before .before .cursor2 in
     let if1′ = c .before .before .before .before .if1 in
     let set-cursor′ = c .before .before .set-cursor in
-    let loop-test′ = c .before .before .before .before .before .before .before .before .before .before .loop-test in
-    let loop′ = c .before .before .before .before .before .before .before .before .before .before .before .loop in
+    let loop-test′ = c .before .before .before .before .before .before .before .before .before .before .before .loop-test in
+    let loop′ = c .before .before .before .before .before .before .before .before .before .before .before .before .loop in
     let settled = rw (settles-at′ .ensures, cursor2′ .ensures) at (if1′ .taken) in
     rw (set-cursor′ .ensures, cursor2′ .ensures) (sym (scan-settled _ _ _ _ (loop-test′ .taken) settled) ∙ loop′ .inv .same)
 
 sooner-requires : tie.Need-sooner-requires Inv-loop μ-loop
 sooner-requires c κs =
-    let loop′ = c .before .before .before .before .before .before .before .before .loop in
-    let cursor2′ = c .before .before .before .before .before .cursor2 in
+    let loop′ = c .before .before .before .before .before .before .before .before .before .loop in
+    let cursor2′ = c .before .before .before .before .before .before .cursor2 in
     let inv = loop′ .inv in
     (inv .lent, lent-below (inv .lent) (inv .below), rw (cursor2′ .ensures) (lent-below (inv .lent) (lent-cursor (inv .lent) (inv .some))))
 
 add-set-cursor : tie.Need-add-set-cursor Inv-loop μ-loop
 add-set-cursor c =
-    let cursor2′ = c .before .before .before .before .before .before .before .cursor2 in
-    let loop′ = c .before .before .before .before .before .before .before .before .before .before .loop in
+    let cursor2′ = c .before .before .before .before .before .before .before .before .cursor2 in
+    let loop′ = c .before .before .before .before .before .before .before .before .before .before .before .loop in
     omega (arith, cursor2′ .ensures, lent-below (loop′ .inv .lent) (lent-cursor (loop′ .inv .lent) (loop′ .inv .some)))
 
 set-cursor-requires-2 : tie.Need-set-cursor-requires-2 Inv-loop μ-loop
@@ -94,13 +99,13 @@ loop-less c = search needs
 
 loop-again : tie.Need-loop-again Inv-loop μ-loop
 loop-again c =
-    let loop′ = c .before .before .before .before .before .before .before .before .before .before .before .before .before .loop in
-    let settles-at′ = c .before .before .before .before .before .before .before .before .settles-at in
-    let cursor2′ = c .before .before .before .before .before .before .before .before .before .before .cursor2 in
+    let loop′ = c .before .before .before .before .before .before .before .before .before .before .before .before .before .before .loop in
+    let settles-at′ = c .before .before .before .before .before .before .before .before .before .settles-at in
+    let cursor2′ = c .before .before .before .before .before .before .before .before .before .before .before .cursor2 in
     let if1′ = c .before .before .before .before .before .before .if1 in
     let set-cursor2′ = c .before .before .set-cursor2 in
     let sooner′ = c .before .before .before .before .sooner in
-    let loop-test′ = c .before .before .before .before .before .before .before .before .before .before .before .before .loop-test in
+    let loop-test′ = c .before .before .before .before .before .before .before .before .before .before .before .before .before .loop-test in
     let inv = loop′ .inv in
     let unsettled = rw (settles-at′ .ensures, cursor2′ .ensures) at (if1′ .left) in
     record {
@@ -122,6 +127,7 @@ scan-spec =
     (tie.spec
     Inv-loop
     μ-loop
+    ledger-looks-requires
     count-requires
     fewer-requires
     cursor-requires

@@ -12,16 +12,16 @@ settles-at-requires-2 c κs = search needs
 
 returns : tie.Need-returns
 returns c =
-    let settles-at′ = c .before .before .settles-at in
-    let settles-at2′ = c .before .settles-at2 in
+    let settles-at′ = c .before .before .before .before .settles-at in
+    let settles-at2′ = c .before .before .before .settles-at2 in
     let if1′ = c .if1 in
     let less = rw (settles-at′ .ensures, settles-at2′ .ensures) at (if1′ .taken) in
     rw (lt-ltb _ _ less)
 
 returns-2 : tie.Need-returns-2
 returns-2 c =
-    let settles-at′ = c .before .before .settles-at in
-    let settles-at2′ = c .before .settles-at2 in
+    let settles-at′ = c .before .before .before .before .settles-at in
+    let settles-at2′ = c .before .before .before .settles-at2 in
     let if1′ = c .if1 in
     let not-less = rw (settles-at′ .ensures, settles-at2′ .ensures) at (if1′ .left) in
     rw (le-ltb _ _ not-less)

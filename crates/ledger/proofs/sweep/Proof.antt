@@ -2,6 +2,7 @@
 use mathlib.Core.Path.{_≡_, refl, sym, _∙_}
 use mathlib.Core.List.{List}
 use Prim.Native.Nat.{ℕ}
+use Rattle.units.specs.declared.Nanos.{Nanos}
 use Rattle.ledger.proofs.StepLaws.{look-sound}
 use Rattle.ledger.proofs.ModelLaws.{sweep-turn, sweep-none, sweep-end, lent-after}
 use Rattle.ledger.specs.Layout.{ledger, Lent}
@@ -11,12 +12,12 @@ use Rattle.ledger.proofs.sweep.Statement.{statement}
 use Rattle.ledger.proofs.sweep.Tie as tie
 
 -- The sweep from here, with the looks that are left, is the sweep from the start.
-record Sweeping (ws₀ : List ℕ) (cap at budget : ℕ) (ws : List ℕ) (left : ℕ) : Type 0 where
+record Sweeping (ws₀ : List ℕ) (cap : ℕ) (at : Nanos) (budget : ℕ) (ws : List ℕ) (left : ℕ) : Type 0 where
   lent : Lent cap ws
   same : sweep at left (ledger cap ws) ≡ sweep at budget (ledger cap ws₀)
 
 abbrev Inv-loop : tie.InvT-loop
-Inv-loop ws₀ cap at budget left₀ ws left = Sweeping ws₀ cap (at .0) budget ws left
+Inv-loop ws₀ cap at budget left₀ ws left = Sweeping ws₀ cap at budget ws left
 
 abbrev μ-loop : tie.MeasureT-loop
 μ-loop ws₀ cap at budget left₀ ws left = left
