@@ -50,7 +50,7 @@ module _ (c : BucketConfig) (at : Nanos) (forget : Bool) (a : Accepted c) (early
   debt-left-fits slot f = record { hash = f .hash; settles = debt-fits (slot .bucket) at a early refl }
 
   debt-recorded-fits : (s : Shard) (p : ℕ) → ShardFits s → ShardFits (withLedger s (debtRecorded c at forget s p .after))
-  debt-recorded-fits s p f = changed-ledger-fits s f _ (recorded-fits (s .ledger) _ (at .0) forget (debt-left-fits _ (slot-at-fits s f p)) (f .ledger))
+  debt-recorded-fits s p f = changed-ledger-fits s f _ (recorded-fits (s .ledger) _ at forget (debt-left-fits _ (slot-at-fits s f p)) (f .ledger))
 
   ended-fits : {s : Shard} {o : Outcome Room Shard} → ShardFits s → Evicting c at forget s o → ShardFits (o .after)
   ended-fits {s} f (full-goes p full) = evicted-at-fits s p (full .below) f

@@ -3,9 +3,10 @@ use Prim.Native.Nat.{ℕ, zero, suc, _+_}
 use mathlib.Core.Path.{_≡_, refl, sym}
 use mathlib.Core.Bool.{Bool}
 use native.Mathlib.Omega.{arith}
-use lib.Dec.{ltb, leb, eqb}
+use lib.Dec.{ltb, eqb}
 use borrow.Author.Tests.{ltb-true}
 use Rattle.arith.proofs.Cases.{by-test}
+use Rattle.units.specs.declared.Nanos.{Nanos}
 use Rattle.bucket.specs.declared.BucketConfig.{BucketConfig}
 use Rattle.rows.specs.declared.Place.{Place}
 use Rattle.rows.specs.declared.Place.the-variants.{At, Nowhere}
@@ -15,7 +16,7 @@ use Rattle.ledger.specs.declared.Choice.{Choice}
 use Rattle.ledger.specs.declared.Choice.the-variants.{Settled, Soonest}
 use Rattle.ledger.specs.declared.Recorded.{Recorded}
 use Rattle.ledger.specs.declared.Recorded.the-variants.{Done, NoRoom}
-use Rattle.ledger.specs.Model.{Ledger, noDebt, capOf, debtAt, settlesAt, cursorOf, withCursor, withDebt, placeOf, removeAt, append, taken, lookAt, look, sweep}
+use Rattle.ledger.specs.Model.{Ledger, noDebt, capOf, debtAt, hasSettled, cursorOf, withCursor, withDebt, placeOf, removeAt, append, taken, lookAt, look, sweep}
 use Rattle.ledger.specs.Model.{sooner, scanFrom, scan, dropChosen, makeRoom, joined, recordedAt, recorded, paidDown}
 use Rattle.ledger.proofs.StepLaws.{removal-count, taken-cases, paid-cases}
 use Rattle.ledger.proofs.RecordLaws.{done-is-no-refusal}
@@ -60,13 +61,13 @@ module _ (l : Ledger) (f : LedgerFits l) where
   resting-cursor-fits = moved-cursor-fits _ (omega (arith, next-place-fits (l .cursor) (l .debts .count) (f .debts .count)))
 
 -- The sweep.
-look-fits : (at : ℕ) (l : Ledger) → LedgerFits l → LedgerFits (look at l)
+look-fits : (at : Nanos) (l : Ledger) → LedgerFits l → LedgerFits (look at l)
 unfolding look lookAt
 look-fits at l f =
     of-either LedgerFits (eqb (l .debts .count) 0) l (lookAt at l (cursorOf l)) f
-    (of-either LedgerFits (leb (settlesAt l (cursorOf l)) at) _ _ (debt-removed-fits _ (resting-cursor-fits l f) (cursorOf l)) (next-cursor-fits l f))
+    (of-either LedgerFits (hasSettled at l (cursorOf l)) _ _ (debt-removed-fits _ (resting-cursor-fits l f) (cursorOf l)) (next-cursor-fits l f))
 
-pub sweep-fits : (at n : ℕ) (l : Ledger) → LedgerFits l → LedgerFits (sweep at n l)
+pub sweep-fits : (at : Nanos) (n : ℕ) (l : Ledger) → LedgerFits l → LedgerFits (sweep at n l)
 unfolding sweep
 sweep-fits at zero l f = f
 sweep-fits at (suc n) l f = sweep-fits at n (look at l) (look-fits at l f)
@@ -84,11 +85,11 @@ paid-fits l h cost c f =
     (λ e. f)
 
 -- The looks at a full ledger, and the debt that is dropped: where one is, another can be counted.
-scan-from-fits : (at left : ℕ) (l : Ledger) (best : ℕ) → LedgerFits l → LedgerFits (scanFrom at left l best .after)
+scan-from-fits : (at : Nanos) (left : ℕ) (l : Ledger) (best : ℕ) → LedgerFits l → LedgerFits (scanFrom at left l best .after)
 unfolding scanFrom
 scan-from-fits at zero l best f = f
 scan-from-fits at (suc left) l best f =
-    of-either (λ (o : Outcome Choice Ledger). LedgerFits (o .after)) (leb (settlesAt l (cursorOf l)) at) _
+    of-either (λ (o : Outcome Choice Ledger). LedgerFits (o .after)) (hasSettled at l (cursorOf l)) _
     (scanFrom at left (withCursor l (cursorOf l + 1)) (sooner l best (cursorOf l)))
     (resting-cursor-fits l f) (scan-from-fits at left _ _ (next-cursor-fits l f))
 
@@ -96,7 +97,7 @@ record RoomFits (o : Outcome Recorded Ledger) : Type 0 where
   after : LedgerFits (o .after)
   next : o .answer ≡ Done → Word (o .after .debts .count + 1)
 
-dropped-fits : (at : ℕ) (forget : Bool) (l : Ledger) (choice : Choice) → LedgerFits l → RoomFits (dropChosen at forget l choice)
+dropped-fits : (at : Nanos) (forget : Bool) (l : Ledger) (choice : Choice) → LedgerFits l → RoomFits (dropChosen at forget l choice)
 unfolding dropChosen
 dropped-fits at forget l choice f = go choice
   where
@@ -107,7 +108,7 @@ dropped-fits at forget l choice f = go choice
     go (Settled p) = leaves p
     go (Soonest p) = of-either RoomFits forget _ _ (leaves p) (record { after = f; next = λ done. done-is-no-refusal (sym done) })
 
-make-room-fits : (at : ℕ) (forget : Bool) (l : Ledger) → LedgerFits l → RoomFits (makeRoom at forget l)
+make-room-fits : (at : Nanos) (forget : Bool) (l : Ledger) → LedgerFits l → RoomFits (makeRoom at forget l)
 unfolding makeRoom scan
 make-room-fits at forget l f = dropped-fits at forget (scan at l .after) (scan at l .answer) (scan-from-fits at _ l (cursorOf l) f)
 
@@ -117,7 +118,7 @@ joined-fits d l Done fits f next = debt-appended-fits l f d fits (next refl)
 joined-fits d l (NoRoom wait) fits f next = f
 
 -- A recording.
-pub recorded-fits : (l : Ledger) (d : Debt) (at : ℕ) (forget : Bool) → DebtFits d → LedgerFits l → LedgerFits (recorded l d at forget .after)
+pub recorded-fits : (l : Ledger) (d : Debt) (at : Nanos) (forget : Bool) → DebtFits d → LedgerFits l → LedgerFits (recorded l d at forget .after)
 unfolding recorded recordedAt
 recorded-fits l d at forget fits f = go (placeOf l (d .hash))
   where

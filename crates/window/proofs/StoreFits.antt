@@ -72,7 +72,7 @@ module _ (p : Policy) (id : Identity) (request : Request) (cost : ℕ) (at : Nan
       room-keeps p at s u ShardFits
       (record {
         idle = λ t limit v fits. sweep-idle-fits (p .config) at limit ttlSweep t fits;
-        ledger = λ t v fits. changed-ledger-fits t fits _ (sweep-fits (at .0) ledgerScan (t .ledger) (fits .ledger));
+        ledger = λ t v fits. changed-ledger-fits t fits _ (sweep-fits at ledgerScan (t .ledger) (fits .ledger));
       })
       (λ t v some fits. evicted-fits (p .config) at (p .«forget_debt») a early t v some fits)
       f
