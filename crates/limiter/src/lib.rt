@@ -108,7 +108,7 @@ pub extern "C" fn limiter_peek(
     key: u64,
     cost: u32,
 ) -> LimiterReply
-    ensures { λ r. ⌜ outcome r (now (ws .entry)) ≡ told (Rules.peek (settingsOf settings) (nanosOf at) (identityOf hash key) cost (now (ws .entry))) ⌝ }
+    ensures { λ r. ⌜ outcome r (now (ws .exit)) ≡ told (Rules.peek (settingsOf settings) (nanosOf at) (identityOf hash key) cost (now (ws .entry))) ⌝ }
 {
     reply(perkey::peek(
         settings_of(settings),
@@ -128,7 +128,7 @@ pub extern "C" fn limiter_available(
     hash: u64,
     key: u64,
 ) -> LimiterReply
-    ensures { λ r. ⌜ outcome r (now (ws .entry)) ≡ told (Rules.available (settingsOf settings) (nanosOf at) (identityOf hash key) (now (ws .entry))) ⌝ }
+    ensures { λ r. ⌜ outcome r (now (ws .exit)) ≡ told (Rules.available (settingsOf settings) (nanosOf at) (identityOf hash key) (now (ws .entry))) ⌝ }
 {
     reply(perkey::available(settings_of(settings), ws, Nanos(at), Identity { hash, key }))
 }
@@ -171,7 +171,7 @@ pub extern "C" fn limiter_clear(settings: LimiterSettings, ws: &mut [u64]) -> Li
 // The number of keys that have a slot.
 #[no_mangle]
 pub extern "C" fn limiter_length(settings: LimiterSettings, ws: &[u64]) -> LimiterReply
-    ensures { λ r. ⌜ outcome r (now (ws .entry)) ≡ told (Rules.len (settingsOf settings) (now (ws .entry))) ⌝ }
+    ensures { λ r. ⌜ outcome r (now (ws .exit)) ≡ told (Rules.len (settingsOf settings) (now (ws .entry))) ⌝ }
 {
     reply(perkey::len(settings_of(settings), ws))
 }

@@ -35,7 +35,7 @@ use Rattle.shards.specs.Refusals.{keyedRefusal, timedRefusal, reserveRefusal, l
 use Rattle.perkey.specs.Rules as Rules
 use Rattle.perkey.proofs.RefusedLaws.{unless-refused-accepts, unless-refused-refuses}
 use Rattle.rows.specs.Held.{sum}
-use Rattle.perkey.specs.Calls.{Look, Call, request, look, return, len, peeks, tokens, refunds, removes, rules, Answered, numbered, accepted}
+use Rattle.perkey.specs.Calls.{Look, Call, request, look, undo, len, peeks, tokens, refunds, removes, rules, Answered, numbered, accepted}
 use Rattle.perkey.specs.Calls.{Kind, decides, reserves, counts, knows, kindOf}
 
 -- The number by which a call is refused, 0 if it is not.
@@ -44,7 +44,7 @@ refusalOf (request s at id Acquire cost) ws = timedRefusal s (id .hash) at ws
 refusalOf (request s at id (Reserve longest) cost) ws = reserveRefusal s (id .hash) at longest ws
 refusalOf (look s at id l) ws = timedRefusal s (id .hash) at ws
 refusalOf (len s) ws = lenRefusal s ws
-refusalOf (return s id r) ws = keyedRefusal s (id .hash) ws
+refusalOf (undo s id r) ws = keyedRefusal s (id .hash) ws
 
 -- What a call gives where it is not refused.
 abbrev pub ruleOf : Call → List ℕ → Outcome Reply (List ℕ)
@@ -52,8 +52,8 @@ ruleOf (request s at id r cost) ws = Rules.askedBy r (s .limit) s at id cost ws
 ruleOf (look s at id (peeks cost)) ws = outcome (Rules.peekedBy (s .limit) s at id cost ws) ws
 ruleOf (look s at id tokens) ws = outcome (Count (Rules.availableBy (s .limit) s at id ws)) ws
 ruleOf (len s) ws = outcome (Count (sum (shardCount s) (λ i. slotCount (capOf s) i ws))) ws
-ruleOf (return s id (refunds cost)) ws = Rules.refundedBy (s .limit) s id cost ws
-ruleOf (return s id removes) ws = Rules.keyed s id ws (Store.removed id (shardAt s (id .hash) ws))
+ruleOf (undo s id (refunds cost)) ws = Rules.refundedBy (s .limit) s id cost ws
+ruleOf (undo s id removes) ws = Rules.keyed s id ws (Store.removed id (shardAt s (id .hash) ws))
 
 rules-are : (c : Call) (ws : List ℕ) → rules c ws ≡ Rules.unlessRefused (refusalOf c ws) ws (ruleOf c ws)
 unfolding Rules.tryAcquire Rules.reserve Rules.peek Rules.available Rules.len Rules.refund Rules.remove
@@ -62,8 +62,8 @@ rules-are (request s at id (Reserve longest) cost) ws = refl
 rules-are (look s at id (peeks cost)) ws = refl
 rules-are (look s at id tokens) ws = refl
 rules-are (len s) ws = refl
-rules-are (return s id (refunds cost)) ws = refl
-rules-are (return s id removes) ws = refl
+rules-are (undo s id (refunds cost)) ws = refl
+rules-are (undo s id removes) ws = refl
 
 pub not-refused-is-ruled : (c : Call) (ws : List ℕ) → refusalOf c ws ≡ 0 → rules c ws ≡ ruleOf c ws
 not-refused-is-ruled c ws none = rules-are c ws ∙ unless-refused-accepts (refusalOf c ws) ws (ruleOf c ws) none
@@ -163,8 +163,8 @@ rule-answers-in-kind (request s at id (Reserve longest) cost) ws = asked-in-kind
 rule-answers-in-kind (look s at id (peeks cost)) ws = peeked-in-kind (s .limit) s at id cost ws
 rule-answers-in-kind (look s at id tokens) ws = counted _
 rule-answers-in-kind (len s) ws = counted _
-rule-answers-in-kind (return s id (refunds cost)) ws = refunded-in-kind (s .limit) s id cost ws
-rule-answers-in-kind (return s id removes) ws = key-is-known-or-not (Store.removed id (shardAt s (id .hash) ws) .answer)
+rule-answers-in-kind (undo s id (refunds cost)) ws = refunded-in-kind (s .limit) s id cost ws
+rule-answers-in-kind (undo s id removes) ws = key-is-known-or-not (Store.removed id (shardAt s (id .hash) ws) .answer)
 
 -- So no rule answers with a number of a refusal.
 in-kind-not-numbered : {kind : Kind} {r : Reply} → OfKind kind r → numbered r ≡ false

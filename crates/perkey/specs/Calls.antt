@@ -13,22 +13,22 @@ use Rattle.perkey.specs.declared.Reply.{Reply}
 use Rattle.perkey.specs.declared.Reply.the-variants.{Tried, Reserved, Nothing, Done, Count, Refused}
 use Rattle.perkey.specs.Rules as Rules
 
--- What a look at a key asks: what a try for so many tokens would be told, or how many tokens there are. What a return does: it gives so many tokens back,
--- or forgets the key.
+-- What a look at a key asks: what a try for so many tokens would be told, or how many tokens there are.
 pub data Look : Type 0 where
   peeks : ℕ → Look
   tokens : Look
 
-pub data Return : Type 0 where
-  refunds : ℕ → Return
-  removes : Return
+-- How what a key spent is undone: so many tokens are given back, or the key is forgotten.
+pub data Undo : Type 0 where
+  refunds : ℕ → Undo
+  removes : Undo
 
--- A call: what it names, which is its settings, its moment and its key, if it has them, and what it asks: a request, a try or a reservation, of so many
--- tokens; a look; a return; or how many keys have a slot. Set-up and clear are no calls of a list.
+-- A call names its settings, and its moment and its key if it has them. It is a request (a try or a reservation of so many tokens), a look at a key, the undoing
+-- of what a key spent, or a look at how many keys have a slot. Set-up and clear are no calls of a list.
 pub data Call : Type 0 where
   request : Settings → Nanos → Identity → Request → ℕ → Call
   look : Settings → Nanos → Identity → Look → Call
-  return : Settings → Identity → Return → Call
+  undo : Settings → Identity → Undo → Call
   len : Settings → Call
 
 -- The calls by the names of their operations.
@@ -45,10 +45,10 @@ abbrev pub available : Settings → Nanos → Identity → Call
 available s at id = look s at id tokens
 
 abbrev pub refund : Settings → Identity → ℕ → Call
-refund s id cost = return s id (refunds cost)
+refund s id cost = undo s id (refunds cost)
 
 abbrev pub remove : Settings → Identity → Call
-remove s id = return s id removes
+remove s id = undo s id removes
 
 -- An implementation answers a call and leaves words. The rules are one.
 abbrev pub Implementation : Type 0
@@ -59,8 +59,8 @@ rules (request s at id Acquire cost) ws = Rules.tryAcquire s at id cost ws
 rules (request s at id (Reserve longest) cost) ws = Rules.reserve s at id cost longest ws
 rules (look s at id (peeks cost)) ws = Rules.peek s at id cost ws
 rules (look s at id tokens) ws = Rules.available s at id ws
-rules (return s id (refunds cost)) ws = Rules.refund s id cost ws
-rules (return s id removes) ws = Rules.remove s id ws
+rules (undo s id (refunds cost)) ws = Rules.refund s id cost ws
+rules (undo s id removes) ws = Rules.remove s id ws
 rules (len s) ws = Rules.len s ws
 
 -- A call as it was answered: the call, the reply, and the words that the rules had made before it.
@@ -75,34 +75,34 @@ replies f [] ws rulesWords = []
 replies f (c ∷ cs) ws rulesWords =
     record { call = c; reply = f c ws .answer; rulesWords = rulesWords } ∷ replies f cs (f c ws .after) (rules c rulesWords .after)
 
--- What a call names: its settings; the moment to which it brings the clock, from the moment before it; what is said of the key that it names.
+-- Of a call: its settings; the clock after it, given the clock before; what is said of its key, if it names one.
 abbrev pub settingsOf : Call → Settings
 settingsOf (request s at id r cost) = s
 settingsOf (look s at id l) = s
-settingsOf (return s id r) = s
+settingsOf (undo s id r) = s
 settingsOf (len s) = s
 
 abbrev pub momentOf : Call → ℕ → ℕ
 momentOf (request s at id r cost) before = at .0
 momentOf (look s at id l) before = at .0
-momentOf (return s id r) before = before
+momentOf (undo s id r) before = before
 momentOf (len s) before = before
 
 abbrev pub ofKey : (Identity → Type 0) → Call → Type 0
 ofKey Q (request s at id r cost) = Q id
 ofKey Q (look s at id l) = Q id
-ofKey Q (return s id r) = Q id
+ofKey Q (undo s id r) = Q id
 ofKey Q (len s) = Unit {0}
 
--- What is said of the key of a return.
-abbrev pub ofReturned : (Identity → Type 0) → Call → Type 0
-ofReturned Q (request s at id r cost) = Unit {0}
-ofReturned Q (look s at id l) = Unit {0}
-ofReturned Q (return s id r) = Q id
-ofReturned Q (len s) = Unit {0}
+-- What is said of the key of a refund or a removal.
+abbrev pub ofUndone : (Identity → Type 0) → Call → Type 0
+ofUndone Q (request s at id r cost) = Unit {0}
+ofUndone Q (look s at id l) = Unit {0}
+ofUndone Q (undo s id r) = Q id
+ofUndone Q (len s) = Unit {0}
 
--- What is made of the wait of a reply that grants, else another value. Acquired and a reservation both grant, whichever call is answered so: an
--- implementation cannot hide the grant of a try in a reservation's reply, nor the other way round.
+-- `f` of the wait if the reply grants, else the other value. Acquired and a reservation both grant, whichever request is answered so: no grant of a try is
+-- hidden in a reservation's reply, nor the other way round.
 abbrev pub ofGrant : {A : Type 0} → (ℕ → A) → A → Reply → A
 ofGrant f other (Tried Acquired) = f 0
 ofGrant f other (Tried (Retry after)) = other
@@ -126,7 +126,7 @@ kindOf (request s at id Acquire cost) = decides
 kindOf (request s at id (Reserve longest) cost) = reserves
 kindOf (look s at id (peeks cost)) = decides
 kindOf (look s at id tokens) = counts
-kindOf (return s id r) = knows
+kindOf (undo s id r) = knows
 kindOf (len s) = counts
 
 -- Whether a reply is a refusal by number.

@@ -170,7 +170,7 @@ fn reserve_within(
 
 // What the key's own bucket would answer to a try, taking nothing. It says nothing of space.
 pub fn peek(settings: Settings, ws: &[u64], at: Nanos, id: Identity, cost: u32) -> Reply
-    ensures { λ r. ⌜ outcome r (now (ws .entry)) ≡ Rules.peek settings at id cost (now (ws .entry)) ⌝ }
+    ensures { λ r. ⌜ outcome r (now (ws .exit)) ≡ Rules.peek settings at id cost (now (ws .entry)) ⌝ }
 {
     let refusal = settings.refusal();
     if refusal != 0 {
@@ -203,7 +203,7 @@ fn look(settings: Settings, ws: &[u64], part: Part, at: Nanos, id: Identity, cos
 
 // The whole tokens that a key has.
 pub fn available(settings: Settings, ws: &[u64], at: Nanos, id: Identity) -> Reply
-    ensures { λ r. ⌜ outcome r (now (ws .entry)) ≡ Rules.available settings at id (now (ws .entry)) ⌝ }
+    ensures { λ r. ⌜ outcome r (now (ws .exit)) ≡ Rules.available settings at id (now (ws .entry)) ⌝ }
 {
     let refusal = settings.refusal();
     if refusal != 0 {
@@ -280,7 +280,7 @@ pub fn clear(settings: Settings, ws: &mut [u64]) -> Reply
 
 // How many keys have a slot.
 pub fn len(settings: Settings, ws: &[u64]) -> Reply
-    ensures { λ r. ⌜ outcome r (now (ws .entry)) ≡ Rules.len settings (now (ws .entry)) ⌝ }
+    ensures { λ r. ⌜ outcome r (now (ws .exit)) ≡ Rules.len settings (now (ws .entry)) ⌝ }
 {
     let refusal = refusals::len_refusal(settings, ws);
     if refusal != 0 {

@@ -11,7 +11,7 @@ use Rattle.settings.specs.declared.decision.Decision.the-variants.{Acquired, Re
 use Rattle.store.specs.declared.Identity.{Identity}
 use Rattle.perkey.specs.declared.Reply.{Reply}
 use Rattle.perkey.specs.declared.Reply.the-variants.{Tried, Reserved, Nothing, Done, Count, Refused}
-use Rattle.perkey.specs.Calls.{Call, request, look, return, len, rules, Answered, replies, ofKey, ofGrant, accepted, Every}
+use Rattle.perkey.specs.Calls.{Call, request, look, undo, len, rules, Answered, replies, ofKey, ofGrant, accepted, Every}
 use Rattle.window.specs.Demands.{usable, usableFrom, tokensOf, tokensUsable, Agree, NoSharedHash}
 use Rattle.perkey.proofs.CallLaws.{unaccepted-refused}
 use Rattle.window.proofs.CallSteps.{ruled}
@@ -23,7 +23,7 @@ is k id = cond (eqb (id .hash) (k .hash)) (eqb (id .key) (k .key)) false
 abbrev pub names : Identity → Call → Bool
 names k (request s at id r cost) = is k id
 names k (look s at id l) = is k id
-names k (return s id r) = is k id
+names k (undo s id r) = is k id
 names k (len s) = false
 
 is-same : (k id : Identity) → is k id ≡ true → id ≡ k
@@ -39,14 +39,14 @@ is-same k id e =
 named : (k : Identity) (Q : Identity → Type 0) (c : Call) → names k c ≡ true → ofKey Q c → Q k
 named k Q (request s at id r cost) e q = subst Q (is-same k id e) q
 named k Q (look s at id l) e q = subst Q (is-same k id e) q
-named k Q (return s id r) e q = subst Q (is-same k id e) q
+named k Q (undo s id r) e q = subst Q (is-same k id e) q
 named k Q (len s) e q = absurd (true≢false (sym e))
 
 -- What follows for every identity follows for the one that a call names.
 key-implies : (Q R : Identity → Type 0) → ((id : Identity) → Q id → R id) → (c : Call) → ofKey Q c → ofKey R c
 key-implies Q R f (request s at id r cost) q = f id q
 key-implies Q R f (look s at id l) q = f id q
-key-implies Q R f (return s id r) q = f id q
+key-implies Q R f (undo s id r) q = f id q
 key-implies Q R f (len s) q = tt
 
 -- An accepted call names no other key of the hash.
@@ -98,7 +98,7 @@ own-key k id e hash = ap (λ (i : Identity). i .key) (is-same k id e)
 own-alone : (k : Identity) (c : Call) → names k c ≡ true → ofKey (λ id. id .hash ≡ k .hash → id .key ≡ k .key) c
 own-alone k (request s at id r cost) e = own-key k id e
 own-alone k (look s at id l) e = own-key k id e
-own-alone k (return s id r) e = own-key k id e
+own-alone k (undo s id r) e = own-key k id e
 own-alone k (len s) e = tt
 
 pub appearing-is-alone : (k : Identity) (answered : List Answered) → appears k answered ≡ true → NoSharedHash answered → Every (Alone k) answered
@@ -129,13 +129,13 @@ unnamed-granted k t u id m cost e (Refused n) = refl
 unnamed-tokens : (k : Identity) (t u : ℕ) (c : Call) (reply : Reply) → names k c ≡ false → tokensOf k t u c reply ≡ 0
 unnamed-tokens k t u (request s at id r cost) reply e = unnamed-granted k t u id (usableFrom r at) cost e reply
 unnamed-tokens k t u (look s at id l) reply e = refl
-unnamed-tokens k t u (return s id r) reply e = refl
+unnamed-tokens k t u (undo s id r) reply e = refl
 unnamed-tokens k t u (len s) reply e = refl
 
 refused-tokens : (k : Identity) (t u : ℕ) (c : Call) (n : ℕ) → tokensOf k t u c (Refused n) ≡ 0
 refused-tokens k t u (request s at id r cost) n = refl
 refused-tokens k t u (look s at id l) n = refl
-refused-tokens k t u (return s id r) n = refl
+refused-tokens k t u (undo s id r) n = refl
 refused-tokens k t u (len s) n = refl
 
 uncalled-tokens : (k : Identity) (t u : ℕ) (c : Call) (ws : List ℕ) → calls k (ruled c ws) ≡ false → tokensOf k t u c (rules c ws .answer) ≡ 0

@@ -26,7 +26,7 @@ use Rattle.perkey.specs.declared.Reply.{Reply}
 use Rattle.shards.specs.Memory.{shardAt, inShard}
 use Rattle.perkey.specs.Rules.{unlessTrivial, noWait, askedBy, tooMuch, atOnce, requested, policyOf, replyTo, keyed, refundedBy}
 use Rattle.shards.proofs.RefusalLaws.{keyed-not-refused}
-use Rattle.perkey.specs.Calls.{Call, request, look, return, len, refunds, removes, refund, remove, rules, Answered, settingsOf, momentOf, ofKey, ofReturned, accepted}
+use Rattle.perkey.specs.Calls.{Call, request, look, undo, len, refunds, removes, refund, remove, rules, Answered, settingsOf, momentOf, ofKey, ofUndone, accepted}
 use Rattle.window.specs.Demands.{usableFrom, clock}
 use Rattle.window.proofs.GrantLaws.{Grant, bounded-nil}
 use Rattle.window.proofs.BucketKept.{grantsOfAnswer}
@@ -119,7 +119,7 @@ module _ (s : Settings) (rate : Rate) (k : Identity) (a : Accepted (configOf rat
       pub settings : settingsOf c ≡ s
       pub later : n ≤ momentOf c n
       pub alone : ofKey (λ id. id .hash ≡ k .hash → id .key ≡ k .key) c
-      pub unreturned : ofReturned (λ id. id .hash ≡ k .hash → id .key ≡ k .key → ⊥) c
+      pub not-undone : ofUndone (λ id. id .hash ≡ k .hash → id .key ≡ k .key → ⊥) c
 
     -- The rule of a call with the settings and the rate written in.
     asking : (r : Request) (s′ : Settings) (at : Nanos) (id : Identity) (cost : ℕ) (ws : List ℕ) → s′ ≡ s
@@ -146,16 +146,16 @@ module _ (s : Settings) (rate : Rate) (k : Identity) (a : Accepted (configOf rat
       accepted-stands (look s′ at id l) none fair =
           rw (looks-change-nothing (look s′ at id l) ws looks) (standing-later s rate k n (at .0) ws (fair .later) v)
       accepted-stands (len s′) none fair = rw (looks-change-nothing (len s′) ws counts-keys) v
-      accepted-stands (return s′ id (refunds cost)) none fair =
+      accepted-stands (undo s′ id (refunds cost)) none fair =
           let sound = rw (fair .settings) at (keyed-not-refused s′ (id .hash) ws none .sound) in
-          let differs : id .hash ≡ k .hash → ⊥ = λ hash. fair .unreturned hash (fair .alone hash) in
+          let differs : id .hash ≡ k .hash → ⊥ = λ hash. fair .not-undone hash (fair .alone hash) in
           rw (not-refused-is-ruled (refund s′ id cost) ws none, refunding s′ id cost ws (fair .settings))
           (operation-stands s rate k (id .hash) n ws v (Store.refunded (configOf rate) id cost (shardAt s (id .hash) ws)) (refund-same-room (shardAt s (id .hash) ws) sound (configOf rate) id cost) gs
           (λ same b. invariant-keeps (configOf rate) (k .hash) (k .key) (moment n) _ _ (other-refund (configOf rate) (k .hash) (k .key) (moment n) (shardAt s (id .hash) ws) sound id differs cost) b)
           (λ apart. refl))
-      accepted-stands (return s′ id removes) none fair =
+      accepted-stands (undo s′ id removes) none fair =
           let sound = rw (fair .settings) at (keyed-not-refused s′ (id .hash) ws none .sound) in
-          let differs : id .hash ≡ k .hash → ⊥ = λ hash. fair .unreturned hash (fair .alone hash) in
+          let differs : id .hash ≡ k .hash → ⊥ = λ hash. fair .not-undone hash (fair .alone hash) in
           rw (not-refused-is-ruled (remove s′ id) ws none, fair .settings)
           (operation-stands s rate k (id .hash) n ws v (Store.removed id (shardAt s (id .hash) ws)) (remove-same-room (shardAt s (id .hash) ws) sound id) gs
           (λ same b. invariant-keeps (configOf rate) (k .hash) (k .key) (moment n) _ _ (other-removal (configOf rate) (k .hash) (k .key) (moment n) (shardAt s (id .hash) ws) sound id differs) b)

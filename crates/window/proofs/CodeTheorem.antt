@@ -1,21 +1,15 @@
 -- Code that is as the contracts of its operations tell meets demand 2, and so demand 3.
 use Prim.Native.Nat.{ℕ}
-use mathlib.Core.Path.{_≡_, refl, sym, ap, _∙_}
+use mathlib.Core.Path.{_≡_, refl}
 use mathlib.Core.Bool.{true}
 use mathlib.Core.List.{List}
 use contract.Lifetimes.{Lfts}
-use Rattle.rows.specs.Outcome.{Outcome, outcome}
 use Rattle.bucket.specs.declared.Request.the-variants.{Acquire, Reserve}
-use Rattle.perkey.specs.Calls.{Call, peek, available, request, look, return, len, peeks, tokens, refunds, removes, rules}
-use Rattle.perkey.proofs.CallLaws.{Reads, looks, counts-keys, looks-change-nothing}
+use Rattle.perkey.specs.Calls.{Call, request, look, undo, len, peeks, tokens, refunds, removes, rules}
 use Rattle.window.specs.Widths.{fits, lendable}
 use Rattle.window.specs.Demands.{Limiter, answering, Demand2, Demand3}
-use Rattle.window.specs.Contracts.{LooksOnly, Contracts}
+use Rattle.window.specs.Contracts.{Contracts}
 use Rattle.window.proofs.Theorem.{demand2-gives-demand3}
-
--- A look whose words stay, and whose answer is right with them, is right.
-pub looked : {A : Type 0} {o p : Outcome A (List ℕ)} {ws : List ℕ} → o .after ≡ ws → outcome (o .answer) ws ≡ p → o ≡ p
-looked {o = o} kept told = ap (outcome (o .answer)) kept ∙ told
 
 module _ (κs : Lfts 1) (ptr : ℕ × ℕ) (name : ℕ) where
   -- The rules themselves are as the contracts tell, so that what follows is said of something.
@@ -25,17 +19,14 @@ module _ (κs : Lfts 1) (ptr : ℕ × ℕ) (name : ℕ) where
     clears = λ s ws _ _ _. refl;
     tries = λ s at id cost ws _ _ _. refl;
     reserves = λ s at id cost longest ws _ _ _. refl;
-    peeks = λ s at id cost ws _ _ _. looked-as-ruled (peek s at id cost) ws looks;
-    availables = λ s at id ws _ _ _. looked-as-ruled (available s at id) ws looks;
-    lens = λ s ws _ _ _. looked-as-ruled (len s) ws counts-keys;
+    peeks = λ s at id cost ws _ _ _. refl;
+    availables = λ s at id ws _ _ _. refl;
+    lens = λ s ws _ _ _. refl;
     refunds = λ s id cost ws _ _ _. refl;
     removes = λ s id ws _ _ _. refl;
   }
-    where
-      looked-as-ruled : (c : Call) (ws : List ℕ) → Reads c → outcome (rules c ws .answer) ws ≡ rules c ws
-      looked-as-ruled c ws reads = ap (outcome (rules c ws .answer)) (sym (looks-change-nothing c ws reads))
 
-  module _ (l : Limiter) (lent-to-read : LooksOnly l) (c : Contracts κs ptr name l) where
+  module _ (l : Limiter) (c : Contracts κs ptr name l) where
     -- No operation asks anything of its caller: `tt` shows all that is asked.
     pub contracts-meet-demand2 : Demand2 l
     contracts-meet-demand2 = record {
@@ -47,11 +38,11 @@ module _ (κs : Lfts 1) (ptr : ℕ × ℕ) (name : ℕ) where
         ruled : (call : Call) (ws : List ℕ) → fits call ≡ true → lendable ws ≡ true → l .answers call ws ≡ rules call ws
         ruled (request s at id Acquire cost) ws = λ fit lent. c .tries s at id cost ws fit lent tt
         ruled (request s at id (Reserve longest) cost) ws = λ fit lent. c .reserves s at id cost longest ws fit lent tt
-        ruled (look s at id (peeks cost)) ws = λ fit lent. looked (lent-to-read .peeks s at id cost ws) (c .peeks s at id cost ws fit lent tt)
-        ruled (look s at id tokens) ws = λ fit lent. looked (lent-to-read .availables s at id ws) (c .availables s at id ws fit lent tt)
-        ruled (len s) ws = λ fit lent. looked (lent-to-read .lens s ws) (c .lens s ws fit lent tt)
-        ruled (return s id (refunds cost)) ws = λ fit lent. c .refunds s id cost ws fit lent tt
-        ruled (return s id removes) ws = λ fit lent. c .removes s id ws fit lent tt
+        ruled (look s at id (peeks cost)) ws = λ fit lent. c .peeks s at id cost ws fit lent tt
+        ruled (look s at id tokens) ws = λ fit lent. c .availables s at id ws fit lent tt
+        ruled (undo s id (refunds cost)) ws = λ fit lent. c .refunds s id cost ws fit lent tt
+        ruled (undo s id removes) ws = λ fit lent. c .removes s id ws fit lent tt
+        ruled (len s) ws = λ fit lent. c .lens s ws fit lent tt
 
     pub contracts-meet-demand3 : Demand3 l
     contracts-meet-demand3 = demand2-gives-demand3 l contracts-meet-demand2

@@ -23,7 +23,7 @@ use Rattle.perkey.specs.Rules.{setUp, codeOf, numberOf, tryReply}
 use Rattle.perkey.specs.Calls.{Call, try, reserve, Implementation, rules, Answered, replies, accepted, Every}
 use Rattle.perkey.specs.Edges.{twoPerSecond, limited, keyOf}
 use Rattle.window.specs.Widths.{settingsFit, fits, allFit, lendable}
-use Rattle.window.specs.Demands.{SameSettings, TimesNeverFall, Agree, NoSharedHash, NeverReturned, tokensUsable, ownAnswer}
+use Rattle.window.specs.Demands.{SameSettings, TimesNeverFall, Agree, NoSharedHash, NeverRefundedOrRemoved, tokensUsable, ownAnswer}
 use Rattle.window.specs.Demands.{answering, Demand2, WindowAdding, OwnBucket}
 
 -- A store of one shard, by its rate and by how many keys it has room for; in most examples two tokens a second, up to four.
@@ -142,7 +142,7 @@ module _ (f : Implementation) (s : Settings) where
   have-no-shared-hash [] ws law = tt
   have-no-shared-hash (x ∷ xs) ws law = (agree-with-others _ x refl xs _ _, have-no-shared-hash xs _ _)
 
-  never-return : (k : Identity) (xs : List (ℕ × ℕ)) (ws law : List ℕ) → NeverReturned k (replies f (reservations s xs) ws law)
+  never-return : (k : Identity) (xs : List (ℕ × ℕ)) (ws law : List ℕ) → NeverRefundedOrRemoved k (replies f (reservations s xs) ws law)
   unfolding replies
   never-return k [] ws law = tt
   never-return k (x ∷ xs) ws law = (λ _. tt, never-return k xs _ _)

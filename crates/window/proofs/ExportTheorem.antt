@@ -1,4 +1,4 @@
--- What C and Rust call meets demand 2, and so demand 3, read through the numbers of a reply.
+-- What C and Rust call meets demand 2, told as numbers, and gives its callers a limiter that meets demand 3.
 use Prim.Native.Nat.{ℕ, _+_, _-_, _<_}
 use native.Mathlib.Omega.{arith}
 use mathlib.Core.Path.{_≡_, refl, sym, ap, _∙_}
@@ -10,19 +10,9 @@ use lib.Dec.{eqb}
 use lib.ListN.{replicate}
 use Rattle.arith.proofs.Cases.{by-eq}
 use Rattle.rows.specs.Outcome.{Outcome, outcome}
-use Rattle.units.specs.declared.OptionNanos.{OptionNanos}
-use Rattle.units.specs.declared.OptionNanos.the-variants as nanos
 use Rattle.bucket.specs.declared.Request.the-variants.{Acquire, Reserve}
-use Rattle.settings.specs.declared.Limit.{Limit}
-use Rattle.settings.specs.declared.Limit.the-variants.{Closed, Open}
 use Rattle.settings.specs.declared.Settings.{Settings}
 use Rattle.settings.specs.declared.decision.Decision.the-variants.{Acquired, Retry, Impossible}
-use Rattle.settings.specs.declared.eviction.WhenFull.{WhenFull}
-use Rattle.settings.specs.declared.eviction.WhenFull.the-variants.{RefuseNew, ForgetDebt}
-use Rattle.settings.specs.declared.rate.OptionTokens.{OptionTokens}
-use Rattle.settings.specs.declared.rate.OptionTokens.the-variants as burst
-use Rattle.settings.specs.declared.rate.Rate.{Rate}
-use Rattle.settings.specs.Eviction.{whenFullOf}
 use Rattle.settings.specs.Settings.{wordsOf}
 use Rattle.perkey.specs.declared.Reply.{Reply}
 use Rattle.perkey.specs.declared.Reply.the-variants.{Done, Refused}
@@ -30,53 +20,20 @@ use Rattle.shards.specs.Refusals.{setUpRefusal}
 use Rattle.perkey.specs.Rules.{setUp, clear}
 use Rattle.perkey.proofs.RefusedLaws.{unless-refused-accepts, unless-refused-refuses}
 use Rattle.perkey.specs.Calls.{Call, try, reserve, peek, available, len, refund, remove, rules}
-use Rattle.perkey.specs.Calls.{request, look, return, peeks, tokens, refunds, removes, Kind, decides, reserves, counts, knows, kindOf}
+use Rattle.perkey.specs.Calls.{request, look, undo, peeks, tokens, refunds, removes, Kind, decides, reserves, counts, knows, kindOf}
+use Rattle.perkey.specs.Calls as Calls
 use Rattle.perkey.proofs.CallLaws.{OfKind, decided, reserved, not-reserved, counted, known, unknown}
-use Rattle.perkey.proofs.CallLaws.{Reads, looks, counts-keys, looks-change-nothing}
 use Rattle.perkey.proofs.CallLaws.{refusalOf, ruleOf, not-refused-is-ruled, refused-is-told, rule-answers-in-kind}
-use Rattle.limiter.specs.Exported as Exported
-use Rattle.window.specs.Widths.{settingsFit, fits, lendable}
-use Rattle.window.specs.Demands.{Limiter, Demand2, Demand3}
-use Rattle.window.specs.Contracts.{LooksOnly}
-use Rattle.window.specs.Exports.{flag, number, idleFlag, idleNumber, forgetsDebt, noRate, withRate, withLimit, written}
-use Rattle.window.specs.Exports.{Exports, reading, readAs, through, called, ExportContracts}
+use Rattle.limiter.specs.declared.LimiterSettings.{LimiterSettings}
+use Rattle.limiter.specs.Exported.{settingsOf, nanosOf, identityOf, replyOf, told}
+use Rattle.window.specs.Widths.{fits, lendable}
+use Rattle.window.specs.Demands.{Demand2, Demand3}
+use Rattle.window.specs.Exports.{Exports, numbersFit, through, ExportDemand2, Writer, reading, readAs, called, ExportContracts}
+use Rattle.window.proofs.WidthLaws.{settings-of-call-fit}
 use Rattle.window.proofs.Theorem.{demand2-gives-demand3}
-use Rattle.window.proofs.CodeTheorem.{looked}
-
--- Settings that are written as numbers are read by the exports as they were.
-tokens-come-back : (n : OptionTokens) → Exported.tokensOf (flag n) (number n) ≡ n
-unfolding Exported.tokensOf
-tokens-come-back burst.None = refl
-tokens-come-back (burst.Some n) = refl
-
-idle-comes-back : (idle : OptionNanos) → Exported.idleOf (idleFlag idle) (idleNumber idle) ≡ idle
-unfolding Exported.idleOf
-idle-comes-back nanos.None = refl
-idle-comes-back (nanos.Some span) = refl
-
-when-full-comes-back : (full : WhenFull) → whenFullOf (forgetsDebt full) ≡ full
-unfolding whenFullOf
-when-full-comes-back RefuseNew = refl
-when-full-comes-back ForgetDebt = refl
-
-limit-comes-back : (limit : Limit) (s : Settings) → Exported.limitOf (withLimit limit s) ≡ limit
-unfolding Exported.limitOf
-limit-comes-back Closed s = refl
-limit-comes-back (Open rate) s = rw (tokens-come-back (rate .burst), tokens-come-back (rate .initial)) refl
-
-eviction-comes-back : (closed : ℕ) (rate : Rate) (s : Settings) → Exported.evictionOf (withRate closed rate s) ≡ s .eviction
-eviction-comes-back closed rate s = rw (idle-comes-back (s .eviction .«idle_ttl»), when-full-comes-back (s .eviction .«when_full»)) refl
-
--- All else comes back under either limit.
-limited-come-back : (limit : Limit) (s : Settings) → Exported.settingsOf (withLimit limit s) ≡ record { limit = limit; eviction = s .eviction; shards = s .shards }
-limited-come-back Closed s = rw (limit-comes-back Closed s, eviction-comes-back 1 noRate s) refl
-limited-come-back (Open rate) s = rw (limit-comes-back (Open rate) s, eviction-comes-back 0 rate s) refl
-
-settings-come-back : (s : Settings) → Exported.settingsOf (written s) ≡ s
-settings-come-back s = limited-come-back (s .limit) s
 
 -- A reply that is told as numbers is read, by its kind, as it was.
-in-kind-comes-back : {kind : Kind} {r : Reply} → OfKind kind r → reading kind (Exported.replyOf r) ≡ r
+in-kind-comes-back : {kind : Kind} {r : Reply} → OfKind kind r → reading kind (replyOf r) ≡ r
 unfolding reading
 in-kind-comes-back (decided Acquired) = refl
 in-kind-comes-back (decided (Retry after)) = refl
@@ -94,7 +51,7 @@ no-other-code n code small = ne-eqb (10 + n) code (λ same. omega arith)
 number-comes-back : (n : ℕ) → Refused (10 + n - 10) ≡ Refused n
 number-comes-back n = ap Refused (omega arith)
 
-refusal-comes-back : (kind : Kind) (n : ℕ) → reading kind (Exported.replyOf (Refused n)) ≡ Refused n
+refusal-comes-back : (kind : Kind) (n : ℕ) → reading kind (replyOf (Refused n)) ≡ Refused n
 unfolding reading
 refusal-comes-back decides n =
     rw (no-other-code n 0 (omega arith), no-other-code n 1 (omega arith), no-other-code n 2 (omega arith)) (number-comes-back n)
@@ -103,13 +60,13 @@ refusal-comes-back counts n = rw (no-other-code n 0 (omega arith)) (number-comes
 refusal-comes-back knows n = rw (no-other-code n 0 (omega arith), no-other-code n 3 (omega arith)) (number-comes-back n)
 
 -- So what the rules answer to a call comes back from its numbers, and so does what they answer to set-up.
-reply-comes-back : (c : Call) (ws : List ℕ) → readAs (kindOf c) (Exported.told (rules c ws)) ≡ rules c ws
+reply-comes-back : (c : Call) (ws : List ℕ) → readAs (kindOf c) (told (rules c ws)) ≡ rules c ws
 reply-comes-back c ws =
     by-eq (refusalOf c ws) 0
     (λ none. rw (not-refused-is-ruled c ws none) (ap (λ r. outcome r (ruleOf c ws .after)) (in-kind-comes-back (rule-answers-in-kind c ws))))
     (λ some. rw (refused-is-told c ws some) (ap (λ r. outcome r ws) (refusal-comes-back (kindOf c) (refusalOf c ws))))
 
-set-up-comes-back : (s : Settings) (ws : List ℕ) → readAs knows (Exported.told (setUp s ws)) ≡ setUp s ws
+set-up-comes-back : (s : Settings) (ws : List ℕ) → readAs knows (told (setUp s ws)) ≡ setUp s ws
 unfolding setUp
 set-up-comes-back s ws =
     by-eq (setUpRefusal s ws) 0
@@ -121,53 +78,59 @@ set-up-comes-back s ws =
 -- The rules, told as numbers, are as the contracts of the exports tell, so that what follows is said of something.
 abbrev pub toldRules : Exports
 toldRules = record {
-  set-up = λ n ws. Exported.told (setUp (Exported.settingsOf n) ws);
-  clear = λ n ws. Exported.told (clear (Exported.settingsOf n) ws);
-  try = λ n at hash key cost ws. Exported.told (rules (try (Exported.settingsOf n) (Exported.nanosOf at) (Exported.identityOf hash key) cost) ws);
-  reserve = λ n at hash key cost longest ws.
-      Exported.told (rules (reserve (Exported.settingsOf n) (Exported.nanosOf at) (Exported.identityOf hash key) cost (Exported.nanosOf longest)) ws);
-  peek = λ n at hash key cost ws. Exported.told (rules (peek (Exported.settingsOf n) (Exported.nanosOf at) (Exported.identityOf hash key) cost) ws);
-  available = λ n at hash key ws. Exported.told (rules (available (Exported.settingsOf n) (Exported.nanosOf at) (Exported.identityOf hash key)) ws);
-  length = λ n ws. Exported.told (rules (len (Exported.settingsOf n)) ws);
-  refund = λ n hash key cost ws. Exported.told (rules (refund (Exported.settingsOf n) (Exported.identityOf hash key) cost) ws);
-  remove = λ n hash key ws. Exported.told (rules (remove (Exported.settingsOf n) (Exported.identityOf hash key)) ws);
+  set-up = λ n ws. told (setUp (settingsOf n) ws);
+  clear = λ n ws. told (clear (settingsOf n) ws);
+  try = λ n at hash key cost ws. told (rules (try (settingsOf n) (nanosOf at) (identityOf hash key) cost) ws);
+  reserve = λ n at hash key cost longest ws. told (rules (reserve (settingsOf n) (nanosOf at) (identityOf hash key) cost (nanosOf longest)) ws);
+  peek = λ n at hash key cost ws. told (rules (peek (settingsOf n) (nanosOf at) (identityOf hash key) cost) ws);
+  available = λ n at hash key ws. told (rules (available (settingsOf n) (nanosOf at) (identityOf hash key)) ws);
+  length = λ n ws. told (rules (len (settingsOf n)) ws);
+  refund = λ n hash key cost ws. told (rules (refund (settingsOf n) (identityOf hash key) cost) ws);
+  remove = λ n hash key ws. told (rules (remove (settingsOf n) (identityOf hash key)) ws);
 }
-
-told-look : (c : Call) (ws : List ℕ) → Reads c → outcome (Exported.told (rules c ws) .answer) ws ≡ Exported.told (rules c ws)
-told-look c ws reads = ap (outcome (Exported.replyOf (rules c ws .answer))) (sym (looks-change-nothing c ws reads))
 
 pub rules-are-as-the-exports-tell : (κs : Lfts 1) (ptr : ℕ × ℕ) (name : ℕ) → ExportContracts κs ptr name toldRules
 rules-are-as-the-exports-tell κs ptr name = record {
-  sets-up = λ s ws _ _ _. refl;
-  clears = λ s ws _ _ _. refl;
-  tries = λ s at id cost ws _ _ _. refl;
-  reserves = λ s at id cost longest ws _ _ _. refl;
-  peeks = λ s at id cost ws _ _ _. told-look (peek (Exported.settingsOf (written s)) at id cost) ws looks;
-  availables = λ s at id ws _ _ _. told-look (available (Exported.settingsOf (written s)) at id) ws looks;
-  lens = λ s ws _ _ _. told-look (len (Exported.settingsOf (written s))) ws counts-keys;
-  refunds = λ s id cost ws _ _ _. refl;
-  removes = λ s id ws _ _ _. refl;
+  sets-up = λ n ws _ _ _. refl;
+  clears = λ n ws _ _ _. refl;
+  tries = λ n at id cost ws _ _ _ _. refl;
+  reserves = λ n at id cost longest ws _ _ _ _. refl;
+  peeks = λ n at id cost ws _ _ _ _. refl;
+  availables = λ n at id ws _ _ _ _. refl;
+  lens = λ n ws _ _ _ _. refl;
+  refunds = λ n id cost ws _ _ _ _. refl;
+  removes = λ n id ws _ _ _ _. refl;
 }
 
-module _ (κs : Lfts 1) (ptr : ℕ × ℕ) (name : ℕ) (e : Exports) (lent-to-read : LooksOnly (called e)) (c : ExportContracts κs ptr name e) where
-  -- What a call gives through the exports is what the rules give, told as numbers.
-  told-as-ruled : (call : Call) (ws : List ℕ) → fits call ≡ true → lendable ws ≡ true → through e call ws ≡ Exported.told (rules call ws)
-  told-as-ruled (request s at id Acquire cost) ws = λ fit lent. rw (settings-come-back s) at (c .tries s at id cost ws fit lent tt)
-  told-as-ruled (request s at id (Reserve longest) cost) ws = λ fit lent. rw (settings-come-back s) at (c .reserves s at id cost longest ws fit lent tt)
-  told-as-ruled (look s at id (peeks cost)) ws = λ fit lent.
-      looked (lent-to-read .peeks s at id cost ws) (rw (settings-come-back s) at (c .peeks s at id cost ws fit lent tt))
-  told-as-ruled (look s at id tokens) ws = λ fit lent.
-      looked (lent-to-read .availables s at id ws) (rw (settings-come-back s) at (c .availables s at id ws fit lent tt))
-  told-as-ruled (len s) ws = λ fit lent. looked (lent-to-read .lens s ws) (rw (settings-come-back s) at (c .lens s ws fit lent tt))
-  told-as-ruled (return s id (refunds cost)) ws = λ fit lent. rw (settings-come-back s) at (c .refunds s id cost ws fit lent tt)
-  told-as-ruled (return s id removes) ws = λ fit lent. rw (settings-come-back s) at (c .removes s id ws fit lent tt)
-
-  pub exports-meet-demand2 : Demand2 (called e)
+module _ (κs : Lfts 1) (ptr : ℕ × ℕ) (name : ℕ) (e : Exports) (c : ExportContracts κs ptr name e) where
+  -- No export asks anything of its caller: `tt` shows all that is asked.
+  pub exports-meet-demand2 : ExportDemand2 e
   exports-meet-demand2 = record {
-    sets-up = λ s ws fit lent. ap (readAs knows) (rw (settings-come-back s) at (c .sets-up s ws fit lent tt)) ∙ set-up-comes-back s ws;
-    clears = λ s ws fit lent. ap (readAs knows) (rw (settings-come-back s) at (c .clears s ws fit lent tt)) ∙ set-up-comes-back s ws;
-    answers = λ call ws fit lent. ap (readAs (kindOf call)) (told-as-ruled call ws fit lent) ∙ reply-comes-back call ws;
+    sets-up = λ n ws small lent. c .sets-up n ws small lent tt;
+    clears = λ n ws small lent. c .clears n ws small lent tt;
+    answers = ruled;
+  }
+    where
+      ruled : (n : LimiterSettings) (call : Call) (ws : List ℕ) → numbersFit n ≡ true → Calls.settingsOf call ≡ settingsOf n → fits call ≡ true
+          → lendable ws ≡ true → through e n call ws ≡ told (rules call ws)
+      ruled n (request s at id Acquire cost) ws = λ small is fit lent. rw is (c .tries n at id cost ws small (rw is at fit) lent tt)
+      ruled n (request s at id (Reserve longest) cost) ws = λ small is fit lent. rw is (c .reserves n at id cost longest ws small (rw is at fit) lent tt)
+      ruled n (look s at id (peeks cost)) ws = λ small is fit lent. rw is (c .peeks n at id cost ws small (rw is at fit) lent tt)
+      ruled n (look s at id tokens) ws = λ small is fit lent. rw is (c .availables n at id ws small (rw is at fit) lent tt)
+      ruled n (undo s id (refunds cost)) ws = λ small is fit lent. rw is (c .refunds n id cost ws small (rw is at fit) lent tt)
+      ruled n (undo s id removes) ws = λ small is fit lent. rw is (c .removes n id ws small (rw is at fit) lent tt)
+      ruled n (len s) ws = λ small is fit lent. rw is (c .lens n ws small (rw is at fit) lent tt)
+
+  -- So a caller has a limiter that meets demand 2, however the settings are written.
+  pub callers-have-demand2 : (w : Writer) → Demand2 (called w e)
+  callers-have-demand2 w = record {
+    sets-up = λ s ws fit lent. ap (readAs knows) (rw (w .back s) at (exports-meet-demand2 .sets-up (w .write s) ws (w .fit s fit) lent)) ∙ set-up-comes-back s ws;
+    clears = λ s ws fit lent. ap (readAs knows) (rw (w .back s) at (exports-meet-demand2 .clears (w .write s) ws (w .fit s fit) lent)) ∙ set-up-comes-back s ws;
+    answers = λ call ws fit lent.
+        let s = Calls.settingsOf call in
+        ap (readAs (kindOf call)) (exports-meet-demand2 .answers (w .write s) call ws (w .fit s (settings-of-call-fit call fit)) (sym (w .back s)) fit lent)
+        ∙ reply-comes-back call ws;
   }
 
-  pub exports-meet-demand3 : Demand3 (called e)
-  exports-meet-demand3 = demand2-gives-demand3 (called e) exports-meet-demand2
+  pub exports-meet-demand3 : (w : Writer) → Demand3 (called w e)
+  exports-meet-demand3 w = demand2-gives-demand3 (called w e) (callers-have-demand2 w)

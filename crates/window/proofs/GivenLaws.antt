@@ -18,7 +18,7 @@ use Rattle.store.specs.declared.Answer.the-variants.{Decided, NoSpace}
 use Rattle.perkey.specs.declared.Reply.{Reply}
 use Rattle.perkey.specs.declared.Reply.the-variants.{Tried, Reserved, Nothing, Done, Count, Refused}
 use Rattle.perkey.specs.Rules.{replyTo, tooMuch, atOnce}
-use Rattle.perkey.specs.Calls.{Call, request, look, return, len, ofGrant}
+use Rattle.perkey.specs.Calls.{Call, request, look, undo, len, ofGrant}
 use Rattle.window.specs.Demands.{usable, usableFrom, tokensOf}
 use Rattle.window.proofs.TryLaws.{AsAsked}
 use Rattle.window.proofs.GrantLaws.{Grant, within}
@@ -36,7 +36,7 @@ granting from cost gs reply = ofGrant (λ wait. record { usable = from wait; tok
 abbrev pub given : Identity → Call → Reply → List Grant → List Grant
 given k (request s at id r cost) reply gs = ifOwn k id (granting (usableFrom r at) cost gs reply) gs
 given k (look s at id l) reply gs = gs
-given k (return s id r) reply gs = gs
+given k (undo s id r) reply gs = gs
 given k (len s) reply gs = gs
 
 module _ (k id : Identity) (own other : List Grant) where
@@ -57,7 +57,7 @@ same-either-way k id gs =
 pub refusal-gives-nothing : (k : Identity) (c : Call) (n : ℕ) (gs : List Grant) → given k c (Refused n) gs ≡ gs
 refusal-gives-nothing k (request s at id r cost) n gs = same-either-way k id gs
 refusal-gives-nothing k (look s at id l) n gs = refl
-refusal-gives-nothing k (return s id r) n gs = refl
+refusal-gives-nothing k (undo s id r) n gs = refl
 refusal-gives-nothing k (len s) n gs = refl
 
 -- What a reply tells is granted as the store's answer grants it.
@@ -104,5 +104,5 @@ module _ (k : Identity) (t u : ℕ) (gs : List Grant) where
   pub given-within : (c : Call) (reply : Reply) → within t u (given k c reply gs) ≡ tokensOf k t u c reply + within t u gs
   given-within (request s at id r cost) reply = request-within (usableFrom r at) id cost reply
   given-within (look s at id l) reply = omega arith
-  given-within (return s id r) reply = omega arith
+  given-within (undo s id r) reply = omega arith
   given-within (len s) reply = omega arith

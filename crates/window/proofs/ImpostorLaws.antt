@@ -7,7 +7,7 @@ use mathlib.Core.Path.{_≡_, refl}
 use mathlib.Core.List.{List, [], _∷_}
 use Rattle.store.specs.declared.Identity.{Identity}
 use Rattle.perkey.specs.Rules.{setUp}
-use Rattle.perkey.specs.Calls.{Call, request, look, return, len, rules, replies}
+use Rattle.perkey.specs.Calls.{Call, request, look, undo, len, rules, replies}
 use Rattle.window.specs.Demands.{Limiter, answering, Demand2, tokensOf, tokensUsable, WindowAdding, Window, OwnBucket, Demand3}
 use Rattle.window.specs.Impostors.{impossibleToAll, retryBeforeALook, alwaysAcquired, grantsWithoutStoring, firstDebtOnly, inventedLength}
 use Rattle.window.specs.Impostors.{turnsSlotlessAway, turnsNewcomersAway, blindToKeys}
@@ -36,7 +36,7 @@ impossible-to-all-fails-demand2 = by-demand3 _ impossible-to-all-fails-demand3
 impossible-is-no-grant : (k : Identity) (t u : ℕ) (c : Call) (ws : List ℕ) → tokensOf k t u c (impossibleToAll c ws .answer) ≡ 0
 impossible-is-no-grant k t u (request s at id r cost) ws = refl
 impossible-is-no-grant k t u (look s at id l) ws = refl
-impossible-is-no-grant k t u (return s id r) ws = refl
+impossible-is-no-grant k t u (undo s id r) ws = refl
 impossible-is-no-grant k t u (len s) ws = refl
 
 nothing-usable : (k : Identity) (t u : ℕ) (cs : List Call) (ws law : List ℕ) → tokensUsable k t u (replies impossibleToAll cs ws law) ≡ 0
@@ -45,7 +45,7 @@ nothing-usable k t u [] ws law = refl
 nothing-usable k t u (c ∷ cs) ws law = rw (impossible-is-no-grant k t u c ws, nothing-usable k t u cs ws (rules c law .after)) refl
 
 pub impossible-to-all-keeps-the-window : Window (answering impossibleToAll)
-impossible-to-all-keeps-the-window s rate ws _ _ rated refuses done′ cs _ same rising apart k unreturned t u le =
+impossible-to-all-keeps-the-window s rate ws _ _ rated refuses done′ cs _ same rising apart k not-undone t u le =
     rw (nothing-usable k t u cs (setUp s ws .after) (setUp s ws .after)) (omega arith)
 
 -- The second: the same key is turned away.

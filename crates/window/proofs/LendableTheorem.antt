@@ -32,7 +32,7 @@ use Rattle.shards.proofs.MemoryLaws.{shard-at-cap, shard-at-debt-cap, in-shard-
 use Rattle.shards.proofs.RefusalLaws.{Accepted, keyed-not-refused}
 use Rattle.perkey.specs.declared.Reply.{Reply}
 use Rattle.perkey.specs.Rules.{setUp, policyOf, unlessTrivial, requested, replyTo, askedBy, keyed, refundedBy}
-use Rattle.perkey.specs.Calls.{Call, request, look, return, len, peeks, tokens, refunds, removes, rules, Every}
+use Rattle.perkey.specs.Calls.{Call, request, look, undo, len, peeks, tokens, refunds, removes, rules, Every}
 use Rattle.perkey.proofs.RefusedLaws.{set-up-refusal-is-told, set-up-zeroes}
 use Rattle.perkey.proofs.CallLaws.{refusalOf, ruleOf, not-refused-is-ruled, refused-is-told}
 use Rattle.window.proofs.OwnBucket.{request-not-refused}
@@ -125,9 +125,9 @@ rule-leaves-words-lendable (request s at id r cost) ws none fit lent =
 rule-leaves-words-lendable (look s at id (peeks cost)) ws none fit lent = lent
 rule-leaves-words-lendable (look s at id tokens) ws none fit lent = lent
 rule-leaves-words-lendable (len s) ws none fit lent = lent
-rule-leaves-words-lendable (return s id (refunds cost)) ws none fit lent =
+rule-leaves-words-lendable (undo s id (refunds cost)) ws none fit lent =
     refund-leaves-lendable s id ws lent (keyed-not-refused s (id .hash) ws none) cost (s .limit)
-rule-leaves-words-lendable (return s id removes) ws none fit lent = removal-leaves-lendable s id ws lent (keyed-not-refused s (id .hash) ws none)
+rule-leaves-words-lendable (undo s id removes) ws none fit lent = removal-leaves-lendable s id ws lent (keyed-not-refused s (id .hash) ws none)
 
 -- What an equal outcome leaves.
 equal-leaves-lendable : {o given : Outcome Reply (List ℕ)} → o ≡ given → lendable (given .after) ≡ true → lendable (o .after) ≡ true

@@ -19,6 +19,7 @@ pub mod CallSteps
 pub mod AppearsLaws
 pub mod Theorem
 pub mod CodeTheorem
+pub mod WriterLaws
 pub mod ExportTheorem
 pub mod ExampleLaws
 pub mod Computed

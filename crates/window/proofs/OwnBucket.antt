@@ -20,7 +20,7 @@ use Rattle.shards.specs.Memory.{shardAt}
 use Rattle.perkey.specs.Rules.{unlessTrivial, askedBy, tooMuch, atOnce, requested, policyOf, replyTo}
 use Rattle.shards.specs.Refusals.{latestMoment, longestMaxWait}
 use Rattle.shards.proofs.RefusalLaws.{Accepted, timed-not-refused, reserve-not-refused}
-use Rattle.perkey.specs.Calls.{Call, request, look, return, len, rules, Answered, replies, Every}
+use Rattle.perkey.specs.Calls.{Call, request, look, undo, len, rules, Answered, replies, Every}
 use Rattle.window.specs.Demands.{decidedBy}
 use Rattle.perkey.proofs.CallLaws.{refusalOf, ruleOf, not-refused-is-ruled, accepted-not-refused}
 
@@ -54,7 +54,7 @@ decided (request s at id r cost) ws = λ taken rate rated least most holding.
     (in-range-is-asked rate cost (tooMuch r) (atOnce r) ws (requested s rate id r cost at ws (replyTo r)) least most)
     ∙ ap (replyTo r) (own-bucket-decides (policyOf s rate) id r cost at (shardAt s (id .hash) ws) sound holding)
 decided (look s at id l) ws = tt
-decided (return s id r) ws = tt
+decided (undo s id r) ws = tt
 decided (len s) ws = tt
 
 pub rules-decide-by-own-bucket : (ws : List ℕ) (cs : List Call) → Every (λ a. decidedBy a (a .call)) (replies rules cs ws ws)

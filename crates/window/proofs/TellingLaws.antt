@@ -1,5 +1,5 @@
 -- An implementation that leaves the words of the rules, grants nothing that they do not grant, and tells a key that holds a slot or a debt what they tell it,
--- meets demand 3. So does one that turns every newcomer away once, and one that invents the length: it is demand 2 that shuts them out.
+-- meets demand 3. So does one that turns every newcomer away at first, and one that invents the length: demand 2 shuts them out.
 use Prim.Native.Nat.{ℕ, _≤_}
 use native.Mathlib.Omega.{arith}
 use native.Mathlib.Nat.{mul-le-mul-right, le-trans}
@@ -17,7 +17,7 @@ use Rattle.store.specs.Model.{holds}
 use Rattle.perkey.specs.declared.Reply.{Reply}
 use Rattle.shards.specs.Memory.{shardAt}
 use Rattle.perkey.specs.Rules.{setUp, replyTo}
-use Rattle.perkey.specs.Calls.{Call, request, look, return, len, Implementation, rules, Answered, replies, ofGrant, accepted, Every}
+use Rattle.perkey.specs.Calls.{Call, request, look, undo, len, Implementation, rules, Answered, replies, ofGrant, accepted, Every}
 use Rattle.window.specs.Demands.{TimesNeverFall, NoSharedHash, usable, usableFrom, tokensOf, tokensUsable, decidedBy, answering, Window, Demand3}
 use Rattle.window.specs.Impostors.{telling, invented, inventedLength, turnedAwayUnless, turnsNewcomersAway}
 use Rattle.window.proofs.CallSteps.{ruled}
@@ -64,7 +64,7 @@ module _ (told : Call → List ℕ → Reply) (cautious : (c : Call) (ws : List 
 
   telling-keeps-the-window : Window (answering (telling told))
   unfolding accepted
-  telling-keeps-the-window s rate ws _ _ rated refuses done′ cs _ same rising apart k unreturned t u le =
+  telling-keeps-the-window s rate ws _ _ rated refuses done′ cs _ same rising apart k not-undone t u le =
       let fresh : List ℕ = setUp s ws .after in
       le-trans (mul-le-mul-right (rate .period .0) (no-more-in-all k t u cs fresh))
       (rules-stay-within-the-window s rate ws rated refuses done′ cs
@@ -72,7 +72,7 @@ module _ (told : Call → List ℕ → Reply) (cautious : (c : Call) (ws : List 
       (alike-in-time (telling told) rules 0 cs fresh fresh fresh rising)
       (alike-in-hashes (telling told) rules cs fresh fresh fresh apart)
       k
-      (alike-in-every (telling told) rules _ (λ c r q law e. e) cs fresh fresh fresh unreturned)
+      (alike-in-every (telling told) rules _ (λ c r q law e. e) cs fresh fresh fresh not-undone)
       t
       u
       le)
@@ -104,7 +104,7 @@ newcomers-turned-away-cautiously (request s at id r cost) ws =
       tells-holders = λ d _ _ _ _ _ holding. absurd (true≢false (sym holding ∙ h));
     }))
 newcomers-turned-away-cautiously (look s at id l) ws = ruled-is-cautious (look s at id l) ws
-newcomers-turned-away-cautiously (return s id r) ws = ruled-is-cautious (return s id r) ws
+newcomers-turned-away-cautiously (undo s id r) ws = ruled-is-cautious (undo s id r) ws
 newcomers-turned-away-cautiously (len s) ws = ruled-is-cautious (len s) ws
 
 pub turns-newcomers-away-meets-demand3 : Demand3 (answering turnsNewcomersAway)
@@ -114,7 +114,7 @@ turns-newcomers-away-meets-demand3 = telling-meets-demand3 (turnedAwayUnless hol
 length-invented-cautiously : (c : Call) (ws : List ℕ) → Cautious c ws (invented c ws)
 length-invented-cautiously (request s at id r cost) ws = ruled-is-cautious (request s at id r cost) ws
 length-invented-cautiously (look s at id l) ws = ruled-is-cautious (look s at id l) ws
-length-invented-cautiously (return s id r) ws = ruled-is-cautious (return s id r) ws
+length-invented-cautiously (undo s id r) ws = ruled-is-cautious (undo s id r) ws
 length-invented-cautiously (len s) ws = record { grants-no-more = λ k t u. omega arith; tells-holders = λ d. tt }
 
 pub invented-length-meets-demand3 : Demand3 (answering inventedLength)

@@ -28,7 +28,7 @@ use Rattle.perkey.proofs.RefusedLaws.{unless-refused-accepts, unless-refused-re
 use Rattle.perkey.specs.Calls.{Call, rules, Answered, replies, accepted, Every}
 use Rattle.window.proofs.WidthLaws.{both-true}
 use Rattle.window.specs.Widths.{fits, allFit, lendable}
-use Rattle.window.specs.Demands.{SameSettings, clock, TimesNeverFall, NoSharedHash, NeverReturned, tokensOf, tokensUsable, WithinWindow}
+use Rattle.window.specs.Demands.{SameSettings, clock, TimesNeverFall, NoSharedHash, NeverRefundedOrRemoved, tokensOf, tokensUsable, WithinWindow}
 use Rattle.window.specs.Demands.{Limiter, answering, Demand2, Window, OwnBucket, Demand3}
 use Rattle.window.proofs.LendableTheorem.{rules-leave-words-lendable, set-up-leaves-words-lendable}
 use Rattle.window.proofs.GrantLaws.{Grant, within, window-from-bound}
@@ -72,16 +72,16 @@ module _ (s : Settings) (rate : Rate) (k : Identity) (a : Accepted (configOf rat
 
   -- The whole list, call by call: what was granted before and what is granted in it stay within the bound.
   run : (cs : List Call) (n : ℕ) (ws : List ℕ) (gs : List Grant) → SameSettings s (replies rules cs ws ws) → TimesNeverFall n (replies rules cs ws ws)
-      → Every (Alone k) (replies rules cs ws ws) → NeverReturned k (replies rules cs ws ws) → Stands n ws gs
+      → Every (Alone k) (replies rules cs ws ws) → NeverRefundedOrRemoved k (replies rules cs ws ws) → Stands n ws gs
       → (t u : ℕ) → t ≤ u
       → (tokensUsable k t u (replies rules cs ws ws) + within t u gs) * rate .period .0 + t * rate .amount ≤ burstOf rate * rate .period .0 + u * rate .amount + rate .amount
   unfolding replies TimesNeverFall tokensUsable
-  run [] n ws gs same rising alone unreturned v t u le = omega (arith, v .bounds .bound .window t u le)
-  run (c ∷ cs) n ws gs same rising alone unreturned v t u le =
+  run [] n ws gs same rising alone not-undone v t u le = omega (arith, v .bounds .bound .window t u le)
+  run (c ∷ cs) n ws gs same rising alone not-undone v t u le =
       let fair : accepted (ruled c ws) ≡ true → Fair s rate k a never rated n c = λ taken.
-      record { settings = same .0 taken; later = rw taken at (rising .0); alone = alone .0 taken; unreturned = unreturned .0 taken } in
+      record { settings = same .0 taken; later = rw taken at (rising .0); alone = alone .0 taken; not-undone = not-undone .0 taken } in
       let next = call-stands s rate k a never rated n ws gs v c fair in
-      let rest = run cs (clock n (ruled c ws)) (rules c ws .after) (given k c (rules c ws .answer) gs) (same .1) (rising .1) (alone .1) (unreturned .1) next t u le in
+      let rest = run cs (clock n (ruled c ws)) (rules c ws .after) (given k c (rules c ws .answer) gs) (same .1) (rising .1) (alone .1) (not-undone .1) next t u le in
       let sums : tokensOf k t u c (rules c ws .answer) + tokensUsable k t u (replies rules cs (rules c ws .after) (rules c ws .after)) + within t u gs
       ≡ tokensUsable k t u (replies rules cs (rules c ws .after) (rules c ws .after)) + within t u (given k c (rules c ws .answer) gs) =
       omega (arith, given-within k t u gs c (rules c ws .answer)) in
@@ -92,30 +92,30 @@ module _ (s : Settings) (rate : Rate) (k : Identity) (a : Accepted (configOf rat
     abbrev answered : List Answered
     answered = replies rules cs (replicate (wordsOf s) 0) (replicate (wordsOf s) 0)
 
-    appearing-window : SameSettings s answered → TimesNeverFall 0 answered → NoSharedHash answered → NeverReturned k answered → appears k answered ≡ true
+    appearing-window : SameSettings s answered → TimesNeverFall 0 answered → NoSharedHash answered → NeverRefundedOrRemoved k answered → appears k answered ≡ true
         → tokensUsable k t u answered * rate .period .0 + t * rate .amount ≤ burstOf rate * rate .period .0 + u * rate .amount + rate .amount
     unfolding within
-    appearing-window same rising apart unreturned there =
-        omega (arith, run cs 0 (replicate (wordsOf s) 0) [] same rising (appearing-is-alone k answered there apart) unreturned fresh-stands t u le)
+    appearing-window same rising apart not-undone there =
+        omega (arith, run cs 0 (replicate (wordsOf s) 0) [] same rising (appearing-is-alone k answered there apart) not-undone fresh-stands t u le)
 
     absent-window : appears k answered ≡ false
         → tokensUsable k t u answered * rate .period .0 + t * rate .amount ≤ burstOf rate * rate .period .0 + u * rate .amount + rate .amount
     absent-window absent = rw (absent-is-granted-nothing k t u cs (replicate (wordsOf s) 0) absent) (omega (arith, mul-le-mul-right (rate .amount) le))
 
-    fresh-window : SameSettings s answered → TimesNeverFall 0 answered → NoSharedHash answered → NeverReturned k answered
+    fresh-window : SameSettings s answered → TimesNeverFall 0 answered → NoSharedHash answered → NeverRefundedOrRemoved k answered
         → tokensUsable k t u answered * rate .period .0 ≤ burstOf rate * rate .period .0 + (u - t + 1) * rate .amount
-    fresh-window same rising apart unreturned =
+    fresh-window same rising apart not-undone =
         window-from-bound (rate .amount) (rate .period .0) (burstOf rate) (tokensUsable k t u answered) t u le
-        (by-test (appears k answered) (appearing-window same rising apart unreturned) absent-window)
+        (by-test (appears k answered) (appearing-window same rising apart not-undone) absent-window)
 
 -- The first part, for settings, calls and words of any numbers.
 pub rules-stay-within-the-window : (s : Settings) (rate : Rate) (ws : List ℕ) → s .limit ≡ Open rate → s .eviction .«when_full» ≡ RefuseNew → setUp s ws .answer ≡ Done
     → (cs : List Call) → WithinWindow 1 s rate (replies rules cs (setUp s ws .after) (setUp s ws .after))
-rules-stay-within-the-window s rate ws rated refuses done′ cs same rising apart k unreturned t u le =
+rules-stay-within-the-window s rate ws rated refuses done′ cs same rising apart k not-undone t u le =
     let up = set-up-done s ws done′ in
     let a : Accepted (configOf rate) = accepted-rate rate (rw rated at (accepted-parts s (up .settings) .0)) in
     rw (up .words)
-    (fresh-window s rate k a (ap forgets refuses) rated cs t u le (rw (up .words) at same) (rw (up .words) at rising) (rw (up .words) at apart) (rw (up .words) at unreturned))
+    (fresh-window s rate k a (ap forgets refuses) rated cs t u le (rw (up .words) at same) (rw (up .words) at rising) (rw (up .words) at apart) (rw (up .words) at not-undone))
 
 -- Demand 3, whole.
 pub rules-meet-demand3 : Demand3 (answering rules)

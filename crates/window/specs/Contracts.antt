@@ -1,6 +1,6 @@
--- Code as its caller knows it: what the contracts of the nine operations of `perkey` tell, and what the types of their arguments tell.
--- `Asked` and `Learnt` are the contract of an operation as the check of its callers reads it: what a caller has to show first, and what it then knows of the
--- arguments at entry, the result, and the arguments at exit. The check makes both from the `requires` and `ensures` in crates/perkey/src/lib.rt.
+-- Code as its caller knows it: what the contracts of the nine operations of `perkey` tell.
+-- `Asked` and `Learnt` are an operation's `requires` and `ensures`, in crates/perkey/src/lib.rt, as the check gives them to its callers: `Asked` of the arguments,
+-- `Learnt` of the arguments at entry, the result, and the arguments at exit.
 use Prim.Native.Nat.{ℕ}
 use mathlib.Core.Path.{_≡_}
 use mathlib.Core.Bool.{true}
@@ -23,16 +23,14 @@ use Rattle.perkey.proofs.remove.Reads as Remove
 use Rattle.window.specs.Widths.{settingsFit, fits, lendable}
 use Rattle.window.specs.Demands.{Limiter}
 
--- A look leaves the words as they are: they are lent to it as `&[u64]`, to read only.
-pub record LooksOnly (l : Limiter) : Type 0 where
-  pub peeks : (s : Settings) (at : Nanos) (id : Identity) (cost : ℕ) (ws : List ℕ) → l .answers (peek s at id cost) ws .after ≡ ws
-  pub availables : (s : Settings) (at : Nanos) (id : Identity) (ws : List ℕ) → l .answers (available s at id) ws .after ≡ ws
-  pub lens : (s : Settings) (ws : List ℕ) → l .answers (len s) ws .after ≡ ws
+-- Words that are lent, at some place.
+abbrev pub lentAt : ℕ × ℕ → ℕ → List ℕ → RefT (List ℕ)
+lentAt ptr name ws = record { ptr = ptr; name = name; now = ws }
 
--- For some lifetimes and some place of the lent words, by which no contract tells answers apart.
+-- For any lifetimes and any place of the lent words: no answer depends on them.
 module _ (κs : Lfts 1) (ptr : ℕ × ℕ) (name : ℕ) where
   abbrev lent : List ℕ → RefT (List ℕ)
-  lent ws = record { ptr = ptr; name = name; now = ws }
+  lent ws = lentAt ptr name ws
 
   -- Of each operation: where its numbers fit and what it asks is shown, its contract holds of what the code gives.
   pub record Contracts (l : Limiter) : Type 0 where

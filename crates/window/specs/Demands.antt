@@ -7,12 +7,12 @@
 -- Each call gets the words that the call before it left.                                                 replies
 --
 -- The window.                                                                                            Window
--- The limiter's own set-up has accepted settings with a rate that turn new keys away when full.
+-- The settings have a rate and turn new keys away when full, set-up accepts them, and the list starts from the words that the limiter's own set-up leaves.
 -- Of the calls that are not refused by number                                                            accepted
 -- all have these settings,                                                                               SameSettings
 -- the moments never fall,                                                                                TimesNeverFall
 -- no two name different keys of one hash,                                                                NoSharedHash
--- and none refunds or removes the key k.                                                                 NeverReturned
+-- and none refunds or removes the key k.                                                                 NeverRefundedOrRemoved
 -- Add up the tokens granted to k that first become usable from moment t to moment u.                     tokensUsable
 -- Times the period, the sum is at most burst × period + (u - t + 1) × amount,                            WithinWindow 1
 -- however often k was evicted and came back.
@@ -27,9 +27,9 @@
 -- Theorems, in proofs/:
 -- * `rules-meet-demand3`: the rules meet it. `demand2-gives-demand3`: so does every limiter that meets demand 2.
 -- * `contracts-meet-demand2`, `contracts-meet-demand3`: so does code that is as the contracts of `perkey` tell its callers.
--- * `exports-meet-demand2`, `exports-meet-demand3`: so does what C and Rust call, read through the numbers of a reply.
+-- * `exports-meet-demand2`: what C and Rust call tells the rules' replies as numbers. `exports-meet-demand3`: so their callers have a limiter that meets it.
 -- * `window-adding-none-is-false-of-the-rules`: the + 1 cannot be left out.
--- * Impostors are refuted in ImpostorLaws. Demand 3 alone admits a limiter that turns every newcomer away once (`turns-newcomers-away-meets-demand3`);
+-- * Impostors are refuted in ImpostorLaws. Demand 3 alone admits a limiter that turns every newcomer away at first (`turns-newcomers-away-meets-demand3`);
 --   demand 2 shuts it out (`turns-newcomers-away-fails-demand2`).
 use Prim.Native.Nat.{ℕ, _+_, _*_, _-_, _≤_}
 use mathlib.Core.Path.{_≡_}
@@ -54,8 +54,8 @@ use Rattle.perkey.specs.declared.Reply.{Reply}
 use Rattle.perkey.specs.declared.Reply.the-variants.{Done}
 use Rattle.shards.specs.Memory.{shardAt}
 use Rattle.perkey.specs.Rules.{setUp, clear, replyTo, bucketOf}
-use Rattle.perkey.specs.Calls.{Call, request, look, return, len, Implementation, rules, Answered, replies}
-use Rattle.perkey.specs.Calls.{settingsOf, momentOf, ofKey, ofReturned, ofGrant, accepted, Every}
+use Rattle.perkey.specs.Calls.{Call, request, look, undo, len, Implementation, rules, Answered, replies}
+use Rattle.perkey.specs.Calls.{settingsOf, momentOf, ofKey, ofUndone, ofGrant, accepted, Every}
 use Rattle.window.specs.Widths.{settingsFit, fits, allFit, lendable}
 
 -- A limiter, as its caller has it: set-up, clear, and an answer to every other call. Each gives a reply and leaves words.
@@ -95,16 +95,15 @@ NoSharedHash [] = Unit {0}
 NoSharedHash (a ∷ rest) = Every (Agree a) rest × NoSharedHash rest
 
 -- and none of them refunds or removes the key in question.
-abbrev pub NeverReturned : Identity → List Answered → Type 0
-NeverReturned k = Every (λ a. accepted a ≡ true → ofReturned (λ id. id .hash ≡ k .hash → id .key ≡ k .key → ⊥) (a .call))
+abbrev pub NeverRefundedOrRemoved : Identity → List Answered → Type 0
+NeverRefundedOrRemoved k = Every (λ a. accepted a ≡ true → ofUndone (λ id. id .hash ≡ k .hash → id .key ≡ k .key → ⊥) (a .call))
 
 -- The tokens of one grant, if it is the key's and they first become usable from t to u.
 unfoldable pub usable : Identity → ℕ → ℕ → Identity → ℕ → ℕ → ℕ
 usable k t u id moment cost =
     cond (eqb (id .hash) (k .hash)) (cond (eqb (id .key) (k .key)) (cond (leb t moment) (cond (leb moment u) cost 0) 0) 0) 0
 
--- A grant is a try answered Acquired or a reservation that is answered with its wait; either reply to the other call counts as well, so that no grant is
--- hidden in it. A try's tokens are usable at once, a reservation's from the call's moment plus the wait answered.
+-- The tokens of a grant (`ofGrant`) are usable at once where a try was made, and from the call's moment plus the wait answered where a reservation was.
 abbrev pub usableFrom : Request → Nanos → ℕ → ℕ
 usableFrom Acquire at wait = at .0
 usableFrom (Reserve longest) at wait = at .0 + wait
@@ -112,7 +111,7 @@ usableFrom (Reserve longest) at wait = at .0 + wait
 abbrev pub tokensOf : Identity → ℕ → ℕ → Call → Reply → ℕ
 tokensOf k t u (request s at id r cost) reply = ofGrant (λ wait. usable k t u id (usableFrom r at wait) cost) 0 reply
 tokensOf k t u (look s at id l) reply = 0
-tokensOf k t u (return s id r) reply = 0
+tokensOf k t u (undo s id r) reply = 0
 tokensOf k t u (len s) reply = 0
 
 unfoldable pub tokensUsable : Identity → ℕ → ℕ → List Answered → ℕ
@@ -123,20 +122,20 @@ tokensUsable k t u (a ∷ rest) = tokensOf k t u (a .call) (a .reply) + tokensUs
 abbrev pub WithinWindow : ℕ → Settings → Rate → List Answered → Type 0
 WithinWindow added s rate answered =
     SameSettings s answered → TimesNeverFall 0 answered → NoSharedHash answered →
-    (k : Identity) → NeverReturned k answered →
+    (k : Identity) → NeverRefundedOrRemoved k answered →
     (t u : ℕ) → t ≤ u →
     tokensUsable k t u answered * rate .period .0 ≤ burstOf rate * rate .period .0 + (u - t + added) * rate .amount
 
--- Every list does, on a fresh store with a rate set, under RefuseNew.
+-- Every list does that starts from a fresh store, with a rate set, under RefuseNew: from the words that the limiter's set-up leaves where the rules accept it.
 abbrev pub WindowAdding : ℕ → Limiter → Type 0
 WindowAdding added l =
     (s : Settings) (rate : Rate) (ws : List ℕ) → settingsFit s ≡ true → lendable ws ≡ true →
-    s .limit ≡ Open rate → s .eviction .«when_full» ≡ RefuseNew → l .sets-up s ws .answer ≡ Done →
+    s .limit ≡ Open rate → s .eviction .«when_full» ≡ RefuseNew → setUp s ws .answer ≡ Done →
     (cs : List Call) → allFit cs ≡ true →
     WithinWindow added s rate (replies (l .answers) cs (l .sets-up s ws .after) (l .sets-up s ws .after))
 
 -- Demand 3, first part: the window. No key is granted more in any window than its burst and what comes back in that time and in one moment more. That
--- moment cannot be left out: a wait is rounded up to a whole nanosecond, in which more than the whole tokens can come back.
+-- moment cannot be left out: waits are rounded up to whole nanoseconds, so tokens that came back within the nanosecond before t can first be usable at t.
 abbrev pub Window : Limiter → Type 0
 Window l = WindowAdding 1 l
 
@@ -154,7 +153,7 @@ ByOwnBucket a s at id r cost =
 abbrev pub decidedBy : Answered → Call → Type 0
 decidedBy a (request s at id r cost) = ByOwnBucket a s at id r cost
 decidedBy a (look s at id l) = Unit {0}
-decidedBy a (return s id r) = Unit {0}
+decidedBy a (undo s id r) = Unit {0}
 decidedBy a (len s) = Unit {0}
 
 -- Demand 3, second part: the own bucket. From any words, whatever the settings, times and hashes, no such request is decided by want of space.

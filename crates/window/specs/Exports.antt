@@ -1,34 +1,28 @@
--- The limiter as C and Rust call it: the nine exports of `limiter` on plain numbers, and the limiter that a caller has in them, who writes settings as
--- numbers and reads replies from their numbers.
+-- The limiter as C and Rust call it: the nine operations that `limiter` exports on plain numbers, demand 2 of them, and the limiter that a caller has in them,
+-- who writes settings as numbers and reads replies from their numbers.
 use Prim.Native.Nat.{ℕ, _-_}
 use mathlib.Core.Path.{_≡_}
-use mathlib.Core.Bool.{true, cond}
+use mathlib.Core.Bool.{Bool, true, cond, _&&_}
 use mathlib.Core.List.{List}
 use lib.Dec.{eqb}
 use contract.Lifetimes.{Lfts}
 use denote.Ref.{RefT}
 use Rattle.rows.specs.Outcome.{Outcome, outcome}
 use Rattle.units.specs.declared.Nanos.{Nanos}
-use Rattle.units.specs.declared.OptionNanos.{OptionNanos}
-use Rattle.units.specs.declared.OptionNanos.the-variants as nanos
 use Rattle.bucket.specs.declared.Request.the-variants.{Acquire, Reserve}
-use Rattle.settings.specs.declared.Limit.{Limit}
-use Rattle.settings.specs.declared.Limit.the-variants.{Closed, Open}
 use Rattle.settings.specs.declared.Settings.{Settings}
 use Rattle.settings.specs.declared.decision.Decision.the-variants.{Acquired, Retry, Impossible}
-use Rattle.settings.specs.declared.eviction.WhenFull.{WhenFull}
-use Rattle.settings.specs.declared.eviction.WhenFull.the-variants.{RefuseNew, ForgetDebt}
-use Rattle.settings.specs.declared.rate.OptionTokens.{OptionTokens}
-use Rattle.settings.specs.declared.rate.OptionTokens.the-variants as burst
-use Rattle.settings.specs.declared.rate.Rate.{Rate}
 use Rattle.perkey.specs.declared.Reply.{Reply}
 use Rattle.perkey.specs.declared.Reply.the-variants.{Tried, Reserved, Nothing, Done, Count, Refused}
 use Rattle.store.specs.declared.Identity.{Identity}
+use Rattle.perkey.specs.Rules.{setUp, clear}
 use Rattle.perkey.specs.Calls.{Call, try, reserve, peek, available, len, refund, remove}
-use Rattle.perkey.specs.Calls.{request, look, return, peeks, tokens, refunds, removes}
+use Rattle.perkey.specs.Calls.{request, look, undo, peeks, tokens, refunds, removes, rules}
+use Rattle.perkey.specs.Calls as Calls
 use Rattle.perkey.specs.Calls.{Kind, decides, reserves, counts, knows, kindOf}
 use Rattle.limiter.specs.declared.LimiterSettings.{LimiterSettings}
 use Rattle.limiter.specs.declared.LimiterReply.{LimiterReply}
+use Rattle.limiter.specs.Exported.{settingsOf, told}
 use Rattle.limiter.proofs.limiter_set_up.Reads as SetUp
 use Rattle.limiter.proofs.limiter_clear.Reads as Clear
 use Rattle.limiter.proofs.limiter_try.Reads as Try
@@ -38,8 +32,9 @@ use Rattle.limiter.proofs.limiter_available.Reads as Available
 use Rattle.limiter.proofs.limiter_length.Reads as Length
 use Rattle.limiter.proofs.limiter_refund.Reads as Refund
 use Rattle.limiter.proofs.limiter_remove.Reads as Remove
-use Rattle.window.specs.Widths.{settingsFit, fits, lendable}
+use Rattle.window.specs.Widths.{fits64, fits32, settingsFit, fits, lendable}
 use Rattle.window.specs.Demands.{Limiter}
+use Rattle.window.specs.Contracts.{lentAt}
 
 -- What each export gives for its numbers and words: two numbers, and words.
 abbrev Gives : Type 0
@@ -56,54 +51,36 @@ pub record Exports : Type 0 where
   pub refund : LimiterSettings → (hash key cost : ℕ) → Gives
   pub remove : LimiterSettings → (hash key : ℕ) → Gives
 
--- Settings as a caller writes them: a flag and a number for what may be unset, and zeros for the rate of a closed limiter.
-abbrev pub flag : OptionTokens → ℕ
-flag burst.None = 0
-flag (burst.Some n) = 1
+-- The numbers of a settings struct fit their widths.
+abbrev pub numbersFit : LimiterSettings → Bool
+numbersFit n =
+    fits64 (n .period) && fits64 (n .«max_keys») && fits64 (n .shards) && fits64 (n .idle) && fits32 (n .closed) && fits32 (n .amount)
+    && fits32 (n .«has_burst») && fits32 (n .burst) && fits32 (n .«has_initial») && fits32 (n .initial) && fits32 (n .«has_idle») && fits32 (n .«forget_debt»)
 
-abbrev pub number : OptionTokens → ℕ
-number burst.None = 0
-number (burst.Some n) = n
+-- The export by which a call is made, with a settings struct and the call's numbers.
+abbrev pub through : Exports → LimiterSettings → Call → Gives
+through e n (request s at id Acquire cost) = e .try n (at .0) (id .hash) (id .key) cost
+through e n (request s at id (Reserve longest) cost) = e .reserve n (at .0) (id .hash) (id .key) cost (longest .0)
+through e n (look s at id (peeks cost)) = e .peek n (at .0) (id .hash) (id .key) cost
+through e n (look s at id tokens) = e .available n (at .0) (id .hash) (id .key)
+through e n (undo s id (refunds cost)) = e .refund n (id .hash) (id .key) cost
+through e n (undo s id removes) = e .remove n (id .hash) (id .key)
+through e n (len s) = e .length n
 
-abbrev pub idleFlag : OptionNanos → ℕ
-idleFlag nanos.None = 0
-idleFlag (nanos.Some span) = 1
+-- Demand 2 of the exports: whatever numbers the settings are written in, both numbers of a reply are those of the rules' reply, and all words are theirs.
+pub record ExportDemand2 (e : Exports) : Type 0 where
+  pub sets-up : (n : LimiterSettings) (ws : List ℕ) → numbersFit n ≡ true → lendable ws ≡ true → e .set-up n ws ≡ told (setUp (settingsOf n) ws)
+  pub clears : (n : LimiterSettings) (ws : List ℕ) → numbersFit n ≡ true → lendable ws ≡ true → e .clear n ws ≡ told (clear (settingsOf n) ws)
+  pub answers : (n : LimiterSettings) (c : Call) (ws : List ℕ) → numbersFit n ≡ true → Calls.settingsOf c ≡ settingsOf n → fits c ≡ true → lendable ws ≡ true
+      → through e n c ws ≡ told (rules c ws)
 
-abbrev pub idleNumber : OptionNanos → ℕ
-idleNumber nanos.None = 0
-idleNumber (nanos.Some span) = span .0
+-- How a caller writes settings as numbers: any way in which they come back.
+pub record Writer : Type 0 where
+  pub write : Settings → LimiterSettings
+  pub fit : (s : Settings) → settingsFit s ≡ true → numbersFit (write s) ≡ true
+  pub back : (s : Settings) → settingsOf (write s) ≡ s
 
-abbrev pub forgetsDebt : WhenFull → ℕ
-forgetsDebt RefuseNew = 0
-forgetsDebt ForgetDebt = 1
-
-abbrev pub noRate : Rate
-noRate = record { amount = 0; period = record { 0 = 0 }; burst = burst.None; initial = burst.None }
-
-abbrev pub withRate : ℕ → Rate → Settings → LimiterSettings
-withRate closed rate s = record {
-  period = rate .period .0;
-  «max_keys» = s .eviction .«max_keys»;
-  shards = s .shards;
-  idle = idleNumber (s .eviction .«idle_ttl»);
-  closed = closed;
-  amount = rate .amount;
-  «has_burst» = flag (rate .burst);
-  burst = number (rate .burst);
-  «has_initial» = flag (rate .initial);
-  initial = number (rate .initial);
-  «has_idle» = idleFlag (s .eviction .«idle_ttl»);
-  «forget_debt» = forgetsDebt (s .eviction .«when_full»);
-}
-
-abbrev pub withLimit : Limit → Settings → LimiterSettings
-withLimit Closed s = withRate 1 noRate s
-withLimit (Open rate) s = withRate 0 rate s
-
-abbrev pub written : Settings → LimiterSettings
-written s = withLimit (s .limit) s
-
--- A reply as a caller reads it, by the kind of the call: the code tells which reply of that kind it is, and a code of 10 or more is a refusal.
+-- How a caller reads a reply, by the kind of the call: the code tells which reply of that kind it is. Any other code is read as a refusal.
 abbrev refusedBy : LimiterReply → Reply
 refusedBy r = Refused (r .code - 10)
 
@@ -119,74 +96,66 @@ reading knows r = cond (eqb (r .code) 0) Done (cond (eqb (r .code) 3) Nothing (r
 abbrev pub readAs : Kind → Outcome LimiterReply (List ℕ) → Outcome Reply (List ℕ)
 readAs kind o = outcome (reading kind (o .answer)) (o .after)
 
--- The export that a call is made by, with its numbers.
-abbrev pub through : Exports → Call → Gives
-through e (request s at id Acquire cost) = e .try (written s) (at .0) (id .hash) (id .key) cost
-through e (request s at id (Reserve longest) cost) = e .reserve (written s) (at .0) (id .hash) (id .key) cost (longest .0)
-through e (look s at id (peeks cost)) = e .peek (written s) (at .0) (id .hash) (id .key) cost
-through e (look s at id tokens) = e .available (written s) (at .0) (id .hash) (id .key)
-through e (return s id (refunds cost)) = e .refund (written s) (id .hash) (id .key) cost
-through e (return s id removes) = e .remove (written s) (id .hash) (id .key)
-through e (len s) = e .length (written s)
-
--- The limiter that such a caller has.
-abbrev pub called : Exports → Limiter
-called e = record {
-  sets-up = λ s ws. readAs knows (e .set-up (written s) ws);
-  clears = λ s ws. readAs knows (e .clear (written s) ws);
-  answers = λ c ws. readAs (kindOf c) (through e c ws);
+-- The limiter that a caller has who writes and reads so.
+abbrev pub called : Writer → Exports → Limiter
+called w e = record {
+  sets-up = λ s ws. readAs knows (e .set-up (w .write s) ws);
+  clears = λ s ws. readAs knows (e .clear (w .write s) ws);
+  answers = λ c ws. readAs (kindOf c) (through e (w .write (Calls.settingsOf c)) c ws);
 }
 
--- For some lifetimes and some place of the lent words, by which no contract tells answers apart.
+-- For any lifetimes and any place of the lent words: no answer depends on them.
 module _ (κs : Lfts 1) (ptr : ℕ × ℕ) (name : ℕ) where
-  abbrev lent : List ℕ → RefT (List ℕ)
-  lent ws = record { ptr = ptr; name = name; now = ws }
-
   -- The arguments of an export as its contract has them: the settings, the words, and the numbers of a moment and a key.
-  abbrev whole : Settings → List ℕ → LimiterSettings × (RefT (List ℕ) × Unit {0})
-  whole s ws = (written s, (lent ws, tt))
+  abbrev whole : LimiterSettings → List ℕ → LimiterSettings × (RefT (List ℕ) × Unit {0})
+  whole n ws = (n, (lentAt ptr name ws, tt))
 
-  abbrev onKey : {A : Type 0} → Settings → List ℕ → Identity → A → LimiterSettings × (RefT (List ℕ) × (ℕ × (ℕ × A)))
-  onKey s ws id more = (written s, (lent ws, (id .hash, (id .key, more))))
+  abbrev onKey : {A : Type 0} → LimiterSettings → List ℕ → Identity → A → LimiterSettings × (RefT (List ℕ) × (ℕ × (ℕ × A)))
+  onKey n ws id more = (n, (lentAt ptr name ws, (id .hash, (id .key, more))))
 
-  abbrev atMoment : {A : Type 0} → Settings → List ℕ → Nanos → Identity → A → LimiterSettings × (RefT (List ℕ) × (ℕ × (ℕ × (ℕ × A))))
-  atMoment s ws at id more = (written s, (lent ws, (at .0, (id .hash, (id .key, more)))))
+  abbrev atMoment : {A : Type 0} → LimiterSettings → List ℕ → Nanos → Identity → A → LimiterSettings × (RefT (List ℕ) × (ℕ × (ℕ × (ℕ × A))))
+  atMoment n ws at id more = (n, (lentAt ptr name ws, (at .0, (id .hash, (id .key, more)))))
 
-  -- Of each export: where the numbers of the call fit and what it asks is shown, its contract holds of what it gives. (`Asked` and `Learnt`: Contracts.)
+  -- Of each export: where its numbers fit and what it asks is shown, its contract holds of what it gives. (`Asked` and `Learnt`: Contracts.)
   pub record ExportContracts (e : Exports) : Type 0 where
-    pub sets-up : (s : Settings) (ws : List ℕ) → settingsFit s ≡ true → lendable ws ≡ true →
-        let o = e .set-up (written s) ws in
-        SetUp.Asked κs (whole s ws) → SetUp.Learnt κs (whole s ws) (o .answer) (whole s (o .after))
-    pub clears : (s : Settings) (ws : List ℕ) → settingsFit s ≡ true → lendable ws ≡ true →
-        let o = e .clear (written s) ws in
-        Clear.Asked κs (whole s ws) → Clear.Learnt κs (whole s ws) (o .answer) (whole s (o .after))
-    pub tries : (s : Settings) (at : Nanos) (id : Identity) (cost : ℕ) (ws : List ℕ) →
-        fits (try s at id cost) ≡ true → lendable ws ≡ true →
-        let o = through e (try s at id cost) ws in
-        Try.Asked κs (atMoment s ws at id (cost, tt)) → Try.Learnt κs (atMoment s ws at id (cost, tt)) (o .answer) (atMoment s (o .after) at id (cost, tt))
-    pub reserves : (s : Settings) (at : Nanos) (id : Identity) (cost : ℕ) (longest : Nanos) (ws : List ℕ) →
-        fits (reserve s at id cost longest) ≡ true → lendable ws ≡ true →
-        let o = through e (reserve s at id cost longest) ws in
-        Reserve.Asked κs (atMoment s ws at id (cost, (longest .0, tt))) →
-        Reserve.Learnt κs (atMoment s ws at id (cost, (longest .0, tt))) (o .answer) (atMoment s (o .after) at id (cost, (longest .0, tt)))
-    pub peeks : (s : Settings) (at : Nanos) (id : Identity) (cost : ℕ) (ws : List ℕ) →
-        fits (peek s at id cost) ≡ true → lendable ws ≡ true →
-        let o = through e (peek s at id cost) ws in
-        Peek.Asked κs (atMoment s ws at id (cost, tt)) →
-        Peek.Learnt κs (atMoment s ws at id (cost, tt)) (o .answer) (atMoment s (o .after) at id (cost, tt))
-    pub availables : (s : Settings) (at : Nanos) (id : Identity) (ws : List ℕ) →
-        fits (available s at id) ≡ true → lendable ws ≡ true →
-        let o = through e (available s at id) ws in
-        Available.Asked κs (atMoment s ws at id tt) → Available.Learnt κs (atMoment s ws at id tt) (o .answer) (atMoment s (o .after) at id tt)
-    pub lens : (s : Settings) (ws : List ℕ) →
-        fits (len s) ≡ true → lendable ws ≡ true →
-        let o = through e (len s) ws in
-        Length.Asked κs (whole s ws) → Length.Learnt κs (whole s ws) (o .answer) (whole s (o .after))
-    pub refunds : (s : Settings) (id : Identity) (cost : ℕ) (ws : List ℕ) →
-        fits (refund s id cost) ≡ true → lendable ws ≡ true →
-        let o = through e (refund s id cost) ws in
-        Refund.Asked κs (onKey s ws id (cost, tt)) → Refund.Learnt κs (onKey s ws id (cost, tt)) (o .answer) (onKey s (o .after) id (cost, tt))
-    pub removes : (s : Settings) (id : Identity) (ws : List ℕ) →
-        fits (remove s id) ≡ true → lendable ws ≡ true →
-        let o = through e (remove s id) ws in
-        Remove.Asked κs (onKey s ws id tt) → Remove.Learnt κs (onKey s ws id tt) (o .answer) (onKey s (o .after) id tt)
+    pub sets-up : (n : LimiterSettings) (ws : List ℕ) → numbersFit n ≡ true → lendable ws ≡ true →
+        let o = e .set-up n ws in
+        SetUp.Asked κs (whole n ws) → SetUp.Learnt κs (whole n ws) (o .answer) (whole n (o .after))
+    pub clears : (n : LimiterSettings) (ws : List ℕ) → numbersFit n ≡ true → lendable ws ≡ true →
+        let o = e .clear n ws in
+        Clear.Asked κs (whole n ws) → Clear.Learnt κs (whole n ws) (o .answer) (whole n (o .after))
+    pub tries : (n : LimiterSettings) (at : Nanos) (id : Identity) (cost : ℕ) (ws : List ℕ) → numbersFit n ≡ true →
+        fits (try (settingsOf n) at id cost) ≡ true → lendable ws ≡ true →
+        let o = through e n (try (settingsOf n) at id cost) ws in
+        Try.Asked κs (atMoment n ws at id (cost, tt)) →
+        Try.Learnt κs (atMoment n ws at id (cost, tt)) (o .answer) (atMoment n (o .after) at id (cost, tt))
+    pub reserves : (n : LimiterSettings) (at : Nanos) (id : Identity) (cost : ℕ) (longest : Nanos) (ws : List ℕ) → numbersFit n ≡ true →
+        fits (reserve (settingsOf n) at id cost longest) ≡ true → lendable ws ≡ true →
+        let o = through e n (reserve (settingsOf n) at id cost longest) ws in
+        Reserve.Asked κs (atMoment n ws at id (cost, (longest .0, tt))) →
+        Reserve.Learnt κs (atMoment n ws at id (cost, (longest .0, tt))) (o .answer) (atMoment n (o .after) at id (cost, (longest .0, tt)))
+    pub peeks : (n : LimiterSettings) (at : Nanos) (id : Identity) (cost : ℕ) (ws : List ℕ) → numbersFit n ≡ true →
+        fits (peek (settingsOf n) at id cost) ≡ true → lendable ws ≡ true →
+        let o = through e n (peek (settingsOf n) at id cost) ws in
+        Peek.Asked κs (atMoment n ws at id (cost, tt)) →
+        Peek.Learnt κs (atMoment n ws at id (cost, tt)) (o .answer) (atMoment n (o .after) at id (cost, tt))
+    pub availables : (n : LimiterSettings) (at : Nanos) (id : Identity) (ws : List ℕ) → numbersFit n ≡ true →
+        fits (available (settingsOf n) at id) ≡ true → lendable ws ≡ true →
+        let o = through e n (available (settingsOf n) at id) ws in
+        Available.Asked κs (atMoment n ws at id tt) →
+        Available.Learnt κs (atMoment n ws at id tt) (o .answer) (atMoment n (o .after) at id tt)
+    pub lens : (n : LimiterSettings) (ws : List ℕ) → numbersFit n ≡ true →
+        fits (len (settingsOf n)) ≡ true → lendable ws ≡ true →
+        let o = through e n (len (settingsOf n)) ws in
+        Length.Asked κs (whole n ws) →
+        Length.Learnt κs (whole n ws) (o .answer) (whole n (o .after))
+    pub refunds : (n : LimiterSettings) (id : Identity) (cost : ℕ) (ws : List ℕ) → numbersFit n ≡ true →
+        fits (refund (settingsOf n) id cost) ≡ true → lendable ws ≡ true →
+        let o = through e n (refund (settingsOf n) id cost) ws in
+        Refund.Asked κs (onKey n ws id (cost, tt)) →
+        Refund.Learnt κs (onKey n ws id (cost, tt)) (o .answer) (onKey n (o .after) id (cost, tt))
+    pub removes : (n : LimiterSettings) (id : Identity) (ws : List ℕ) → numbersFit n ≡ true →
+        fits (remove (settingsOf n) id) ≡ true → lendable ws ≡ true →
+        let o = through e n (remove (settingsOf n) id) ws in
+        Remove.Asked κs (onKey n ws id tt) →
+        Remove.Learnt κs (onKey n ws id tt) (o .answer) (onKey n (o .after) id tt)

@@ -17,20 +17,20 @@ use Rattle.settings.specs.declared.decision.Decision.the-variants.{Impossible}
 use Rattle.perkey.specs.declared.Reply.the-variants.{Tried, Count}
 use Rattle.shards.specs.Memory.{shardAt, inShard}
 use Rattle.perkey.specs.Rules.{numberOf, noWait, replyTo}
-use Rattle.perkey.specs.Calls.{Call, request, look, return, len, Implementation, rules, settingsOf, numbered}
+use Rattle.perkey.specs.Calls.{Call, request, look, undo, len, Implementation, rules, settingsOf, numbered}
 
--- What is made of a request, told as a try or as a reservation tells its answer; of a length; of any other call.
+-- By the kind of a call: a value for a request, given how its answer is told; for a length; and for any other call.
 abbrev byKind : {A : Type 0} → ((Answer → Reply) → A) → A → A → Call → A
 byKind requested length other (request s at id r cost) = requested (replyTo r)
 byKind requested length other (look s at id l) = other
-byKind requested length other (return s id r) = other
+byKind requested length other (undo s id r) = other
 byKind requested length other (len s) = length
 
 -- The key that a call names. A length names none, and has the hash 0 here, whose shard is the first.
 abbrev identityOf : Call → Identity
 identityOf (request s at id r cost) = id
 identityOf (look s at id l) = id
-identityOf (return s id r) = id
+identityOf (undo s id r) = id
 identityOf (len s) = record { hash = 0; key = 0 }
 
 -- The shard of that key.
@@ -94,7 +94,7 @@ turnedAwayUnless found c ws =
 abbrev pub turnsSlotlessAway : Implementation
 turnsSlotlessAway = telling (turnedAwayUnless (λ id s. hasSlot (placeOf s (id .hash) (id .key))))
 
--- Finer still: a key with neither a slot nor a debt is turned away. The words are as if it had been let in, so that a newcomer is turned away once.
+-- Finer still: a key with neither a slot nor a debt is turned away. The words are as if it had been let in, so that it is known when it asks again.
 abbrev pub turnsNewcomersAway : Implementation
 turnsNewcomersAway = telling (turnedAwayUnless holds)
 
@@ -105,7 +105,7 @@ blind id = record { hash = id .hash; key = id .hash }
 abbrev blindly : Call → Call
 blindly (request s at id r cost) = request s at (blind id) r cost
 blindly (look s at id l) = look s at (blind id) l
-blindly (return s id r) = return s (blind id) r
+blindly (undo s id r) = undo s (blind id) r
 blindly (len s) = len s
 
 abbrev pub blindToKeys : Implementation

@@ -15,7 +15,7 @@ use Rattle.settings.specs.declared.rate.OptionTokens.{OptionTokens}
 use Rattle.settings.specs.declared.rate.OptionTokens.the-variants as burst
 use Rattle.settings.specs.declared.rate.Rate.{Rate}
 use Rattle.store.specs.declared.Identity.{Identity}
-use Rattle.perkey.specs.Calls.{Look, peeks, tokens, Return, refunds, removes, Call, request, look, return, len}
+use Rattle.perkey.specs.Calls.{Look, peeks, tokens, Undo, refunds, removes, Call, request, look, undo, len}
 
 -- A number fits 64 bits (`u64`, `usize`), or 32 bits (`u32`).
 abbrev pub fits64 : ℕ → Bool
@@ -55,14 +55,14 @@ abbrev pub lookFits : Look → Bool
 lookFits (peeks cost) = fits32 cost
 lookFits tokens = true
 
-abbrev pub returnFits : Return → Bool
-returnFits (refunds cost) = fits32 cost
-returnFits removes = true
+abbrev pub undoFits : Undo → Bool
+undoFits (refunds cost) = fits32 cost
+undoFits removes = true
 
 abbrev pub fits : Call → Bool
 fits (request s at id r cost) = settingsFit s && fits64 (at .0) && keyFits id && requestFits r && fits32 cost
 fits (look s at id l) = settingsFit s && fits64 (at .0) && keyFits id && lookFits l
-fits (return s id r) = settingsFit s && keyFits id && returnFits r
+fits (undo s id r) = settingsFit s && keyFits id && undoFits r
 fits (len s) = settingsFit s
 
 abbrev pub allFit : List Call → Bool
