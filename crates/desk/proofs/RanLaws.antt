@@ -8,6 +8,7 @@ use lib.ListN.{length, take, drop, length-append, length-take, length-drop}
 use Rattle.rows.specs.Outcome.{Outcome}
 use Rattle.rows.specs.Parts.{part}
 use Rattle.rows.proofs.OutcomeLaws.{after-is}
+use Rattle.desk_lines.specs.Lines.{longestLine}
 use Rattle.desk_turns.specs.declared.Feed.{Feed}
 use Rattle.desk_turns.specs.declared.Turned.{Turned}
 use Rattle.desk_turns.specs.Feeding.{stateOf, OneTurn, LastLine}
@@ -17,6 +18,15 @@ use Rattle.desk_turns.proofs.CuttingLaws.{one-turn-more, turn-is-turned}
 use Rattle.desk.specs.declared.feed.Ran.{Ran}
 use Rattle.desk.specs.declared.feed.Why.the-variants.{Input, Refused, Read, Write, LastWrite, Turns}
 use Rattle.desk.specs.Ran.{standing, Short, TurnedTo, lastAnswered, AtEnd, RanFrom}
+
+-- How the loop stands at its head.
+pub record GoingOn (input₀ : List ℕ) (held₀ : ℕ) (output₀ memory₀ : List ℕ) (f₀ : Feed) (input : List ℕ) (held : ℕ) (output memory : List ℕ) (f : Feed) (turns : ℕ) : Type 0 where
+  pub same-input : length input ≡ length input₀
+  pub same-output : length output ≡ length output₀
+  pub same-memory : length memory ≡ length memory₀
+  pub few : held ≤ longestLine + 1
+  pub more : hasEnded (f .stage) ≡ false
+  pub far : TurnedTo (standing held₀ input₀ f₀ memory₀) (length input₀) turns (standing held input f memory)
 
 -- No read yet, and one more.
 pub none-turned : (s : Standing) (size : ℕ) → TurnedTo s size 0 s
@@ -36,40 +46,36 @@ one-more {from} {size = size} read fits far =
       is-turned = ap (λ (s : Standing). turned read s .after) (far .is-turned) ∙ sym (one-turn-more (far .reads) read from);
     }
 
--- A read leaves the bytes that are held.
-pub held-stays : (held : ℕ) (input input₁ : List ℕ) (f : Feed) {from : Standing} {size turns : ℕ} {memory : List ℕ} → take held input₁ ≡ take held input
-    → TurnedTo from size turns (standing held input f memory) → TurnedTo from size turns (standing held input₁ f memory)
-held-stays held input input₁ f stays far = rw stays far
-
 -- Nothing is left to answer once the run has ended.
 ended-answers-none : (s : Standing) → hasEnded (s .state .stage) ≡ true → lastAnswered s ≡ s .state
 ended-answers-none s ended = ap (λ (o : Outcome (List ℕ) State). o .after) (none-once-ended (lastLine (s .held)) (s .state) ended)
 
--- A turn after a read.
-module _ {from : Standing} {turns held end : ℕ} {f : Feed} {input memory output : List ℕ} {r : Turned} {input′ memory′ output′ : List ℕ}
-    (far : TurnedTo from (length input) turns (standing held input f memory)) (within : held ≤ end) (one : OneTurn f end input memory output r input′ memory′ output′) where
+-- A turn after a read, which leaves the bytes that are held.
+module _ (input₀ : List ℕ) {from : Standing} {size turns held end : ℕ} {f : Feed} {input memory output : List ℕ} {r : Turned} {input′ memory′ output′ : List ℕ}
+    (far : TurnedTo from size turns (standing held input₀ f memory)) (stays : take held input ≡ take held input₀) (within : held ≤ end) (fits : length input ≤ size)
+    (one : OneTurn f end input memory output r input′ memory′ output′) where
   abbrev read : List ℕ
   read = part held (end - held) input
 
   abbrev next : Standing
   next = turned read (standing held input f memory) .after
 
-  next-turned : TurnedTo from (length input) (turns + 1) next
-  next-turned = one-more read (omega (arith, length-take (end - held) (drop held input), length-drop held input)) far
+  next-turned : TurnedTo from size (turns + 1) next
+  next-turned = one-more read (omega (arith, fits, length-take (end - held) (drop held input), length-drop held input)) (rw stays far)
 
   stands-next : stateOf (r .feed) memory′ ≡ next .state
   stands-next = turn-is-turned held within one .1
 
-  pub goes-on : hasEnded (r .feed .stage) ≡ false → TurnedTo from (length input) (turns + 1) (standing (r .held) input′ (r .feed) memory′)
+  pub goes-on : hasEnded (r .feed .stage) ≡ false → TurnedTo from size (turns + 1) (standing (r .held) input′ (r .feed) memory′)
   goes-on more =
       let keeps = turn-is-turned held within one .2 more in
       let same : standing (r .held) input′ (r .feed) memory′ ≡ next = λ j. record { held = keeps j; state = stands-next j } in
       rw same next-turned
 
-  pub over-by-write : RanFrom from (length input) (record { why = Write; feed = r .feed; turns = turns + 1 }) memory′
+  pub over-by-write : RanFrom from size (record { why = Write; feed = r .feed; turns = turns + 1 }) memory′
   over-by-write = record { to = next; turned-to = next-turned; stands = stands-next; rightly = tt }
 
-  pub over-by-line-1 : hasEnded (r .feed .stage) ≡ true → RanFrom from (length input) (record { why = Refused; feed = r .feed; turns = turns + 1 }) memory′
+  pub over-by-line-1 : hasEnded (r .feed .stage) ≡ true → RanFrom from size (record { why = Refused; feed = r .feed; turns = turns + 1 }) memory′
   over-by-line-1 ended =
       let ended′ : hasEnded (next .state .stage) ≡ true = sym (ap (λ (s : State). hasEnded (s .stage)) stands-next) ∙ ended in
       record { to = next; turned-to = next-turned; stands = stands-next ∙ sym (ended-answers-none next ended′); rightly = ended }
@@ -82,9 +88,9 @@ module _ (held : ℕ) (input : List ℕ) (f : Feed) {from : Standing} {size turn
   pub over-by-turns : hasEnded (f .stage) ≡ false → RanFrom from size (record { why = Turns; feed = f; turns = turns }) memory
   over-by-turns more = record { to = standing held input f memory; turned-to = far; stands = refl; rightly = more }
 
-  pub over-at-end : {r : Ran} {memory′ : List ℕ} → AtEnd (standing held input f memory) turns r memory′ → RanFrom from size r memory′
-  over-at-end end =
-      record { to = standing held input f memory; turned-to = rw (end .counted) far; stands = rw (end .last) (end .stands); rightly = end .rightly }
+  pub over-at-end : (input₁ : List ℕ) {r : Ran} {memory′ : List ℕ} → take held input₁ ≡ take held input → AtEnd (standing held input₁ f memory) turns r memory′ → RanFrom from size r memory′
+  over-at-end input₁ stays end =
+      record { to = standing held input₁ f memory; turned-to = rw (end .counted, stays) far; stands = rw (end .last) (end .stands); rightly = end .rightly }
 
 -- The last line.
 pub last-stands : {f r : Feed} {held : ℕ} {input memory output memory′ output′ : List ℕ} → LastLine f held input memory output r memory′ output′

@@ -1,3 +1,4 @@
+-- `finish` answers the last line, whichever way its write goes.
 use Rattle.desk.proofs.RanLaws.{last-stands}
 use mathlib.Core.Path.{refl, sym, _∙_}
 use borrow.Author.Needs.{needs}

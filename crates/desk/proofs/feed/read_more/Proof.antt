@@ -1,3 +1,4 @@
+-- `read_more` changes the input after the bytes that are held alone, and tells of no more bytes than there is room for.
 use Rattle.desk.proofs.ReadLaws.{grows}
 use borrow.Rule.Slice.PartMut.{take-put}
 use lib.ListN.{length}
