@@ -67,11 +67,12 @@ fn go_on(
     mut held: usize,
     output: &mut [u8],
     memory: &mut [u64],
-    mut feed: Feed,
+    from: Feed,
 ) -> Ran
-    requires { ⌜ (longestLine + 1 < length (now input)) × (longestPrinted * length (now input) ≤ length (now output)) × (held ≤ longestLine + 1) × (hasEnded (feed .stage) ≡ false) ⌝ }
-    ensures { λ r. ⌜ RanFrom (standing held (now (input .entry)) feed (now (memory .entry))) (length (now (input .entry))) r (now (memory .exit)) ⌝ }
+    requires { ⌜ (longestLine + 1 < length (now input)) × (longestPrinted * length (now input) ≤ length (now output)) × (held ≤ longestLine + 1) × (hasEnded (from .stage) ≡ false) ⌝ }
+    ensures { λ r. ⌜ RanFrom (standing held (now (input .entry)) from (now (memory .entry))) (length (now (input .entry))) r (now (memory .exit)) ⌝ }
 {
+    let mut feed = from;
     let mut turns: u64 = 0;
     while turns < u64::MAX {
         let got = read_more(input, held);
