@@ -12,12 +12,12 @@ use Rattle.desk_lines.specs.Lines.{longestLine}
 use Rattle.desk_turns.specs.declared.Feed.{Feed}
 use Rattle.desk_turns.specs.declared.Turned.{Turned}
 use Rattle.desk_turns.specs.Feeding.{stateOf, OneTurn, LastLine}
-use Rattle.desk_turns.specs.Run.{State, Standing, hasEnded, lastLine, turned, turnedOver}
+use Rattle.desk_turns.specs.Run.{State, Standing, hasEnded, linesAnswered, lastLine, linesOf, turned, turnedOver, joined}
 use Rattle.desk_turns.proofs.RunLaws.{none-once-ended}
-use Rattle.desk_turns.proofs.CuttingLaws.{one-turn-more, turn-is-turned}
+use Rattle.desk_turns.proofs.CuttingLaws.{one-turn-more, turn-is-turned, every-cutting-stands-the-same}
 use Rattle.desk.specs.declared.feed.Ran.{Ran}
 use Rattle.desk.specs.declared.feed.Why.the-variants.{Input, Refused, Read, Write, LastWrite, Turns}
-use Rattle.desk.specs.Ran.{standing, Short, TurnedTo, lastAnswered, AtEnd, RanFrom}
+use Rattle.desk.specs.Ran.{standing, atStart, Short, TurnedTo, withLast, lastAnswered, AtEnd, RanFrom}
 
 -- How the loop stands at its head.
 pub record GoingOn (input₀ : List ℕ) (held₀ : ℕ) (output₀ memory₀ : List ℕ) (f₀ : Feed) (input : List ℕ) (held : ℕ) (output memory : List ℕ) (f : Feed) (turns : ℕ) : Type 0 where
@@ -91,6 +91,13 @@ module _ (held : ℕ) (input : List ℕ) (f : Feed) {from : Standing} {size turn
   pub over-at-end : (input₁ : List ℕ) {r : Ran} {memory′ : List ℕ} → take held input₁ ≡ take held input → AtEnd (standing held input₁ f memory) turns r memory′ → RanFrom from size r memory′
   over-at-end input₁ stays end =
       record { to = standing held input₁ f memory; turned-to = rw (end .counted, stays) far; stands = rw (end .last) (end .stands); rightly = end .rightly }
+
+-- Where the last line is answered, the run stands where the lines of all that was read bring it, whatever the pieces.
+pub whole-input-is-answered : {memory memory′ : List ℕ} {size : ℕ} {r : Ran} (ran : RanFrom (atStart memory) size r memory′) → withLast (r .why) ≡ true
+    → stateOf (r .feed) memory′ ≡ linesAnswered (linesOf (joined (ran .turned-to .reads))) (atStart memory .state) .after
+whole-input-is-answered {memory} ran last =
+    let far = ran .turned-to in
+    (rw last at (ran .stands)) ∙ ap lastAnswered (far .is-turned) ∙ every-cutting-stands-the-same (far .reads) (atStart memory .state)
 
 -- The last line.
 pub last-stands : {f r : Feed} {held : ℕ} {input memory output memory′ output′ : List ℕ} → LastLine f held input memory output r memory′ output′

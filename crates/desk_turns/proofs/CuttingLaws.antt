@@ -23,7 +23,7 @@ use Rattle.desk_turns.specs.Run.{State, hasEnded, lineAnswered, andThen,
 use Rattle.desk_turns.proofs.RunLaws.{none-once-ended}
 
 -- Bytes among which there is no line feed.
-abbrev NoFeed : List ℕ → Type 0
+abbrev pub NoFeed : List ℕ → Type 0
 NoFeed [] = Unit {0}
 NoFeed (b ∷ bs) = (eqb b lineFeed ≡ false) × NoFeed bs
 
@@ -201,7 +201,7 @@ cut-in-parts (b ∷ bs) more =
     (λ other. rw other (ap (λ (c : Cut). onFirst b (c .lines) (c .rest)) (cut-in-parts bs more) ∙ byte-before b (cut bs .lines) (cut bs .rest) more other))
 
 -- How the run stands after bytes: the whole lines among them are answered, and what is kept of the last one is held.
-abbrev standsAfter : List ℕ → State → Standing
+abbrev pub standsAfter : List ℕ → State → Standing
 standsAfter bytes s = record { held = keptOf (cut bytes .rest); state = linesAnswered (cut bytes .lines) s .after }
 
 stands-in-parts : (bs more : List ℕ) (s : State) → standsAfter (cut bs .rest ++ more) (linesAnswered (cut bs .lines) s .after) ≡ standsAfter (bs ++ more) s
@@ -213,7 +213,7 @@ begun-stands : (rest : List ℕ) → NoFeed rest → (s : State) → record { he
 unfolding cut linesAnswered
 begun-stands rest none s = rw (cut-onto rest [] none, append-nil rest)
 
-stands-from : (rest : List ℕ) → NoFeed rest → (reads : List (List ℕ)) (s : State) → turnedOver reads (record { held = keptOf rest; state = s }) ≡ standsAfter (rest ++ joined reads) s
+pub stands-from : (rest : List ℕ) → NoFeed rest → (reads : List (List ℕ)) (s : State) → turnedOver reads (record { held = keptOf rest; state = s }) ≡ standsAfter (rest ++ joined reads) s
 unfolding turnedOver turned joined
 stands-from rest none [] s = begun-stands rest none s
 stands-from rest none (read ∷ reads) s =
