@@ -20,7 +20,8 @@ use Rattle.desk.specs.declared.feed.Why.the-variants.{Input, Refused, Re
 use Rattle.desk.specs.Ran.{standing, atStart, Short, TurnedTo, withLast, lastAnswered, AtEnd, RanFrom}
 
 -- How the loop stands at its head.
-pub record GoingOn (input₀ : List ℕ) (held₀ : ℕ) (output₀ memory₀ : List ℕ) (f₀ : Feed) (input : List ℕ) (held : ℕ) (output memory : List ℕ) (f : Feed) (turns : ℕ) : Type 0 where
+pub record GoingOn (input₀ : List ℕ) (held₀ : ℕ) (output₀ memory₀ : List ℕ) (f₀ : Feed) (input : List ℕ) (held : ℕ) (output memory : List ℕ) (f : Feed)
+    (turns : ℕ) : Type 0 where
   pub same-input : length input ≡ length input₀
   pub same-output : length output ≡ length output₀
   pub same-memory : length memory ≡ length memory₀
@@ -37,7 +38,8 @@ short-on : (size : ℕ) (reads : List (List ℕ)) (read : List ℕ) → Short si
 short-on size [] read short fits = (fits, tt)
 short-on size (first ∷ reads) read short fits = (short .0, short-on size reads read (short .1) fits)
 
-one-more : {from to : Standing} {size turns : ℕ} (read : List ℕ) → length read ≤ size → TurnedTo from size turns to → TurnedTo from size (turns + 1) (turned read to .after)
+one-more : {from to : Standing} {size turns : ℕ} (read : List ℕ) → length read ≤ size → TurnedTo from size turns to
+    → TurnedTo from size (turns + 1) (turned read to .after)
 one-more {from} {size = size} read fits far =
     record {
       reads = far .reads ++ (read ∷ []);
@@ -52,7 +54,8 @@ ended-answers-none s ended = ap (λ (o : Outcome (List ℕ) State). o .after) (n
 
 -- A turn after a read, which leaves the bytes that are held.
 module _ (input₀ : List ℕ) {from : Standing} {size turns held end : ℕ} {f : Feed} {input memory output : List ℕ} {r : Turned} {input′ memory′ output′ : List ℕ}
-    (far : TurnedTo from size turns (standing held input₀ f memory)) (stays : take held input ≡ take held input₀) (within : held ≤ end) (fits : length input ≤ size)
+    (far : TurnedTo from size turns (standing held input₀ f memory)) (stays : take held input ≡ take held input₀) (within : held ≤ end)
+    (fits : length input ≤ size)
     (one : OneTurn f end input memory output r input′ memory′ output′) where
   abbrev read : List ℕ
   read = part held (end - held) input
@@ -81,14 +84,16 @@ module _ (input₀ : List ℕ) {from : Standing} {size turns held end : ℕ} {f 
       record { to = next; turned-to = next-turned; stands = stands-next ∙ sym (ended-answers-none next ended′); rightly = ended }
 
 -- Without a turn.
-module _ (held : ℕ) (input : List ℕ) (f : Feed) {from : Standing} {size turns : ℕ} {memory : List ℕ} (far : TurnedTo from size turns (standing held input f memory)) where
+module _ (held : ℕ) (input : List ℕ) (f : Feed) {from : Standing} {size turns : ℕ} {memory : List ℕ}
+    (far : TurnedTo from size turns (standing held input f memory)) where
   pub over-by-read : hasEnded (f .stage) ≡ false → RanFrom from size (record { why = Read; feed = f; turns = turns }) memory
   over-by-read more = record { to = standing held input f memory; turned-to = far; stands = refl; rightly = more }
 
   pub over-by-turns : hasEnded (f .stage) ≡ false → RanFrom from size (record { why = Turns; feed = f; turns = turns }) memory
   over-by-turns more = record { to = standing held input f memory; turned-to = far; stands = refl; rightly = more }
 
-  pub over-at-end : (input₁ : List ℕ) {r : Ran} {memory′ : List ℕ} → take held input₁ ≡ take held input → AtEnd (standing held input₁ f memory) turns r memory′ → RanFrom from size r memory′
+  pub over-at-end : (input₁ : List ℕ) {r : Ran} {memory′ : List ℕ} → take held input₁ ≡ take held input
+      → AtEnd (standing held input₁ f memory) turns r memory′ → RanFrom from size r memory′
   over-at-end input₁ stays end =
       record { to = standing held input₁ f memory; turned-to = rw (end .counted, stays) far; stands = rw (end .last) (end .stands); rightly = end .rightly }
 

@@ -58,7 +58,11 @@ x-ends-the-run : (line : List ℕ) (lines : List (List ℕ)) (memory : List ℕ)
     → linesAnswered ((120 ∷ line) ∷ lines) (beforeLine1 memory) .after ≡ record { stage = Ended 9; number = 1; memory = memory }
 unfolding linesAnswered lineAnswered
 x-ends-the-run line lines memory =
-    rw (x-is-malformed line) (ap (λ (o : Outcome (List ℕ) State). o .after) (none-once-ended lines (record { stage = Ended 9; number = 1; memory = memory }) refl))
+    rw (x-is-malformed line) (ap (λ (o : Outcome (List ℕ) State). o .after) (none-once-ended lines (record {
+      stage = Ended 9;
+      number = 1;
+      memory = memory;
+    }) refl))
 
 -- So whatever is read after it, the desk is never opened.
 abbrev pub isOpen : Stage → Bool
@@ -70,12 +74,18 @@ shut-once-ended : (why : Why) (held : List ℕ) {s : State} (memory : List ℕ) 
     → isOpen (overAt why (record { held = held; state = s }) .stage) ≡ false
 shut-once-ended why held memory is =
     let ended : State = record { stage = Ended 9; number = 1; memory = memory } in
-    rw is (by-test (withLast why) (λ last. rw last (ap (λ (o : Outcome (List ℕ) State). isOpen (o .after .stage)) (none-once-ended (lastLine held) ended refl))) (λ none. rw none))
+    rw is (by-test (withLast why) (λ last. rw last (ap (λ (o : Outcome (List ℕ) State). isOpen (o .after .stage)) (none-once-ended
+    (lastLine held) ended refl))) (λ none. rw none))
 
 shut-after-x : (why : Why) (lines : List (List ℕ)) (rest memory : List ℕ)
-    → isOpen (overAt why (record { held = keptOf (onFirst 120 lines rest .rest); state = linesAnswered (onFirst 120 lines rest .lines) (beforeLine1 memory) .after }) .stage) ≡ false
+    → isOpen (overAt why (record {
+      held = keptOf (onFirst 120 lines rest .rest);
+      state = linesAnswered (onFirst 120 lines rest .lines)
+          (beforeLine1 memory) .after;
+    }) .stage) ≡ false
 unfolding linesAnswered
-shut-after-x why [] rest memory = by-test (withLast why) (λ last. rw last (ap (λ (s : State). isOpen (s .stage)) (x-ends-the-run (take 100 rest) [] memory))) (λ none. rw none)
+shut-after-x why [] rest memory = by-test (withLast why) (λ last. rw last (ap (λ (s : State). isOpen (s .stage)) (x-ends-the-run
+    (take 100 rest) [] memory))) (λ none. rw none)
 shut-after-x why (line ∷ lines) rest memory = shut-once-ended why (keptOf rest) memory (x-ends-the-run line lines memory)
 
 -- A program that drops the `x` and opens the desk by the settings line that comes next does not meet the contract.

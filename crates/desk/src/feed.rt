@@ -69,7 +69,8 @@ fn go_on(
     memory: &mut [u64],
     from: Feed,
 ) -> Ran
-    requires { ⌜ (longestLine + 1 < length (now input)) × (longestPrinted * length (now input) ≤ length (now output)) × (held ≤ longestLine + 1) × (hasEnded (from .stage) ≡ false) ⌝ }
+    requires { ⌜ (longestLine + 1 < length (now input)) × (longestPrinted * length (now input) ≤ length (now output))
+        × (held ≤ longestLine + 1) × (hasEnded (from .stage) ≡ false) ⌝ }
     ensures { λ r. ⌜ RanFrom (standing held (now (input .entry)) from (now (memory .entry))) (length (now (input .entry))) r (now (memory .exit)) ⌝ }
 {
     let mut feed = from;

@@ -109,7 +109,8 @@ module _ (line : List ℕ) (rest : Rest) where
           shards = shardsTaken .value;
         })
     set-up-line is =
-        let taken′ : bounds (keys .value) (idle .value) (whenFullOf (rule .value)) ≡ bounds (keysTaken .value) (idleTaken .value) (whenFullOf (ruleTaken .value)) =
+        let taken′ : bounds (keys .value) (idle .value) (whenFullOf (rule .value))
+        ≡ bounds (keysTaken .value) (idleTaken .value) (whenFullOf (ruleTaken .value)) =
         λ j. bounds (keys-taken j .value) (idle-taken j .value) (whenFullOf (rule-taken j .value)) in
         let bounded = is ∙ taken′ in
         λ j. SetUp (record { limit = Open (e₁ j .value); eviction = bounded j; shards = shards-taken j .value })

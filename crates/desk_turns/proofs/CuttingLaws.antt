@@ -207,13 +207,15 @@ standsAfter bytes s = record { held = keptOf (cut bytes .rest); state = linesAns
 stands-in-parts : (bs more : List ℕ) (s : State) → standsAfter (cut bs .rest ++ more) (linesAnswered (cut bs .lines) s .after) ≡ standsAfter (bs ++ more) s
 stands-in-parts bs more s =
     let rest = cut (cut bs .rest ++ more) in
-    rw (cut-in-parts bs more) (ap (λ (o : Outcome (List ℕ) State). record { held = keptOf (rest .rest); state = o .after }) (sym (answered-in-parts (cut bs .lines) (rest .lines) s)))
+    rw (cut-in-parts bs more)
+    (ap (λ (o : Outcome (List ℕ) State). record { held = keptOf (rest .rest); state = o .after }) (sym (answered-in-parts (cut bs .lines) (rest .lines) s)))
 
 begun-stands : (rest : List ℕ) → NoFeed rest → (s : State) → record { held = keptOf rest; state = s } ≡ standsAfter (rest ++ []) s
 unfolding cut linesAnswered
 begun-stands rest none s = rw (cut-onto rest [] none, append-nil rest)
 
-pub stands-from : (rest : List ℕ) → NoFeed rest → (reads : List (List ℕ)) (s : State) → turnedOver reads (record { held = keptOf rest; state = s }) ≡ standsAfter (rest ++ joined reads) s
+pub stands-from : (rest : List ℕ) → NoFeed rest → (reads : List (List ℕ)) (s : State)
+    → turnedOver reads (record { held = keptOf rest; state = s }) ≡ standsAfter (rest ++ joined reads) s
 unfolding turnedOver turned joined
 stands-from rest none [] s = begun-stands rest none s
 stands-from rest none (read ∷ reads) s =

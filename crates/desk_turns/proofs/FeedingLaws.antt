@@ -45,8 +45,8 @@ written-on new put output fits gave =
     rw (answer-is gave, after-is gave, sets-eq new output put fits) (take-at (take put output ++ new) (drop (put + length new) output) (put + length new) front)
 
 -- What stands past the bytes that were written is as it was.
-beyond-written : (new : List ℕ) (put : ℕ) (output : List ℕ) {put′ : ℕ} {output′ : List ℕ} → put + length new ≤ length output → outcome put′ output′ ≡ writtenOver new put output
-    → SameFrom put′ output output′
+beyond-written : (new : List ℕ) (put : ℕ) (output : List ℕ) {put′ : ℕ} {output′ : List ℕ} → put + length new ≤ length output
+    → outcome put′ output′ ≡ writtenOver new put output → SameFrom put′ output output′
 beyond-written new put output fits gave =
     let front : length (take put output ++ new) ≡ put + length new =
     length-append (take put output) new ∙ ap (λ (k : ℕ). k + length new) (length-take-le put output (omega (arith, fits))) in
@@ -70,8 +70,8 @@ line-is-answered f line memory output {number} {told = told} room counts gave pr
     let new = printed number (told .told .code) (told .told .wait) in
     rw (written-on new (f .put) output (omega (arith, room, printed-short number (told .told .code) (told .told .wait))) prints, counts, answer-is gave, after-is gave)
 
-pub line-is-one : (f : Feed) (line memory output : List ℕ) {number put′ : ℕ} {told : Served} {memory′ output′ : List ℕ} → f .put + longestPrinted ≤ length output
-    → number ≡ (f .number + 1) % 2 ^ 64 → outcome told memory′ ≡ served (f .stage) (lineOf line) memory
+pub line-is-one : (f : Feed) (line memory output : List ℕ) {number put′ : ℕ} {told : Served} {memory′ output′ : List ℕ}
+    → f .put + longestPrinted ≤ length output → number ≡ (f .number + 1) % 2 ^ 64 → outcome told memory′ ≡ served (f .stage) (lineOf line) memory
     → outcome put′ output′ ≡ writtenOver (printed number (told .told .code) (told .told .wait)) (f .put) output
     → OneLine f line memory output (record { stage = told .stage; number = number; put = put′ }) memory′ output′
 line-is-one f line memory output {number} {told = told} room counts gave prints =
@@ -217,5 +217,6 @@ module _ (end : ℕ) (input : List ℕ) where
       let same : end - 0 ≡ end = omega arith in
       rw (moved, few) (rest-is-kept at end input within inside) ∙ ap keptOf (rw same at leaves)
 
-  pub turn-leaves-beyond : (at : ℕ) {held : ℕ} {input′ : List ℕ} → at ≤ end → end ≤ length input → held ≡ keptFrom at end → input′ ≡ movedToStart at held input → SameFrom held input input′
+  pub turn-leaves-beyond : (at : ℕ) {held : ℕ} {input′ : List ℕ} → at ≤ end → end ≤ length input → held ≡ keptFrom at end
+      → input′ ≡ movedToStart at held input → SameFrom held input input′
   turn-leaves-beyond at {held} within inside few moved = rw moved (beyond-moved at held input (omega (arith, within, inside, few)))

@@ -25,10 +25,22 @@ with-when-full-requires-2 : tie.Need-with-when-full-requires-2
 with-when-full-requires-2 c κs = search needs
 
 returns : tie.Need-returns
-returns c = rw (c .with-when-full .ensures, c .before .capacity .ensures, c .before .before .before .before .numbered .ensures, c .before .before .enum-told .given .1)
+returns c = rw (
+  c .with-when-full .ensures,
+  c .before .capacity .ensures,
+  c .before .before .before .before .numbered .ensures,
+  c .before
+      .before .enum-told .given .1,
+)
 
 returns-2 : tie.Need-returns-2
-returns-2 c = rw (c .with-when-full2 .ensures, c .before .new .ensures, c .before .before .before .before .before .numbered .ensures, c .before .before .before .idle .given .1)
+returns-2 c = rw (
+  c .with-when-full2 .ensures,
+  c .before .new .ensures,
+  c .before .before .before .before .before .numbered .ensures,
+  c .before
+      .before .before .idle .given .1,
+)
 
 pub eviction-spec : {M : Type 1} → statement M
 eviction-spec =

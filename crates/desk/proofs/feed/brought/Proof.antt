@@ -8,10 +8,12 @@ use Rattle.desk.proofs.feed.brought.Statement.{statement}
 use Rattle.desk.proofs.feed.brought.Tie as tie
 
 returns : tie.Need-returns
-returns c = brings-none-yet _ _ _ _ (rw (toZ-ofZ {w = w64} (c .before .before .fits .answer)) at (c .before .if1 .taken)) (is-interrupt (c .before .before .args .error) (c .before .before .fits .error) (c .if2 .taken))
+returns c = brings-none-yet _ _ _ _ (rw (toZ-ofZ {w = w64} (c .before .before .fits .answer)) at (c .before .if1 .taken)) (is-interrupt (c .before
+    .before .args .error) (c .before .before .fits .error) (c .if2 .taken))
 
 returns-2 : tie.Need-returns-2
-returns-2 c = has-failed _ _ _ _ (rw (toZ-ofZ {w = w64} (c .before .before .fits .answer)) at (c .before .if1 .taken)) (is-no-interrupt (c .before .before .args .error) (c .if2 .left))
+returns-2 c = has-failed _ _ _ _ (rw (toZ-ofZ {w = w64} (c .before .before .fits .answer)) at (c .before .if1 .taken)) (is-no-interrupt (c .before
+    .before .args .error) (c .if2 .left))
 
 returns-3 : tie.Need-returns-3
 returns-3 c = is-at-end _ _ _ _ (rw (toZ-ofZ {w = w64} (c .before .before .fits .answer)) at (c .before .if1 .left)) (c .if3 .taken)

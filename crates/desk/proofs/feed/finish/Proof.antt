@@ -18,7 +18,12 @@ same-length-2 : tie.Need-same-length-2
 same-length-2 c = search needs
 
 returns : tie.Need-returns
-returns c = record { last = refl; stands = last-stands (c .before .before .before .before .before .before .before .last-line .ensures); rightly = tt; counted = refl }
+returns c = record {
+  last = refl;
+  stands = last-stands (c .before .before .before .before .before .before .before .last-line .ensures);
+  rightly = tt;
+  counted = refl;
+}
 
 has-ended-requires : tie.Need-has-ended-requires
 has-ended-requires c κs = search needs
@@ -30,7 +35,12 @@ same-length-4 : tie.Need-same-length-4
 same-length-4 c = search needs
 
 returns-2 : tie.Need-returns-2
-returns-2 c = record { last = refl; stands = last-stands (c .before .before .before .before .before .before .before .before .before .last-line .ensures); rightly = sym (c .before .has-ended .ensures) ∙ c .if2 .taken; counted = refl }
+returns-2 c = record {
+  last = refl;
+  stands = last-stands (c .before .before .before .before .before .before .before .before .before .last-line .ensures);
+  rightly = sym (c .before .has-ended .ensures) ∙ c .if2 .taken;
+  counted = refl;
+}
 
 same-length-5 : tie.Need-same-length-5
 same-length-5 c = search needs
@@ -39,7 +49,12 @@ same-length-6 : tie.Need-same-length-6
 same-length-6 c = search needs
 
 returns-3 : tie.Need-returns-3
-returns-3 c = record { last = refl; stands = last-stands (c .before .before .before .before .before .before .before .before .before .last-line .ensures); rightly = sym (c .before .has-ended .ensures) ∙ c .if2 .left; counted = refl }
+returns-3 c = record {
+  last = refl;
+  stands = last-stands (c .before .before .before .before .before .before .before .before .before .last-line .ensures);
+  rightly = sym (c .before .has-ended .ensures) ∙ c .if2 .left;
+  counted = refl;
+}
 
 pub finish-spec : {M : Type 1} → statement M
 finish-spec =

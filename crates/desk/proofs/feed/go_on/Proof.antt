@@ -28,8 +28,17 @@ enum-known-got c = search needs
 turn-requires : tie.Need-turn-requires Inv-loop μ-loop
 turn-requires c κs =
     let got′ = c .before .before .before .before .got in
-    let read-more′ = c .before .before .before .before .before .before .before .before .read-more in
-    (omega (arith, rw (got′ .given .1) at (read-more′ .ensures .0)), omega (arith, rw (got′ .given .1) at (read-more′ .ensures .0), c .before .before .before .before .before .before .before .before .before .before .before .before .before .before .before .pre .1), c .before .before .before .before .before .before .before .before .before .before .before .loop .inv .more)
+    let read-more′ = c .before .before .before .before .before .before .before .before .read-more in (
+      omega (arith, rw (got′ .given .1) at (read-more′ .ensures .0)),
+      omega (
+        arith,
+        rw (got′ .given .1) at (read-more′ .ensures .0),
+        c .before .before
+            .before .before .before .before .before .before .before .before .before .before .before .before .before .pre .1,
+      ),
+      c .before .before .before
+          .before .before .before .before .before .before .before .before .loop .inv .more,
+    )
 
 add-turns : tie.Need-add-turns Inv-loop μ-loop
 add-turns c = search needs
@@ -38,7 +47,15 @@ enum-told : tie.Need-enum-told Inv-loop μ-loop
 enum-told c = search needs
 
 finish-requires : tie.Need-finish-requires Inv-loop μ-loop
-finish-requires c κs = (omega arith, omega (arith, c .before .before .before .before .before .before .before .before .before .before .before .before .before .before .pre .1), c .before .before .before .before .before .before .before .before .before .before .loop .inv .more)
+finish-requires c κs = (
+  omega arith,
+  omega (
+    arith,
+    c .before .before .before .before .before .before .before .before .before .before .before .before
+        .before .before .pre .1,
+  ),
+  c .before .before .before .before .before .before .before .before .before .before .loop .inv .more,
+)
 
 same-length : tie.Need-same-length Inv-loop μ-loop
 same-length c = search needs
@@ -52,7 +69,8 @@ same-length-3 c = search needs
 returns : tie.Need-returns Inv-loop μ-loop
 returns c =
     let loop′ = c .before .before .before .before .before .before .before .before .before .before .before .before .before .before .before .loop in
-    over-at-end (loop′ .held) (loop′ .input) (loop′ .feed) (loop′ .inv .far) _ (c .before .before .before .before .before .before .before .before .before .before .before .before .read-more .ensures .1) (c .before .before .before .before .finish .ensures)
+    over-at-end (loop′ .held) (loop′ .input) (loop′ .feed) (loop′ .inv .far) _ (c .before .before .before .before .before .before .before .before
+    .before .before .before .before .read-more .ensures .1) (c .before .before .before .before .finish .ensures)
 
 enum-told-2 : tie.Need-enum-told-2 Inv-loop μ-loop
 enum-told-2 c = search needs
@@ -85,9 +103,13 @@ same-length-9 c = search needs
 
 returns-3 : tie.Need-returns-3 Inv-loop μ-loop
 returns-3 c =
-    let loop′ = c .before .before .before .before .before .before .before .before .before .before .before .before .before .before .before .before .before .before .before .before .before .before .loop in
-    let read-more′ = c .before .before .before .before .before .before .before .before .before .before .before .before .before .before .before .before .before .before .before .read-more in
-    over-by-write (loop′ .input) (loop′ .inv .far) (read-more′ .ensures .1) ((rw (c .before .before .before .before .before .before .before .before .before .before .before .before .before .before .before .got .given .1) at (read-more′ .ensures .0)) .0) (omega arith) (c .before .before .before .before .before .before .before .before .before .before .turn .ensures)
+    let loop′ = c .before .before .before .before .before .before .before .before .before .before .before .before .before .before .before .before
+    .before .before .before .before .before .before .loop in
+    let read-more′ = c .before .before .before .before .before .before .before .before .before .before .before .before .before .before .before .before
+    .before .before .before .read-more in
+    over-by-write (loop′ .input) (loop′ .inv .far) (read-more′ .ensures .1) ((rw (c .before .before .before .before .before .before .before .before
+    .before .before .before .before .before .before .before .got .given .1) at (read-more′ .ensures .0)) .0) (omega arith) (c .before .before .before
+    .before .before .before .before .before .before .before .turn .ensures)
 
 has-ended-requires : tie.Need-has-ended-requires Inv-loop μ-loop
 has-ended-requires c κs = search needs
@@ -103,9 +125,14 @@ same-length-12 c = search needs
 
 returns-4 : tie.Need-returns-4 Inv-loop μ-loop
 returns-4 c =
-    let loop′ = c .before .before .before .before .before .before .before .before .before .before .before .before .before .before .before .before .before .before .before .before .before .before .before .before .loop in
-    let read-more′ = c .before .before .before .before .before .before .before .before .before .before .before .before .before .before .before .before .before .before .before .before .before .read-more in
-    over-by-line-1 (loop′ .input) (loop′ .inv .far) (read-more′ .ensures .1) ((rw (c .before .before .before .before .before .before .before .before .before .before .before .before .before .before .before .before .before .got .given .1) at (read-more′ .ensures .0)) .0) (omega arith) (c .before .before .before .before .before .before .before .before .before .before .before .before .turn .ensures) (sym (c .before .has-ended .ensures) ∙ c .if2 .taken)
+    let loop′ = c .before .before .before .before .before .before .before .before .before .before .before .before .before .before .before .before
+    .before .before .before .before .before .before .before .before .loop in
+    let read-more′ = c .before .before .before .before .before .before .before .before .before .before .before .before .before .before .before .before
+    .before .before .before .before .before .read-more in
+    over-by-line-1 (loop′ .input) (loop′ .inv .far) (read-more′ .ensures .1) ((rw (c .before .before .before .before .before .before .before .before
+    .before .before .before .before .before .before .before .before .before .got .given .1) at (read-more′ .ensures .0)) .0) (omega arith) (c .before
+    .before .before .before .before .before .before .before .before .before .before .before .turn .ensures) (sym (c
+    .before .has-ended .ensures) ∙ c .if2 .taken)
 
 loop-less : tie.Need-loop-less Inv-loop μ-loop
 loop-less c = search needs
@@ -115,9 +142,21 @@ loop-again c =
     let turn′ = c .before .before .before .before .before .before .before .before .before .before .before .before .turn in
     let has-ended′ = c .before .has-ended in
     let if2′ = c .if2 in
-    let loop′ = c .before .before .before .before .before .before .before .before .before .before .before .before .before .before .before .before .before .before .before .before .before .before .before .before .loop in
-    let read-more′ = c .before .before .before .before .before .before .before .before .before .before .before .before .before .before .before .before .before .before .before .before .before .read-more in
-    record { same-input = search needs; same-output = search needs; same-memory = search needs; few = turn′ .ensures .few; more = sym (has-ended′ .ensures) ∙ if2′ .left; far = goes-on (loop′ .input) (loop′ .inv .far) (read-more′ .ensures .1) ((rw (c .before .before .before .before .before .before .before .before .before .before .before .before .before .before .before .before .before .got .given .1) at (read-more′ .ensures .0)) .0) (omega arith) (turn′ .ensures) (sym (has-ended′ .ensures) ∙ if2′ .left) }
+    let loop′ = c .before .before .before .before .before .before .before .before .before .before .before .before .before .before .before .before
+    .before .before .before .before .before .before .before .before .loop in
+    let read-more′ = c .before .before .before .before .before .before .before .before .before .before .before .before .before .before .before .before
+    .before .before .before .before .before .read-more in
+    record {
+      same-input = search needs;
+      same-output = search needs;
+      same-memory = search needs;
+      few = turn′ .ensures .few;
+      more = sym
+          (has-ended′ .ensures) ∙ if2′ .left;
+      far = goes-on (loop′ .input) (loop′ .inv .far) (read-more′ .ensures .1) ((rw (c .before .before .before
+          .before .before .before .before .before .before .before .before .before .before .before .before .before .before .got .given .1) at
+          (read-more′ .ensures .0)) .0) (omega arith) (turn′ .ensures) (sym (has-ended′ .ensures) ∙ if2′ .left);
+    }
 
 same-length-13 : tie.Need-same-length-13 Inv-loop μ-loop
 same-length-13 c = search needs

@@ -44,7 +44,11 @@ same-length c = search needs
 returns : tie.Need-returns
 returns c =
     let start′ = c .before .before .before .before .before .before .before .before .before .before in
-    let held′ = start′ .args .held in let input′ = start′ .args .input .now in let inside : held′ ≤ length input′ = omega arith in (rw (c .brought .ensures) (grows _ _ _ _ _ (omega arith)), rw take-put)
+    let held′ = start′ .args .held in let input′ = start′ .args .input .now in let inside : held′ ≤ length input′ = omega arith in (
+      rw (c .brought .ensures)
+          (grows _ _ _ _ _ (omega arith)),
+      rw take-put,
+    )
 
 pub read-more-spec : {M : Type 1} → statement M
 read-more-spec =
