@@ -1,5 +1,8 @@
 -- The words of the program's memory, and what a read brings.
-use Prim.Native.Nat.{ℕ, _≤_, _<_}
+use Prim.Native.Nat.{ℕ, _+_, _≤_}
+use mathlib.Core.Bool.{Bool, false, cond}
+use lib.Dec.{eqb}
+use lib.IntN.{ℤ, pos, negsuc}
 use Rattle.desk.specs.declared.feed.Got.{Got}
 use Rattle.desk.specs.declared.feed.Got.the-variants.{More, End, Failed}
 
@@ -7,8 +10,20 @@ use Rattle.desk.specs.declared.feed.Got.the-variants.{More, End, Failed}
 abbrev pub memoryWords : ℕ
 memoryWords = 8192
 
--- A read brings bytes after those that are held, as far as there is room, or none.
+-- The error of a read that a signal interrupts before it has brought a byte.
+abbrev pub isInterrupt : ℤ → Bool
+isInterrupt (pos error) = eqb error 4
+isInterrupt (negsuc error) = false
+
+-- What a read brought, by its answer: -1 where it failed, with the number of the error, else a count of bytes, 0 of them at the end of the input. A read that
+-- is interrupted brings none, and is made again.
+unfoldable pub broughtBy : ℤ → ℤ → ℕ → ℕ → Got
+broughtBy (negsuc k) error held count = cond (isInterrupt error) (More held) Failed
+broughtBy (pos k) error held count = cond (eqb count 0) End (More (held + count))
+
+-- A read brings bytes after those that are held, as far as there is room. Which bytes these are no definition decides, nor which stand in the input after
+-- them: any bytes may.
 abbrev pub Grows : ℕ → ℕ → Got → Type 0
-Grows held size (More end) = (held < end) × (end ≤ size)
+Grows held size (More end) = (held ≤ end) × (end ≤ size)
 Grows held size End = Unit {0}
 Grows held size Failed = Unit {0}

@@ -1,20 +1,22 @@
 // The lines of standard input, answered turn by turn. Every whole line that has been read is answered, and its answer written, before more is read.
 ghost use mathlib.Core.Path.{_≡_};
 ghost use mathlib.Core.Bool.{false};
-ghost use Prim.Native.Nat.{_+_, _*_, _≤_, _<_};
+ghost use Prim.Native.Nat.{_+_, _*_, _^_, _≤_, _<_};
 ghost use lib.ListN.{length, take};
 ghost use Rattle.desk_lines.specs.Lines.{longestLine};
 ghost use Rattle.desk_lines.specs.Printed.{longestPrinted};
 ghost use Rattle.desk_turns.specs.Run.{hasEnded};
-ghost use Rattle.desk.specs.Reads.{Grows, memoryWords};
+ghost use Rattle.desk.specs.Reads.{Grows, broughtBy, memoryWords};
+ghost use Rattle.desk.specs.Ran.{standing, atStart, RanFrom, AtEnd};
 use desk_answers::Stage;
 use desk_turns::Feed;
+use libc::EINTR;
 use libc::STDIN_FILENO;
 use libc::STDOUT_FILENO;
 
 // What a read brought.
 pub enum Got {
-    // Bytes: with them, so many are held.
+    // Bytes: with them, so many are held. A read that a signal interrupts brings none, so that the next turn makes it again.
     More(usize),
     // The end of the input.
     End,
@@ -22,73 +24,142 @@ pub enum Got {
     Failed,
 }
 
-// Answers all lines. The loop counts turns down since a proved loop has to end, from a number that no run uses up. The output has room for the
-// answers of a turn, whose lines have a byte at least.
-pub(crate) fn run(input: &mut [u8], output: &mut [u8], memory: &mut [u64])
+// Why a run is over.
+pub enum Why {
+    // The input has ended, and its last line is answered.
+    Input,
+    // Line 1 was not accepted.
+    Refused,
+    // A read failed.
+    Read,
+    // The write of a turn's answers failed.
+    Write,
+    // The write of the last line's answer failed.
+    LastWrite,
+    // No run makes so many turns.
+    Turns,
+}
+
+// A run that is over: why, how far it has come, and how many reads were turned.
+pub struct Ran {
+    pub why: Why,
+    pub feed: Feed,
+    pub turns: u64,
+}
+
+// Answers all lines, from the first on.
+pub(crate) fn run(input: &mut [u8], output: &mut [u8], memory: &mut [u64]) -> Ran
     requires { ⌜ (longestLine + 1 < length (now input)) × (longestPrinted * length (now input) ≤ length (now output)) × (length (now memory) ≡ memoryWords) ⌝ }
+    ensures { λ r. ⌜ RanFrom (atStart (now (memory .entry))) (length (now (input .entry))) r (now (memory .exit)) ⌝ }
 {
-    let mut feed = Feed {
+    let feed = Feed {
         stage: Stage::First,
         number: 0,
         put: 0,
     };
-    let mut held: usize = 0;
-    let mut turns = u64::MAX;
-    while 0 < turns {
+    go_on(input, 0, output, memory, feed)
+}
+
+// Answers all lines from wherever the run stands. The loop counts its turns since a proved loop has to end, up to a number that no run reaches.
+// The output has room for the answers of a turn, whose lines have a byte at least.
+fn go_on(
+    input: &mut [u8],
+    mut held: usize,
+    output: &mut [u8],
+    memory: &mut [u64],
+    from: Feed,
+) -> Ran
+    requires { ⌜ (longestLine + 1 < length (now input)) × (longestPrinted * length (now input) ≤ length (now output))
+        × (held ≤ longestLine + 1) × (hasEnded (from .stage) ≡ false) ⌝ }
+    ensures { λ r. ⌜ RanFrom (standing held (now (input .entry)) from (now (memory .entry))) (length (now (input .entry))) r (now (memory .exit)) ⌝ }
+{
+    let mut feed = from;
+    let mut turns: u64 = 0;
+    while turns < u64::MAX {
         let got = read_more(input, held);
-        let Got::More(end) = got else {
-            finish(got, input, held, output, memory, feed);
-            return;
-        };
-        let turned = desk_turns::turn(input, end, output, memory, feed);
-        feed = turned.feed;
-        held = turned.held;
-        if is_over(output, feed) {
-            return;
+        match got {
+            Got::More(end) => {
+                let turned = desk_turns::turn(input, end, output, memory, feed);
+                turns += 1;
+                feed = turned.feed;
+                held = turned.held;
+            }
+            Got::End => {
+                return finish(input, held, output, memory, feed, turns);
+            }
+            Got::Failed => {
+                let why = Why::Read;
+                return Ran { why, feed, turns };
+            }
         }
-        turns -= 1;
+        if !flush(output, feed) {
+            let why = Why::Write;
+            return Ran { why, feed, turns };
+        }
+        if desk_turns::has_ended(feed) {
+            let why = Why::Refused;
+            return Ran { why, feed, turns };
+        }
     }
+    let why = Why::Turns;
+    Ran { why, feed, turns }
 }
 
-// Writes what is printed. Tells whether the run is over then: after a line 1 that was not accepted, or since the write failed, so that further
-// answers would come after a gap.
-fn is_over(output: &[u8], feed: Feed) -> bool
-    requires { ⌜ feed .put ≤ length (now output) ⌝ }
-    ensures { λ r. ⌜ (r ≡ false → hasEnded (feed .stage) ≡ false) ⌝ }
-{
-    if flush(output, feed.put) {
-        return desk_turns::has_ended(feed);
-    }
-    true
-}
-
-// The end of the run: the last line is answered at the end of the input. After a read that failed none is, since what is held of it may be cut.
-fn finish(got: Got, input: &[u8], held: usize, output: &mut [u8], memory: &mut [u64], feed: Feed)
+// The end of the input: the last line is answered, if one has begun. After a read that failed none is, since what is held of it may be cut.
+fn finish(
+    input: &[u8],
+    held: usize,
+    output: &mut [u8],
+    memory: &mut [u64],
+    feed: Feed,
+    turns: u64,
+) -> Ran
     requires { ⌜ (held ≤ length (now input)) × (longestPrinted ≤ length (now output)) × (hasEnded (feed .stage) ≡ false) ⌝ }
+    ensures { λ r. ⌜ AtEnd (standing held (now (input .entry)) feed (now (memory .entry))) turns r (now (memory .exit)) ⌝ }
 {
-    if let Got::End = got {
-        let last = desk_turns::last_line(input, held, output, memory, feed);
-        flush(output, last.put);
+    let feed = desk_turns::last_line(input, held, output, memory, feed);
+    if !flush(output, feed) {
+        let why = Why::LastWrite;
+        return Ran { why, feed, turns };
     }
+    if desk_turns::has_ended(feed) {
+        let why = Why::Refused;
+        return Ran { why, feed, turns };
+    }
+    let why = Why::Input;
+    Ran { why, feed, turns }
 }
 
-// Writes what is printed. Tells whether all of it was written.
-fn flush(output: &[u8], put: usize) -> bool
-    requires { ⌜ put ≤ length (now output) ⌝ }
+// Writes what is printed. Tells whether all of it was written: else further answers would come after a gap.
+fn flush(output: &[u8], feed: Feed) -> bool
+    requires { ⌜ feed .put ≤ length (now output) ⌝ }
 {
+    let put = feed.put;
     io::write_all(STDOUT_FILENO, &output[0..put])
 }
 
-// Reads into the input after the bytes that are held, which stay. There is room, so that a read of nothing is the end of the input.
+// Reads into the input after the bytes that are held, which stay.
 fn read_more(input: &mut [u8], held: usize) -> Got
     requires { ⌜ held < length (now input) ⌝ }
     ensures { λ r. ⌜ Grows held (length (now (input .entry))) r × (take held (now (input .exit)) ≡ take held (now (input .entry))) ⌝ }
 {
-    let got = libc::read(STDIN_FILENO, &mut input[held..]);
-    if got < 0 {
+    let answer = libc::read(STDIN_FILENO, &mut input[held..]);
+    let error = os::errno();
+    let count = io::count(answer, &input[held..]);
+    brought(answer, error, held, count)
+}
+
+// What a read brought, by its answer, and by the number of the error where it failed. There was room, so that a read of nothing is the end of the input.
+fn brought(answer: isize, error: i32, held: usize, count: usize) -> Got
+    requires { ⌜ held + count < 2 ^ 64 ⌝ }
+    ensures { λ r. ⌜ r ≡ broughtBy answer error held count ⌝ }
+{
+    if answer < 0 {
+        if error == EINTR {
+            return Got::More(held);
+        }
         return Got::Failed;
     }
-    let count = io::count(got, &input[held..]);
     if count == 0 {
         return Got::End;
     }

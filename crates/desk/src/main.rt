@@ -1,5 +1,8 @@
 // The desk: a line of standard input is a call of the limiter, and a line of standard output its answer, as document 01 gives them.
+use libc::STDIN_FILENO;
+
 mod feed;
+mod words;
 
 // The words of the memory from which the store is lent its own.
 const MEMORY_WORDS: usize = 8192;
@@ -8,8 +11,15 @@ const MEMORY_WORDS: usize = 8192;
 const INPUT_BYTES: usize = 1024;
 
 fn main() {
+    if 1 < os::arg_count() {
+        words::help();
+        return;
+    }
+    if libc::isatty(STDIN_FILENO) == 1 {
+        words::greet();
+    }
     let mut input: [u8; INPUT_BYTES] = [0; INPUT_BYTES];
     let mut output = io::large_buffer();
     let mut memory: [u64; MEMORY_WORDS] = [0; MEMORY_WORDS];
-    feed::run(&mut input, &mut output, &mut memory);
+    words::tell(feed::run(&mut input, &mut output, &mut memory));
 }

@@ -43,7 +43,7 @@ module _ (s : Settings) where
   unfolding stageAfter
   opens code accepted = rw (eq-eqb _ _ accepted)
 
-  pub ends : (code : ℕ) → (code ≡ 0 → ⊥) → Ended ≡ stageAfter s code
+  pub ends : (code : ℕ) → (code ≡ 0 → ⊥) → Ended code ≡ stageAfter s code
   unfolding stageAfter
   ends code refused = rw (ne-eqb _ _ refused)
 
@@ -70,7 +70,7 @@ next-served s gave = ap (servedNext s) gave
 
 -- Settings that need more words than the memory has are refused as 5, and the run ends.
 pub too-large-is-refused-5 : (s : Settings) (memory : List ℕ) → settingsRefusal s ≡ 0 → length memory < wordsOf s
-    → setUp s memory .answer ≡ record { told = record { code = 15; wait = 0 }; stage = Ended }
+    → setUp s memory .answer ≡ record { told = record { code = 15; wait = 0 }; stage = Ended 15 }
 too-large-is-refused-5 s memory accepted more =
     let size = storeSize s (length memory) in
     let lent = take size memory in

@@ -65,9 +65,9 @@ onFirstWords n call memory = let o = call (take n memory) in outcome (o .answer)
 abbrev pub inStore : {A : Type 0} → Settings → (List ℕ → Outcome A (List ℕ)) → List ℕ → Outcome A (List ℕ)
 inStore s call memory = onFirstWords (storeSize s (length memory)) call memory
 
--- Line 1 sets the store up. Unless it is accepted, the run ends.
+-- Line 1 sets the store up. Unless it is accepted, the run ends, and its code is kept as the reason.
 unfoldable pub stageAfter : Settings → ℕ → Stage
-stageAfter s code = cond (eqb code 0) (Open s) Ended
+stageAfter s code = cond (eqb code 0) (Open s) (Ended code)
 
 abbrev pub servedFirst : Settings → Outcome Told (List ℕ) → Outcome Served (List ℕ)
 servedFirst s o = outcome (record { told = o .answer; stage = stageAfter s (o .answer .code) }) (o .after)
@@ -76,7 +76,7 @@ abbrev pub setUp : Settings → List ℕ → Outcome Served (List ℕ)
 setUp s memory = servedFirst s (inStore s (λ ws. told (Rules.setUp s ws)) memory)
 
 abbrev pub unopened : Served
-unopened = record { told = malformed; stage = Ended }
+unopened = record { told = malformed; stage = Ended (malformed .code) }
 
 abbrev pub opened : Line → List ℕ → Outcome Served (List ℕ)
 opened (SetUp s) memory = setUp s memory
@@ -95,4 +95,4 @@ servedNext s o = outcome (record { told = o .answer; stage = Open s }) (o .after
 abbrev pub served : Stage → Line → List ℕ → Outcome Served (List ℕ)
 served First line memory = opened line memory
 served (Open s) line memory = servedNext s (inStore s (answered s line) memory)
-served Ended line memory = outcome unopened memory
+served (Ended code) line memory = outcome unopened memory

@@ -22,8 +22,8 @@ pub enum Stage {
     First,
     // Line 1 was accepted, with these settings.
     Open(Settings),
-    // Line 1 was not accepted.
-    Ended,
+    // Line 1 was not accepted: the code that it was told.
+    Ended(u64),
 }
 
 // What a line is told, and how the run stands then.
@@ -42,7 +42,7 @@ pub fn serve(stage: Stage, line: Line, memory: &mut [u64]) -> Served
             told: in_store(settings, line, memory),
             stage: Stage::Open(settings),
         },
-        Stage::Ended => unopened(),
+        Stage::Ended(_) => unopened(),
     }
 }
 
@@ -65,9 +65,10 @@ fn open(line: Line, memory: &mut [u64]) -> Served
 fn unopened() -> Served
     ensures { λ r. ⌜ r ≡ Desk.unopened ⌝ }
 {
+    let told = malformed();
     Served {
-        told: malformed(),
-        stage: Stage::Ended,
+        told,
+        stage: Stage::Ended(told.code),
     }
 }
 
@@ -90,7 +91,7 @@ fn stage_after(settings: Settings, code: u64) -> Stage
     if code == 0 {
         Stage::Open(settings)
     } else {
-        Stage::Ended
+        Stage::Ended(code)
     }
 }
 

@@ -12,8 +12,8 @@ use Rattle.rows.proofs.PartLaws.{part-length}
 use Rattle.rows.proofs.RowLaws.{part-word}
 use Rattle.units.specs.declared.OptionNanos.{OptionNanos}
 use Rattle.settings.specs.declared.Limit.the-variants.{Open}
-use Rattle.settings.specs.declared.eviction.WhenFull.{WhenFull}
-use Rattle.settings.specs.Eviction.{whenFullOf}
+use Rattle.settings.specs.declared.eviction.Eviction.{Eviction}
+use Rattle.settings.specs.Eviction.{bounds, whenFullOf}
 use Rattle.settings.specs.declared.rate.OptionTokens.the-variants as tokens
 use Rattle.desk_lines.specs.declared.fields.Rest.{Rest}
 use Rattle.desk_lines.specs.declared.fields.NumberRead.{NumberRead}
@@ -101,20 +101,19 @@ module _ (line : List ℕ) (rest : Rest) where
     pub set-up-rest : readingAt line (rule .rest) ≡ ruleTaken .rest
     set-up-rest = restOf rule-taken
 
-    pub set-up-line : {full : WhenFull} → full ≡ whenFullOf (rule .value)
-        → SetUp (record { limit = Open (rate .value); eviction = record { «max_keys» = keys .value; «idle_ttl» = idle .value; «when_full» = full }; shards = shards .value })
+    pub set-up-line : {e : Eviction} → e ≡ bounds (keys .value) (idle .value) (whenFullOf (rule .value))
+        → SetUp (record { limit = Open (rate .value); eviction = e; shards = shards .value })
         ≡ SetUp (record {
           limit = Open (takenRate (readingAt line rest) .value);
-          eviction = record { «max_keys» = keysTaken .value; «idle_ttl» = idleTaken .value; «when_full» = whenFullOf (ruleTaken .value) };
+          eviction = bounds (keysTaken .value) (idleTaken .value) (whenFullOf (ruleTaken .value));
           shards = shardsTaken .value;
         })
     set-up-line is =
-        let fulls = is ∙ ap (λ (t : Taken ℕ). whenFullOf (t .value)) rule-taken in
-        λ j. SetUp (record {
-          limit = Open (e₁ j .value);
-          eviction = record { «max_keys» = keys-taken j .value; «idle_ttl» = idle-taken j .value; «when_full» = fulls j };
-          shards = shards-taken j .value;
-        })
+        let taken′ : bounds (keys .value) (idle .value) (whenFullOf (rule .value))
+        ≡ bounds (keysTaken .value) (idleTaken .value) (whenFullOf (ruleTaken .value)) =
+        λ j. bounds (keys-taken j .value) (idle-taken j .value) (whenFullOf (rule-taken j .value)) in
+        let bounded = is ∙ taken′ in
+        λ j. SetUp (record { limit = Open (e₁ j .value); eviction = bounded j; shards = shards-taken j .value })
 
 -- By the letter.
 module _ (letter : ℕ) (r : Reading) where

@@ -101,6 +101,42 @@ pub unknown-letter : lineOf (120 ∷ 32 ∷ 55 ∷ []) ≡ Malformed
 unfolding fields taken isDash whenFullOf lineOfLetter lineOf isDigit allDigits decimalFrom numberOf
 unknown-letter = refl
 
+-- A NUL ends no line and parts no fields, and a byte from 128 on is not taken for the one that is 128 less.
+-- "a 0 7 4" and a NUL
+pub nul-at-the-end : lineOf (97 ∷ 32 ∷ 48 ∷ 32 ∷ 55 ∷ 32 ∷ 52 ∷ 0 ∷ []) ≡ Malformed
+unfolding fields taken isDash whenFullOf lineOfLetter lineOf isDigit allDigits decimalFrom numberOf
+nul-at-the-end = refl
+
+-- "d 7" with a NUL for the space
+pub nul-for-a-space : lineOf (100 ∷ 0 ∷ 55 ∷ []) ≡ Malformed
+unfolding fields taken isDash whenFullOf lineOfLetter lineOf isDigit allDigits decimalFrom numberOf
+nul-for-a-space = refl
+
+-- a NUL alone
+pub nul-alone : lineOf (0 ∷ []) ≡ Malformed
+unfolding fields taken isDash whenFullOf lineOfLetter lineOf isDigit allDigits decimalFrom numberOf
+nul-alone = refl
+
+-- "d 7", the 7 with 128 added
+pub digit-from-128-on : lineOf (100 ∷ 32 ∷ 183 ∷ []) ≡ Malformed
+unfolding fields taken isDash whenFullOf lineOfLetter lineOf isDigit allDigits decimalFrom numberOf
+digit-from-128-on = refl
+
+-- "d 7", the letter with 128 added
+pub letter-from-128-on : lineOf (228 ∷ 32 ∷ 55 ∷ []) ≡ Malformed
+unfolding fields taken isDash whenFullOf lineOfLetter lineOf isDigit allDigits decimalFrom numberOf
+letter-from-128-on = refl
+
+-- "d 7", the space with 128 added
+pub space-from-128-on : lineOf (100 ∷ 160 ∷ 55 ∷ []) ≡ Malformed
+unfolding fields taken isDash whenFullOf lineOfLetter lineOf isDigit allDigits decimalFrom numberOf
+space-from-128-on = refl
+
+-- "d 7" and the byte 255
+pub byte-255-at-the-end : lineOf (100 ∷ 32 ∷ 55 ∷ 255 ∷ []) ≡ Malformed
+unfolding fields taken isDash whenFullOf lineOfLetter lineOf isDigit allDigits decimalFrom numberOf
+byte-255-at-the-end = refl
+
 -- 5 1 1000000000
 pub printed-retry : printed 5 1 1000000000 ≡ (53 ∷ 32 ∷ 49 ∷ 32 ∷ 49 ∷ 48 ∷ 48 ∷ 48 ∷ 48 ∷ 48 ∷ 48 ∷ 48 ∷ 48 ∷ 48 ∷ 10 ∷ [])
 unfolding digitsFrom

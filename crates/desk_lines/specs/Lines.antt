@@ -14,7 +14,7 @@ use Rattle.decimal.specs.declared.OptionNumber.{OptionNumber}
 use Rattle.decimal.specs.declared.OptionNumber.the-variants as number
 use Rattle.decimal.specs.Decimal.{numberOf}
 use Rattle.settings.specs.declared.rate.Rate.{Rate}
-use Rattle.settings.specs.Eviction.{whenFullOf}
+use Rattle.settings.specs.Eviction.{bounds, whenFullOf}
 use Rattle.desk_lines.specs.declared.Request.{Request}
 use Rattle.desk_lines.specs.declared.Line.{Line}
 use Rattle.desk_lines.specs.declared.Line.the-variants.{SetUp, Try, Peek, Reserve, Refund, Remove, Malformed}
@@ -142,7 +142,7 @@ setUp r =
     let rule = taken mostRule (idle .rest) in
     finished (rule .rest) (SetUp (record {
       limit = Open (rate .value);
-      eviction = record { «max_keys» = keys .value; «idle_ttl» = idle .value; «when_full» = whenFullOf (rule .value) };
+      eviction = bounds (keys .value) (idle .value) (whenFullOf (rule .value));
       shards = shards .value;
     }))
 

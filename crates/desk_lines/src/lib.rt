@@ -1,5 +1,6 @@
 // Lines of the desk program: which call a line's bytes are, and the bytes of what is printed for it.
 ghost use mathlib.Core.Path.{_≡_};
+ghost use Rattle.settings.specs.Eviction.{bounds, whenFullOf};
 ghost use Rattle.desk_lines.specs.Fields.{fieldsFrom};
 ghost use Rattle.desk_lines.specs.Lines.{left};
 ghost use Rattle.desk_lines.specs.Lines as Lines;
@@ -10,6 +11,7 @@ use settings::Settings;
 use settings::eviction::Eviction;
 use settings::eviction::WhenFull;
 use units::Nanos;
+use units::OptionNanos;
 
 mod fields;
 mod parts;
@@ -155,16 +157,22 @@ fn set_up_line(line: &[u8], rest: Rest) -> Line
     if fields::is_finished(line, rule.rest) {
         let value = rate.value;
         let idle_ttl = idle.value;
-        let eviction = Eviction {
-            max_keys: keys.value as usize,
-            idle_ttl,
-            when_full: WhenFull::numbered(rule.value),
-        };
         return Line::SetUp(Settings {
             limit: Limit::Open(value),
-            eviction,
+            eviction: eviction(keys.value as usize, idle_ttl, rule.value),
             shards: shards.value as usize,
         });
     }
     Line::Malformed
+}
+
+// The bounds of a set-up line: its cap on keys, its idle time and its rule when full.
+fn eviction(max_keys: usize, idle: OptionNanos, rule: u64) -> Eviction
+    ensures { λ r. ⌜ r ≡ bounds «max_keys» idle (whenFullOf rule) ⌝ }
+{
+    let when_full = WhenFull::numbered(rule);
+    match idle {
+        OptionNanos::None => Eviction::capacity(max_keys).with_when_full(when_full),
+        OptionNanos::Some(ttl) => Eviction::new(max_keys, ttl).with_when_full(when_full),
+    }
 }

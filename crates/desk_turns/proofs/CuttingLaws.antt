@@ -19,11 +19,11 @@ use Rattle.desk_turns.specs.declared.Feed.{Feed}
 use Rattle.desk_turns.specs.declared.Turned.{Turned}
 use Rattle.desk_turns.specs.Feeding.{stateOf, OneTurn}
 use Rattle.desk_lines.specs.Fields as Fields
-use Rattle.desk_turns.specs.Run.{State, hasEnded, lineAnswered, andThen, linesAnswered, Cut, onFirst, cut, lastLine, linesOf, printedAll, keptOf, turned, printedInTurns, joined}
+use Rattle.desk_turns.specs.Run.{State, hasEnded, lineAnswered, andThen, linesAnswered, Cut, onFirst, cut, lastLine, linesOf, printedAll, keptOf, Standing, turned, turnedOver, printedInTurns, joined}
 use Rattle.desk_turns.proofs.RunLaws.{none-once-ended}
 
 -- Bytes among which there is no line feed.
-abbrev NoFeed : List ℕ → Type 0
+abbrev pub NoFeed : List ℕ → Type 0
 NoFeed [] = Unit {0}
 NoFeed (b ∷ bs) = (eqb b lineFeed ≡ false) × NoFeed bs
 
@@ -175,3 +175,60 @@ turn-is-turned {end = end} {input = input} held within one =
     let place : held + (end - held) ≡ end = omega (arith, within) in
     let whole : take held input ++ part held (end - held) input ≡ take end input = sym (take-add held (end - held) input) ∙ ap (λ (k : ℕ). take k input) place in
     rw whole (answer-is (one .answers), after-is (one .answers), one .keeps)
+
+-- One read more.
+pub one-turn-more : (reads : List (List ℕ)) (read : List ℕ) (s : Standing) → turnedOver (reads ++ (read ∷ [])) s ≡ turned read (turnedOver reads s) .after
+unfolding turnedOver
+one-turn-more [] read s = refl
+one-turn-more (first ∷ reads) read s = one-turn-more reads read (turned first s .after)
+
+-- Bytes cut in two parts: what is left of the first is cut with the second.
+abbrev cutAfter : Cut → List ℕ → Cut
+cutAfter c more = record { lines = c .lines ++ cut (c .rest ++ more) .lines; rest = cut (c .rest ++ more) .rest }
+
+byte-before : (b : ℕ) (lines : List (List ℕ)) (rest more : List ℕ) → eqb b lineFeed ≡ false
+    → onFirst b (lines ++ cut (rest ++ more) .lines) (cut (rest ++ more) .rest) ≡ cutAfter (onFirst b lines rest) more
+unfolding cut
+byte-before b [] rest more other = rw other
+byte-before b (line ∷ lines) rest more other = refl
+
+cut-in-parts : (bs more : List ℕ) → cut (bs ++ more) ≡ cutAfter (cut bs) more
+unfolding cut
+cut-in-parts [] more = refl
+cut-in-parts (b ∷ bs) more =
+    by-test (eqb b lineFeed)
+    (λ feed. rw feed (ap (λ (c : Cut). record { lines = [] ∷ c .lines; rest = c .rest }) (cut-in-parts bs more)))
+    (λ other. rw other (ap (λ (c : Cut). onFirst b (c .lines) (c .rest)) (cut-in-parts bs more) ∙ byte-before b (cut bs .lines) (cut bs .rest) more other))
+
+-- How the run stands after bytes: the whole lines among them are answered, and what is kept of the last one is held.
+abbrev pub standsAfter : List ℕ → State → Standing
+standsAfter bytes s = record { held = keptOf (cut bytes .rest); state = linesAnswered (cut bytes .lines) s .after }
+
+stands-in-parts : (bs more : List ℕ) (s : State) → standsAfter (cut bs .rest ++ more) (linesAnswered (cut bs .lines) s .after) ≡ standsAfter (bs ++ more) s
+stands-in-parts bs more s =
+    let rest = cut (cut bs .rest ++ more) in
+    rw (cut-in-parts bs more)
+    (ap (λ (o : Outcome (List ℕ) State). record { held = keptOf (rest .rest); state = o .after }) (sym (answered-in-parts (cut bs .lines) (rest .lines) s)))
+
+begun-stands : (rest : List ℕ) → NoFeed rest → (s : State) → record { held = keptOf rest; state = s } ≡ standsAfter (rest ++ []) s
+unfolding cut linesAnswered
+begun-stands rest none s = rw (cut-onto rest [] none, append-nil rest)
+
+pub stands-from : (rest : List ℕ) → NoFeed rest → (reads : List (List ℕ)) (s : State)
+    → turnedOver reads (record { held = keptOf rest; state = s }) ≡ standsAfter (rest ++ joined reads) s
+unfolding turnedOver turned joined
+stands-from rest none [] s = begun-stands rest none s
+stands-from rest none (read ∷ reads) s =
+    rw (turn-answers-all rest none read s, turn-keeps-enough rest none read)
+    (stands-from (cut (rest ++ read) .rest) (no-feed-in-rest (rest ++ read)) reads (linesAnswered (cut (rest ++ read) .lines) s .after)
+    ∙ stands-in-parts (rest ++ read) (joined reads) s ∙ ap (λ (bytes : List ℕ). standsAfter bytes s) (append-assoc rest read (joined reads)))
+
+-- For every cutting of an input into reads the run stands, after the last line, where the input's lines bring it.
+pub every-cutting-stands-the-same : (reads : List (List ℕ)) (s : State) → let t = turnedOver reads (record { held = []; state = s }) in
+    linesAnswered (lastLine (t .held)) (t .state) .after ≡ linesAnswered (linesOf (joined reads)) s .after
+unfolding linesOf
+every-cutting-stands-the-same reads s =
+    let c = cut (joined reads) in
+    let o = linesAnswered (c .lines) s in
+    rw (stands-from [] tt reads s) (ap (λ (p : Outcome (List ℕ) State). p .after)
+    (last-by-kept (c .rest) (o .after)) ∙ sym (ap (λ (p : Outcome (List ℕ) State). p .after) (answered-in-parts (c .lines) (lastLine (c .rest)) s)))

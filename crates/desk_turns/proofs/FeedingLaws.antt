@@ -6,7 +6,7 @@ use mathlib.Core.Bool.{Bool, true, false}
 use lib.Dec.{T}
 use mathlib.Core.List.{List, [], _∷_, _++_}
 use lib.ListN.{length, getD, set, take, drop, length-append, length-take, length-drop}
-use lib.Seq.{drop-drop, paste-zero, paste-suc, take-paste, drop-paste, getD-drop, sets-eq, take-at, take-take, take-all, take-nil, length-take-le}
+use lib.Seq.{drop-drop, paste-zero, paste-suc, take-paste, drop-paste, getD-drop, sets-eq, take-at, drop-at, take-take, take-all, take-nil, length-take-le}
 use Rattle.arith.proofs.Cases.{by-le}
 use Rattle.rows.specs.Outcome.{Outcome, outcome}
 use Rattle.rows.proofs.OutcomeLaws.{answer-is, after-is}
@@ -19,7 +19,7 @@ use Rattle.desk_answers.specs.Desk.{served}
 use Rattle.bytes.specs.Bytes.{indexOf}
 use Rattle.rows.specs.Parts.{part}
 use Rattle.desk_turns.specs.declared.Feed.{Feed}
-use Rattle.desk_turns.specs.Feeding.{stateOf, unprinted, fed, keptFrom, movedToStart}
+use Rattle.desk_turns.specs.Feeding.{stateOf, unprinted, fed, SameFrom, OneLine, keptFrom, movedToStart}
 use Rattle.desk_turns.specs.Run.{State, hasEnded, lineAnswered, andThen, linesAnswered, cut, lastLine, keptOf}
 use Rattle.desk_turns.proofs.RunLaws.{no-feed, at-feed, nothing-follows, ended-is-all, one-and-others}
 
@@ -36,9 +36,6 @@ printed-short number code wait =
       length-append (printedField code space) (printedField wait lineFeed),
     )
 
-pub printed-ends : (number code wait at : ℕ) (bytes : List ℕ) {place : ℕ} {bytes′ : List ℕ} → outcome place bytes′ ≡ writtenOver (printed number code wait) at bytes → place ≤ at + longestPrinted
-printed-ends number code wait at bytes gave = omega (arith, answer-is gave, printed-short number code wait)
-
 -- Bytes written after those that stand printed.
 pub written-on : (new : List ℕ) (put : ℕ) (output : List ℕ) {put′ : ℕ} {output′ : List ℕ} → put + length new ≤ length output → outcome put′ output′ ≡ writtenOver new put output
     → take put′ output′ ≡ take put output ++ new
@@ -47,8 +44,24 @@ written-on new put output fits gave =
     length-append (take put output) new ∙ ap (λ (k : ℕ). k + length new) (length-take-le put output (omega (arith, fits))) in
     rw (answer-is gave, after-is gave, sets-eq new output put fits) (take-at (take put output ++ new) (drop (put + length new) output) (put + length new) front)
 
+-- What stands past the bytes that were written is as it was.
+beyond-written : (new : List ℕ) (put : ℕ) (output : List ℕ) {put′ : ℕ} {output′ : List ℕ} → put + length new ≤ length output
+    → outcome put′ output′ ≡ writtenOver new put output → SameFrom put′ output output′
+beyond-written new put output fits gave =
+    let front : length (take put output ++ new) ≡ put + length new =
+    length-append (take put output) new ∙ ap (λ (k : ℕ). k + length new) (length-take-le put output (omega (arith, fits))) in
+    rw (answer-is gave, after-is gave, sets-eq new output put fits) (drop-at (take put output ++ new) (drop (put + length new) output) (put + length new) front)
+
+-- What is the same from a place on is the same from every place further on.
+pub same-further : (place place′ : ℕ) (xs ys zs : List ℕ) → SameFrom place xs ys → place ≤ place′ → SameFrom place′ ys zs → SameFrom place′ xs zs
+same-further place place′ xs ys zs near less far =
+    let step = place′ - place in
+    let there : place + step ≡ place′ = omega (arith, less) in
+    let again : drop (place + step) ys ≡ drop (place + step) xs = sym (drop-drop step place ys) ∙ ap (drop step) near ∙ drop-drop step place xs in
+    far ∙ (rw there at again)
+
 -- A line was served and its answer printed: it is answered.
-pub line-is-answered : (f : Feed) (line memory output : List ℕ) {number put′ : ℕ} {told : Served} {memory′ output′ : List ℕ} → f .put + longestPrinted ≤ length output
+line-is-answered : (f : Feed) (line memory output : List ℕ) {number put′ : ℕ} {told : Served} {memory′ output′ : List ℕ} → f .put + longestPrinted ≤ length output
     → number ≡ (f .number + 1) % 2 ^ 64 → outcome told memory′ ≡ served (f .stage) (lineOf line) memory
     → outcome put′ output′ ≡ writtenOver (printed number (told .told .code) (told .told .wait)) (f .put) output
     → fed (record { stage = told .stage; number = number; put = put′ }) memory′ output′ ≡ andThen (fed f memory output) (lineAnswered line)
@@ -57,13 +70,28 @@ line-is-answered f line memory output {number} {told = told} room counts gave pr
     let new = printed number (told .told .code) (told .told .wait) in
     rw (written-on new (f .put) output (omega (arith, room, printed-short number (told .told .code) (told .told .wait))) prints, counts, answer-is gave, after-is gave)
 
+pub line-is-one : (f : Feed) (line memory output : List ℕ) {number put′ : ℕ} {told : Served} {memory′ output′ : List ℕ}
+    → f .put + longestPrinted ≤ length output → number ≡ (f .number + 1) % 2 ^ 64 → outcome told memory′ ≡ served (f .stage) (lineOf line) memory
+    → outcome put′ output′ ≡ writtenOver (printed number (told .told .code) (told .told .wait)) (f .put) output
+    → OneLine f line memory output (record { stage = told .stage; number = number; put = put′ }) memory′ output′
+line-is-one f line memory output {number} {told = told} room counts gave prints =
+    let new = printed number (told .told .code) (told .told .wait) in
+    let short = printed-short number (told .told .code) (told .told .wait) in
+    record {
+      answers = line-is-answered f line memory output room counts gave prints;
+      after = omega (arith, answer-is prints);
+      fits = omega (arith, answer-is prints, short);
+      beyond = beyond-written new (f .put) output (omega (arith, room, short)) prints;
+    }
+
 -- The whole lines of some bytes, answered up to a place: the lines from there on are still to be answered, after what is printed.
 pub record Underway (f₀ : Feed) (bytes memory₀ output₀ : List ℕ) (f : Feed) (at : ℕ) (memory output : List ℕ) : Type 0 where
   pub answers : andThen (fed f memory output) (linesAnswered (cut (drop at bytes) .lines)) ≡ andThen (fed f₀ memory₀ output₀) (linesAnswered (cut bytes .lines))
   pub leaves : cut (drop at bytes) .rest ≡ cut bytes .rest
+  pub beyond : SameFrom (f .put) output₀ output
 
 pub none-yet : (f : Feed) (bytes memory output : List ℕ) → Underway f bytes memory output f 0 memory output
-none-yet f bytes memory output = record { answers = refl; leaves = refl }
+none-yet f bytes memory output = record { answers = refl; leaves = refl; beyond = refl }
 
 module _ {f₀ : Feed} {bytes memory₀ output₀ : List ℕ} {f : Feed} {at : ℕ} {memory output : List ℕ} (far : Underway f₀ bytes memory₀ output₀ f at memory output) where
   -- No line feed is left.
@@ -170,6 +198,13 @@ rest-is-kept from end input within inside =
     rw (same, drop-take from end input within) (sym (take-all (longestLine + 1) (take (end - from) rest) (omega (arith, short, length-take (end - from) rest)))))
     (λ long. let same : n ≡ longestLine + 1 = omega (arith, long) in rw (same, drop-take from end input within) (sym (take-take (longestLine + 1) (end - from) rest (omega (arith, long)))))
 
+-- What is moved to the start stands over as many bytes, and those further on are as they were.
+beyond-moved : (from n : ℕ) (input : List ℕ) → from + n ≤ length input → SameFrom n input (movedToStart from n input)
+beyond-moved from n input inside =
+    let front : 0 + n ≡ n = omega arith in
+    subst (λ (k : ℕ). drop k (movedToStart from n input) ≡ drop k input) front
+    (drop-paste input 0 (drop from input) n (omega arith) (omega (arith, inside, length-drop from input)))
+
 -- A turn: nothing stood printed before it, and what is left is kept.
 module _ (end : ℕ) (input : List ℕ) where
   pub turn-answers : (f : Feed) (memory output : List ℕ) {o : Outcome (List ℕ) State} → o ≡ andThen (fed (unprinted f) memory output) (linesAnswered (cut (take (end - 0) input) .lines))
@@ -181,3 +216,7 @@ module _ (end : ℕ) (input : List ℕ) where
   turn-keeps at within inside few moved leaves =
       let same : end - 0 ≡ end = omega arith in
       rw (moved, few) (rest-is-kept at end input within inside) ∙ ap keptOf (rw same at leaves)
+
+  pub turn-leaves-beyond : (at : ℕ) {held : ℕ} {input′ : List ℕ} → at ≤ end → end ≤ length input → held ≡ keptFrom at end
+      → input′ ≡ movedToStart at held input → SameFrom held input input′
+  turn-leaves-beyond at {held} within inside few moved = rw moved (beyond-moved at held input (omega (arith, within, inside, few)))

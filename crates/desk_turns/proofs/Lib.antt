@@ -1,3 +1,4 @@
 pub mod FeedingLaws
 pub mod RunLaws
+pub mod Worked
 pub mod CuttingLaws

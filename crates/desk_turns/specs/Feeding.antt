@@ -7,10 +7,11 @@ use lib.ListN.{length, take, drop}
 use lib.Seq.{paste}
 use Rattle.rows.specs.Outcome.{Outcome, outcome}
 use Rattle.desk_lines.specs.Lines.{longestLine}
+use Rattle.desk_lines.specs.Printed.{longestPrinted}
 use Rattle.desk_turns.specs.declared.Feed.{Feed}
 use Rattle.desk_turns.specs.declared.Lines.{Lines}
 use Rattle.desk_turns.specs.declared.Turned.{Turned}
-use Rattle.desk_turns.specs.Run.{State, hasEnded, andThen, linesAnswered, cut, lastLine, keptOf}
+use Rattle.desk_turns.specs.Run.{State, hasEnded, lineAnswered, andThen, linesAnswered, cut, lastLine, keptOf}
 
 abbrev pub stateOf : Feed → List ℕ → State
 stateOf f memory = record { stage = f .stage; number = f .number; memory = memory }
@@ -23,6 +24,17 @@ unprinted f = record { stage = f .stage; number = f .number; put = 0 }
 abbrev pub fed : Feed → List ℕ → List ℕ → Outcome (List ℕ) State
 fed f memory output = outcome (take (f .put) output) (stateOf f memory)
 
+-- From a place on, past what is printed or held, the bytes are as they were.
+abbrev pub SameFrom : ℕ → List ℕ → List ℕ → Type 0
+SameFrom place bytes bytes′ = drop place bytes′ ≡ drop place bytes
+
+-- A line was answered, after what stood printed.
+pub record OneLine (f : Feed) (line memory output : List ℕ) (r : Feed) (memory′ output′ : List ℕ) : Type 0 where
+  pub answers : fed r memory′ output′ ≡ andThen (fed f memory output) (lineAnswered line)
+  pub after : f .put ≤ r .put
+  pub fits : r .put ≤ f .put + longestPrinted
+  pub beyond : SameFrom (r .put) output output′
+
 -- The whole lines of some bytes were answered: their answers are printed after what stood printed. Unless the run has ended, the next line begins
 -- with what is left.
 pub record WholeLines (f : Feed) (bytes memory output : List ℕ) (r : Lines) (memory′ output′ : List ℕ) : Type 0 where
@@ -30,19 +42,28 @@ pub record WholeLines (f : Feed) (bytes memory output : List ℕ) (r : Lines) (m
   pub leaves : hasEnded (r .feed .stage) ≡ false → drop (r .at) bytes ≡ cut bytes .rest
   pub within : r .at ≤ length bytes
   pub fits : r .feed .put ≤ length output
+  pub beyond : SameFrom (r .feed .put) output output′
+
+-- The bytes that are held after a turn. Once the run has ended no definition decides which they are. What holds of them then: they are no more than are kept
+-- of a line (`few`), and no line is answered from them any more (`none-once-ended`).
+abbrev pub heldBy : Turned → List ℕ → List ℕ
+heldBy r input′ = take (r .held) input′
 
 -- A turn: the whole lines among the bytes that have been read are answered, and nothing else stands printed. Unless the run has ended, what is left
--- is kept at the start of the input.
+-- is kept at the start of the input. All other bytes are as they were.
 pub record OneTurn (f : Feed) (end : ℕ) (input memory output : List ℕ) (r : Turned) (input′ memory′ output′ : List ℕ) : Type 0 where
   pub answers : fed (r .feed) memory′ output′ ≡ linesAnswered (cut (take end input) .lines) (stateOf f memory)
-  pub keeps : hasEnded (r .feed .stage) ≡ false → take (r .held) input′ ≡ keptOf (cut (take end input) .rest)
+  pub keeps : hasEnded (r .feed .stage) ≡ false → heldBy r input′ ≡ keptOf (cut (take end input) .rest)
   pub few : r .held ≤ longestLine + 1
   pub fits : r .feed .put ≤ length output
+  pub beyond-printed : SameFrom (r .feed .put) output output′
+  pub beyond-held : SameFrom (r .held) input input′
 
 -- The end of the input: the bytes that are held are the last line. Where none are held, no line begins, and nothing stands printed.
 pub record LastLine (f : Feed) (held : ℕ) (input memory output : List ℕ) (r : Feed) (memory′ output′ : List ℕ) : Type 0 where
   pub answers : fed r memory′ output′ ≡ linesAnswered (lastLine (take held input)) (stateOf f memory)
   pub fits : r .put ≤ length output
+  pub beyond : SameFrom (r .put) output output′
 
 -- How many bytes are kept of those from a place on.
 abbrev pub keptFrom : ℕ → ℕ → ℕ

@@ -22,7 +22,7 @@ pub record State : Type 0 where
 abbrev pub hasEnded : Stage → Bool
 hasEnded First = false
 hasEnded (Open s) = false
-hasEnded Ended = true
+hasEnded (Ended code) = true
 
 abbrev pub printedFor : ℕ → Told → List ℕ
 printedFor number told = printed number (told .code) (told .wait)
@@ -85,6 +85,11 @@ turned read s =
     let c = cut (s .held ++ read) in
     let o = linesAnswered (c .lines) (s .state) in
     outcome (o .answer) (record { held = keptOf (c .rest); state = o .after })
+
+-- How the run stands after some reads, each of them turned.
+unfoldable pub turnedOver : List (List ℕ) → Standing → Standing
+turnedOver [] s = s
+turnedOver (read ∷ reads) s = turnedOver reads (turned read s .after)
 
 -- What a run prints whose input comes in some reads: turn after turn until the run has ended, and the last line at the end of the input.
 unfoldable pub printedInTurns : List (List ℕ) → Standing → List ℕ

@@ -4,9 +4,9 @@ ghost use mathlib.Core.Bool.{false};
 ghost use Prim.Native.Nat.{_+_, _*_, _≤_};
 ghost use lib.ListN.{length};
 ghost use Rattle.desk_lines.specs.Printed.{longestPrinted};
-ghost use Rattle.desk_turns.specs.Feeding.{fed, WholeLines, OneTurn, LastLine, keptFrom, movedToStart};
+ghost use Rattle.desk_turns.specs.Feeding.{OneLine, WholeLines, OneTurn, LastLine, keptFrom, movedToStart};
 ghost use Rattle.desk_turns.specs.Feeding as Feeding;
-ghost use Rattle.desk_turns.specs.Run.{hasEnded, andThen, lineAnswered};
+ghost use Rattle.desk_turns.specs.Run.{hasEnded};
 use desk_answers::Stage;
 use desk_lines::LONGEST_LINE;
 use desk_lines::print;
@@ -103,7 +103,7 @@ fn whole_lines(bytes: &[u8], output: &mut [u8], memory: &mut [u64], feed: Feed) 
 // Answers a line, and prints its answer.
 fn answer_line(line: &[u8], output: &mut [u8], memory: &mut [u64], feed: Feed) -> Feed
     requires { ⌜ feed .put + longestPrinted ≤ length (now output) ⌝ }
-    ensures { λ r. ⌜ (fed r (now (memory .exit)) (now (output .exit)) ≡ andThen (fed feed (now (memory .entry)) (now (output .entry))) (lineAnswered (now (line .entry)))) × (r .put ≤ feed .put + longestPrinted) ⌝ }
+    ensures { λ r. ⌜ OneLine feed (now (line .entry)) (now (memory .entry)) (now (output .entry)) r (now (memory .exit)) (now (output .exit)) ⌝ }
 {
     let stage = feed.stage;
     let number = std::num::wrapping_add_u64(feed.number, 1);
@@ -122,7 +122,7 @@ pub fn has_ended(feed: Feed) -> bool
     match stage {
         Stage::First => false,
         Stage::Open(_) => false,
-        Stage::Ended => true,
+        Stage::Ended(_) => true,
     }
 }
 

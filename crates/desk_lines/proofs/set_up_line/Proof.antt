@@ -22,8 +22,8 @@ number-requires-3 c κs = search needs
 is-finished-requires : tie.Need-is-finished-requires
 is-finished-requires c κs = search needs
 
-numbered-requires : tie.Need-numbered-requires
-numbered-requires c κs = search needs
+eviction-requires : tie.Need-eviction-requires
+eviction-requires c κs = search needs
 
 returns : tie.Need-returns
 returns c =
@@ -33,7 +33,7 @@ returns c =
     let number2′ = c .before .before .before .before .before .before .number2 in
     let idle′ = c .before .before .before .before .before .idle in
     let number3′ = c .before .before .before .before .number3 in
-    finished-line (c .before .before .before .is-finished .ensures) (set-up-rest (args′ .line .now) (args′ .rest) _ _ _ _ _ (rate′ .ensures) (number′ .ensures) (number2′ .ensures) (idle′ .ensures) (number3′ .ensures)) (c .before .before .if1 .taken) (set-up-line (args′ .line .now) (args′ .rest) _ _ _ _ _ (rate′ .ensures) (number′ .ensures) (number2′ .ensures) (idle′ .ensures) (number3′ .ensures) (c .numbered .ensures))
+    finished-line (c .before .before .before .is-finished .ensures) (set-up-rest (args′ .line .now) (args′ .rest) _ _ _ _ _ (rate′ .ensures) (number′ .ensures) (number2′ .ensures) (idle′ .ensures) (number3′ .ensures)) (c .before .before .if1 .taken) (set-up-line (args′ .line .now) (args′ .rest) _ _ _ _ _ (rate′ .ensures) (number′ .ensures) (number2′ .ensures) (idle′ .ensures) (number3′ .ensures) (c .eviction .ensures))
 
 returns-2 : tie.Need-returns-2
 returns-2 c =
@@ -50,6 +50,6 @@ set-up-line-spec =
     idle-requires
     number-requires-3
     is-finished-requires
-    numbered-requires
+    eviction-requires
     returns
     returns-2)

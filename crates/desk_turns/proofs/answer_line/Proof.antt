@@ -1,5 +1,5 @@
 -- `answer_line` reads, answers and prints a line, each as the callee's contract says.
-use Rattle.desk_turns.proofs.FeedingLaws.{line-is-answered, printed-ends}
+use Rattle.desk_turns.proofs.FeedingLaws.{line-is-one}
 use borrow.Author.Needs.{needs}
 use Rattle.desk_turns.proofs.answer_line.Statement.{statement}
 use Rattle.desk_turns.proofs.answer_line.Tie as tie
@@ -25,8 +25,7 @@ same-length-2 c = search needs
 returns : tie.Need-returns
 returns c =
     let args′ = c .before .before .before .before .before .before .before .before .before .before .before .before .before .before .args in
-    let line′ = c .before .before .line in
-    (line-is-answered (args′ .feed) (args′ .line .now) (args′ .memory .now) (args′ .output .now) (c .before .before .before .before .before .before .before .before .before .before .before .before .before .before .pre) (c .before .before .before .before .before .before .before .before .before .before .wrapping-add-u64 .ensures) (rw (c .before .before .before .before .before .before .before .before .before .read .ensures) at (c .before .before .before .before .before .before .before .serve .ensures)) (line′ .ensures), printed-ends _ _ _ _ _ (line′ .ensures))
+    line-is-one (args′ .feed) (args′ .line .now) (args′ .memory .now) (args′ .output .now) (c .before .before .before .before .before .before .before .before .before .before .before .before .before .before .pre) (c .before .before .before .before .before .before .before .before .before .before .wrapping-add-u64 .ensures) (rw (c .before .before .before .before .before .before .before .before .before .read .ensures) at (c .before .before .before .before .before .before .before .serve .ensures)) (c .before .before .line .ensures)
 
 pub answer-line-spec : {M : Type 1} → statement M
 answer-line-spec =

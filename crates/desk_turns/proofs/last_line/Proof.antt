@@ -1,5 +1,6 @@
 -- `last_line` answers nothing where nothing is held, else the bytes that are held.
 use native.Mathlib.Omega.{arith}
+use mathlib.Core.Path.{refl}
 use Rattle.desk_turns.proofs.FeedingLaws.{no-last-line, last-is-answered}
 use borrow.Author.Needs.{needs}
 use Rattle.desk_turns.proofs.last_line.Statement.{statement}
@@ -12,7 +13,7 @@ returns : tie.Need-returns
 returns c =
     let unprinted′ = c .before .unprinted in
     let args′ = c .before .before .before .before .before .args in
-    record { answers = rw (unprinted′ .ensures) (no-last-line (args′ .feed) (args′ .held) (args′ .input .now) (args′ .memory .now) (args′ .output .now) (omega (arith, c .if1 .taken))); fits = rw (unprinted′ .ensures) (search needs) }
+    record { answers = rw (unprinted′ .ensures) (no-last-line (args′ .feed) (args′ .held) (args′ .input .now) (args′ .memory .now) (args′ .output .now) (omega (arith, c .if1 .taken))); fits = rw (unprinted′ .ensures) (search needs); beyond = refl }
 
 sub-answer-line : tie.Need-sub-answer-line
 sub-answer-line c = search needs
@@ -38,7 +39,7 @@ returns-2 c =
     let pre′ = c .before .before .before .before .before .before .before .before .before .before .before .before .before .pre in
     let unprinted′ = c .before .before .before .before .before .before .before .before .before .unprinted in
     let answer-line′ = c .before .before .before .before .answer-line in
-    record { answers = last-is-answered (args′ .feed) (args′ .held) (args′ .input .now) (args′ .memory .now) (args′ .output .now) (λ none. omega (arith, none, c .before .before .before .before .before .before .before .before .if1 .left)) (pre′ .0) (pre′ .2) (rw (unprinted′ .ensures) at (answer-line′ .ensures .0)); fits = omega (arith, rw (unprinted′ .ensures) at (answer-line′ .ensures .1), pre′ .1) }
+    record { answers = last-is-answered (args′ .feed) (args′ .held) (args′ .input .now) (args′ .memory .now) (args′ .output .now) (λ none. omega (arith, none, c .before .before .before .before .before .before .before .before .if1 .left)) (pre′ .0) (pre′ .2) (rw (unprinted′ .ensures) at (answer-line′ .ensures .answers)); fits = omega (arith, rw (unprinted′ .ensures) at (answer-line′ .ensures .fits), pre′ .1); beyond = answer-line′ .ensures .beyond }
 
 pub last-line-spec : {M : Type 1} → statement M
 last-line-spec =

@@ -2,7 +2,7 @@
 use Prim.Native.Nat.{_-_}
 use native.Mathlib.Omega.{arith}
 use lib.ListN.{length-take}
-use Rattle.desk_turns.proofs.FeedingLaws.{turn-answers, turn-keeps}
+use Rattle.desk_turns.proofs.FeedingLaws.{turn-answers, turn-keeps, turn-leaves-beyond}
 use borrow.Author.Needs.{needs}
 use Rattle.desk_turns.proofs.turn.Statement.{statement}
 use Rattle.desk_turns.proofs.turn.Tie as tie
@@ -42,7 +42,7 @@ returns c =
     let args′ = c .before .before .before .before .before .before .before .before .before .before .before .before .before .before .before .before .before .before .args in
     let whole-lines′ = c .before .before .before .before .before .before .before .before .before .whole-lines in
     let keep-rest′ = c .before .before .before .keep-rest in
-    record { answers = turn-answers (args′ .end) (args′ .input .now) (args′ .feed) (args′ .memory .now) (args′ .output .now) (rw (c .before .before .before .before .before .before .before .before .before .before .unprinted .ensures) at (whole-lines′ .ensures .answers)); keeps = λ goes-on. turn-keeps (args′ .end) (args′ .input .now) (whole-lines′ .result .at) (omega (arith, whole-lines′ .ensures .within, length-take (args′ .end - 0) (args′ .input .now))) (c .before .before .before .before .before .before .before .before .before .before .before .before .before .before .before .before .before .before .pre .0) (keep-rest′ .ensures .0) (keep-rest′ .ensures .1) (whole-lines′ .ensures .leaves goes-on); few = omega (arith, keep-rest′ .ensures .0); fits = whole-lines′ .ensures .fits }
+    record { answers = turn-answers (args′ .end) (args′ .input .now) (args′ .feed) (args′ .memory .now) (args′ .output .now) (rw (c .before .before .before .before .before .before .before .before .before .before .unprinted .ensures) at (whole-lines′ .ensures .answers)); keeps = λ goes-on. turn-keeps (args′ .end) (args′ .input .now) (whole-lines′ .result .at) (omega (arith, whole-lines′ .ensures .within, length-take (args′ .end - 0) (args′ .input .now))) (c .before .before .before .before .before .before .before .before .before .before .before .before .before .before .before .before .before .before .pre .0) (keep-rest′ .ensures .0) (keep-rest′ .ensures .1) (whole-lines′ .ensures .leaves goes-on); few = omega (arith, keep-rest′ .ensures .0); fits = whole-lines′ .ensures .fits; beyond-printed = whole-lines′ .ensures .beyond; beyond-held = turn-leaves-beyond (args′ .end) (args′ .input .now) (whole-lines′ .result .at) (omega (arith, whole-lines′ .ensures .within, length-take (args′ .end - 0) (args′ .input .now))) (c .before .before .before .before .before .before .before .before .before .before .before .before .before .before .before .before .before .before .pre .0) (keep-rest′ .ensures .0) (keep-rest′ .ensures .1) }
 
 pub turn-spec : {M : Type 1} → statement M
 turn-spec =

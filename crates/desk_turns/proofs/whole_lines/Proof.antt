@@ -7,7 +7,7 @@ use lib.ListN.{length}
 use Rattle.desk_lines.specs.Printed.{lineFeed, longestPrinted}
 use Rattle.desk_lines.proofs.FieldLaws.{found-from}
 use Rattle.desk_turns.specs.Run.{hasEnded}
-use Rattle.desk_turns.proofs.FeedingLaws.{Underway, none-yet, none-left, rest-left, others-follow, rest-follows, none-follow, ended-is-over}
+use Rattle.desk_turns.proofs.FeedingLaws.{Underway, none-yet, none-left, rest-left, others-follow, rest-follows, none-follow, ended-is-over, same-further}
 use borrow.Author.Needs.{needs}
 use Rattle.desk_turns.proofs.whole_lines.Statement.{statement}
 use Rattle.desk_turns.proofs.whole_lines.Tie as tie
@@ -53,7 +53,7 @@ loop-again c =
     let loop′ = c .before .before .before .before .before .before .before .before .before .before .before .before .before .loop in
     let find′ = c .before .before .before .before .before .before .before .before .before .before .before .find in
     let if1′ = c .before .before .before .before .before .before .before .before .before .before .if1 in
-    (search needs, search needs, omega arith, omega (arith, answer-line′ .ensures .1), sym (c .before .has-ended .ensures) ∙ c .if2 .left, record { answers = others-follow (loop′ .inv .5) (loop′ .inv .4) (found-from lineFeed _ _ (find′ .ensures .0)) (omega (arith, if1′ .left, find′ .ensures .1)) (answer-line′ .ensures .0); leaves = rest-follows (loop′ .inv .5) (loop′ .inv .4) (found-from lineFeed _ _ (find′ .ensures .0)) (omega (arith, if1′ .left, find′ .ensures .1)) (answer-line′ .ensures .0) })
+    (search needs, search needs, omega arith, omega (arith, answer-line′ .ensures .fits), sym (c .before .has-ended .ensures) ∙ c .if2 .left, record { answers = others-follow (loop′ .inv .5) (loop′ .inv .4) (found-from lineFeed _ _ (find′ .ensures .0)) (omega (arith, if1′ .left, find′ .ensures .1)) (answer-line′ .ensures .answers); leaves = rest-follows (loop′ .inv .5) (loop′ .inv .4) (found-from lineFeed _ _ (find′ .ensures .0)) (omega (arith, if1′ .left, find′ .ensures .1)) (answer-line′ .ensures .answers); beyond = same-further _ _ _ _ _ (loop′ .inv .5 .beyond) (answer-line′ .ensures .after) (answer-line′ .ensures .beyond) })
 
 same-length : tie.Need-same-length Inv-loop μ-loop
 same-length c = search needs
@@ -64,7 +64,7 @@ same-length-2 c = search needs
 returns : tie.Need-returns Inv-loop μ-loop
 returns c =
     let loop′ = c .before .loop in
-    record { answers = none-left (loop′ .inv .5) (omega arith); leaves = λ goes-on. rest-left (loop′ .inv .5) (omega arith); within = loop′ .inv .2; fits = omega (arith, loop′ .inv .3) }
+    record { answers = none-left (loop′ .inv .5) (omega arith); leaves = λ goes-on. rest-left (loop′ .inv .5) (omega arith); within = loop′ .inv .2; fits = omega (arith, loop′ .inv .3); beyond = loop′ .inv .5 .beyond }
 
 same-length-3 : tie.Need-same-length-3 Inv-loop μ-loop
 same-length-3 c = search needs
@@ -78,7 +78,7 @@ returns-2 c =
     let args′ = c .before .before .before .before .before .before .before .args in
     let find′ = c .before .find in
     let if1′ = c .if1 in
-    record { answers = none-left (loop′ .inv .5) (omega (arith, found-from lineFeed (args′ .bytes .now) (loop′ .at) (find′ .ensures .0), if1′ .taken)); leaves = λ goes-on. rest-left (loop′ .inv .5) (omega (arith, found-from lineFeed (args′ .bytes .now) (loop′ .at) (find′ .ensures .0), if1′ .taken)); within = loop′ .inv .2; fits = omega (arith, loop′ .inv .3) }
+    record { answers = none-left (loop′ .inv .5) (omega (arith, found-from lineFeed (args′ .bytes .now) (loop′ .at) (find′ .ensures .0), if1′ .taken)); leaves = λ goes-on. rest-left (loop′ .inv .5) (omega (arith, found-from lineFeed (args′ .bytes .now) (loop′ .at) (find′ .ensures .0), if1′ .taken)); within = loop′ .inv .2; fits = omega (arith, loop′ .inv .3); beyond = loop′ .inv .5 .beyond }
 
 same-length-5 : tie.Need-same-length-5 Inv-loop μ-loop
 same-length-5 c = search needs
@@ -94,7 +94,7 @@ returns-3 c =
     let answer-line′ = c .before .before .before .before .before .before .answer-line in
     let has-ended′ = c .before .has-ended in
     let if2′ = c .if2 in
-    record { answers = none-follow (loop′ .inv .5) (loop′ .inv .4) (found-from lineFeed _ _ (find′ .ensures .0)) (omega (arith, if1′ .left, find′ .ensures .1)) (answer-line′ .ensures .0) (sym (has-ended′ .ensures) ∙ if2′ .taken); leaves = ended-is-over (has-ended′ .ensures) (if2′ .taken); within = omega (arith, if1′ .left, find′ .ensures .1); fits = omega (arith, answer-line′ .ensures .1, loop′ .inv .3, if1′ .left, find′ .ensures .1, loop′ .inv .0) }
+    record { answers = none-follow (loop′ .inv .5) (loop′ .inv .4) (found-from lineFeed _ _ (find′ .ensures .0)) (omega (arith, if1′ .left, find′ .ensures .1)) (answer-line′ .ensures .answers) (sym (has-ended′ .ensures) ∙ if2′ .taken); leaves = ended-is-over (has-ended′ .ensures) (if2′ .taken); within = omega (arith, if1′ .left, find′ .ensures .1); fits = omega (arith, answer-line′ .ensures .fits, loop′ .inv .3, if1′ .left, find′ .ensures .1, loop′ .inv .0); beyond = same-further _ _ _ _ _ (loop′ .inv .5 .beyond) (answer-line′ .ensures .after) (answer-line′ .ensures .beyond) }
 
 pub whole-lines-spec : {M : Type 1} → statement M
 whole-lines-spec =

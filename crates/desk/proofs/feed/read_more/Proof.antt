@@ -1,8 +1,9 @@
--- `read_more` changes the input after the bytes that are held alone, and tells of bytes only if there are some.
-use Prim.Native.Nat.{_≤_}
-use native.Mathlib.Omega.{arith}
-use lib.ListN.{length}
+-- `read_more` changes the input after the bytes that are held alone, and tells of no more bytes than there is room for.
+use Rattle.desk.proofs.ReadLaws.{grows}
 use borrow.Rule.Slice.PartMut.{take-put}
+use lib.ListN.{length}
+use native.Mathlib.Omega.{arith}
+use Prim.Native.Nat.{_≤_}
 use borrow.Author.Needs.{needs}
 use Rattle.desk.proofs.feed.read_more.Statement.{statement}
 use Rattle.desk.proofs.feed.read_more.Tie as tie
@@ -19,13 +20,8 @@ part-read-end c = search needs
 read-requires : tie.Need-read-requires
 read-requires c κs = search needs
 
-same-length : tie.Need-same-length
-same-length c = search needs
-
-returns : tie.Need-returns
-returns c =
-    let args′ = c .before .before .before .before .before .before .args in
-    (tt, let inside : args′ .held ≤ length (args′ .input .now) = omega arith in rw take-put)
+errno-requires : tie.Need-errno-requires
+errno-requires c κs = search needs
 
 sub-count : tie.Need-sub-count
 sub-count c = search needs
@@ -39,24 +35,20 @@ part-count-end c = search needs
 count-requires : tie.Need-count-requires
 count-requires c κs = search needs
 
-same-length-2 : tie.Need-same-length-2
-same-length-2 c = search needs
+brought-requires : tie.Need-brought-requires
+brought-requires c κs = search needs
 
-returns-2 : tie.Need-returns-2
-returns-2 c =
-    let args′ = c .before .before .before .before .before .before .before .before .before .before .args in
-    (tt, let inside : args′ .held ≤ length (args′ .input .now) = omega arith in rw take-put)
+same-length : tie.Need-same-length
+same-length c = search needs
 
-add-t6 : tie.Need-add-t6
-add-t6 c = search needs
-
-same-length-3 : tie.Need-same-length-3
-same-length-3 c = search needs
-
-returns-3 : tie.Need-returns-3
-returns-3 c =
-    let args′ = c .before .before .before .before .before .before .before .before .before .before .args in
-    ((omega arith, search needs), let inside : args′ .held ≤ length (args′ .input .now) = omega arith in rw take-put)
+returns : tie.Need-returns
+returns c =
+    let start′ = c .before .before .before .before .before .before .before .before .before .before in
+    let held′ = start′ .args .held in let input′ = start′ .args .input .now in let inside : held′ ≤ length input′ = omega arith in (
+      rw (c .brought .ensures)
+          (grows _ _ _ _ _ (omega arith)),
+      rw take-put,
+    )
 
 pub read-more-spec : {M : Type 1} → statement M
 read-more-spec =
@@ -66,14 +58,11 @@ read-more-spec =
     part-read-start
     part-read-end
     read-requires
-    same-length
-    returns
+    errno-requires
     sub-count
     part-count-start
     part-count-end
     count-requires
-    same-length-2
-    returns-2
-    add-t6
-    same-length-3
-    returns-3)
+    brought-requires
+    same-length
+    returns)

@@ -1,0 +1,110 @@
+-- A run comes on by a turn with each read, and is over at the end of the input or where a turn is the last.
+use Prim.Native.Nat.{ℕ, _+_, _-_, _≤_}
+use native.Mathlib.Omega.{arith}
+use mathlib.Core.Path.{_≡_, refl, sym, ap, _∙_}
+use mathlib.Core.Bool.{true, false}
+use mathlib.Core.List.{List, [], _∷_, _++_}
+use lib.ListN.{length, take, drop, length-append, length-take, length-drop}
+use Rattle.rows.specs.Outcome.{Outcome}
+use Rattle.rows.specs.Parts.{part}
+use Rattle.rows.proofs.OutcomeLaws.{after-is}
+use Rattle.desk_lines.specs.Lines.{longestLine}
+use Rattle.desk_turns.specs.declared.Feed.{Feed}
+use Rattle.desk_turns.specs.declared.Turned.{Turned}
+use Rattle.desk_turns.specs.Feeding.{stateOf, OneTurn, LastLine}
+use Rattle.desk_turns.specs.Run.{State, Standing, hasEnded, linesAnswered, lastLine, linesOf, turned, turnedOver, joined}
+use Rattle.desk_turns.proofs.RunLaws.{none-once-ended}
+use Rattle.desk_turns.proofs.CuttingLaws.{one-turn-more, turn-is-turned, every-cutting-stands-the-same}
+use Rattle.desk.specs.declared.feed.Ran.{Ran}
+use Rattle.desk.specs.declared.feed.Why.the-variants.{Input, Refused, Read, Write, LastWrite, Turns}
+use Rattle.desk.specs.Ran.{standing, atStart, Short, TurnedTo, withLast, lastAnswered, AtEnd, RanFrom}
+
+-- How the loop stands at its head.
+pub record GoingOn (input₀ : List ℕ) (held₀ : ℕ) (output₀ memory₀ : List ℕ) (f₀ : Feed) (input : List ℕ) (held : ℕ) (output memory : List ℕ) (f : Feed)
+    (turns : ℕ) : Type 0 where
+  pub same-input : length input ≡ length input₀
+  pub same-output : length output ≡ length output₀
+  pub same-memory : length memory ≡ length memory₀
+  pub few : held ≤ longestLine + 1
+  pub more : hasEnded (f .stage) ≡ false
+  pub far : TurnedTo (standing held₀ input₀ f₀ memory₀) (length input₀) turns (standing held input f memory)
+
+-- No read yet, and one more.
+pub none-turned : (s : Standing) (size : ℕ) → TurnedTo s size 0 s
+unfolding turnedOver
+none-turned s size = record { reads = []; short = tt; counted = refl; is-turned = refl }
+
+short-on : (size : ℕ) (reads : List (List ℕ)) (read : List ℕ) → Short size reads → length read ≤ size → Short size (reads ++ (read ∷ []))
+short-on size [] read short fits = (fits, tt)
+short-on size (first ∷ reads) read short fits = (short .0, short-on size reads read (short .1) fits)
+
+one-more : {from to : Standing} {size turns : ℕ} (read : List ℕ) → length read ≤ size → TurnedTo from size turns to
+    → TurnedTo from size (turns + 1) (turned read to .after)
+one-more {from} {size = size} read fits far =
+    record {
+      reads = far .reads ++ (read ∷ []);
+      short = short-on size (far .reads) read (far .short) fits;
+      counted = omega (arith, length-append (far .reads) (read ∷ []), far .counted);
+      is-turned = ap (λ (s : Standing). turned read s .after) (far .is-turned) ∙ sym (one-turn-more (far .reads) read from);
+    }
+
+-- Nothing is left to answer once the run has ended.
+ended-answers-none : (s : Standing) → hasEnded (s .state .stage) ≡ true → lastAnswered s ≡ s .state
+ended-answers-none s ended = ap (λ (o : Outcome (List ℕ) State). o .after) (none-once-ended (lastLine (s .held)) (s .state) ended)
+
+-- A turn after a read, which leaves the bytes that are held.
+module _ (input₀ : List ℕ) {from : Standing} {size turns held end : ℕ} {f : Feed} {input memory output : List ℕ} {r : Turned} {input′ memory′ output′ : List ℕ}
+    (far : TurnedTo from size turns (standing held input₀ f memory)) (stays : take held input ≡ take held input₀) (within : held ≤ end)
+    (fits : length input ≤ size)
+    (one : OneTurn f end input memory output r input′ memory′ output′) where
+  abbrev read : List ℕ
+  read = part held (end - held) input
+
+  abbrev next : Standing
+  next = turned read (standing held input f memory) .after
+
+  next-turned : TurnedTo from size (turns + 1) next
+  next-turned = one-more read (omega (arith, fits, length-take (end - held) (drop held input), length-drop held input)) (rw stays far)
+
+  stands-next : stateOf (r .feed) memory′ ≡ next .state
+  stands-next = turn-is-turned held within one .1
+
+  pub goes-on : hasEnded (r .feed .stage) ≡ false → TurnedTo from size (turns + 1) (standing (r .held) input′ (r .feed) memory′)
+  goes-on more =
+      let keeps = turn-is-turned held within one .2 more in
+      let same : standing (r .held) input′ (r .feed) memory′ ≡ next = λ j. record { held = keeps j; state = stands-next j } in
+      rw same next-turned
+
+  pub over-by-write : RanFrom from size (record { why = Write; feed = r .feed; turns = turns + 1 }) memory′
+  over-by-write = record { to = next; turned-to = next-turned; stands = stands-next; rightly = tt }
+
+  pub over-by-line-1 : hasEnded (r .feed .stage) ≡ true → RanFrom from size (record { why = Refused; feed = r .feed; turns = turns + 1 }) memory′
+  over-by-line-1 ended =
+      let ended′ : hasEnded (next .state .stage) ≡ true = sym (ap (λ (s : State). hasEnded (s .stage)) stands-next) ∙ ended in
+      record { to = next; turned-to = next-turned; stands = stands-next ∙ sym (ended-answers-none next ended′); rightly = ended }
+
+-- Without a turn.
+module _ (held : ℕ) (input : List ℕ) (f : Feed) {from : Standing} {size turns : ℕ} {memory : List ℕ}
+    (far : TurnedTo from size turns (standing held input f memory)) where
+  pub over-by-read : hasEnded (f .stage) ≡ false → RanFrom from size (record { why = Read; feed = f; turns = turns }) memory
+  over-by-read more = record { to = standing held input f memory; turned-to = far; stands = refl; rightly = more }
+
+  pub over-by-turns : hasEnded (f .stage) ≡ false → RanFrom from size (record { why = Turns; feed = f; turns = turns }) memory
+  over-by-turns more = record { to = standing held input f memory; turned-to = far; stands = refl; rightly = more }
+
+  pub over-at-end : (input₁ : List ℕ) {r : Ran} {memory′ : List ℕ} → take held input₁ ≡ take held input
+      → AtEnd (standing held input₁ f memory) turns r memory′ → RanFrom from size r memory′
+  over-at-end input₁ stays end =
+      record { to = standing held input₁ f memory; turned-to = rw (end .counted, stays) far; stands = rw (end .last) (end .stands); rightly = end .rightly }
+
+-- Where the last line is answered, the run stands where the lines of all that was read bring it, whatever the pieces.
+pub whole-input-is-answered : {memory memory′ : List ℕ} {size : ℕ} {r : Ran} (ran : RanFrom (atStart memory) size r memory′) → withLast (r .why) ≡ true
+    → stateOf (r .feed) memory′ ≡ linesAnswered (linesOf (joined (ran .turned-to .reads))) (atStart memory .state) .after
+whole-input-is-answered {memory} ran last =
+    let far = ran .turned-to in
+    (rw last at (ran .stands)) ∙ ap lastAnswered (far .is-turned) ∙ every-cutting-stands-the-same (far .reads) (atStart memory .state)
+
+-- The last line.
+pub last-stands : {f r : Feed} {held : ℕ} {input memory output memory′ output′ : List ℕ} → LastLine f held input memory output r memory′ output′
+    → stateOf r memory′ ≡ lastAnswered (standing held input f memory)
+last-stands last = after-is (last .answers)

@@ -1,0 +1,98 @@
+-- What wrong programs leave does not meet the contract of `go_on`: one that leaves the last line unanswered, and one that drops the bytes that are held.
+use Prim.Native.Nat.{ℕ}
+use native.Mathlib.Omega.{arith}
+use mathlib.Core.Path.{_≡_, refl, sym, ap, _∙_}
+use mathlib.Core.Bool.{Bool, true, false}
+use mathlib.Core.List.{List, [], _∷_}
+use lib.Dec.{leb}
+use lib.ListN.{length, take}
+use Rattle.arith.proofs.Cases.{by-test}
+use Rattle.rows.specs.Outcome.{Outcome}
+use Rattle.desk_lines.specs.Fields as Fields
+use Rattle.desk_lines.specs.declared.Line.the-variants.{Malformed}
+use Rattle.desk_lines.specs.Lines.{longestLine, lineOfLetter, lineOfFields, lineOf}
+use Rattle.desk_answers.specs.declared.Stage.{Stage}
+use Rattle.desk_answers.specs.declared.Stage.the-variants.{First, Open, Ended}
+use Rattle.desk_turns.specs.Run.{State, Standing, lineAnswered, linesAnswered, onFirst, cut, lastLine, keptOf, turnedOver, joined}
+use Rattle.desk_turns.proofs.RunLaws.{none-once-ended}
+use Rattle.desk_turns.proofs.CuttingLaws.{stands-from}
+use Rattle.desk.specs.declared.feed.Ran.{Ran}
+use Rattle.desk.specs.declared.feed.Why.{Why}
+use Rattle.desk.specs.declared.feed.Why.the-variants.{Input}
+use Rattle.desk.specs.Ran.{withLast, lastAnswered, overAt, RanFrom}
+
+-- Before line 1, of which the byte `x` (120) is held.
+abbrev beforeLine1 : List ℕ → State
+beforeLine1 memory = record { stage = First; number = 0; memory = memory }
+
+abbrev xHeld : List ℕ → Standing
+xHeld memory = record { held = 120 ∷ []; state = beforeLine1 memory }
+
+nothing-read : {from to : Standing} (reads : List (List ℕ)) → length reads ≡ 0 → to ≡ turnedOver reads from → to ≡ from
+unfolding turnedOver
+nothing-read [] none is = is
+nothing-read (read ∷ reads) none is = absurd (omega (arith, none))
+
+-- The input ends without a read. A run that stands then where it stood has not answered the line that it held.
+pub last-line-has-to-be-answered : (memory memory′ : List ℕ) (size put : ℕ)
+    → RanFrom (xHeld memory) size (record { why = Input; feed = record { stage = First; number = 0; put = put }; turns = 0 }) memory′ → ⊥
+unfolding linesAnswered lineAnswered lineOf lineOfLetter Fields.fields
+last-line-has-to-be-answered memory memory′ size put ran =
+    let far = ran .turned-to in
+    let here : ran .to ≡ xHeld memory = nothing-read (far .reads) (far .counted) (far .is-turned) in
+    let numbers : _≡_ {A = ℕ} 0 1 = ap (λ (s : State). s .number) (ran .stands ∙ ap lastAnswered here) in
+    omega (arith, numbers)
+
+-- A line that begins with `x` is malformed, whatever follows; as line 1 it ends the run.
+x-is-no-letter : (fs : List (List ℕ)) → lineOfFields (Fields.onFirst 120 fs) ≡ Malformed
+unfolding lineOfLetter
+x-is-no-letter [] = refl
+x-is-no-letter ([] ∷ fs) = refl
+x-is-no-letter ((b ∷ bs) ∷ fs) = refl
+
+x-is-malformed : (line : List ℕ) → lineOf (120 ∷ line) ≡ Malformed
+unfolding lineOf Fields.fields
+x-is-malformed line = by-test (leb (length (120 ∷ line)) longestLine) (λ short. rw short (x-is-no-letter (Fields.fields line))) (λ long. rw long)
+
+x-ends-the-run : (line : List ℕ) (lines : List (List ℕ)) (memory : List ℕ)
+    → linesAnswered ((120 ∷ line) ∷ lines) (beforeLine1 memory) .after ≡ record { stage = Ended 9; number = 1; memory = memory }
+unfolding linesAnswered lineAnswered
+x-ends-the-run line lines memory =
+    rw (x-is-malformed line) (ap (λ (o : Outcome (List ℕ) State). o .after) (none-once-ended lines (record {
+      stage = Ended 9;
+      number = 1;
+      memory = memory;
+    }) refl))
+
+-- So whatever is read after it, the desk is never opened.
+abbrev pub isOpen : Stage → Bool
+isOpen First = false
+isOpen (Open settings) = true
+isOpen (Ended code) = false
+
+shut-once-ended : (why : Why) (held : List ℕ) {s : State} (memory : List ℕ) → s ≡ record { stage = Ended 9; number = 1; memory = memory }
+    → isOpen (overAt why (record { held = held; state = s }) .stage) ≡ false
+shut-once-ended why held memory is =
+    let ended : State = record { stage = Ended 9; number = 1; memory = memory } in
+    rw is (by-test (withLast why) (λ last. rw last (ap (λ (o : Outcome (List ℕ) State). isOpen (o .after .stage)) (none-once-ended
+    (lastLine held) ended refl))) (λ none. rw none))
+
+shut-after-x : (why : Why) (lines : List (List ℕ)) (rest memory : List ℕ)
+    → isOpen (overAt why (record {
+      held = keptOf (onFirst 120 lines rest .rest);
+      state = linesAnswered (onFirst 120 lines rest .lines)
+          (beforeLine1 memory) .after;
+    }) .stage) ≡ false
+unfolding linesAnswered
+shut-after-x why [] rest memory = by-test (withLast why) (λ last. rw last (ap (λ (s : State). isOpen (s .stage)) (x-ends-the-run
+    (take 100 rest) [] memory))) (λ none. rw none)
+shut-after-x why (line ∷ lines) rest memory = shut-once-ended why (keptOf rest) memory (x-ends-the-run line lines memory)
+
+-- A program that drops the `x` and opens the desk by the settings line that comes next does not meet the contract.
+pub held-bytes-have-to-be-kept : {memory memory′ : List ℕ} {size : ℕ} {r : Ran} → RanFrom (xHeld memory) size r memory′ → isOpen (r .feed .stage) ≡ false
+unfolding cut
+held-bytes-have-to-be-kept {memory} {r = r} ran =
+    let far = ran .turned-to in
+    let rest = cut (joined (far .reads)) in
+    let stands = far .is-turned ∙ stands-from (120 ∷ []) (refl, tt) (far .reads) (beforeLine1 memory) in
+    ap (λ (s : State). isOpen (s .stage)) (ran .stands ∙ ap (overAt (r .why)) stands) ∙ shut-after-x (r .why) (rest .lines) (rest .rest) memory

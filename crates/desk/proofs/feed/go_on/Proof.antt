@@ -1,0 +1,212 @@
+-- `go_on` keeps the lengths of its buffers, holds no more than a line's beginning, and has come from where it stood over one read more with each turn; it ends
+-- since it counts its turns.
+use Rattle.desk.proofs.RanLaws.{GoingOn, none-turned, goes-on, over-by-write, over-by-line-1, over-by-read, over-by-turns, over-at-end}
+use mathlib.Core.Path.{refl, sym, _∙_}
+use native.Mathlib.Omega.{arith}
+use Prim.Native.Nat.{_-_, _^_}
+use borrow.Author.Needs.{needs}
+use Rattle.desk.proofs.feed.go_on.Statement.{statement}
+use Rattle.desk.proofs.feed.go_on.Tie as tie
+
+abbrev Inv-loop : tie.InvT-loop
+Inv-loop input₀ held₀ output₀ memory₀ feed₀ turns₀ input held output memory feed turns = GoingOn input₀ held₀ output₀ memory₀ feed₀ input held output memory feed turns
+
+abbrev μ-loop : tie.MeasureT-loop
+μ-loop input₀ held₀ output₀ memory₀ feed₀ turns₀ input held output memory feed turns = 2 ^ 64 - turns
+
+loop-holds : tie.Need-loop-holds Inv-loop μ-loop
+loop-holds c =
+    let start′ = c .before .before .before in
+    record { same-input = refl; same-output = refl; same-memory = refl; few = start′ .pre .2; more = start′ .pre .3; far = none-turned _ _ }
+
+read-more-requires : tie.Need-read-more-requires Inv-loop μ-loop
+read-more-requires c κs = search needs
+
+enum-known-got : tie.Need-enum-known-got Inv-loop μ-loop
+enum-known-got c = search needs
+
+turn-requires : tie.Need-turn-requires Inv-loop μ-loop
+turn-requires c κs =
+    let got′ = c .before .before .before .before .got in
+    let read-more′ = c .before .before .before .before .before .before .before .before .read-more in (
+      omega (arith, rw (got′ .given .1) at (read-more′ .ensures .0)),
+      omega (
+        arith,
+        rw (got′ .given .1) at (read-more′ .ensures .0),
+        c .before .before
+            .before .before .before .before .before .before .before .before .before .before .before .before .before .pre .1,
+      ),
+      c .before .before .before
+          .before .before .before .before .before .before .before .before .loop .inv .more,
+    )
+
+add-turns : tie.Need-add-turns Inv-loop μ-loop
+add-turns c = search needs
+
+enum-told : tie.Need-enum-told Inv-loop μ-loop
+enum-told c = search needs
+
+finish-requires : tie.Need-finish-requires Inv-loop μ-loop
+finish-requires c κs = (
+  omega arith,
+  omega (
+    arith,
+    c .before .before .before .before .before .before .before .before .before .before .before .before
+        .before .before .pre .1,
+  ),
+  c .before .before .before .before .before .before .before .before .before .before .loop .inv .more,
+)
+
+same-length : tie.Need-same-length Inv-loop μ-loop
+same-length c = search needs
+
+same-length-2 : tie.Need-same-length-2 Inv-loop μ-loop
+same-length-2 c = search needs
+
+same-length-3 : tie.Need-same-length-3 Inv-loop μ-loop
+same-length-3 c = search needs
+
+returns : tie.Need-returns Inv-loop μ-loop
+returns c =
+    let loop′ = c .before .before .before .before .before .before .before .before .before .before .before .before .before .before .before .loop in
+    over-at-end (loop′ .held) (loop′ .input) (loop′ .feed) (loop′ .inv .far) _ (c .before .before .before .before .before .before .before .before
+    .before .before .before .before .read-more .ensures .1) (c .before .before .before .before .finish .ensures)
+
+enum-told-2 : tie.Need-enum-told-2 Inv-loop μ-loop
+enum-told-2 c = search needs
+
+same-length-4 : tie.Need-same-length-4 Inv-loop μ-loop
+same-length-4 c = search needs
+
+same-length-5 : tie.Need-same-length-5 Inv-loop μ-loop
+same-length-5 c = search needs
+
+same-length-6 : tie.Need-same-length-6 Inv-loop μ-loop
+same-length-6 c = search needs
+
+returns-2 : tie.Need-returns-2 Inv-loop μ-loop
+returns-2 c =
+    let loop′ = c .before .before .before .before .before .before .before .loop in
+    over-by-read (loop′ .held) (loop′ .input) (loop′ .feed) (loop′ .inv .far) (loop′ .inv .more)
+
+flush-requires : tie.Need-flush-requires Inv-loop μ-loop
+flush-requires c κs = omega (arith, c .before .before .before .before .before .before .before .before .turn .ensures .fits)
+
+same-length-7 : tie.Need-same-length-7 Inv-loop μ-loop
+same-length-7 c = search needs
+
+same-length-8 : tie.Need-same-length-8 Inv-loop μ-loop
+same-length-8 c = search needs
+
+same-length-9 : tie.Need-same-length-9 Inv-loop μ-loop
+same-length-9 c = search needs
+
+returns-3 : tie.Need-returns-3 Inv-loop μ-loop
+returns-3 c =
+    let loop′ = c .before .before .before .before .before .before .before .before .before .before .before .before .before .before .before .before
+    .before .before .before .before .before .before .loop in
+    let read-more′ = c .before .before .before .before .before .before .before .before .before .before .before .before .before .before .before .before
+    .before .before .before .read-more in
+    over-by-write (loop′ .input) (loop′ .inv .far) (read-more′ .ensures .1) ((rw (c .before .before .before .before .before .before .before .before
+    .before .before .before .before .before .before .before .got .given .1) at (read-more′ .ensures .0)) .0) (omega arith) (c .before .before .before
+    .before .before .before .before .before .before .before .turn .ensures)
+
+has-ended-requires : tie.Need-has-ended-requires Inv-loop μ-loop
+has-ended-requires c κs = search needs
+
+same-length-10 : tie.Need-same-length-10 Inv-loop μ-loop
+same-length-10 c = search needs
+
+same-length-11 : tie.Need-same-length-11 Inv-loop μ-loop
+same-length-11 c = search needs
+
+same-length-12 : tie.Need-same-length-12 Inv-loop μ-loop
+same-length-12 c = search needs
+
+returns-4 : tie.Need-returns-4 Inv-loop μ-loop
+returns-4 c =
+    let loop′ = c .before .before .before .before .before .before .before .before .before .before .before .before .before .before .before .before
+    .before .before .before .before .before .before .before .before .loop in
+    let read-more′ = c .before .before .before .before .before .before .before .before .before .before .before .before .before .before .before .before
+    .before .before .before .before .before .read-more in
+    over-by-line-1 (loop′ .input) (loop′ .inv .far) (read-more′ .ensures .1) ((rw (c .before .before .before .before .before .before .before .before
+    .before .before .before .before .before .before .before .before .before .got .given .1) at (read-more′ .ensures .0)) .0) (omega arith) (c .before
+    .before .before .before .before .before .before .before .before .before .before .before .turn .ensures) (sym (c
+    .before .has-ended .ensures) ∙ c .if2 .taken)
+
+loop-less : tie.Need-loop-less Inv-loop μ-loop
+loop-less c = search needs
+
+loop-again : tie.Need-loop-again Inv-loop μ-loop
+loop-again c =
+    let turn′ = c .before .before .before .before .before .before .before .before .before .before .before .before .turn in
+    let has-ended′ = c .before .has-ended in
+    let if2′ = c .if2 in
+    let loop′ = c .before .before .before .before .before .before .before .before .before .before .before .before .before .before .before .before
+    .before .before .before .before .before .before .before .before .loop in
+    let read-more′ = c .before .before .before .before .before .before .before .before .before .before .before .before .before .before .before .before
+    .before .before .before .before .before .read-more in
+    record {
+      same-input = search needs;
+      same-output = search needs;
+      same-memory = search needs;
+      few = turn′ .ensures .few;
+      more = sym
+          (has-ended′ .ensures) ∙ if2′ .left;
+      far = goes-on (loop′ .input) (loop′ .inv .far) (read-more′ .ensures .1) ((rw (c .before .before .before
+          .before .before .before .before .before .before .before .before .before .before .before .before .before .before .got .given .1) at
+          (read-more′ .ensures .0)) .0) (omega arith) (turn′ .ensures) (sym (has-ended′ .ensures) ∙ if2′ .left);
+    }
+
+same-length-13 : tie.Need-same-length-13 Inv-loop μ-loop
+same-length-13 c = search needs
+
+same-length-14 : tie.Need-same-length-14 Inv-loop μ-loop
+same-length-14 c = search needs
+
+same-length-15 : tie.Need-same-length-15 Inv-loop μ-loop
+same-length-15 c = search needs
+
+returns-5 : tie.Need-returns-5 Inv-loop μ-loop
+returns-5 c =
+    let loop′ = c .before .loop in
+    over-by-turns (loop′ .held) (loop′ .input) (loop′ .feed) (loop′ .inv .far) (loop′ .inv .more)
+
+pub go-on-spec : {M : Type 1} → statement M
+go-on-spec =
+    tie.close
+    (tie.spec
+    Inv-loop
+    μ-loop
+    loop-holds
+    read-more-requires
+    enum-known-got
+    turn-requires
+    add-turns
+    enum-told
+    finish-requires
+    same-length
+    same-length-2
+    same-length-3
+    returns
+    enum-told-2
+    same-length-4
+    same-length-5
+    same-length-6
+    returns-2
+    flush-requires
+    same-length-7
+    same-length-8
+    same-length-9
+    returns-3
+    has-ended-requires
+    same-length-10
+    same-length-11
+    same-length-12
+    returns-4
+    loop-less
+    loop-again
+    same-length-13
+    same-length-14
+    same-length-15
+    returns-5)

@@ -1,0 +1,73 @@
+-- How a run has gone, from wherever it stood: there are reads of which it stands turned over them.
+use Prim.Native.Nat.{ℕ, _≤_}
+use mathlib.Core.Path.{_≡_}
+use mathlib.Core.Bool.{Bool, true, false, cond}
+use mathlib.Core.List.{List, [], _∷_}
+use lib.ListN.{length, take}
+use Rattle.desk_answers.specs.declared.Stage.{Stage}
+use Rattle.desk_answers.specs.declared.Stage.the-variants.{First}
+use Rattle.desk_turns.specs.declared.Feed.{Feed}
+use Rattle.desk_turns.specs.Feeding.{stateOf}
+use Rattle.desk_turns.specs.Run.{State, Standing, hasEnded, linesAnswered, lastLine, turnedOver}
+use Rattle.desk.specs.declared.feed.Ran.{Ran}
+use Rattle.desk.specs.declared.feed.Why.{Why}
+use Rattle.desk.specs.declared.feed.Why.the-variants.{Input, Refused, Read, Write, LastWrite, Turns}
+
+-- How the run stands: so many bytes at the start of the input are held.
+abbrev pub standing : ℕ → List ℕ → Feed → List ℕ → Standing
+standing held input f memory = record { held = take held input; state = stateOf f memory }
+
+-- Before line 1, at number 0, nothing is held.
+abbrev pub atStart : List ℕ → Standing
+atStart memory = record { held = []; state = record { stage = First; number = 0; memory = memory } }
+
+-- None of the reads brought more bytes than there are in the input.
+abbrev pub Short : ℕ → List (List ℕ) → Type 0
+Short size [] = Unit {0}
+Short size (read ∷ reads) = (length read ≤ size) × Short size reads
+
+-- The run has come from one standing to another in so many turns, over some reads.
+pub record TurnedTo (from : Standing) (size turns : ℕ) (to : Standing) : Type 0 where
+  pub reads : List (List ℕ)
+  pub short : Short size reads
+  pub counted : length reads ≡ turns
+  pub is-turned : to ≡ turnedOver reads from
+
+-- Whether the last line is answered: at the end of the input. Once the run has ended no line is left to answer (`none-once-ended`), so it may be said of
+-- that too.
+abbrev pub withLast : Why → Bool
+withLast Input = true
+withLast Refused = true
+withLast LastWrite = true
+withLast Read = false
+withLast Write = false
+withLast Turns = false
+
+abbrev pub lastAnswered : Standing → State
+lastAnswered s = linesAnswered (lastLine (s .held)) (s .state) .after
+
+abbrev pub overAt : Why → Standing → State
+overAt why s = cond (withLast why) (lastAnswered s) (s .state)
+
+-- A run is said to be over for its line 1 if that was not accepted, and for no other reason then, but for a write that failed.
+abbrev pub Rightly : Why → Stage → Type 0
+Rightly Refused stage = hasEnded stage ≡ true
+Rightly Input stage = hasEnded stage ≡ false
+Rightly Read stage = hasEnded stage ≡ false
+Rightly Turns stage = hasEnded stage ≡ false
+Rightly Write stage = Unit {0}
+Rightly LastWrite stage = Unit {0}
+
+-- The end of the input: the last line is answered.
+pub record AtEnd (s : Standing) (turns : ℕ) (r : Ran) (memory′ : List ℕ) : Type 0 where
+  pub last : withLast (r .why) ≡ true
+  pub stands : stateOf (r .feed) memory′ ≡ lastAnswered s
+  pub rightly : Rightly (r .why) (r .feed .stage)
+  pub counted : r .turns ≡ turns
+
+-- A run that is over, from wherever it stood: it has turned some reads, and where the input has ended answered the last line.
+pub record RanFrom (from : Standing) (size : ℕ) (r : Ran) (memory′ : List ℕ) : Type 0 where
+  pub to : Standing
+  pub turned-to : TurnedTo from size (r .turns) to
+  pub stands : stateOf (r .feed) memory′ ≡ overAt (r .why) to
+  pub rightly : Rightly (r .why) (r .feed .stage)
