@@ -11,7 +11,7 @@ use borrow.Author.Needs.{needs}
 use Rattle.store.proofs.known.Statement.{statement}
 use Rattle.store.proofs.known.Tie as tie
 
--- Once the slot is touched: where the call began, that the slot may be read and stored, and what the shard is now.
+-- Once the slot is touched: where the call began, that the slot may be read and stored, that the shard had its place, and what the shard is now.
 abbrev start : tie.After-touch-at → tie.Start
 start t = t .before .before .before .before .before
 
