@@ -80,7 +80,8 @@ module _ {shape : Shape} (hash : ℕ) (ws : List ℕ) (shaped : ShapeOfAccepted 
   part-is-placed = rw (is, shaped .is) (part-placed (shaped .settings) hash ws (rw (shaped .is) at size))
 
   -- What the counts of the shard and a further refusal come to is then the refusal.
-  pub counts-refuse : (further : ℕ) {counted told : ℕ} → counted ≡ countRefusal (part′ .cap) (Layout.shard (part′ .cap) (lentWords part-is-placed)) → told ≡ firstOf counted further
+  pub counts-refuse : (further : ℕ) {counted told : ℕ} → counted ≡ countRefusal (part′ .cap) (Layout.shard (part′ .cap) (lentWords part-is-placed))
+      → told ≡ firstOf counted further
       → told ≡ firstOf (shapeRefusal shape hash ws) further
   counts-refuse further {counted} counts gave =
       let refused : counted ≡ countRefusal (shape .cap) (shardIn (partIn shape hash) ws) = rw is at (rw (lent-shard part-is-placed) at counts) in

@@ -25,7 +25,7 @@ touched : (t : tie.After-touch-at) → let a = start t .args in
     shard (a .cap) (t .touch-at .last .0) ≡ touchAt (shard (a .cap) (a .ws .now)) (a .pos) (millisOf (a .at)) (tracks (a .policy .«idle_ttl»))
 touched t = rw (t .before .before .millis .ensures, t .before .tracks-idle .ensures) at (t .touch-at .ensures)
 
--- And once it is read back, seen from the bucket's answer on.
+-- The touch, as seen once the slot is read back; and the reading, as seen once the slot has its new bucket.
 abbrev touch : tie.After-get → tie.After-touch-at
 touch g = g .before .before .before .before
 

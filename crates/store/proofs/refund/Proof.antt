@@ -1,10 +1,10 @@
 -- `refund` goes by the key's place, as its definition does. A place that lookup found stands below the cap.
+use Prim.Native.Nat.{_<_}
 use mathlib.Core.Path.{_≡_, sym, _∙_}
 use Rattle.rows.specs.declared.Place.the-variants.{At}
 use Rattle.shard_map.specs.Layout.{shard, Lent}
 use Rattle.shard_map.specs.Model.{placeOf}
 use Rattle.store.proofs.ModelLaws.{found-below-cap, refund-with-slot, refund-without-slot}
-use Prim.Native.Nat.{_<_}
 use borrow.Author.Needs.{needs}
 use Rattle.store.proofs.refund.Statement.{statement}
 use Rattle.store.proofs.refund.Tie as tie
