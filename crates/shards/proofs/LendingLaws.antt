@@ -30,7 +30,7 @@ use Rattle.shards.specs.Memory.{Placed, partIn, partOf, shardIn, shardAt
 use Rattle.shards.specs.Refusals.{memoryRefusal, shapeRefusal, countRefusal, keyedRefusal, momentRefusal, timedRefusal, waitRefusal, reserveRefusal, lenRefusal}
 use Rattle.shards.specs.Lending.{lentUnless}
 use Rattle.shards.proofs.MemoryLaws.{part-placed, shard-ends}
-use Rattle.shards.proofs.RefusalLaws.{SetUp, Accepted, length-not-refused, len-not-refused, refusals-in-a-row, no-further-refusal}
+use Rattle.shards.proofs.RefusalLaws.{SetUp, Accepted, length-is-accepted, len-not-refused, refusals-in-a-row, no-further-refusal}
 
 -- A part that lies in the memory: its words are those of the shard in it.
 module _ {p : Part} {ws : List ℕ} (placed : Placed p ws) where
@@ -74,19 +74,18 @@ module _ (s : Settings) (none : settingsRefusal s ≡ 0) where
   memory-refuses hash ws = ap (λ (n : ℕ). firstOf n (countRefusal (capOf s) (shardAt s hash ws))) (no-refusal-hands-on (settingsRefusal s) _ none)
 
 -- In memory of the length that a shape asks for, the part of a hash's shard lies in it.
-module _ {shape : Shape} (hash : ℕ) (ws : List ℕ) {words checked : ℕ} (shaped : ShapeOfAccepted shape) (are : words ≡ wordsIn shape)
-    (is-checked : checked ≡ memoryRefusal words ws) (none : checked ≡ 0) {part′ : Part} (is : part′ ≡ partIn shape hash) where
+module _ {shape : Shape} (hash : ℕ) (ws : List ℕ) (shaped : ShapeOfAccepted shape) (size : length ws ≡ wordsIn shape)
+    {part′ : Part} (is : part′ ≡ partIn shape hash) where
   pub part-is-placed : Placed part′ ws
-  part-is-placed =
-      let size : length ws ≡ wordsIn shape = length-not-refused words ws (sym is-checked ∙ none) ∙ are in
-      rw (is, shaped .is) (part-placed (shaped .settings) hash ws (rw (shaped .is) at size))
+  part-is-placed = rw (is, shaped .is) (part-placed (shaped .settings) hash ws (rw (shaped .is) at size))
 
   -- What the counts of the shard and a further refusal come to is then the refusal.
-  pub counts-refuse : (further : ℕ) {counted told : ℕ} → counted ≡ countRefusal (part′ .cap) (Layout.shard (part′ .cap) (lentWords part-is-placed)) → told ≡ firstOf counted further
+  pub counts-refuse : (further : ℕ) {counted told : ℕ} → counted ≡ countRefusal (part′ .cap) (Layout.shard (part′ .cap) (lentWords part-is-placed))
+      → told ≡ firstOf counted further
       → told ≡ firstOf (shapeRefusal shape hash ws) further
   counts-refuse further {counted} counts gave =
       let refused : counted ≡ countRefusal (shape .cap) (shardIn (partIn shape hash) ws) = rw is at (rw (lent-shard part-is-placed) at counts) in
-      gave ∙ ap (λ (n : ℕ). firstOf n further) (refused ∙ sym (no-refusal-hands-on _ _ (ap (λ (n : ℕ). memoryRefusal n ws) (sym are) ∙ sym is-checked ∙ none)))
+      gave ∙ ap (λ (n : ℕ). firstOf n further) (refused ∙ sym (no-refusal-hands-on _ _ (length-is-accepted (wordsIn shape) ws size)))
 
 -- A call that is refused is lent nothing, one that is not is lent the part; here as the code comes to it.
 module _ {told refusal : ℕ} (part′ : Part) (is : told ≡ refusal) where

@@ -4,7 +4,7 @@ use Rattle.shard_map.specs.Layout.{shard, Lent}
 use Rattle.bucket.specs.declared.BucketConfig.{BucketConfig}
 use Rattle.units.specs.declared.Millis.{Millis}
 use Rattle.units.specs.declared.Nanos.{Nanos}
-use Prim.Native.Nat.{ℕ}
+use Prim.Native.Nat.{ℕ, _<_}
 use mathlib.Core.List.{List}
 use mathlib.Core.Path.{_≡_, refl, sym, _∙_}
 use Rattle.shard_map.proofs.ModelLaws.{idle-look-sound, sweep-idle-turn, sweep-idle-end, sweep-idle-none, lent-after}
@@ -23,6 +23,13 @@ Inv-loop ws₀ cap config at ttl-ms budget left₀ ws left = Sweeping ws₀ cap 
 abbrev μ-loop : tie.MeasureT-loop
 μ-loop ws₀ cap config at ttl-ms budget left₀ ws left = left
 
+-- In a turn, once the slots are counted: the place where it began, and that a look is left.
+abbrev place : tie.After-count Inv-loop μ-loop → tie.At-loop Inv-loop μ-loop
+place k = k .before .before .before
+
+look-left : (k : tie.After-count Inv-loop μ-loop) → 0 < place k .loop .left
+look-left k = k .before .before .loop-test .taken
+
 loop-holds : tie.Need-loop-holds Inv-loop μ-loop
 loop-holds c = record { lent = c .before .pre .0; same = refl }
 
@@ -30,7 +37,9 @@ count-requires : tie.Need-count-requires Inv-loop μ-loop
 count-requires c κs = search needs
 
 idle-look-requires : tie.Need-idle-look-requires Inv-loop μ-loop
-idle-look-requires c κs = (c .before .before .before .before .before .loop .inv .lent, c .before .before .before .before .before .before .before .pre .1, search needs)
+idle-look-requires c κs =
+    let l = place (c .before .before) in
+    (l .loop .inv .lent, l .before .before .pre .1, search needs)
 
 sub-left : tie.Need-sub-left Inv-loop μ-loop
 sub-left c = search needs
@@ -40,11 +49,12 @@ loop-less c = search needs
 
 loop-again : tie.Need-loop-again Inv-loop μ-loop
 loop-again c =
-    let loop′ = c .before .before .before .before .before .before .before .before .loop in
-    let idle-look′ = c .before .before .idle-look in
+    let look = c .before .before in
+    let k = look .before .before .before in
+    let inv = place k .loop .inv in
     record {
-      lent = lent-after (loop′ .inv .lent) (idle-look′ .kept .0) (idle-look′ .ensures) (idle-look-sound _ _ _ _ (loop′ .inv .lent .sound));
-      same = rw (idle-look′ .ensures) (sym (sweep-idle-turn _ _ _ _ _ (c .before .before .before .before .before .before .before .loop-test .taken)) ∙ loop′ .inv .same);
+      lent = lent-after (inv .lent) (look .idle-look .kept .0) (look .idle-look .ensures) (idle-look-sound _ _ _ _ (inv .lent .sound));
+      same = rw (look .idle-look .ensures) (sym (sweep-idle-turn _ _ _ _ _ (look-left k)) ∙ inv .same);
     }
 
 same-length : tie.Need-same-length Inv-loop μ-loop
@@ -57,7 +67,9 @@ same-length-2 : tie.Need-same-length-2 Inv-loop μ-loop
 same-length-2 c = search needs
 
 returns-2 : tie.Need-returns-2 Inv-loop μ-loop
-returns-2 c = sym (sweep-idle-none _ _ _ _ _ (sym (c .before .count .ensures) ∙ c .if1 .taken)) ∙ c .before .before .before .before .loop .inv .same
+returns-2 c =
+    let k = c .before in
+    sym (sweep-idle-none _ _ _ _ _ (sym (k .count .ensures) ∙ c .if1 .taken)) ∙ place k .loop .inv .same
 
 pub sweep-idle-spec : {M : Type 1} → statement M
 sweep-idle-spec =

@@ -4,6 +4,7 @@ use native.Mathlib.Nat.{le-antisymm}
 use native.Mathlib.Omega.{arith}
 use mathlib.Core.List.{List}
 use mathlib.Core.Path.{_≡_, sym}
+use Rattle.settings.specs.Settings.{shapeOf, mostKeys}
 use Rattle.shards.proofs.LendingLaws.{shards-are-few, numbered-shard-ends, counted-slots-few}
 use Rattle.shards.proofs.RefusalLaws.{len-not-refused}
 use Rattle.shards.specs.Memory.{slotCount}
@@ -25,6 +26,22 @@ Inv-loop ws shape total₀ i₀ total i = Counted ws (shape .cap) (shape .shards
 abbrev μ-loop : tie.MeasureT-loop
 μ-loop ws shape total₀ i₀ total i = shape .shards - i
 
+-- Where the loop stands: where the call began, and the shape of the settings.
+abbrev start : tie.At-loop Inv-loop μ-loop → tie.Start Inv-loop μ-loop
+start l = l .before .before .before
+
+shaped : (l : tie.At-loop Inv-loop μ-loop) → l .before .shape .result ≡ shapeOf (start l .args .settings)
+shaped l = l .before .shape .ensures
+
+-- In a turn of the loop: the place where it began, and that the shard has no more slots than the keys that may be asked for.
+abbrev place : tie.Then1 Inv-loop μ-loop → tie.At-loop Inv-loop μ-loop
+place t = t .before .before
+
+slots-few : (t : tie.Then1 Inv-loop μ-loop) → let l = place t in slotCount (l .before .shape .result .cap) (l .loop .i) (start l .args .ws .now) ≤ mostKeys
+slots-few t =
+    let l = place t in
+    counted-slots-few (start l .args .settings) (start l .args .ws .now) (start l .pre) (shaped l) (t .if1 .taken)
+
 shape-requires : tie.Need-shape-requires Inv-loop μ-loop
 shape-requires c κs = search needs
 
@@ -33,15 +50,15 @@ loop-holds c = record { counted = sym (sum-of-none _); few = omega arith; within
 
 slot-count-requires : tie.Need-slot-count-requires Inv-loop μ-loop
 slot-count-requires c κs =
-    let args′ = c .before .before .before .before .before .args in
-    numbered-shard-ends (args′ .settings) (args′ .ws .now) (len-not-refused (args′ .settings) (args′ .ws .now) (c .before .before .before .before .before .pre) .0) (c .before .before .before .shape .ensures) (c .if1 .taken)
+    let l = place c in
+    let a = start l .args in
+    numbered-shard-ends (a .settings) (a .ws .now) (len-not-refused (a .settings) (a .ws .now) (start l .pre) .0) (shaped l) (c .if1 .taken)
 
 add-total : tie.Need-add-total Inv-loop μ-loop
 add-total c =
-    let loop′ = c .before .before .before .loop in
-    let args′ = c .before .before .before .before .before .before .args in
-    let shape′ = c .before .before .before .before .shape in
-    record { fits = omega (arith, loop′ .inv .few, loop′ .inv .within, shards-are-few (args′ .settings) (shape′ .ensures), counted-slots-few (args′ .settings) (args′ .ws .now) (c .before .before .before .before .before .before .pre) (shape′ .ensures) (c .before .if1 .taken)) }
+    let l = place (c .before) in
+    let shards = shards-are-few (start l .args .settings) (shaped l) in
+    record { fits = omega (arith, l .loop .inv .few, l .loop .inv .within, shards, slots-few (c .before)) }
 
 add-i : tie.Need-add-i Inv-loop μ-loop
 add-i c = search needs
@@ -51,15 +68,17 @@ loop-less c = search needs
 
 loop-again : tie.Need-loop-again Inv-loop μ-loop
 loop-again c =
-    let loop′ = c .before .before .before .loop in
-    let args′ = c .before .before .before .before .before .before .args in
-    let if1′ = c .before .if1 in
-    record { counted = rw (c .slot-count .ensures, loop′ .inv .counted) (sym (sum-next _ _)); few = omega (arith, loop′ .inv .few, counted-slots-few (args′ .settings) (args′ .ws .now) (c .before .before .before .before .before .before .pre) (c .before .before .before .before .shape .ensures) (if1′ .taken)); within = omega (arith, if1′ .taken) }
+    let inv = place (c .before) .loop .inv in
+    record {
+      counted = rw (c .slot-count .ensures, inv .counted) (sym (sum-next _ _));
+      few = omega (arith, inv .few, slots-few (c .before));
+      within = omega (arith, c .before .if1 .taken);
+    }
 
 returns : tie.Need-returns Inv-loop μ-loop
 returns c =
-    let loop′ = c .before .before .loop in
-    rw (le-antisymm (loop′ .inv .within) (c .if1 .left), c .before .before .before .shape .ensures) at (loop′ .inv .counted)
+    let l = c .before .before in
+    rw (le-antisymm (l .loop .inv .within) (c .if1 .left), shaped l) at (l .loop .inv .counted)
 
 pub len-spec : {M : Type 1} → statement M
 len-spec =

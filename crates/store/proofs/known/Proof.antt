@@ -1,9 +1,36 @@
 -- `known` touches the slot, asks its bucket and stores it again: two stores at one place, which are the one store of the definition.
+use Prim.Native.Nat.{_<_}
+use mathlib.Core.Path.{_≡_}
+use Rattle.units.specs.Units.{millisOf}
+use Rattle.shard_map.specs.Layout.{shard, Lent}
+use Rattle.shard_map.specs.Model.{capOf, touchAt}
 use Rattle.shard_map.proofs.ModelLaws.{lent-cap}
+use Rattle.store.specs.Model.{tracks}
 use Rattle.store.proofs.ModelLaws.{lent-after-store, known-by-stores}
 use borrow.Author.Needs.{needs}
 use Rattle.store.proofs.known.Statement.{statement}
 use Rattle.store.proofs.known.Tie as tie
+
+-- Once the slot is touched: where the call began, that the slot may be read and stored, that the shard had its place, and what the shard is now.
+abbrev start : tie.After-touch-at → tie.Start
+start t = t .before .before .before .before .before
+
+may-be-read : (t : tie.After-touch-at) → let a = start t .args in Lent (a .cap) (t .touch-at .last .0) × (a .pos < a .cap)
+may-be-read t = (lent-after-store (start t .pre .0) (t .touch-at .kept .0) _ _ (t .touch-at .ensures), start t .pre .3)
+
+below : (t : tie.After-touch-at) → let a = start t .args in a .pos < capOf (shard (a .cap) (a .ws .now))
+below t = rw (lent-cap (start t .pre .0)) (start t .pre .3)
+
+touched : (t : tie.After-touch-at) → let a = start t .args in
+    shard (a .cap) (t .touch-at .last .0) ≡ touchAt (shard (a .cap) (a .ws .now)) (a .pos) (millisOf (a .at)) (tracks (a .policy .«idle_ttl»))
+touched t = rw (t .before .before .millis .ensures, t .before .tracks-idle .ensures) at (t .touch-at .ensures)
+
+-- The touch, as seen once the slot is read back; and the reading, as seen once the slot has its new bucket.
+abbrev touch : tie.After-get → tie.After-touch-at
+touch g = g .before .before .before .before
+
+abbrev read : tie.After-with-bucket → tie.After-get
+read w = w .before .before .before .before .before .before
 
 millis-requires : tie.Need-millis-requires
 millis-requires c κs = search needs
@@ -15,10 +42,7 @@ touch-at-requires : tie.Need-touch-at-requires
 touch-at-requires c κs = search needs
 
 get-requires : tie.Need-get-requires
-get-requires c κs =
-    let pre′ = c .before .before .before .before .before .before .before .before .pre in
-    let touch-at′ = c .before .before .before .touch-at in
-    (lent-after-store (pre′ .0) (touch-at′ .kept .0) _ _ (touch-at′ .ensures), pre′ .3)
+get-requires c κs = may-be-read (c .before .before .before)
 
 ask-at-requires : tie.Need-ask-at-requires
 ask-at-requires c κs = search needs
@@ -27,27 +51,18 @@ with-bucket-requires : tie.Need-with-bucket-requires
 with-bucket-requires c κs = search needs
 
 set-requires : tie.Need-set-requires
-set-requires c κs =
-    let pre′ = c .before .before .before .before .before .before .before .before .before .before .before .before .before .before .before .pre in
-    let touch-at′ = c .before .before .before .before .before .before .before .before .before .before .touch-at in
-    (lent-after-store (pre′ .0) (touch-at′ .kept .0) _ _ (touch-at′ .ensures), pre′ .3)
+set-requires c κs = may-be-read (touch (read c))
 
 same-length : tie.Need-same-length
 same-length c = search needs
 
 returns : tie.Need-returns
 returns c =
-    let pre′ = c .before .before .before .before .before .before .before .before .before .before .before .before .before .before .before .before .before .before .pre in
-    let millis′ = c .before .before .before .before .before .before .before .before .before .before .before .before .before .before .before .millis in
-    let tracks-idle′ = c .before .before .before .before .before .before .before .before .before .before .before .before .before .before .tracks-idle in
-    let touch-at′ = c .before .before .before .before .before .before .before .before .before .before .before .before .before .touch-at in
-    let get′ = c .before .before .before .before .before .before .before .before .before .get in
-    let set′ = c .before .before .set in
-    let with-bucket′ = c .before .before .before .with-bucket in
-    let ask-at′ = c .before .before .before .before .before .before .ask-at in
-    let touched = rw (millis′ .ensures, tracks-idle′ .ensures) at (touch-at′ .ensures) in
-    let read = get′ .ensures in
-    rw (set′ .ensures, with-bucket′ .ensures, ask-at′ .ensures) (known-by-stores _ _ _ _ _ _ (rw (lent-cap (pre′ .0)) (pre′ .3)) touched read)
+    let s = c .before .before in
+    let w = s .before in
+    let t = touch (read w) in
+    let asked = w .before .before .before .ask-at .ensures in
+    rw (s .set .ensures, w .with-bucket .ensures, asked) (known-by-stores _ _ _ _ _ _ (below t) (touched t) (read w .get .ensures))
 
 pub known-spec : {M : Type 1} → statement M
 known-spec =

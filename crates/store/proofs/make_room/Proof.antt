@@ -1,51 +1,52 @@
 -- `make_room` compares the count after the sweeps with the cap, which is the room that the lent words have. A full shard holds a slot to evict.
 use mathlib.Core.Path.{_∙_}
 use native.Mathlib.Omega.{arith}
+use Rattle.shard_map.specs.Layout.{Lent}
 use Rattle.shard_map.proofs.ModelLaws.{lent-cap}
 use Rattle.store.proofs.ModelLaws.{lent-after-sweeps, room-is-left, room-by-eviction}
 use borrow.Author.Needs.{needs}
 use Rattle.store.proofs.make_room.Statement.{statement}
 use Rattle.store.proofs.make_room.Tie as tie
 
+-- Once the two sweeps are made: where the call began, and that the words are still lent.
+abbrev start : tie.After-sweep → tie.Start
+start s = s .before .before .before
+
+still-lent : (s : tie.After-sweep) → Lent (start s .args .cap) (s .sweep .last .0)
+still-lent s = lent-after-sweeps (start s .pre .0) (s .sweep .kept .0) (start s .args .policy) (start s .args .at) (s .sweep .ensures)
+
+-- The sweeps, as seen once the slots are counted.
+abbrev sweeps : tie.After-len → tie.After-sweep
+sweeps n = n .before .before .before .before
+
 sweep-requires : tie.Need-sweep-requires
 sweep-requires c κs = search needs
 
 len-requires : tie.Need-len-requires
-len-requires c κs =
-    let sweep′ = c .before .before .before .sweep in
-    let args′ = c .before .before .before .before .before .before .args in
-    lent-after-sweeps (c .before .before .before .before .before .before .pre .0) (sweep′ .kept .0) (args′ .policy) (args′ .at) (sweep′ .ensures) .size
+len-requires c κs = still-lent (c .before .before .before) .size
 
 same-length : tie.Need-same-length
 same-length c = search needs
 
 returns : tie.Need-returns
 returns c =
-    let sweep′ = c .before .before .before .before .before .sweep in
-    let args′ = c .before .before .before .before .before .before .before .before .args in
-    let pre′ = c .before .before .before .before .before .before .before .before .pre in
-    let lent = lent-after-sweeps (pre′ .0) (sweep′ .kept .0) (args′ .policy) (args′ .at) (sweep′ .ensures) in
-    room-is-left _ _ _ (sweep′ .ensures) (omega (arith, lent-cap lent))
+    let s = sweeps (c .before) in
+    room-is-left _ _ _ (s .sweep .ensures) (omega (arith, lent-cap (still-lent s)))
 
 evict-one-requires : tie.Need-evict-one-requires
 evict-one-requires c κs =
-    let pre′ = c .before .before .before .before .before .before .before .before .before .before .pre in
-    let sweep′ = c .before .before .before .before .before .before .before .sweep in
-    let args′ = c .before .before .before .before .before .before .before .before .before .before .args in
-    let lent = lent-after-sweeps (pre′ .0) (sweep′ .kept .0) (args′ .policy) (args′ .at) (sweep′ .ensures) in
-    (lent, pre′ .1, omega (arith, lent .sound .room, lent-cap lent), pre′ .2)
+    let s = sweeps (c .before .before .before) in
+    let lent = still-lent s in
+    (lent, start s .pre .1, omega (arith, lent .sound .room, lent-cap lent), start s .pre .2)
 
 same-length-2 : tie.Need-same-length-2
 same-length-2 c = search needs
 
 returns-2 : tie.Need-returns-2
 returns-2 c =
-    let sweep′ = c .before .before .before .before .before .before .before .before .before .before .sweep in
-    let args′ = c .before .before .before .before .before .before .before .before .before .before .before .before .before .args in
-    let pre′ = c .before .before .before .before .before .before .before .before .before .before .before .before .before .pre in
-    let evict-one′ = c .before .before .evict-one in
-    let lent = lent-after-sweeps (pre′ .0) (sweep′ .kept .0) (args′ .policy) (args′ .at) (sweep′ .ensures) in
-    evict-one′ .ensures ∙ room-by-eviction _ _ _ (sweep′ .ensures) (omega (arith, lent-cap lent))
+    let e = c .before .before in
+    let s = sweeps (e .before .before .before .before) in
+    e .evict-one .ensures ∙ room-by-eviction _ _ _ (s .sweep .ensures) (omega (arith, lent-cap (still-lent s)))
 
 pub make-room-spec : {M : Type 1} → statement M
 make-room-spec =

@@ -1,9 +1,27 @@
 -- `remove` goes by the key's place, which is looked up before the debt is taken out. Taking a debt out leaves the slots as they are.
-use mathlib.Core.Path.{sym, _∙_}
+use mathlib.Core.Path.{_≡_, sym, _∙_}
+use Rattle.rows.specs.declared.Place.the-variants.{At}
+use Rattle.shard_map.specs.Layout.{shard}
+use Rattle.shard_map.specs.Model.{placeOf}
 use Rattle.store.proofs.ModelLaws.{lent-after-taking, taking-keeps-held, remove-with-slot, remove-without-slot}
 use borrow.Author.Needs.{needs}
 use Rattle.store.proofs.remove.Statement.{statement}
 use Rattle.store.proofs.remove.Tie as tie
+
+-- Once the debt is taken out: where the call began, and the lookup before it.
+abbrev lookup : tie.After-take → tie.After-position
+lookup t = t .before .before
+
+abbrev start : tie.After-take → tie.Start
+start t = lookup t .before .before .before
+
+-- Where a place was found: the taking out before, and that the key's slot stands there.
+abbrev taking : tie.After-place → tie.After-take
+taking p = p .before .before .before .before
+
+found : (p : tie.After-place) → let a = start (taking p) .args in
+    placeOf (shard (a .cap) (a .ws .now)) (a .id .hash) (a .id .key) ≡ At (p .place .given .0 .0)
+found p = sym (lookup (taking p) .position .ensures) ∙ p .place .given .1
 
 position-requires : tie.Need-position-requires
 position-requires c κs = search needs
@@ -16,13 +34,10 @@ enum-known-place c = search needs
 
 remove-at-requires : tie.Need-remove-at-requires
 remove-at-requires c κs =
-    let take′ = c .before .before .before .before .before .before .take in
-    let args′ = c .before .before .before .before .before .before .before .before .before .before .before .args in
-    let position′ = c .before .before .before .before .before .before .before .before .position in
-    let place′ = c .before .before .place in
-    let pre′ = c .before .before .before .before .before .before .before .before .before .before .before .pre in
-    let found = sym (position′ .ensures) ∙ place′ .given .1 in
-    (lent-after-taking pre′ (take′ .kept .0) (args′ .id) (take′ .ensures), taking-keeps-held (args′ .id) _ (take′ .ensures) _ found)
+    let p = c .before .before in
+    let t = taking p in
+    let id = start t .args .id in
+    (lent-after-taking (start t .pre) (t .take .kept .0) id (t .take .ensures), taking-keeps-held id _ (t .take .ensures) _ (found p))
 
 enum-told : tie.Need-enum-told
 enum-told c = search needs
@@ -35,22 +50,18 @@ same-length c = search needs
 
 returns : tie.Need-returns
 returns c =
-    let take′ = c .before .before .before .before .before .before .before .before .before .take in
-    let position′ = c .before .before .before .before .before .before .before .before .before .before .before .position in
-    let place′ = c .before .before .before .before .before .place in
-    let remove-at′ = c .before .before .remove-at in
-    let took = take′ .ensures in
-    let found = sym (position′ .ensures) ∙ place′ .given .1 in
-    rw (remove-at′ .ensures) (remove-with-slot _ _ took _ found)
+    let r = c .before .before in
+    let p = r .before .before .before in
+    rw (r .remove-at .ensures) (remove-with-slot _ _ (taking p .take .ensures) _ (found p))
 
 same-length-2 : tie.Need-same-length-2
 same-length-2 c = search needs
 
 returns-2 : tie.Need-returns-2
 returns-2 c =
-    let took = c .before .before .before .before .before .take .ensures in
-    let missed = sym (c .before .before .before .before .before .before .before .position .ensures) ∙ c .before .enum-told .given .1 in
-    rw (c .had .ensures) (remove-without-slot _ _ took missed)
+    let t = c .before .before .before .before .before in
+    let missed = sym (lookup t .position .ensures) ∙ c .before .enum-told .given .1 in
+    rw (c .had .ensures) (remove-without-slot _ _ (t .take .ensures) missed)
 
 pub remove-spec : {M : Type 1} → statement M
 remove-spec =

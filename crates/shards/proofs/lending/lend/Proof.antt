@@ -1,10 +1,39 @@
 -- `lend` looks at the length, then at the counts of the shard, in the part that then lies in the memory, then at the further refusal.
-use Rattle.shards.proofs.RefusalLaws.{first-is-told}
-use Rattle.shards.proofs.LendingLaws.{part-is-placed, counts-refuse, lent-starts, lent-length, refused-lends-nothing, not-refused-lends}
+use mathlib.Core.Path.{_≡_, sym, _∙_}
 use native.Mathlib.Omega.{arith}
+use lib.ListN.{length}
+use Rattle.settings.specs.Settings.{firstOf, wordsIn}
+use Rattle.shards.specs.Memory.{Placed}
+use Rattle.shards.specs.Refusals.{shapeRefusal}
+use Rattle.shards.proofs.RefusalLaws.{first-is-told, length-not-refused}
+use Rattle.shards.proofs.LendingLaws.{part-is-placed, counts-refuse, lent-starts, lent-length, refused-lends-nothing, not-refused-lends}
 use borrow.Author.Needs.{needs}
 use Rattle.shards.proofs.lending.lend.Statement.{statement}
 use Rattle.shards.proofs.lending.lend.Tie as tie
+
+-- Once the part is known: where the call began, that the memory has the length that the shape asks for, and so that the part lies in it.
+abbrev start : tie.After-part-of → tie.Start
+start p = p .before .before .before .before .before
+
+sized : (p : tie.After-part-of) → length (start p .args .ws .now) ≡ wordsIn (start p .args .shape)
+sized p =
+    let checked = p .before .before in
+    length-not-refused _ _ (sym (checked .memory-refusal .ensures) ∙ p .before .if1 .left) ∙ checked .before .words .ensures
+
+placed : (p : tie.After-part-of) → Placed (p .part-of .result) (start p .args .ws .now)
+placed p = part-is-placed (start p .args .hash) (start p .args .ws .now) (start p .pre) (sized p) (p .part-of .ensures)
+
+-- Once the counts and the further refusal are taken together: that is what the call is refused for.
+abbrev lent : tie.After-first-of → tie.After-part-of
+lent f = f .before .before .before
+
+refused : (f : tie.After-first-of) → let a = start (lent f) .args in
+    f .first-of .result ≡ firstOf (shapeRefusal (a .shape) (a .hash) (a .ws .now)) (a .further)
+refused f =
+    let p = lent f in
+    let a = start p .args in
+    let counted = f .before .count-refusal .ensures in
+    counts-refuse (a .hash) (a .ws .now) (start p .pre) (sized p) (p .part-of .ensures) (a .further) counted (f .first-of .ensures)
 
 words-requires : tie.Need-words-requires
 words-requires c κs = search needs
@@ -14,50 +43,36 @@ memory-refusal-requires c κs = search needs
 
 returns : tie.Need-returns
 returns c =
-    let if1′ = c .if1 in
-    refused-lends-nothing _ (first-is-told _ (first-is-told _ (rw (c .before .before .words .ensures) at (c .before .memory-refusal .ensures)) (if1′ .taken)) (if1′ .taken)) (if1′ .taken)
+    let some = c .if1 .taken in
+    let long = rw (c .before .before .words .ensures) at (c .before .memory-refusal .ensures) in
+    refused-lends-nothing _ (first-is-told _ (first-is-told _ long some) some) some
 
 part-of-requires : tie.Need-part-of-requires
 part-of-requires c κs = search needs
 
 mul-count-refusal : tie.Need-mul-count-refusal
-mul-count-refusal c =
-    let args′ = c .before .before .before .before .before .args in
-    let placed = part-is-placed (args′ .hash) (args′ .ws .now) (c .before .before .before .before .before .pre) (c .before .before .before .words .ensures) (c .before .before .memory-refusal .ensures) (c .before .if1 .left) (c .part-of .ensures) in record { fits = omega (arith, placed .within, lent-starts placed) }
+mul-count-refusal c = record { fits = omega (arith, placed c .within, lent-starts (placed c)) }
 
 sub-count-refusal : tie.Need-sub-count-refusal
-sub-count-refusal c =
-    let args′ = c .before .before .before .before .before .args in
-    lent-starts (part-is-placed (args′ .hash) (args′ .ws .now) (c .before .before .before .before .before .pre) (c .before .before .before .words .ensures) (c .before .before .memory-refusal .ensures) (c .before .if1 .left) (c .part-of .ensures))
+sub-count-refusal c = lent-starts (placed c)
 
 part-count-refusal-start : tie.Need-part-count-refusal-start
-part-count-refusal-start c =
-    let args′ = c .before .before .before .before .before .args in
-    lent-starts (part-is-placed (args′ .hash) (args′ .ws .now) (c .before .before .before .before .before .pre) (c .before .before .before .words .ensures) (c .before .before .memory-refusal .ensures) (c .before .if1 .left) (c .part-of .ensures))
+part-count-refusal-start c = lent-starts (placed c)
 
 part-count-refusal-end : tie.Need-part-count-refusal-end
-part-count-refusal-end c =
-    let args′ = c .before .before .before .before .before .args in
-    part-is-placed (args′ .hash) (args′ .ws .now) (c .before .before .before .before .before .pre) (c .before .before .before .words .ensures) (c .before .before .memory-refusal .ensures) (c .before .if1 .left) (c .part-of .ensures) .within
+part-count-refusal-end c = placed c .within
 
 count-refusal-requires : tie.Need-count-refusal-requires
-count-refusal-requires c κs =
-    let args′ = c .before .before .before .before .before .before .args in
-    lent-length (part-is-placed (args′ .hash) (args′ .ws .now) (c .before .before .before .before .before .before .pre) (c .before .before .before .before .words .ensures) (c .before .before .before .memory-refusal .ensures) (c .before .before .if1 .left) (c .before .part-of .ensures))
+count-refusal-requires c κs = lent-length (placed (c .before))
 
 first-of-requires : tie.Need-first-of-requires
 first-of-requires c κs = search needs
 
 returns-2 : tie.Need-returns-2
-returns-2 c =
-    let args′ = c .before .before .before .before .before .before .before .before .before .args in
-    refused-lends-nothing _ (counts-refuse (args′ .hash) (args′ .ws .now) (c .before .before .before .before .before .before .before .before .before .pre) (c .before .before .before .before .before .before .before .words .ensures) (c .before .before .before .before .before .before .memory-refusal .ensures) (c .before .before .before .before .before .if1 .left) (c .before .before .before .before .part-of .ensures) (args′ .further) (c .before .before .count-refusal .ensures) (c .before .first-of .ensures)) (c .if2 .taken)
+returns-2 c = refused-lends-nothing _ (refused (c .before)) (c .if2 .taken)
 
 returns-3 : tie.Need-returns-3
-returns-3 c =
-    let part-of′ = c .before .before .before .before .part-of in
-    let args′ = c .before .before .before .before .before .before .before .before .before .args in
-    rw (part-of′ .ensures) (not-refused-lends _ (counts-refuse (args′ .hash) (args′ .ws .now) (c .before .before .before .before .before .before .before .before .before .pre) (c .before .before .before .before .before .before .before .words .ensures) (c .before .before .before .before .before .before .memory-refusal .ensures) (c .before .before .before .before .before .if1 .left) (part-of′ .ensures) (args′ .further) (c .before .before .count-refusal .ensures) (c .before .first-of .ensures)) (c .if2 .left))
+returns-3 c = rw (lent (c .before) .part-of .ensures) (not-refused-lends _ (refused (c .before)) (c .if2 .left))
 
 pub lend-spec : {M : Type 1} → statement M
 lend-spec =
