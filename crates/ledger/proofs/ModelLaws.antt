@@ -25,7 +25,7 @@ use Rattle.ledger.specs.declared.Recorded.the-variants.{Done, NoRoom}
 use Rattle.ledger.specs.Model.{Ledger, Sound, noDebt, capOf, debtAt, settlesAt, cursorOf, withCount, withCursor, withDebt, owes, placeOf, removeAt, append, takenAt, taken, lookAt, look, sweep, sooner, scanFrom, scan, dropChosen, makeRoom, joined, later, recordedAt, recorded, credit, paidAt, paidDown}
 use Rattle.ledger.specs.Layout.{ledger, Lent}
 use Rattle.ledger.proofs.LayoutLaws.{cap-is}
-use Rattle.ledger.proofs.StepLaws.{cursor-below}
+use Rattle.ledger.proofs.StepLaws.{cursor-below, found-owes}
 use Rattle.ledger.proofs.RecordLaws.{sooner-is-either, chosen, scan-chooses-held, scan-sound, make-room-sound, make-room-makes-room}
 
 -- Append and removal, store by store, as the code makes them.
@@ -160,12 +160,21 @@ lent-cap {cap} {ws} lent = cap-is cap ws
 pub lent-below : {cap : ℕ} {ws : List ℕ} {i : ℕ} → Lent cap ws → i < ledger cap ws .debts .count → i < cap
 lent-below lent held = omega (arith, lent .sound .held, lent-cap lent)
 
-pub lent-cursor : {cap : ℕ} {ws : List ℕ} → Lent cap ws → 0 < ledger cap ws .debts .count → cursorOf (ledger cap ws) < ledger cap ws .debts .count
-lent-cursor {cap} {ws} lent some = cursor-below (ledger cap ws) some
+pub lent-cursor : {cap c : ℕ} {ws : List ℕ} → Lent cap ws → 0 < ledger cap ws .debts .count → c ≡ cursorOf (ledger cap ws)
+    → c < ledger cap ws .debts .count
+lent-cursor {cap} {c} {ws} lent some is = rw is (cursor-below (ledger cap ws) some)
 
 pub lent-sooner : {cap : ℕ} {ws : List ℕ} {best c : ℕ} → Lent cap ws → best < ledger cap ws .debts .count → c < ledger cap ws .debts .count
     → sooner (ledger cap ws) best c < ledger cap ws .debts .count
 lent-sooner {cap} {ws} {best} {c} lent b d = sooner-is-either (ledger cap ws) best c (λ p. p < ledger cap ws .debts .count) b d
+
+-- In words that are lent, a place that lookup gives holds a debt.
+module _ {cap : ℕ} {ws : List ℕ} (hash : ℕ) {p : ℕ} (lent : Lent cap ws) (looked-up : placeOf (ledger cap ws) hash ≡ At p) where
+  pub found-held : p < ledger cap ws .debts .count
+  found-held = found-owes (ledger cap ws) hash p looked-up .below
+
+  pub found-below : p < cap
+  found-below = lent-below lent found-held
 
 -- Words stay lent while their length is kept and their ledger is sound. After a call that is so by what the call gave (the ledger alone, or an
 -- answer with it) and by what its operation keeps.
@@ -187,6 +196,9 @@ after-scan {cap} {ws} at lent some same gave = record {
   lent = lent-after-answer lent same gave (scan-sound at (ledger cap ws) some (lent .sound));
   held = rw (answer-is gave, after-is gave) (scan-chooses-held at (ledger cap ws) some);
 }
+
+pub choice-held : {cap : ℕ} {ws : List ℕ} {choice known : Choice} → AfterScan cap ws choice → choice ≡ known → chosen known < ledger cap ws .debts .count
+choice-held after is = rw is at (after .held)
 
 -- After room was made the words are still lent, and there is room for a debt.
 pub after-make-room : {cap : ℕ} {ws ws′ : List ℕ} {r : Recorded} (at : Nanos) (forget : Bool) → Lent cap ws → 0 < ledger cap ws .debts .count → length ws′ ≡ length ws
