@@ -33,10 +33,10 @@ set-cursor-requires c κs = search needs
 
 remove-at-requires : tie.Need-remove-at-requires
 remove-at-requires c κs =
-    let s = c .before .before .before in
-    let lent = start (looked s) .pre .0 in
-    let still-lent = lent-after lent (s .set-cursor .kept .0) (s .set-cursor .ensures) (cursor-sound _ _ (lent .sound)) in
-    (still-lent, rw (s .set-cursor .ensures) (cursor-held (looked s)))
+    let stored = c .before .before .before in
+    let lent = start (looked stored) .pre .0 in
+    let still-lent = lent-after lent (stored .set-cursor .kept .0) (stored .set-cursor .ensures) (cursor-sound _ _ (lent .sound)) in
+    (still-lent, rw (stored .set-cursor .ensures) (cursor-held (looked stored)))
 
 add-set-cursor : tie.Need-add-set-cursor
 add-set-cursor c =
@@ -51,24 +51,24 @@ same-length c = search needs
 
 returns : tie.Need-returns
 returns c =
-    let r = c .before .before in
-    let s = r .before .before .before .before in
-    let t = s .before .before in
-    let k = looked s in
-    let settled = rw (t .before .before .before .settles-at .ensures, k .cursor .ensures) at (t .if1 .taken) in
-    rw (r .remove-at .ensures, s .set-cursor .ensures, k .cursor .ensures) (look-settled _ _ (start k .pre .1) settled)
+    let removed = c .before .before in
+    let stored = removed .before .before .before .before in
+    let test = stored .before .before in
+    let k = looked stored in
+    let settled = rw (test .before .before .before .settles-at .ensures, k .cursor .ensures) at (test .if1 .taken) in
+    rw (removed .remove-at .ensures, stored .set-cursor .ensures, k .cursor .ensures) (look-settled _ _ (start k .pre .1) settled)
 
 same-length-2 : tie.Need-same-length-2
 same-length-2 c = search needs
 
 returns-2 : tie.Need-returns-2
 returns-2 c =
-    let s = c .before .before in
-    let e = s .before .before in
-    let m = e .before .before .before in
-    let k = m .before .before in
-    let unsettled = rw (m .settles-at .ensures, k .cursor .ensures) at (e .if1 .left) in
-    rw (s .set-cursor2 .ensures, k .cursor .ensures) (look-unsettled _ _ (start k .pre .1) unsettled)
+    let stored = c .before .before in
+    let test = stored .before .before in
+    let read = test .before .before .before in
+    let k = read .before .before in
+    let unsettled = rw (read .settles-at .ensures, k .cursor .ensures) at (test .if1 .left) in
+    rw (stored .set-cursor2 .ensures, k .cursor .ensures) (look-unsettled _ _ (start k .pre .1) unsettled)
 
 pub look-spec : {M : Type 1} → statement M
 look-spec =

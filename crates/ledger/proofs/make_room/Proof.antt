@@ -55,30 +55,30 @@ same-length c = search needs
 
 returns : tie.Need-returns
 returns c =
-    let g = c .before .before in
-    let p = g .before .before .before in
-    rw (g .remove-at .ensures) (settled-dropped _ _ _ _ (chose p .scan .ensures) (p .pos .given .1))
+    let removed = c .before .before in
+    let p = removed .before .before .before in
+    rw (removed .remove-at .ensures) (settled-dropped _ _ _ _ (chose p .scan .ensures) (p .pos .given .1))
 
 same-length-2 : tie.Need-same-length-2
 same-length-2 c = search needs
 
 returns-2 : tie.Need-returns-2
 returns-2 c =
-    let g = c .before .before in
-    let t = g .before .before in
-    let p = t .before .before in
-    rw (g .remove-at2 .ensures) (soonest-dropped _ _ _ _ (chose-soonest p .scan .ensures) (p .pos2 .given .1) (t .if1 .taken))
+    let removed = c .before .before in
+    let test = removed .before .before in
+    let p = test .before .before in
+    rw (removed .remove-at2 .ensures) (soonest-dropped _ _ _ _ (chose-soonest p .scan .ensures) (p .pos2 .given .1) (test .if1 .taken))
 
 same-length-3 : tie.Need-same-length-3
 same-length-3 c = search needs
 
 returns-3 : tie.Need-returns-3
 returns-3 c =
-    let m = c .before in
-    let e = m .before .before in
-    let p = e .before .before in
-    let kept = soonest-kept _ _ _ _ (chose-soonest p .scan .ensures) (p .pos2 .given .1) (e .if1 .left) in
-    rw (c .saturating-sub .ensures, m .settles-at .ensures) kept
+    let read = c .before in
+    let test = read .before .before in
+    let p = test .before .before in
+    let kept = soonest-kept _ _ _ _ (chose-soonest p .scan .ensures) (p .pos2 .given .1) (test .if1 .left) in
+    rw (c .saturating-sub .ensures, read .settles-at .ensures) kept
 
 pub make-room-spec : {M : Type 1} → statement M
 make-room-spec =

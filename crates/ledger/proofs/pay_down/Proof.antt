@@ -1,10 +1,8 @@
 -- `pay_down` goes by the place that `position` gives, as its definition does; what is taken off is the product of its definition, held to 64 bits.
 use Prim.Native.Nat.{_<_}
-use mathlib.Core.Path.{_≡_, sym, _∙_}
+use mathlib.Core.Path.{_≡_}
 use lib.ListN.{length}
-use Rattle.rows.specs.declared.Place.the-variants.{At}
-use Rattle.ledger.specs.Layout.{ledger, ledgerWords}
-use Rattle.ledger.specs.Model.{placeOf}
+use Rattle.ledger.specs.Layout.{ledgerWords}
 use Rattle.ledger.proofs.ModelLaws.{paid-where, found-below}
 use borrow.Author.Needs.{needs}
 use Rattle.ledger.proofs.pay_down.Statement.{statement}
@@ -20,12 +18,9 @@ looked-up p = p .before .before
 abbrev place : tie.After-load → tie.After-pos
 place l = l .before .before .before .before .before .before
 
--- It is the place of the hash, so the words are as long as a ledger's and the place stands below the cap.
-found : (p : tie.After-pos) → let a = start (looked-up p) .args in placeOf (ledger (a .cap) (a .ws .now)) (a .hash) ≡ At (p .pos .given .0 .0)
-found p = sym (looked-up p .position .ensures) ∙ p .pos .given .1
-
+-- The words are as long as a ledger's, and the place found stands below the cap.
 held : (p : tie.After-pos) → let a = start (looked-up p) .args in (length (a .ws .now) ≡ ledgerWords (a .cap)) × (p .pos .given .0 .0 < a .cap)
-held p = let lent = start (looked-up p) .pre .0 in (lent .size, found-below _ lent (found p))
+held p = let lent = start (looked-up p) .pre .0 in (lent .size, found-below _ lent (looked-up p .position .ensures) (p .pos .given .1))
 
 position-requires : tie.Need-position-requires
 position-requires c κs = search needs
@@ -59,17 +54,18 @@ same-length c = search needs
 
 returns : tie.Need-returns
 returns c =
-    let u = c .before .before in
-    let s = u .before .before in
-    let l = s .before .before in
-    let paid = paid-where _ _ (found (place l)) _ _ in
-    rw (u .put .ensures, s .saturating-sub .ensures, l .load .ensures, l .before .before .saturating-mul .ensures) paid
+    let stored = c .before .before in
+    let sooner = stored .before .before in
+    let read = sooner .before .before in
+    let p = place read in
+    let paid = paid-where _ _ (looked-up p .position .ensures) (p .pos .given .1) _ _ in
+    rw (stored .put .ensures, sooner .saturating-sub .ensures, read .load .ensures, read .before .before .saturating-mul .ensures) paid
 
 same-length-2 : tie.Need-same-length-2
 same-length-2 c = search needs
 
 returns-2 : tie.Need-returns-2
-returns-2 c = paid-where _ _ (sym (c .before .before .position .ensures) ∙ c .enum-told .given .1) _ _
+returns-2 c = paid-where _ _ (c .before .before .position .ensures) (c .enum-told .given .1) _ _
 
 pub pay-down-spec : {M : Type 1} → statement M
 pay-down-spec =

@@ -1,22 +1,16 @@
 -- `record` goes by the place that `position` gives, as its definition does.
-use mathlib.Core.Path.{_≡_, sym, _∙_}
-use Rattle.rows.specs.declared.Place.the-variants.{At}
-use Rattle.ledger.specs.Layout.{ledger}
-use Rattle.ledger.specs.Model.{placeOf}
+use mathlib.Core.Path.{_∙_}
 use Rattle.ledger.proofs.ModelLaws.{recorded-existing, recorded-new, found-below}
 use borrow.Author.Needs.{needs}
 use Rattle.ledger.proofs.record.Statement.{statement}
 use Rattle.ledger.proofs.record.Tie as tie
 
--- Where the call began, once the hash is looked up; and where it was, from the place found. It is the place of the hash.
+-- Where the call began, once the hash is looked up; and where it was, from the place found.
 abbrev start : tie.After-position → tie.Start
 start l = l .before .before .before
 
 abbrev looked-up : tie.After-pos → tie.After-position
 looked-up p = p .before .before
-
-found : (p : tie.After-pos) → let a = start (looked-up p) .args in placeOf (ledger (a .cap) (a .ws .now)) (a .debt .hash) ≡ At (p .pos .given .0 .0)
-found p = sym (looked-up p .position .ensures) ∙ p .pos .given .1
 
 position-requires : tie.Need-position-requires
 position-requires c κs = search needs
@@ -25,7 +19,10 @@ enum-known-pos : tie.Need-enum-known-pos
 enum-known-pos c = search needs
 
 keep-later-requires : tie.Need-keep-later-requires
-keep-later-requires c κs = let p = c .before .before in let lent = start (looked-up p) .pre in (lent, found-below _ lent (found p))
+keep-later-requires c κs =
+    let p = c .before .before in
+    let lent = start (looked-up p) .pre in
+    (lent, found-below _ lent (looked-up p .position .ensures) (p .pos .given .1))
 
 enum-told : tie.Need-enum-told
 enum-told c = search needs
@@ -37,16 +34,19 @@ same-length : tie.Need-same-length
 same-length c = search needs
 
 returns : tie.Need-returns
-returns c = let k = c .before .before in rw (k .keep-later .ensures) (recorded-existing _ _ _ _ (found (k .before .before .before)))
+returns c =
+    let kept = c .before .before in
+    let p = kept .before .before .before in
+    rw (kept .keep-later .ensures) (recorded-existing _ _ _ _ (looked-up p .position .ensures) (p .pos .given .1))
 
 same-length-2 : tie.Need-same-length-2
 same-length-2 c = search needs
 
 returns-2 : tie.Need-returns-2
 returns-2 c =
-    let r = c .before .before in
-    let t = r .before .before in
-    r .record-new .ensures ∙ recorded-new _ _ _ _ (sym (t .before .before .position .ensures) ∙ t .enum-told .given .1)
+    let gave = c .before .before in
+    let told = gave .before .before in
+    gave .record-new .ensures ∙ recorded-new _ _ _ _ (told .before .before .position .ensures) (told .enum-told .given .1)
 
 pub record-spec : {M : Type 1} → statement M
 record-spec =

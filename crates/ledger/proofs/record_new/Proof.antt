@@ -33,21 +33,21 @@ same-length c = search needs
 
 returns : tie.Need-returns
 returns c =
-    let a = c .before .before in
-    let n = a .before .before .before in
-    rw (a .append .ensures) (recorded-free _ _ _ _ (omega (arith, lent-cap (start n .pre), n .count .ensures)))
+    let appended = c .before .before in
+    let counted = appended .before .before .before in
+    rw (appended .append .ensures) (recorded-free _ _ _ _ (omega (arith, lent-cap (start counted .pre), counted .count .ensures)))
 
 make-room-requires : tie.Need-make-room-requires
-make-room-requires c κs = let e = c .before in (start (e .before) .pre, some e)
+make-room-requires c κs = let test = c .before in (start (test .before) .pre, some test)
 
 enum-told : tie.Need-enum-told
 enum-told c = search needs
 
 append-requires-2 : tie.Need-append-requires-2
 append-requires-2 c κs =
-    let m = c .before .before .before .before .before in
-    let e = at-cap m in
-    after-make-room _ _ (start (e .before) .pre) (some e) (m .make-room .kept .0) (m .make-room .ensures) (c .before .enum-told .given .1)
+    let made = c .before .before .before .before .before in
+    let test = at-cap made in
+    after-make-room _ _ (start (test .before) .pre) (some test) (made .make-room .kept .0) (made .make-room .ensures) (c .before .enum-told .given .1)
 
 enum-known-wait : tie.Need-enum-known-wait
 enum-known-wait c = search needs
@@ -57,16 +57,17 @@ same-length-2 c = search needs
 
 returns-2 : tie.Need-returns-2
 returns-2 c =
-    let a = c .before .before in
-    let t = a .before .before in
-    let m = t .before .before .before .before in
-    rw (a .append2 .ensures) (recorded-full _ _ _ _ (full (at-cap m)) (m .make-room .ensures) (t .enum-told .given .1))
+    let appended = c .before .before in
+    let told = appended .before .before in
+    let made = told .before .before .before .before in
+    let recorded = recorded-full _ _ _ _ (full (at-cap made)) (made .make-room .ensures) (told .enum-told .given .1) in
+    rw (appended .append2 .ensures) recorded
 
 same-length-3 : tie.Need-same-length-3
 same-length-3 c = search needs
 
 returns-3 : tie.Need-returns-3
-returns-3 c = let m = c .before .before .before .before .before in recorded-full _ _ _ _ (full (at-cap m)) (m .make-room .ensures) (c .before .wait .given .1)
+returns-3 c = let made = c .before .before .before .before .before in recorded-full _ _ _ _ (full (at-cap made)) (made .make-room .ensures) (c .before .wait .given .1)
 
 pub record-new-spec : {M : Type 1} → statement M
 record-new-spec =

@@ -36,11 +36,12 @@ same-length c = search needs
 
 returns : tie.Need-returns
 returns c =
-    let s = c .before .before in
-    let p2 = s .before .before .before .before in
-    let p = p2 .before .before .before .before in
-    let l = p .before .before in
-    rw (s .set-count .ensures, p2 .put2 .ensures, p .put .ensures, l .load .ensures, l .before .before .count .ensures) (remove-by-stores _ _)
+    let counted-down = c .before .before in
+    let cleared = counted-down .before .before .before .before in
+    let moved = cleared .before .before .before .before in
+    let read = moved .before .before in
+    let stores = remove-by-stores _ _ in
+    rw (counted-down .set-count .ensures, cleared .put2 .ensures, moved .put .ensures, read .load .ensures, read .before .before .count .ensures) stores
 
 pub remove-at-spec : {M : Type 1} → statement M
 remove-at-spec =

@@ -81,12 +81,13 @@ same-length c = search needs
 
 returns : tie.Need-returns Inv-loop μ-loop
 returns c =
-    let s = c .before .before in
-    let t = s .before .before in
-    let m = t .before .before .before in
-    let k = m .before .before in
-    let settled = rw (m .settles-at .ensures, k .cursor2 .ensures) at (t .if1 .taken) in
-    rw (s .set-cursor .ensures, k .cursor2 .ensures) (sym (scan-settled _ _ _ _ (k .before .before .loop-test .taken) settled) ∙ turn k .loop .inv .same)
+    let stored = c .before .before in
+    let test = stored .before .before in
+    let read = test .before .before .before in
+    let k = read .before .before in
+    let settled = rw (read .settles-at .ensures, k .cursor2 .ensures) at (test .if1 .taken) in
+    let ends = scan-settled _ _ _ _ (k .before .before .loop-test .taken) settled in
+    rw (stored .set-cursor .ensures, k .cursor2 .ensures) (sym ends ∙ turn k .loop .inv .same)
 
 sooner-requires : tie.Need-sooner-requires Inv-loop μ-loop
 sooner-requires c κs =
@@ -110,17 +111,18 @@ loop-less c = search needs
 
 loop-again : tie.Need-loop-again Inv-loop μ-loop
 loop-again c =
-    let s = c .before .before in
-    let o = s .before .before in
-    let e = o .before .before in
-    let k = looked e in
+    let stored = c .before .before in
+    let chosen = stored .before .before in
+    let test = chosen .before .before in
+    let k = looked test in
     let inv = turn k .loop .inv in
-    let unsettled = rw (e .before .before .before .settles-at .ensures, k .cursor2 .ensures) at (e .if1 .left) in
+    let unsettled = rw (test .before .before .before .settles-at .ensures, k .cursor2 .ensures) at (test .if1 .left) in
+    let goes-on = scan-turn _ _ _ _ (k .before .before .loop-test .taken) unsettled in
     record {
-      lent = lent-after (inv .lent) (s .set-cursor2 .kept .0) (s .set-cursor2 .ensures) (cursor-sound _ _ (inv .lent .sound));
-      some = rw (s .set-cursor2 .ensures) (inv .some);
-      below = rw (s .set-cursor2 .ensures, o .sooner .ensures) (lent-sooner (inv .lent) (inv .below) (cursor-held k));
-      same = rw (s .set-cursor2 .ensures, o .sooner .ensures, k .cursor2 .ensures) (sym (scan-turn _ _ _ _ (k .before .before .loop-test .taken) unsettled) ∙ inv .same);
+      lent = lent-after (inv .lent) (stored .set-cursor2 .kept .0) (stored .set-cursor2 .ensures) (cursor-sound _ _ (inv .lent .sound));
+      some = rw (stored .set-cursor2 .ensures) (inv .some);
+      below = rw (stored .set-cursor2 .ensures, chosen .sooner .ensures) (lent-sooner (inv .lent) (inv .below) (cursor-held k));
+      same = rw (stored .set-cursor2 .ensures, chosen .sooner .ensures, k .cursor2 .ensures) (sym goes-on ∙ inv .same);
     }
 
 same-length-2 : tie.Need-same-length-2 Inv-loop μ-loop
