@@ -9,10 +9,10 @@ use Rattle.evict.proofs.evict_limited.Tie as tie
 
 -- Where the call began, once the recovery of the slot is known; where that was, once the ledger has answered; and what the ledger gave.
 abbrev start : tie.After-recovers-in → tie.Start
-start r = r .before .before .before .before
+start known = known .before .before .before .before
 
 abbrev recovery : tie.After-record → tie.After-recovers-in
-recovery r = r .before .before .before .before
+recovery told = told .before .before .before .before
 
 gave : (r : tie.After-record) → let a = start (recovery r) .args in
     DebtRecorded (a .config) (a .at) (a .forget) (a .pos) (shard (a .cap) (a .ws .now)) (r .«record» .result) (shard (a .cap) (r .«record» .last .0))
@@ -28,8 +28,8 @@ recovers-in-requires c κs = search needs
 
 add-t15 : tie.Need-add-t15
 add-t15 c =
-    let r = c .before .before in
-    omega (arith, debt-fits _ _ (start r .pre .1) (start r .pre .2) (r .recovers-in .ensures))
+    let known = c .before .before in
+    omega (arith, debt-fits _ _ (start known .pre .1) (start known .pre .2) (known .recovers-in .ensures))
 
 record-requires : tie.Need-record-requires
 record-requires c κs = start (c .before .before .before) .pre .0
@@ -39,9 +39,9 @@ enum-told c = search needs
 
 evict-at-requires : tie.Need-evict-at-requires
 evict-at-requires c κs =
-    let r = c .before .before .before .before .before in
-    let pre′ = start (recovery r) .pre in
-    let k = after-record (pre′ .0) (r .«record» .kept .0) _ _ _ (r .«record» .ensures) in
+    let told = c .before .before .before .before .before in
+    let pre′ = start (recovery told) .pre in
+    let k = after-record (pre′ .0) (told .«record» .kept .0) _ _ _ (told .«record» .ensures) in
     (k .lent, rw (k .count) (pre′ .3))
 
 enum-known-wait : tie.Need-enum-known-wait
@@ -58,10 +58,10 @@ same-length c = search needs
 
 returns : tie.Need-returns
 returns c =
-    let r = c .before .before .before .before .before .before .before .before in
-    let a = start (recovery r) .args in
-    let lent = start (recovery r) .pre .0 in
-    let made = limited-made (a .config) (a .at) (a .forget) (a .pos) (a .soonest) lent (gave r) (c .before .before .before .before .enum-told .given .1) in
+    let told = c .before .before .before .before .before .before .before .before in
+    let a = start (recovery told) .args in
+    let lent = start (recovery told) .pre .0 in
+    let made = limited-made (a .config) (a .at) (a .forget) (a .pos) (a .soonest) lent (gave told) (c .before .before .before .before .enum-told .given .1) in
     rw (c .before .before .evict-at .ensures) made
 
 same-length-2 : tie.Need-same-length-2
@@ -69,10 +69,10 @@ same-length-2 c = search needs
 
 returns-2 : tie.Need-returns-2
 returns-2 c =
-    let r = c .before .before .before .before .before .before .before in
-    let a = start (recovery r) .args in
-    let lent = start (recovery r) .pre .0 in
-    let refused = limited-refused (a .config) (a .at) (a .forget) (a .pos) (a .soonest) lent (gave r) (c .before .before .before .wait .given .1) in
+    let told = c .before .before .before .before .before .before .before in
+    let a = start (recovery told) .args in
+    let lent = start (recovery told) .pre .0 in
+    let refused = limited-refused (a .config) (a .at) (a .forget) (a .pos) (a .soonest) lent (gave told) (c .before .before .before .wait .given .1) in
     rw (c .larger .ensures, c .before .smaller .ensures) refused
 
 pub evict-limited-spec : {M : Type 1} → statement M

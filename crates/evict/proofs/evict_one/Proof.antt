@@ -35,13 +35,13 @@ abbrev μ-loop : tie.MeasureT-loop
 
 -- Where the call began, once the hand is read; where the hand was read, from the loop's head; and the loop's head, from a look.
 abbrev start : tie.After-hand Inv-loop μ-loop → tie.Start Inv-loop μ-loop
-start h = h .before .before .before
+start read = read .before .before .before
 
 abbrev opening : tie.At-loop Inv-loop μ-loop → tie.After-hand Inv-loop μ-loop
-opening l = l .before .before .before .before .before .before
+opening head = head .before .before .before .before .before .before
 
 abbrev turn : tie.After-look Inv-loop μ-loop → tie.At-loop Inv-loop μ-loop
-turn l = l .before .before .before .before .before
+turn looked = looked .before .before .before .before .before
 
 hand-requires : tie.Need-hand-requires Inv-loop μ-loop
 hand-requires c κs = search needs
@@ -91,16 +91,17 @@ loop-less c = search needs
 
 loop-again : tie.Need-loop-again Inv-loop μ-loop
 loop-again c =
-    let l = c .before .before .before .before .before in
+    let looked = c .before .before .before .before .before in
     let once = c .before .before .goes-at-once .ensures in
-    let inv = turn l .loop .inv in
-    let after = after-look (inv .lent) (l .look .kept .0) _ (l .look .ensures) in
-    let more : 0 < turn l .loop .left = omega (arith, l .before .before .before .before .if1 .left) in
-    let goes-on = walk-turn _ _ _ _ _ more (l .before .before .hand2 .ensures) (l .look .ensures) once (c .before .if2 .left) (c .noted .ensures) in
+    let saw = looked .look .ensures in
+    let inv = turn looked .loop .inv in
+    let after = after-look (inv .lent) (looked .look .kept .0) _ saw in
+    let more : 0 < turn looked .loop .left = omega (arith, looked .before .before .before .before .if1 .left) in
+    let goes-on = walk-turn _ _ _ _ _ more (looked .before .before .hand2 .ensures) saw once (c .before .if2 .left) (c .noted .ensures) in
     record {
       lent = after .lent;
       some = rw (after .count) (inv .some);
-      long = l .look .kept .0 ∙ inv .long;
+      long = looked .look .kept .0 ∙ inv .long;
       same = sym goes-on ∙ inv .same;
     }
 
@@ -109,8 +110,9 @@ record Ended (ws₀ : List ℕ) (cap : ℕ) (c : BucketConfig) (at : Nanos) (ws 
   long : length ws ≡ length ws₀
   same : walked c at (shard cap ws₀) ≡ record { victim = victim; walk = walk; after = shard cap ws }
 
+-- `began` is where the hand was first read, as seen from there.
 abbrev began : tie.Joined1 Inv-loop μ-loop → tie.After-hand Inv-loop μ-loop
-began j = opening (j .before)
+began met = opening (met .before)
 
 walk-ended : (c : tie.Joined1 Inv-loop μ-loop) → let a = start (began c) .args in
     Ended (a .ws .now) (a .cap) (a .config) (a .at) (c .if1 .ws) (c .if1 .victim) (c .before .loop .walk)
@@ -133,10 +135,10 @@ walk-left c =
 
 -- Where the loop's ways met, from where a slot has gone at once, and from where one that was noted was asked to go.
 abbrev went : tie.After-evict-at Inv-loop μ-loop → tie.Joined1 Inv-loop μ-loop
-went g = g .before .before .before .before .before
+went gone = gone .before .before .before .before .before
 
 abbrev went-on : tie.After-evict-noted Inv-loop μ-loop → tie.Joined1 Inv-loop μ-loop
-went-on g = g .before .before .before .before
+went-on asked = asked .before .before .before .before
 
 enum-known-victim : tie.Need-enum-known-victim Inv-loop μ-loop
 enum-known-victim c = search needs
@@ -151,26 +153,26 @@ enum-told c = search needs
 
 evict-noted-requires : tie.Need-evict-noted-requires Inv-loop μ-loop
 evict-noted-requires c κs =
-    let j = c .before .before .before in
-    let pre′ = start (began j) .pre in
-    (walk-left j .lent, pre′ .1, pre′ .3, rw (began j .hand .ensures) (walk-left j .within))
+    let met = c .before .before .before in
+    let pre′ = start (began met) .pre in
+    (walk-left met .lent, pre′ .1, pre′ .3, rw (began met .hand .ensures) (walk-left met .within))
 
 same-length : tie.Need-same-length Inv-loop μ-loop
-same-length c = let g = c .before .before in g .evict-at .kept .0 ∙ walk-ended (went g) .long
+same-length c = let gone = c .before .before in gone .evict-at .kept .0 ∙ walk-ended (went gone) .long
 
 returns : tie.Need-returns Inv-loop μ-loop
 returns c =
-    let g = c .before .before in
-    rw (g .evict-at .ensures) (evicted-at-once _ _ _ _ (walk-ended (went g) .same) (g .before .before .before .victim .given .1))
+    let gone = c .before .before in
+    rw (gone .evict-at .ensures) (evicted-at-once _ _ _ _ (walk-ended (went gone) .same) (gone .before .before .before .victim .given .1))
 
 same-length-2 : tie.Need-same-length-2 Inv-loop μ-loop
-same-length-2 c = let g = c .before .before in g .evict-noted .kept .0 ∙ walk-ended (went-on g) .long
+same-length-2 c = let asked = c .before .before in asked .evict-noted .kept .0 ∙ walk-ended (went-on asked) .long
 
 returns-2 : tie.Need-returns-2 Inv-loop μ-loop
 returns-2 c =
-    let g = c .before .before in
-    let nowhere = g .before .before .enum-told .given .1 in
-    evicted-noted _ _ _ _ (walk-ended (went-on g) .same) nowhere (began (went-on g) .hand .ensures) (g .evict-noted .ensures)
+    let asked = c .before .before in
+    let nowhere = asked .before .before .enum-told .given .1 in
+    evicted-noted _ _ _ _ (walk-ended (went-on asked) .same) nowhere (began (went-on asked) .hand .ensures) (asked .evict-noted .ensures)
 
 pub evict-one-spec : {M : Type 1} → statement M
 evict-one-spec =

@@ -67,7 +67,9 @@ same-length-3 : tie.Need-same-length-3
 same-length-3 c = search needs
 
 returns-3 : tie.Need-returns-3
-returns-3 c = let made = c .before .before .before .before .before in recorded-full _ _ _ _ (full (at-cap made)) (made .make-room .ensures) (c .before .wait .given .1)
+returns-3 c =
+    let made = c .before .before .before .before .before in
+    recorded-full _ _ _ _ (full (at-cap made)) (made .make-room .ensures) (c .before .wait .given .1)
 
 pub record-new-spec : {M : Type 1} → statement M
 record-new-spec =
