@@ -17,7 +17,7 @@ use Rattle.bucket.specs.Bucket.{Accepted, mostShortfall, shortfallAt, recoveryA
 use Rattle.bucket.proofs.BucketLaws.{most-shortfall-fits, shortfall-most, wait-for-lack}
 use Rattle.rows.specs.declared.Place.{Place}
 use Rattle.rows.specs.declared.Place.the-variants.{At, Nowhere}
-use Rattle.rows.specs.Outcome.{outcome}
+use Rattle.rows.specs.Outcome.{Outcome, outcome}
 use Rattle.rows.proofs.OutcomeLaws.{answer-is, after-is}
 use Rattle.slot.specs.declared.Slot.{Slot}
 use Rattle.slot.specs.Slot.{lossless, recovery}
@@ -31,6 +31,7 @@ use Rattle.shard_map.specs.Layout.{shard, Lent}
 use Rattle.shard_map.proofs.StepLaws.{hand-below, change-sound, ledger-sound}
 use Rattle.shard_map.proofs.ModelLaws.{lent-after, lent-after-answer, StillLent}
 use Rattle.evict.specs.declared.Walk.{Walk}
+use Rattle.evict.specs.declared.Room.{Room}
 use Rattle.evict.specs.declared.Room.the-variants.{Made, Refused}
 use Rattle.evict.specs.Evict.{minRefusalWait, orPlace, placeOr, nothingNoted, noted, looked, goesAtOnce, holds, Within, walkFrom, walked, evictAt, debtLeft, evictLimited, evictNoted, evicted}
 use Rattle.evict.proofs.WalkLaws.{fullIfAny, walk-kept, remarked-sound}
@@ -140,13 +141,25 @@ module _ (c : BucketConfig) (at : Nanos) (forget : Bool) (s : Shard) {victim : P
   unfolding evicted
   evicted-at-once is = rw (ended, is)
 
-  pub evicted-noted : victim ≡ Nowhere → evictNoted c at forget t (handOf s) w (w .full) ≡ evicted c at forget s
+  pub evicted-noted : {first : ℕ} {o : Outcome Room Shard} → victim ≡ Nowhere → first ≡ handOf s → o ≡ evictNoted c at forget t first w (w .full)
+      → o ≡ evicted c at forget s
   unfolding evicted
-  evicted-noted is = rw (ended, is)
+  evicted-noted is hand gave = rw (ended, is, ← hand) gave
+
+-- What a shard's ledger gives, asked to record the debt of the slot at a place: an answer, and the shard after it.
+abbrev pub DebtRecorded : BucketConfig → Nanos → Bool → ℕ → Shard → Recorded → Shard → Type 0
+DebtRecorded c at forget p s r t = outcome r t ≡ inLedger s (Ledger.recorded (s .ledger) (debtLeft c at (slotAt s p)) at forget)
+
+-- The code makes that debt of the slot that it read and of the recovery that it worked out.
+pub debt-recorded : (c : BucketConfig) (at : Nanos) (forget : Bool) (p : ℕ) (s : Shard) {t : Shard} {r : Recorded} {slot : Slot} {n : ℕ}
+    → slot ≡ slotAt s p → n ≡ recovery c slot at
+    → outcome r t ≡ inLedger s (Ledger.recorded (s .ledger) (record { hash = slot .hash; settles = record { 0 = at .0 + n } }) at forget)
+    → DebtRecorded c at forget p s r t
+debt-recorded c at forget p s read takes gave = rw (takes, read) at gave
 
 -- The eviction of a slot that leaves a debt, once the debt is recorded, or is not.
 module _ (c : BucketConfig) (at : Nanos) (forget : Bool) (p : ℕ) (soonest : Nanos) {cap : ℕ} {ws : List ℕ} {r : Recorded} {t : Shard} (lent : Lent cap ws)
-    (gave : outcome r t ≡ inLedger (shard cap ws) (Ledger.recorded (shard cap ws .ledger) (debtLeft c at (slotAt (shard cap ws) p)) at forget)) where
+    (gave : DebtRecorded c at forget p (shard cap ws) r t) where
   pub limited-made : r ≡ Done → outcome Made (evictAt t p) ≡ evictLimited c at forget (shard cap ws) p soonest
   limited-made is = rw (after-is gave, sym (answer-is gave) ∙ is)
 

@@ -25,7 +25,7 @@ use Rattle.ledger.specs.declared.Recorded.the-variants.{Done, NoRoom}
 use Rattle.ledger.specs.Model.{Ledger, Sound, noDebt, capOf, debtAt, settlesAt, cursorOf, withCount, withCursor, withDebt, owes, placeOf, removeAt, append, takenAt, taken, lookAt, look, sweep, sooner, scanFrom, scan, dropChosen, makeRoom, joined, later, recordedAt, recorded, credit, paidAt, paidDown}
 use Rattle.ledger.specs.Layout.{ledger, Lent}
 use Rattle.ledger.proofs.LayoutLaws.{cap-is}
-use Rattle.ledger.proofs.StepLaws.{cursor-below}
+use Rattle.ledger.proofs.StepLaws.{cursor-below, found-owes}
 use Rattle.ledger.proofs.RecordLaws.{sooner-is-either, chosen, scan-chooses-held, scan-sound, make-room-sound, make-room-makes-room}
 
 -- Append and removal, store by store, as the code makes them.
@@ -59,15 +59,15 @@ module _ (l : Ledger) (hash i n : ℕ) where
   unfolding placeFrom
   place-end past = lowest-end (λ j. owes hash (debtAt l j)) i n past
 
--- Take and pay down, once the place of the hash is known.
-module _ (l : Ledger) (hash : ℕ) {place : Place} (looked-up : placeOf l hash ≡ place) where
-  pub taken-where : takenAt l place ≡ taken l hash
+-- Take and pay down, once lookup has given a place and it is known which.
+module _ (l : Ledger) (hash : ℕ) {place known : Place} (gave : place ≡ placeOf l hash) (is : place ≡ known) where
+  pub taken-where : takenAt l known ≡ taken l hash
   unfolding taken
-  taken-where = rw looked-up
+  taken-where = rw (← gave, is)
 
-  pub paid-where : (cost : ℕ) (c : BucketConfig) → paidAt l (credit c cost) place ≡ paidDown l hash cost c
+  pub paid-where : (cost : ℕ) (c : BucketConfig) → paidAt l (credit c cost) known ≡ paidDown l hash cost c
   unfolding paidDown
-  paid-where cost c = rw looked-up
+  paid-where cost c = rw (← gave, is)
 
 -- A look of the sweep: at a settled debt, at an unsettled one, and where there is none.
 module _ (at : Nanos) (l : Ledger) where
@@ -135,13 +135,14 @@ module _ (at : Nanos) (l : Ledger) {m : Ledger} {choice : Choice} (forget : Bool
 
 -- Recording: the hash is there; it is not; and then there is room, or room was made, or not.
 module _ (l : Ledger) (d : Debt) (at : Nanos) (forget : Bool) where
-  pub recorded-existing : {p : ℕ} → placeOf l (d .hash) ≡ At p → outcome Done (withDebt l p (later (debtAt l p) (d .settles))) ≡ recorded l d at forget
+  pub recorded-existing : {place : Place} {p : ℕ} → place ≡ placeOf l (d .hash) → place ≡ At p
+      → outcome Done (withDebt l p (later (debtAt l p) (d .settles))) ≡ recorded l d at forget
   unfolding recorded recordedAt
-  recorded-existing looked-up = rw looked-up
+  recorded-existing gave is = rw (← gave, is)
 
-  pub recorded-new : placeOf l (d .hash) ≡ Nowhere → recordedAt l d at forget Nowhere ≡ recorded l d at forget
+  pub recorded-new : {place : Place} → place ≡ placeOf l (d .hash) → place ≡ Nowhere → recordedAt l d at forget Nowhere ≡ recorded l d at forget
   unfolding recorded
-  recorded-new looked-up = rw looked-up
+  recorded-new gave is = rw (← gave, is)
 
   pub recorded-free : l .debts .count < capOf l → outcome Done (append l d) ≡ recordedAt l d at forget Nowhere
   unfolding recordedAt
@@ -160,12 +161,22 @@ lent-cap {cap} {ws} lent = cap-is cap ws
 pub lent-below : {cap : ℕ} {ws : List ℕ} {i : ℕ} → Lent cap ws → i < ledger cap ws .debts .count → i < cap
 lent-below lent held = omega (arith, lent .sound .held, lent-cap lent)
 
-pub lent-cursor : {cap : ℕ} {ws : List ℕ} → Lent cap ws → 0 < ledger cap ws .debts .count → cursorOf (ledger cap ws) < ledger cap ws .debts .count
-lent-cursor {cap} {ws} lent some = cursor-below (ledger cap ws) some
+pub lent-cursor : {cap c : ℕ} {ws : List ℕ} → Lent cap ws → 0 < ledger cap ws .debts .count → c ≡ cursorOf (ledger cap ws)
+    → c < ledger cap ws .debts .count
+lent-cursor {cap} {c} {ws} lent some is = rw is (cursor-below (ledger cap ws) some)
 
 pub lent-sooner : {cap : ℕ} {ws : List ℕ} {best c : ℕ} → Lent cap ws → best < ledger cap ws .debts .count → c < ledger cap ws .debts .count
     → sooner (ledger cap ws) best c < ledger cap ws .debts .count
 lent-sooner {cap} {ws} {best} {c} lent b d = sooner-is-either (ledger cap ws) best c (λ p. p < ledger cap ws .debts .count) b d
+
+-- In words that are lent, a place that lookup gives holds a debt.
+module _ {cap : ℕ} {ws : List ℕ} (hash : ℕ) {place : Place} {p : ℕ} (lent : Lent cap ws)
+    (gave : place ≡ placeOf (ledger cap ws) hash) (is : place ≡ At p) where
+  pub found-held : p < ledger cap ws .debts .count
+  found-held = found-owes (ledger cap ws) hash p (sym gave ∙ is) .below
+
+  pub found-below : p < cap
+  found-below = lent-below lent found-held
 
 -- Words stay lent while their length is kept and their ledger is sound. After a call that is so by what the call gave (the ledger alone, or an
 -- answer with it) and by what its operation keeps.
@@ -187,6 +198,10 @@ after-scan {cap} {ws} at lent some same gave = record {
   lent = lent-after-answer lent same gave (scan-sound at (ledger cap ws) some (lent .sound));
   held = rw (answer-is gave, after-is gave) (scan-chooses-held at (ledger cap ws) some);
 }
+
+pub choice-held : {cap : ℕ} {ws : List ℕ} {choice known : Choice} → AfterScan cap ws choice → choice ≡ known
+    → chosen known < ledger cap ws .debts .count
+choice-held after is = rw is at (after .held)
 
 -- After room was made the words are still lent, and there is room for a debt.
 pub after-make-room : {cap : ℕ} {ws ws′ : List ℕ} {r : Recorded} (at : Nanos) (forget : Bool) → Lent cap ws → 0 < ledger cap ws .debts .count → length ws′ ≡ length ws

@@ -1,10 +1,22 @@
 -- `evict_limited` goes by the ledger's answer, as its definition does. The moment of the debt fits 64 bits, since a recovery is below 2^63 ns.
 use native.Mathlib.Omega.{arith}
+use Rattle.shard_map.specs.Layout.{shard}
 use Rattle.shard_map.proofs.ModelLaws.{lent-below}
-use Rattle.evict.proofs.ModelLaws.{after-record, debt-fits, limited-made, limited-refused}
+use Rattle.evict.proofs.ModelLaws.{DebtRecorded, after-record, debt-fits, debt-recorded, limited-made, limited-refused}
 use borrow.Author.Needs.{needs}
 use Rattle.evict.proofs.evict_limited.Statement.{statement}
 use Rattle.evict.proofs.evict_limited.Tie as tie
+
+-- Where the call began, once the recovery of the slot is known; where that was, once the ledger has answered; and what the ledger gave.
+abbrev start : tie.After-recovers-in → tie.Start
+start known = known .before .before .before .before
+
+abbrev recovery : tie.After-record → tie.After-recovers-in
+recovery told = told .before .before .before .before
+
+gave : (r : tie.After-record) → let a = start (recovery r) .args in
+    DebtRecorded (a .config) (a .at) (a .forget) (a .pos) (shard (a .cap) (a .ws .now)) (r .«record» .result) (shard (a .cap) (r .«record» .last .0))
+gave r = debt-recorded _ _ _ _ _ (recovery r .before .get .ensures) (recovery r .recovers-in .ensures) (r .«record» .ensures)
 
 get-requires : tie.Need-get-requires
 get-requires c κs =
@@ -16,20 +28,20 @@ recovers-in-requires c κs = search needs
 
 add-t15 : tie.Need-add-t15
 add-t15 c =
-    let pre′ = c .before .before .before .before .before .before .pre in
-    omega (arith, debt-fits _ _ (pre′ .1) (pre′ .2) (c .before .before .recovers-in .ensures))
+    let known = c .before .before in
+    omega (arith, debt-fits _ _ (start known .pre .1) (start known .pre .2) (known .recovers-in .ensures))
 
 record-requires : tie.Need-record-requires
-record-requires c κs = c .before .before .before .before .before .before .before .pre .0
+record-requires c κs = start (c .before .before .before) .pre .0
 
 enum-told : tie.Need-enum-told
 enum-told c = search needs
 
 evict-at-requires : tie.Need-evict-at-requires
 evict-at-requires c κs =
-    let pre′ = c .before .before .before .before .before .before .before .before .before .before .before .before .before .pre in
-    let record′ = c .before .before .before .before .before .«record» in
-    let k = after-record (pre′ .0) (record′ .kept .0) _ _ _ (record′ .ensures) in
+    let told = c .before .before .before .before .before in
+    let pre′ = start (recovery told) .pre in
+    let k = after-record (pre′ .0) (told .«record» .kept .0) _ _ _ (told .«record» .ensures) in
     (k .lent, rw (k .count) (pre′ .3))
 
 enum-known-wait : tie.Need-enum-known-wait
@@ -46,31 +58,22 @@ same-length c = search needs
 
 returns : tie.Need-returns
 returns c =
-    let args′ = c .before .before .before .before .before .before .before .before .before .before .before .before .before .before .before .before .args in
-    let evict-at′ = c .before .before .evict-at in
-    let pre′ = c .before .before .before .before .before .before .before .before .before .before .before .before .before .before .before .before .pre in
-    let recovers-in′ = c .before .before .before .before .before .before .before .before .before .before .before .before .recovers-in in
-    let get′ = c .before .before .before .before .before .before .before .before .before .before .before .before .before .get in
-    let record′ = c .before .before .before .before .before .before .before .before .«record» in
-    let enum-told′ = c .before .before .before .before .enum-told in
-    let gave = rw (recovers-in′ .ensures, get′ .ensures) at (record′ .ensures) in
-    rw (evict-at′ .ensures) (limited-made (args′ .config) (args′ .at) (args′ .forget) (args′ .pos) (args′ .soonest) (pre′ .0) gave (enum-told′ .given .1))
+    let told = c .before .before .before .before .before .before .before .before in
+    let a = start (recovery told) .args in
+    let lent = start (recovery told) .pre .0 in
+    let made = limited-made (a .config) (a .at) (a .forget) (a .pos) (a .soonest) lent (gave told) (c .before .before .before .before .enum-told .given .1) in
+    rw (c .before .before .evict-at .ensures) made
 
 same-length-2 : tie.Need-same-length-2
 same-length-2 c = search needs
 
 returns-2 : tie.Need-returns-2
 returns-2 c =
-    let args′ = c .before .before .before .before .before .before .before .before .before .before .before .before .before .before .before .args in
-    let larger′ = c .larger in
-    let smaller′ = c .before .smaller in
-    let pre′ = c .before .before .before .before .before .before .before .before .before .before .before .before .before .before .before .pre in
-    let recovers-in′ = c .before .before .before .before .before .before .before .before .before .before .before .recovers-in in
-    let get′ = c .before .before .before .before .before .before .before .before .before .before .before .before .get in
-    let record′ = c .before .before .before .before .before .before .before .«record» in
-    let wait′ = c .before .before .before .wait in
-    let gave = rw (recovers-in′ .ensures, get′ .ensures) at (record′ .ensures) in
-    rw (larger′ .ensures, smaller′ .ensures) (limited-refused (args′ .config) (args′ .at) (args′ .forget) (args′ .pos) (args′ .soonest) (pre′ .0) gave (wait′ .given .1))
+    let told = c .before .before .before .before .before .before .before in
+    let a = start (recovery told) .args in
+    let lent = start (recovery told) .pre .0 in
+    let refused = limited-refused (a .config) (a .at) (a .forget) (a .pos) (a .soonest) lent (gave told) (c .before .before .before .wait .given .1) in
+    rw (c .larger .ensures, c .before .smaller .ensures) refused
 
 pub evict-limited-spec : {M : Type 1} → statement M
 evict-limited-spec =

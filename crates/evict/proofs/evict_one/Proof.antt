@@ -10,10 +10,12 @@ use Rattle.units.specs.declared.Nanos.{Nanos}
 use Rattle.bucket.specs.declared.BucketConfig.{BucketConfig}
 use Rattle.rows.specs.declared.Place.{Place}
 use Rattle.shard_map.specs.Layout.{shard, Lent}
+use Rattle.shard_map.specs.Model.{handOf}
 use Rattle.shard_map.proofs.ModelLaws.{lent-hand}
 use Rattle.evict.specs.declared.Walk.{Walk}
 use Rattle.evict.specs.Evict.{walkFrom, walked}
-use Rattle.evict.proofs.ModelLaws.{walk-start, walk-end, walk-turn, walk-ends-at-once, after-look, after-walk, evicted-at-once, evicted-noted}
+use Rattle.evict.proofs.ModelLaws.{walk-start, walk-end, walk-turn, walk-ends-at-once}
+use Rattle.evict.proofs.ModelLaws.{AfterWalk, after-look, after-walk, evicted-at-once, evicted-noted}
 use borrow.Author.Needs.{needs}
 use Rattle.evict.proofs.evict_one.Statement.{statement}
 use Rattle.evict.proofs.evict_one.Tie as tie
@@ -30,6 +32,16 @@ Inv-loop ws₀ cap config at forget first left₀ walk₀ ws left walk = Walking
 
 abbrev μ-loop : tie.MeasureT-loop
 μ-loop ws₀ cap config at forget first left₀ walk₀ ws left walk = left
+
+-- Where the call began, once the hand is read; where the hand was read, from the loop's head; and the loop's head, from a look.
+abbrev start : tie.After-hand Inv-loop μ-loop → tie.Start Inv-loop μ-loop
+start read = read .before .before .before
+
+abbrev opening : tie.At-loop Inv-loop μ-loop → tie.After-hand Inv-loop μ-loop
+opening head = head .before .before .before .before .before .before
+
+abbrev turn : tie.After-look Inv-loop μ-loop → tie.At-loop Inv-loop μ-loop
+turn looked = looked .before .before .before .before .before
 
 hand-requires : tie.Need-hand-requires Inv-loop μ-loop
 hand-requires c κs = search needs
@@ -48,13 +60,13 @@ new-requires c κs = search needs
 
 loop-holds : tie.Need-loop-holds Inv-loop μ-loop
 loop-holds c =
-    let pre′ = c .before .before .before .before .before .before .before .before .pre in
-    let hand-looks′ = c .before .before .before .before .hand-looks in
+    let pre′ = start (c .before .before .before .before .before) .pre in
+    let looks = c .before .before .before .before in
     record {
       lent = pre′ .0;
       some = pre′ .2;
       long = refl;
-      same = rw (c .new .ensures, c .before .fewer .ensures, c .before .before .len .ensures, hand-looks′ .ensures) (walk-start _ _ _);
+      same = rw (c .new .ensures, c .before .fewer .ensures, c .before .before .len .ensures, looks .hand-looks .ensures) (walk-start _ _ _);
     }
 
 hand-requires-2 : tie.Need-hand-requires-2 Inv-loop μ-loop
@@ -62,14 +74,14 @@ hand-requires-2 c κs = search needs
 
 look-requires : tie.Need-look-requires Inv-loop μ-loop
 look-requires c κs =
-    let loop′ = c .before .before .before .before .loop in
-    (loop′ .inv .lent, rw (c .before .hand2 .ensures) (lent-hand (loop′ .inv .lent) (loop′ .inv .some)))
+    let inv = c .before .before .before .before .loop .inv in
+    (inv .lent, rw (c .before .hand2 .ensures) (lent-hand (inv .lent) (inv .some)))
 
 goes-at-once-requires : tie.Need-goes-at-once-requires Inv-loop μ-loop
-goes-at-once-requires c κs = c .before .before .before .before .before .before .before .before .before .before .before .before .before .before .before .before .pre .1
+goes-at-once-requires c κs = start (opening (turn (c .before .before))) .pre .1
 
 noted-requires : tie.Need-noted-requires Inv-loop μ-loop
-noted-requires c κs = c .before .before .before .before .before .before .before .before .before .before .before .before .before .before .before .before .before .before .pre .1
+noted-requires c κs = start (opening (turn (c .before .before .before .before))) .pre .1
 
 sub-left : tie.Need-sub-left Inv-loop μ-loop
 sub-left c = search needs
@@ -79,19 +91,18 @@ loop-less c = search needs
 
 loop-again : tie.Need-loop-again Inv-loop μ-loop
 loop-again c =
-    let loop′ = c .before .before .before .before .before .before .before .before .before .before .loop in
-    let if1′ = c .before .before .before .before .before .before .before .before .before .if1 in
-    let look′ = c .before .before .before .before .before .look in
-    let hand2′ = c .before .before .before .before .before .before .before .hand2 in
-    let goes-at-once′ = c .before .before .goes-at-once in
-    let if2′ = c .before .if2 in
-    let noted′ = c .noted in
-    let after = after-look (loop′ .inv .lent) (look′ .kept .0) _ (look′ .ensures) in
+    let looked = c .before .before .before .before .before in
+    let once = c .before .before .goes-at-once .ensures in
+    let saw = looked .look .ensures in
+    let inv = turn looked .loop .inv in
+    let after = after-look (inv .lent) (looked .look .kept .0) _ saw in
+    let more : 0 < turn looked .loop .left = omega (arith, looked .before .before .before .before .if1 .left) in
+    let goes-on = walk-turn _ _ _ _ _ more (looked .before .before .hand2 .ensures) saw once (c .before .if2 .left) (c .noted .ensures) in
     record {
       lent = after .lent;
-      some = rw (after .count) (loop′ .inv .some);
-      long = look′ .kept .0 ∙ loop′ .inv .long;
-      same = sym (walk-turn _ _ _ _ _ (omega (arith, if1′ .left)) (hand2′ .ensures) (look′ .ensures) (goes-at-once′ .ensures) (if2′ .left) (noted′ .ensures)) ∙ loop′ .inv .same;
+      some = rw (after .count) (inv .some);
+      long = looked .look .kept .0 ∙ inv .long;
+      same = sym goes-on ∙ inv .same;
     }
 
 -- Where the two ways out of the loop meet: what it yields, what was noted and the shard are those of the walk.
@@ -99,9 +110,12 @@ record Ended (ws₀ : List ℕ) (cap : ℕ) (c : BucketConfig) (at : Nanos) (ws 
   long : length ws ≡ length ws₀
   same : walked c at (shard cap ws₀) ≡ record { victim = victim; walk = walk; after = shard cap ws }
 
-walk-ended : (c : tie.Joined1 Inv-loop μ-loop) →
-    let args′ = c .before .before .before .before .before .before .before .before .before .before .args in
-    Ended (args′ .ws .now) (args′ .cap) (args′ .config) (args′ .at) (c .if1 .ws) (c .if1 .victim) (c .before .loop .walk)
+-- `began` is where the hand was first read, as seen from there.
+abbrev began : tie.Joined1 Inv-loop μ-loop → tie.After-hand Inv-loop μ-loop
+began met = opening (met .before)
+
+walk-ended : (c : tie.Joined1 Inv-loop μ-loop) → let a = start (began c) .args in
+    Ended (a .ws .now) (a .cap) (a .config) (a .at) (c .if1 .ws) (c .if1 .victim) (c .before .loop .walk)
 walk-ended c =
     let inv = c .before .loop .inv in
     ⊎-elim
@@ -112,14 +126,26 @@ walk-ended c =
     }))
     (c .if1 .came)
 
+-- So the words are still lent there, and what was noted, and the place that the loop yields, hold slots.
+walk-left : (c : tie.Joined1 Inv-loop μ-loop) → let a = start (began c) .args in
+    AfterWalk (a .cap) (c .if1 .ws) (handOf (shard (a .cap) (a .ws .now))) (c .if1 .victim) (c .before .loop .walk)
+walk-left c =
+    let pre′ = start (began c) .pre in
+    after-walk _ _ (pre′ .0) (pre′ .2) (walk-ended c .long) (walk-ended c .same)
+
+-- Where the loop's ways met, from where a slot has gone at once, and from where one that was noted was asked to go.
+abbrev went : tie.After-evict-at Inv-loop μ-loop → tie.Joined1 Inv-loop μ-loop
+went gone = gone .before .before .before .before .before
+
+abbrev went-on : tie.After-evict-noted Inv-loop μ-loop → tie.Joined1 Inv-loop μ-loop
+went-on asked = asked .before .before .before .before
+
 enum-known-victim : tie.Need-enum-known-victim Inv-loop μ-loop
 enum-known-victim c = search needs
 
 evict-at-requires : tie.Need-evict-at-requires Inv-loop μ-loop
 evict-at-requires c κs =
-    let pre′ = c .before .before .before .before .before .before .before .before .before .before .before .before .before .before .pre in
-    let end = walk-ended (c .before .before .before .before) in
-    let after = after-walk _ _ (pre′ .0) (pre′ .2) (end .long) (end .same) in
+    let after = walk-left (c .before .before .before .before) in
     (after .lent, rw (c .before .before .victim .given .1) at (after .held))
 
 enum-told : tie.Need-enum-told Inv-loop μ-loop
@@ -127,29 +153,26 @@ enum-told c = search needs
 
 evict-noted-requires : tie.Need-evict-noted-requires Inv-loop μ-loop
 evict-noted-requires c κs =
-    let pre′ = c .before .before .before .before .before .before .before .before .before .before .before .before .before .pre in
-    let end = walk-ended (c .before .before .before) in
-    let after = after-walk _ _ (pre′ .0) (pre′ .2) (end .long) (end .same) in
-    (after .lent, pre′ .1, pre′ .3, rw (c .before .before .before .before .before .before .before .before .before .before .hand .ensures) (after .within))
+    let met = c .before .before .before in
+    let pre′ = start (began met) .pre in
+    (walk-left met .lent, pre′ .1, pre′ .3, rw (began met .hand .ensures) (walk-left met .within))
 
 same-length : tie.Need-same-length Inv-loop μ-loop
-same-length c = c .before .before .evict-at .kept .0 ∙ walk-ended (c .before .before .before .before .before .before .before) .long
+same-length c = let gone = c .before .before in gone .evict-at .kept .0 ∙ walk-ended (went gone) .long
 
 returns : tie.Need-returns Inv-loop μ-loop
 returns c =
-    let evict-at′ = c .before .before .evict-at in
-    let victim′ = c .before .before .before .before .before .victim in
-    rw (evict-at′ .ensures) (evicted-at-once _ _ _ _ (walk-ended (c .before .before .before .before .before .before .before) .same) (victim′ .given .1))
+    let gone = c .before .before in
+    rw (gone .evict-at .ensures) (evicted-at-once _ _ _ _ (walk-ended (went gone) .same) (gone .before .before .before .victim .given .1))
 
 same-length-2 : tie.Need-same-length-2 Inv-loop μ-loop
-same-length-2 c = c .before .before .evict-noted .kept .0 ∙ walk-ended (c .before .before .before .before .before .before) .long
+same-length-2 c = let asked = c .before .before in asked .evict-noted .kept .0 ∙ walk-ended (went-on asked) .long
 
 returns-2 : tie.Need-returns-2 Inv-loop μ-loop
 returns-2 c =
-    let evict-noted′ = c .before .before .evict-noted in
-    let hand′ = c .before .before .before .before .before .before .before .before .before .before .before .before .before .hand in
-    let enum-told′ = c .before .before .before .before .enum-told in
-    evict-noted′ .ensures ∙ rw (hand′ .ensures) (evicted-noted _ _ _ _ (walk-ended (c .before .before .before .before .before .before) .same) (enum-told′ .given .1))
+    let asked = c .before .before in
+    let nowhere = asked .before .before .enum-told .given .1 in
+    evicted-noted _ _ _ _ (walk-ended (went-on asked) .same) nowhere (began (went-on asked) .hand .ensures) (asked .evict-noted .ensures)
 
 pub evict-one-spec : {M : Type 1} → statement M
 evict-one-spec =

@@ -1,34 +1,47 @@
 -- `look` does what the definition does at the cursor, for a settled debt and for an unsettled one.
+use Prim.Native.Nat.{_<_}
 use native.Mathlib.Omega.{arith}
+use Rattle.ledger.specs.Layout.{ledger}
 use Rattle.ledger.proofs.StepLaws.{cursor-sound}
 use Rattle.ledger.proofs.ModelLaws.{look-settled, look-unsettled, lent-below, lent-cursor, lent-after}
 use borrow.Author.Needs.{needs}
 use Rattle.ledger.proofs.look.Statement.{statement}
 use Rattle.ledger.proofs.look.Tie as tie
 
+-- Where the call began, once the cursor is read; where it was read, once it is stored for a settled debt.
+abbrev start : tie.After-cursor → tie.Start
+start k = k .before .before .before
+
+abbrev looked : tie.After-set-cursor → tie.After-cursor
+looked s = s .before .before .before .before .before .before .before
+
+-- The cursor stands at a debt.
+cursor-held : (k : tie.After-cursor) → let a = start k .args in k .cursor .result < ledger (a .cap) (a .ws .now) .debts .count
+cursor-held k = lent-cursor (start k .pre .0) (start k .pre .1) (k .cursor .ensures)
+
 cursor-requires : tie.Need-cursor-requires
 cursor-requires c κs = search needs
 
 settles-at-requires : tie.Need-settles-at-requires
 settles-at-requires c κs =
-    let pre′ = c .before .before .before .before .pre in
-    (pre′ .0 .size, rw (c .before .cursor .ensures) (lent-below (pre′ .0) (lent-cursor (pre′ .0) (pre′ .1))))
+    let k = c .before in
+    let lent = start k .pre .0 in
+    (lent .size, lent-below lent (cursor-held k))
 
 set-cursor-requires : tie.Need-set-cursor-requires
 set-cursor-requires c κs = search needs
 
 remove-at-requires : tie.Need-remove-at-requires
 remove-at-requires c κs =
-    let pre′ = c .before .before .before .before .before .before .before .before .before .before .before .before .before .pre in
-    let set-cursor′ = c .before .before .before .set-cursor in
-    let cursor′ = c .before .before .before .before .before .before .before .before .before .before .cursor in
-    let below = lent-cursor (pre′ .0) (pre′ .1) in
-    (lent-after (pre′ .0) (set-cursor′ .kept .0) (set-cursor′ .ensures) (cursor-sound _ _ (pre′ .0 .sound)), rw (set-cursor′ .ensures, cursor′ .ensures) below)
+    let stored = c .before .before .before in
+    let lent = start (looked stored) .pre .0 in
+    let still-lent = lent-after lent (stored .set-cursor .kept .0) (stored .set-cursor .ensures) (cursor-sound _ _ (lent .sound)) in
+    (still-lent, rw (stored .set-cursor .ensures) (cursor-held (looked stored)))
 
 add-set-cursor : tie.Need-add-set-cursor
 add-set-cursor c =
-    let pre′ = c .before .before .before .before .before .before .before .before .before .pre in
-    omega (arith, lent-below (pre′ .0) (lent-cursor (pre′ .0) (pre′ .1)))
+    let k = c .before .before .before .before .before .before in
+    omega (arith, lent-below (start k .pre .0) (cursor-held k))
 
 set-cursor-requires-2 : tie.Need-set-cursor-requires-2
 set-cursor-requires-2 c κs = search needs
@@ -38,27 +51,24 @@ same-length c = search needs
 
 returns : tie.Need-returns
 returns c =
-    let settles-at′ = c .before .before .before .before .before .before .before .before .before .before .before .settles-at in
-    let cursor′ = c .before .before .before .before .before .before .before .before .before .before .before .before .before .cursor in
-    let if1′ = c .before .before .before .before .before .before .before .before .if1 in
-    let remove-at′ = c .before .before .remove-at in
-    let set-cursor′ = c .before .before .before .before .before .before .set-cursor in
-    let pre′ = c .before .before .before .before .before .before .before .before .before .before .before .before .before .before .before .before .pre in
-    let settled = rw (settles-at′ .ensures, cursor′ .ensures) at (if1′ .taken) in
-    rw (remove-at′ .ensures, set-cursor′ .ensures, cursor′ .ensures) (look-settled _ _ (pre′ .1) settled)
+    let removed = c .before .before in
+    let stored = removed .before .before .before .before in
+    let test = stored .before .before in
+    let k = looked stored in
+    let settled = rw (test .before .before .before .settles-at .ensures, k .cursor .ensures) at (test .if1 .taken) in
+    rw (removed .remove-at .ensures, stored .set-cursor .ensures, k .cursor .ensures) (look-settled _ _ (start k .pre .1) settled)
 
 same-length-2 : tie.Need-same-length-2
 same-length-2 c = search needs
 
 returns-2 : tie.Need-returns-2
 returns-2 c =
-    let settles-at′ = c .before .before .before .before .before .before .before .settles-at in
-    let cursor′ = c .before .before .before .before .before .before .before .before .before .cursor in
-    let if1′ = c .before .before .before .before .if1 in
-    let set-cursor2′ = c .before .before .set-cursor2 in
-    let pre′ = c .before .before .before .before .before .before .before .before .before .before .before .before .pre in
-    let unsettled = rw (settles-at′ .ensures, cursor′ .ensures) at (if1′ .left) in
-    rw (set-cursor2′ .ensures, cursor′ .ensures) (look-unsettled _ _ (pre′ .1) unsettled)
+    let stored = c .before .before in
+    let test = stored .before .before in
+    let read = test .before .before .before in
+    let k = read .before .before in
+    let unsettled = rw (read .settles-at .ensures, k .cursor .ensures) at (test .if1 .left) in
+    rw (stored .set-cursor2 .ensures, k .cursor .ensures) (look-unsettled _ _ (start k .pre .1) unsettled)
 
 pub look-spec : {M : Type 1} → statement M
 look-spec =

@@ -1,7 +1,7 @@
 -- `owed_by` goes by the place that `position` gives, as its definition does; a place that is given holds a debt, so its moment can be read.
 use mathlib.Core.Path.{sym, _∙_}
-use Rattle.ledger.proofs.StepLaws.{found-owes, owed-where}
-use Rattle.ledger.proofs.ModelLaws.{lent-below}
+use Rattle.ledger.proofs.StepLaws.{owed-where}
+use Rattle.ledger.proofs.ModelLaws.{found-below}
 use borrow.Author.Needs.{needs}
 use Rattle.ledger.proofs.owed_by.Statement.{statement}
 use Rattle.ledger.proofs.owed_by.Tie as tie
@@ -17,7 +17,7 @@ settles-at-requires c κs =
     let pre′ = c .before .before .before .before .before .pre in
     let position′ = c .before .before .before .position in
     let pos′ = c .before .pos in
-    (pre′ .size, lent-below pre′ (found-owes _ _ _ (sym (position′ .ensures) ∙ pos′ .given .1) .below))
+    (pre′ .size, found-below _ pre′ (position′ .ensures) (pos′ .given .1))
 
 enum-told : tie.Need-enum-told
 enum-told c = search needs

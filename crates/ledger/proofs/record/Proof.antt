@@ -1,10 +1,16 @@
 -- `record` goes by the place that `position` gives, as its definition does.
-use mathlib.Core.Path.{sym, _∙_}
-use Rattle.ledger.proofs.StepLaws.{found-owes}
-use Rattle.ledger.proofs.ModelLaws.{recorded-existing, recorded-new, lent-below}
+use mathlib.Core.Path.{_∙_}
+use Rattle.ledger.proofs.ModelLaws.{recorded-existing, recorded-new, found-below}
 use borrow.Author.Needs.{needs}
 use Rattle.ledger.proofs.record.Statement.{statement}
 use Rattle.ledger.proofs.record.Tie as tie
+
+-- Where the call began, once the hash is looked up; and where it was, from the place found.
+abbrev start : tie.After-position → tie.Start
+start l = l .before .before .before
+
+abbrev looked-up : tie.After-pos → tie.After-position
+looked-up p = p .before .before
 
 position-requires : tie.Need-position-requires
 position-requires c κs = search needs
@@ -14,10 +20,9 @@ enum-known-pos c = search needs
 
 keep-later-requires : tie.Need-keep-later-requires
 keep-later-requires c κs =
-    let pre′ = c .before .before .before .before .before .before .before .pre in
-    let position′ = c .before .before .before .before .position in
-    let pos′ = c .before .before .pos in
-    (pre′, lent-below pre′ (found-owes _ _ _ (sym (position′ .ensures) ∙ pos′ .given .1) .below))
+    let p = c .before .before in
+    let lent = start (looked-up p) .pre in
+    (lent, found-below _ lent (looked-up p .position .ensures) (p .pos .given .1))
 
 enum-told : tie.Need-enum-told
 enum-told c = search needs
@@ -30,20 +35,18 @@ same-length c = search needs
 
 returns : tie.Need-returns
 returns c =
-    let keep-later′ = c .before .before .keep-later in
-    let position′ = c .before .before .before .before .before .before .before .position in
-    let pos′ = c .before .before .before .before .before .pos in
-    rw (keep-later′ .ensures) (recorded-existing _ _ _ _ (sym (position′ .ensures) ∙ pos′ .given .1))
+    let kept = c .before .before in
+    let p = kept .before .before .before in
+    rw (kept .keep-later .ensures) (recorded-existing _ _ _ _ (looked-up p .position .ensures) (p .pos .given .1))
 
 same-length-2 : tie.Need-same-length-2
 same-length-2 c = search needs
 
 returns-2 : tie.Need-returns-2
 returns-2 c =
-    let record-new′ = c .before .before .record-new in
-    let position′ = c .before .before .before .before .before .before .position in
-    let enum-told′ = c .before .before .before .before .enum-told in
-    record-new′ .ensures ∙ recorded-new _ _ _ _ (sym (position′ .ensures) ∙ enum-told′ .given .1)
+    let gave = c .before .before in
+    let told = gave .before .before in
+    gave .record-new .ensures ∙ recorded-new _ _ _ _ (told .before .before .position .ensures) (told .enum-told .given .1)
 
 pub record-spec : {M : Type 1} → statement M
 record-spec =

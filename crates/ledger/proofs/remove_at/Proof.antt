@@ -1,9 +1,17 @@
 -- `remove_at` is the model's removal: its calls make the same stores, in the same order, and each call says what it stores.
+use Prim.Native.Nat.{_-_, _<_}
 use native.Mathlib.Omega.{arith}
-use Rattle.ledger.proofs.ModelLaws.{lent-cap, remove-by-stores}
+use Rattle.ledger.proofs.ModelLaws.{lent-cap, lent-below, remove-by-stores}
 use borrow.Author.Needs.{needs}
 use Rattle.ledger.proofs.remove_at.Statement.{statement}
 use Rattle.ledger.proofs.remove_at.Tie as tie
+
+-- Where the call began, once the debts are counted. The last debt stands below the cap.
+abbrev start : tie.After-count → tie.Start
+start n = n .before .before .before
+
+last-below : (n : tie.After-count) → n .count .result - 1 < start n .args .cap
+last-below n = let pre′ = start n .pre in omega (arith, lent-below (pre′ .0) (pre′ .1), lent-cap (pre′ .0), pre′ .0 .sound .held, n .count .ensures)
 
 count-requires : tie.Need-count-requires
 count-requires c κs = search needs
@@ -12,19 +20,13 @@ sub-last : tie.Need-sub-last
 sub-last c = search needs
 
 load-requires : tie.Need-load-requires
-load-requires c κs =
-    let pre′ = c .before .before .before .before .pre in
-    (pre′ .0 .size, omega (arith, lent-cap (pre′ .0)))
+load-requires c κs = let n = c .before in (start n .pre .0 .size, last-below n)
 
 put-requires : tie.Need-put-requires
-put-requires c κs =
-    let pre′ = c .before .before .before .before .before .before .pre in
-    (pre′ .0 .size, omega (arith, lent-cap (pre′ .0)))
+put-requires c κs = let lent = start (c .before .before .before) .pre .0 in (lent .size, lent-below lent (start (c .before .before .before) .pre .1))
 
 put-requires-2 : tie.Need-put-requires-2
-put-requires-2 c κs =
-    let pre′ = c .before .before .before .before .before .before .before .before .before .before .pre in
-    (search needs, omega (arith, lent-cap (pre′ .0)))
+put-requires-2 c κs = (search needs, last-below (c .before .before .before .before .before .before .before))
 
 set-count-requires : tie.Need-set-count-requires
 set-count-requires c κs = search needs
@@ -34,12 +36,12 @@ same-length c = search needs
 
 returns : tie.Need-returns
 returns c =
-    let set-count′ = c .before .before .set-count in
-    let put2′ = c .before .before .before .before .before .before .put2 in
-    let put′ = c .before .before .before .before .before .before .before .before .before .before .put in
-    let load′ = c .before .before .before .before .before .before .before .before .before .before .before .before .load in
-    let count′ = c .before .before .before .before .before .before .before .before .before .before .before .before .before .before .count in
-    rw (set-count′ .ensures, put2′ .ensures, put′ .ensures, load′ .ensures, count′ .ensures) (remove-by-stores _ _)
+    let counted-down = c .before .before in
+    let cleared = counted-down .before .before .before .before in
+    let moved = cleared .before .before .before .before in
+    let read = moved .before .before in
+    let stores = remove-by-stores _ _ in
+    rw (counted-down .set-count .ensures, cleared .put2 .ensures, moved .put .ensures, read .load .ensures, read .before .before .count .ensures) stores
 
 pub remove-at-spec : {M : Type 1} → statement M
 remove-at-spec =

@@ -25,6 +25,20 @@ Inv-loop ws₀ cap at left₀ best₀ ws left best = Scanning ws₀ cap at ws le
 abbrev μ-loop : tie.MeasureT-loop
 μ-loop ws₀ cap at left₀ best₀ ws left best = left
 
+-- Where the call began, from the loop's head; the loop's head, once the cursor is read; and where it was read, from a look at an unsettled debt.
+abbrev start : tie.At-loop Inv-loop μ-loop → tie.Start Inv-loop μ-loop
+start l = l .before .before .before .before .before .before .before .before
+
+abbrev turn : tie.After-cursor2 Inv-loop μ-loop → tie.At-loop Inv-loop μ-loop
+turn k = k .before .before .before
+
+abbrev looked : tie.Else1 Inv-loop μ-loop → tie.After-cursor2 Inv-loop μ-loop
+looked e = e .before .before .before .before .before
+
+-- The cursor stands at a debt.
+cursor-held : (k : tie.After-cursor2 Inv-loop μ-loop) → k .cursor2 .result < ledger (start (turn k) .args .cap) (turn k .loop .ws) .debts .count
+cursor-held k = let inv = turn k .loop .inv in lent-cursor (inv .lent) (inv .some) (k .cursor2 .ensures)
+
 ledger-looks-requires : tie.Need-ledger-looks-requires Inv-loop μ-loop
 ledger-looks-requires c κs = search needs
 
@@ -39,14 +53,15 @@ cursor-requires c κs = search needs
 
 loop-holds : tie.Need-loop-holds Inv-loop μ-loop
 loop-holds c =
-    let pre′ = c .before .before .before .before .before .before .before .pre in
-    let cursor′ = c .cursor in
-    let ledger-looks′ = c .before .before .before .before .before .ledger-looks in
+    let fewer′ = c .before .before in
+    let count′ = fewer′ .before in
+    let looks = count′ .before .before in
+    let pre′ = looks .before .before .pre in
     record {
       lent = pre′ .0;
       some = pre′ .1;
-      below = rw (cursor′ .ensures) (lent-cursor (pre′ .0) (pre′ .1));
-      same = rw (cursor′ .ensures, c .before .before .fewer .ensures, c .before .before .before .count .ensures, ledger-looks′ .ensures) (scan-start _ _);
+      below = lent-cursor (pre′ .0) (pre′ .1) (c .cursor .ensures);
+      same = rw (c .cursor .ensures, fewer′ .fewer .ensures, count′ .count .ensures, looks .ledger-looks .ensures) (scan-start _ _);
     }
 
 cursor-requires-2 : tie.Need-cursor-requires-2 Inv-loop μ-loop
@@ -54,9 +69,9 @@ cursor-requires-2 c κs = search needs
 
 settles-at-requires : tie.Need-settles-at-requires Inv-loop μ-loop
 settles-at-requires c κs =
-    let loop′ = c .before .before .before .before .loop in
-    let cursor2′ = c .before .cursor2 in
-    (loop′ .inv .lent .size, rw (cursor2′ .ensures) (lent-below (loop′ .inv .lent) (lent-cursor (loop′ .inv .lent) (loop′ .inv .some))))
+    let k = c .before in
+    let inv = turn k .loop .inv in
+    (inv .lent .size, lent-below (inv .lent) (cursor-held k))
 
 set-cursor-requires : tie.Need-set-cursor-requires Inv-loop μ-loop
 set-cursor-requires c κs = search needs
@@ -66,27 +81,24 @@ same-length c = search needs
 
 returns : tie.Need-returns Inv-loop μ-loop
 returns c =
-    let settles-at′ = c .before .before .before .before .before .before .before .settles-at in
-    let cursor2′ = c .before .before .before .before .before .before .before .before .before .cursor2 in
-    let if1′ = c .before .before .before .before .if1 in
-    let set-cursor′ = c .before .before .set-cursor in
-    let loop-test′ = c .before .before .before .before .before .before .before .before .before .before .before .loop-test in
-    let loop′ = c .before .before .before .before .before .before .before .before .before .before .before .before .loop in
-    let settled = rw (settles-at′ .ensures, cursor2′ .ensures) at (if1′ .taken) in
-    rw (set-cursor′ .ensures, cursor2′ .ensures) (sym (scan-settled _ _ _ _ (loop-test′ .taken) settled) ∙ loop′ .inv .same)
+    let stored = c .before .before in
+    let test = stored .before .before in
+    let read = test .before .before .before in
+    let k = read .before .before in
+    let settled = rw (read .settles-at .ensures, k .cursor2 .ensures) at (test .if1 .taken) in
+    let ends = scan-settled _ _ _ _ (k .before .before .loop-test .taken) settled in
+    rw (stored .set-cursor .ensures, k .cursor2 .ensures) (sym ends ∙ turn k .loop .inv .same)
 
 sooner-requires : tie.Need-sooner-requires Inv-loop μ-loop
 sooner-requires c κs =
-    let loop′ = c .before .before .before .before .before .before .before .before .before .loop in
-    let cursor2′ = c .before .before .before .before .before .before .cursor2 in
-    let inv = loop′ .inv in
-    (inv .lent, lent-below (inv .lent) (inv .below), rw (cursor2′ .ensures) (lent-below (inv .lent) (lent-cursor (inv .lent) (inv .some))))
+    let k = looked (c .before) in
+    let inv = turn k .loop .inv in
+    (inv .lent, lent-below (inv .lent) (inv .below), lent-below (inv .lent) (cursor-held k))
 
 add-set-cursor : tie.Need-add-set-cursor Inv-loop μ-loop
 add-set-cursor c =
-    let cursor2′ = c .before .before .before .before .before .before .before .before .cursor2 in
-    let loop′ = c .before .before .before .before .before .before .before .before .before .before .before .loop in
-    omega (arith, cursor2′ .ensures, lent-below (loop′ .inv .lent) (lent-cursor (loop′ .inv .lent) (loop′ .inv .some)))
+    let k = looked (c .before .before .before) in
+    omega (arith, lent-below (turn k .loop .inv .lent) (cursor-held k))
 
 set-cursor-requires-2 : tie.Need-set-cursor-requires-2 Inv-loop μ-loop
 set-cursor-requires-2 c κs = search needs
@@ -99,20 +111,18 @@ loop-less c = search needs
 
 loop-again : tie.Need-loop-again Inv-loop μ-loop
 loop-again c =
-    let loop′ = c .before .before .before .before .before .before .before .before .before .before .before .before .before .before .loop in
-    let settles-at′ = c .before .before .before .before .before .before .before .before .before .settles-at in
-    let cursor2′ = c .before .before .before .before .before .before .before .before .before .before .before .cursor2 in
-    let if1′ = c .before .before .before .before .before .before .if1 in
-    let set-cursor2′ = c .before .before .set-cursor2 in
-    let sooner′ = c .before .before .before .before .sooner in
-    let loop-test′ = c .before .before .before .before .before .before .before .before .before .before .before .before .before .loop-test in
-    let inv = loop′ .inv in
-    let unsettled = rw (settles-at′ .ensures, cursor2′ .ensures) at (if1′ .left) in
+    let stored = c .before .before in
+    let chosen = stored .before .before in
+    let test = chosen .before .before in
+    let k = looked test in
+    let inv = turn k .loop .inv in
+    let unsettled = rw (test .before .before .before .settles-at .ensures, k .cursor2 .ensures) at (test .if1 .left) in
+    let goes-on = scan-turn _ _ _ _ (k .before .before .loop-test .taken) unsettled in
     record {
-      lent = lent-after (inv .lent) (set-cursor2′ .kept .0) (set-cursor2′ .ensures) (cursor-sound _ _ (inv .lent .sound));
-      some = rw (set-cursor2′ .ensures) (inv .some);
-      below = rw (set-cursor2′ .ensures, sooner′ .ensures, cursor2′ .ensures) (lent-sooner (inv .lent) (inv .below) (lent-cursor (inv .lent) (inv .some)));
-      same = rw (set-cursor2′ .ensures, sooner′ .ensures, cursor2′ .ensures) (sym (scan-turn _ _ _ _ (loop-test′ .taken) unsettled) ∙ inv .same);
+      lent = lent-after (inv .lent) (stored .set-cursor2 .kept .0) (stored .set-cursor2 .ensures) (cursor-sound _ _ (inv .lent .sound));
+      some = rw (stored .set-cursor2 .ensures) (inv .some);
+      below = rw (stored .set-cursor2 .ensures, chosen .sooner .ensures) (lent-sooner (inv .lent) (inv .below) (cursor-held k));
+      same = rw (stored .set-cursor2 .ensures, chosen .sooner .ensures, k .cursor2 .ensures) (sym goes-on ∙ inv .same);
     }
 
 same-length-2 : tie.Need-same-length-2 Inv-loop μ-loop

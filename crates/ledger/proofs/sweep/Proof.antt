@@ -1,7 +1,8 @@
 -- `sweep` makes its looks one by one. The loop holds that the looks left, made from here, give what all of them give from the start.
 use mathlib.Core.Path.{_≡_, refl, sym, _∙_}
 use mathlib.Core.List.{List}
-use Prim.Native.Nat.{ℕ}
+use Prim.Native.Nat.{ℕ, _<_}
+use native.Mathlib.Omega.{arith}
 use Rattle.units.specs.declared.Nanos.{Nanos}
 use Rattle.ledger.proofs.StepLaws.{look-sound}
 use Rattle.ledger.proofs.ModelLaws.{sweep-turn, sweep-none, sweep-end, lent-after}
@@ -22,6 +23,10 @@ Inv-loop ws₀ cap at budget left₀ ws left = Sweeping ws₀ cap at budget ws l
 abbrev μ-loop : tie.MeasureT-loop
 μ-loop ws₀ cap at budget left₀ ws left = left
 
+-- The loop's head, once the debts are counted.
+abbrev head : tie.After-count Inv-loop μ-loop → tie.At-loop Inv-loop μ-loop
+head n = n .before .before .before
+
 loop-holds : tie.Need-loop-holds Inv-loop μ-loop
 loop-holds c = record { lent = c .before .pre; same = refl }
 
@@ -29,7 +34,7 @@ count-requires : tie.Need-count-requires Inv-loop μ-loop
 count-requires c κs = search needs
 
 look-requires : tie.Need-look-requires Inv-loop μ-loop
-look-requires c κs = (c .before .before .before .before .before .loop .inv .lent, search needs)
+look-requires c κs = (head (c .before .before) .loop .inv .lent, search needs)
 
 sub-left : tie.Need-sub-left Inv-loop μ-loop
 sub-left c = search needs
@@ -39,11 +44,13 @@ loop-less c = search needs
 
 loop-again : tie.Need-loop-again Inv-loop μ-loop
 loop-again c =
-    let loop′ = c .before .before .before .before .before .before .before .before .loop in
-    let look′ = c .before .before .look in
+    let l = c .before .before in
+    let h = head (l .before .before .before) in
+    let inv = h .loop .inv in
+    let more : 0 < h .loop .left = omega arith in
     record {
-      lent = lent-after (loop′ .inv .lent) (look′ .kept .0) (look′ .ensures) (look-sound _ _ (loop′ .inv .lent .sound));
-      same = rw (look′ .ensures) (sym (sweep-turn _ _ _ (c .before .before .before .before .before .before .before .loop-test .taken)) ∙ loop′ .inv .same);
+      lent = lent-after (inv .lent) (l .look .kept .0) (l .look .ensures) (look-sound _ _ (inv .lent .sound));
+      same = rw (l .look .ensures) (sym (sweep-turn _ _ _ more) ∙ inv .same);
     }
 
 same-length : tie.Need-same-length Inv-loop μ-loop
@@ -56,7 +63,7 @@ same-length-2 : tie.Need-same-length-2 Inv-loop μ-loop
 same-length-2 c = search needs
 
 returns-2 : tie.Need-returns-2 Inv-loop μ-loop
-returns-2 c = sym (sweep-none _ _ _ (sym (c .before .count .ensures) ∙ c .if1 .taken)) ∙ c .before .before .before .before .loop .inv .same
+returns-2 c = let n = c .before in sym (sweep-none _ _ _ (sym (n .count .ensures) ∙ c .if1 .taken)) ∙ head n .loop .inv .same
 
 pub sweep-spec : {M : Type 1} → statement M
 sweep-spec =

@@ -1,10 +1,15 @@
 -- `take` goes by the place that `position` gives, as its definition does; a place that is given holds a debt, so it can be removed.
-use mathlib.Core.Path.{sym, _∙_}
-use Rattle.ledger.proofs.StepLaws.{found-owes}
-use Rattle.ledger.proofs.ModelLaws.{taken-where, lent-below}
+use Rattle.ledger.proofs.ModelLaws.{taken-where, found-held, found-below}
 use borrow.Author.Needs.{needs}
 use Rattle.ledger.proofs.take.Statement.{statement}
 use Rattle.ledger.proofs.take.Tie as tie
+
+-- Where the call began, once the hash is looked up; and where it was, from the place found.
+abbrev start : tie.After-position → tie.Start
+start l = l .before .before .before
+
+abbrev looked-up : tie.After-pos → tie.After-position
+looked-up p = p .before .before
 
 position-requires : tie.Need-position-requires
 position-requires c κs = search needs
@@ -14,17 +19,15 @@ enum-known-pos c = search needs
 
 settles-at-requires : tie.Need-settles-at-requires
 settles-at-requires c κs =
-    let pre′ = c .before .before .before .before .before .before .before .pre in
-    let position′ = c .before .before .before .before .position in
-    let pos′ = c .before .before .pos in
-    (pre′ .size, lent-below pre′ (found-owes _ _ _ (sym (position′ .ensures) ∙ pos′ .given .1) .below))
+    let p = c .before .before in
+    let lent = start (looked-up p) .pre in
+    (lent .size, found-below _ lent (looked-up p .position .ensures) (p .pos .given .1))
 
 remove-at-requires : tie.Need-remove-at-requires
 remove-at-requires c κs =
-    let pre′ = c .before .before .before .before .before .before .before .before .before .pre in
-    let position′ = c .before .before .before .before .before .before .position in
-    let pos′ = c .before .before .before .before .pos in
-    (pre′, found-owes _ _ _ (sym (position′ .ensures) ∙ pos′ .given .1) .below)
+    let p = c .before .before .before .before in
+    let lent = start (looked-up p) .pre in
+    (lent, found-held _ lent (looked-up p .position .ensures) (p .pos .given .1))
 
 enum-told : tie.Need-enum-told
 enum-told c = search needs
@@ -34,17 +37,16 @@ same-length c = search needs
 
 returns : tie.Need-returns
 returns c =
-    let remove-at′ = c .before .before .remove-at in
-    let settles-at′ = c .before .before .before .before .settles-at in
-    let position′ = c .before .before .before .before .before .before .before .before .before .position in
-    let pos′ = c .before .before .before .before .before .before .before .pos in
-    rw (remove-at′ .ensures, settles-at′ .ensures) (taken-where _ _ (sym (position′ .ensures) ∙ pos′ .given .1))
+    let removed = c .before .before in
+    let read = removed .before .before in
+    let p = read .before .before .before in
+    rw (removed .remove-at .ensures, read .settles-at .ensures) (taken-where _ _ (looked-up p .position .ensures) (p .pos .given .1))
 
 same-length-2 : tie.Need-same-length-2
 same-length-2 c = search needs
 
 returns-2 : tie.Need-returns-2
-returns-2 c = taken-where _ _ (sym (c .before .before .position .ensures) ∙ c .enum-told .given .1)
+returns-2 c = taken-where _ _ (c .before .before .position .ensures) (c .enum-told .given .1)
 
 pub take-spec : {M : Type 1} → statement M
 take-spec =

@@ -1,9 +1,15 @@
 -- `Walk::noted` has one return for each case of its definition: a full slot, and one that is not full with and without the mark.
-use mathlib.Core.Path.{sym, _∙_}
+use mathlib.Core.Path.{_≡_, sym, _∙_}
+use mathlib.Core.Bool.{false}
+use Rattle.slot.specs.Slot.{lossless}
 use Rattle.evict.proofs.ModelLaws.{noted-full, noted-unmarked, noted-marked}
 use borrow.Author.Needs.{needs}
 use Rattle.evict.proofs.Walk.noted.Statement.{statement}
 use Rattle.evict.proofs.Walk.noted.Tie as tie
+
+-- Past the first test the slot is not full.
+owing : (e : tie.Else1) → let a = e .before .before .before .args in lossless (a .config) (a .slot) (a .at) ≡ false
+owing e = sym (e .before .is-lossless .ensures) ∙ e .if1 .left
 
 is-lossless-requires : tie.Need-is-lossless-requires
 is-lossless-requires c κs = search needs
@@ -12,7 +18,7 @@ first-of-requires : tie.Need-first-of-requires
 first-of-requires c κs = search needs
 
 returns : tie.Need-returns
-returns c = rw (c .first-of .ensures) (noted-full _ _ _ _ _ (sym (c .before .before .is-lossless .ensures) ∙ c .before .if1 .taken))
+returns c = let t = c .before in rw (c .first-of .ensures) (noted-full _ _ _ _ _ (sym (t .before .is-lossless .ensures) ∙ t .if1 .taken))
 
 recovers-in-requires : tie.Need-recovers-in-requires
 recovers-in-requires c κs = search needs
@@ -25,22 +31,14 @@ first-of-requires-2 c κs = search needs
 
 returns-2 : tie.Need-returns-2
 returns-2 c =
-    let first-of2′ = c .first-of2 in
-    let smaller′ = c .before .before .before .smaller in
-    let recovers-in′ = c .before .before .before .before .recovers-in in
-    let is-lossless′ = c .before .before .before .before .before .before .is-lossless in
-    let if1′ = c .before .before .before .before .before .if1 in
-    let if2′ = c .before .if2 in
-    rw (first-of2′ .ensures, smaller′ .ensures, recovers-in′ .ensures) (noted-unmarked _ _ _ _ _ (sym (is-lossless′ .ensures) ∙ if1′ .left) (if2′ .taken))
+    let t = c .before in
+    let s = t .before .before in
+    rw (c .first-of2 .ensures, s .smaller .ensures, s .before .recovers-in .ensures) (noted-unmarked _ _ _ _ _ (owing (s .before .before)) (t .if2 .taken))
 
 returns-3 : tie.Need-returns-3
 returns-3 c =
-    let smaller′ = c .before .before .smaller in
-    let recovers-in′ = c .before .before .before .recovers-in in
-    let is-lossless′ = c .before .before .before .before .before .is-lossless in
-    let if1′ = c .before .before .before .before .if1 in
-    let if2′ = c .if2 in
-    rw (smaller′ .ensures, recovers-in′ .ensures) (noted-marked _ _ _ _ _ (sym (is-lossless′ .ensures) ∙ if1′ .left) (if2′ .left))
+    let s = c .before .before in
+    rw (s .smaller .ensures, s .before .recovers-in .ensures) (noted-marked _ _ _ _ _ (owing (s .before .before)) (c .if2 .left))
 
 pub noted-spec : {M : Type 1} → statement M
 noted-spec =
