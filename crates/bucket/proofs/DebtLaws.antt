@@ -1,7 +1,8 @@
 -- The debt's arithmetic: the missing tokens taken apart and held to 64 bits, the cases of a charge and of a restored bucket, and what a restored bucket lacks.
 use Prim.Native.Nat.{ℕ, _+_, _*_, _-_, _/_, _%_, _≤_, _<_, _^_, min, max}
 use mathlib.Core.Path.{_≡_, refl, ap, sym, _∙_}
-use native.Mathlib.Nat.{mod-lt, div-add-mod', div-lt-iff-lt-mul, le-div-iff-mul-le, div-le-self, le-of-lt, lt-of-le-of-lt, mul-le-mul, mul-le-mul-right, mul-div-cancel, sub-self, max-eq-left, le-refl}
+use native.Mathlib.Nat.{mod-lt, div-add-mod', div-lt-iff-lt-mul, le-div-iff-mul-le, div-le-self, le-of-lt, lt-of-le-of-lt, mul-le-mul, mul-le-mul-right}
+use native.Mathlib.Nat.{mul-div-cancel, sub-self, max-eq-left, le-refl}
 use native.Mathlib.Omega.{arith}
 use borrow.Author.Tests.{eq-eqb, ne-eqb}
 use Rattle.arith.specs.Arith.{ceilDiv, held}

@@ -21,10 +21,12 @@ use Rattle.ledger.specs.Model as Ledger
 use Rattle.ledger.proofs.KeptLaws.{weigh, owed, one, weigh-own, weigh-other, record-adds-at-most, record-keeps-unsettled, refusal-keeps}
 use Rattle.shard_map.specs.Model.{Shard, Sound, slotAt, withLedger, removeAt}
 use Rattle.shard_map.proofs.StepLaws.{removal-ledger}
-use Rattle.shard_map.proofs.KeptLaws.{weight, hold, unpaid, overAll, Keeps, keeps-trans, weight-of-hash, hold-own, hold-other, count-removed, held-removed, unpaid-settled, full-slot-loses-nothing}
+use Rattle.shard_map.proofs.KeptLaws.{weight, hold, unpaid, overAll, Keeps, keeps-trans, weight-of-hash, hold-own, hold-other, count-removed, held-removed}
+use Rattle.shard_map.proofs.KeptLaws.{unpaid-settled, full-slot-loses-nothing}
 use Rattle.evict.specs.declared.Room.{Room}
 use Rattle.evict.specs.Evict.{walked, debtLeft, evictAt, evicted}
-use Rattle.evict.proofs.WalkLaws.{Remarked, remarked-slots, remarked-sound, walk-kept, debtRecorded, debt-recorded-sound, Evicting, full-goes, owing-goes, none-goes, evict-cases}
+use Rattle.evict.proofs.WalkLaws.{Remarked, remarked-slots, remarked-sound, walk-kept, debtRecorded, debt-recorded-sound, Evicting, full-goes}
+use Rattle.evict.proofs.WalkLaws.{owing-goes, none-goes, evict-cases}
 
 -- What does not look at marks is the same after a walk.
 all-remarked : (h : ℕ) (slotValue : Slot → ℕ) (debtValue : ℕ → ℕ) → ((slot : Slot) (mark : ℕ) → slotValue (withMark slot mark) ≡ slotValue slot) → (s t : Shard)

@@ -33,7 +33,8 @@ use Rattle.shard_map.proofs.ModelLaws.{lent-after, lent-after-answer, StillLent
 use Rattle.evict.specs.declared.Walk.{Walk}
 use Rattle.evict.specs.declared.Room.{Room}
 use Rattle.evict.specs.declared.Room.the-variants.{Made, Refused}
-use Rattle.evict.specs.Evict.{minRefusalWait, orPlace, placeOr, nothingNoted, noted, looked, goesAtOnce, holds, Within, walkFrom, walked, evictAt, debtLeft, evictLimited, evictNoted, evicted}
+use Rattle.evict.specs.Evict.{minRefusalWait, orPlace, placeOr, nothingNoted, noted, looked, goesAtOnce, holds, Within, walkFrom, walked, evictAt}
+use Rattle.evict.specs.Evict.{debtLeft, evictLimited, evictNoted, evicted}
 use Rattle.evict.proofs.WalkLaws.{fullIfAny, walk-kept, remarked-sound}
 
 -- What a look of the walk notes: of a full slot, and of one that is not full, by its mark.

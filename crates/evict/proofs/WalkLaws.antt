@@ -26,7 +26,8 @@ use Rattle.evict.specs.declared.Walk.{Walk}
 use Rattle.evict.specs.declared.Room.{Room}
 use Rattle.evict.specs.declared.Room.the-variants.{Made, Refused}
 use Rattle.shard_map.specs.Model.{Shard, Sound, noSlot, capOf, slotAt, withLedger, handOf, removeAt}
-use Rattle.evict.specs.Evict.{minRefusalWait, orPlace, placeOr, nothingNoted, noted, looked, goesAtOnce, holds, Walked, walkFrom, walked, evictAt, debtLeft, evictOwing, evictLimited, evictNoted, evictWalked, evicted}
+use Rattle.evict.specs.Evict.{minRefusalWait, orPlace, placeOr, nothingNoted, noted, looked, goesAtOnce, holds, Walked, walkFrom, walked, evictAt}
+use Rattle.evict.specs.Evict.{debtLeft, evictOwing, evictLimited, evictNoted, evictWalked, evicted}
 use Rattle.shard_map.proofs.StepLaws.{hand-below, removal-count, removal-cap, removal-ledger, ledger-sound}
 
 -- A shard that is another but for the hand and the marks.

@@ -39,14 +39,16 @@ first-full-goes = refl
 first-unmarked-leaves-its-debt :
     evicted rate (moment 0) false (shard 3 0 0 (slot 1 4 1 0 ∷ slot 2 7 0 0 ∷ slot 3 2 0 0 ∷ []) noDebts)
     ≡ outcome Made (shard 2 2 0 (slot 1 4 0 0 ∷ slot 3 2 0 0 ∷ noSlot ∷ []) (ledger 1 0 (owing 2 4 ∷ [])))
-unfolding evicted walked walkFrom noted shortfallAt waitAt ceilDiv removeAt removed Ledger.recorded Ledger.recordedAt Ledger.placeOf Ledger.append lowestFrom
+unfolding evicted walked walkFrom noted shortfallAt waitAt ceilDiv removeAt removed Ledger.recorded Ledger.recordedAt
+    Ledger.placeOf Ledger.append lowestFrom
 first-unmarked-leaves-its-debt = refl
 
 -- Else, all being marked, the first looked at goes. Here that is the last place: nothing moves, and the hand stands past the slots that are left.
 first-looked-at-leaves-its-debt :
     evicted rate (moment 0) false (shard 3 2 0 (slot 1 4 1 0 ∷ slot 2 2 1 0 ∷ slot 3 8 1 0 ∷ []) noDebts)
     ≡ outcome Made (shard 2 3 0 (slot 1 4 0 0 ∷ slot 2 2 0 0 ∷ noSlot ∷ []) (ledger 1 0 (owing 3 4 ∷ [])))
-unfolding evicted walked walkFrom noted shortfallAt waitAt ceilDiv removeAt removed Ledger.recorded Ledger.recordedAt Ledger.placeOf Ledger.append lowestFrom
+unfolding evicted walked walkFrom noted shortfallAt waitAt ceilDiv removeAt removed Ledger.recorded Ledger.recordedAt
+    Ledger.placeOf Ledger.append lowestFrom
 first-looked-at-leaves-its-debt = refl
 
 -- Such a hand reads as the first place.
@@ -59,7 +61,8 @@ hand-past-the-slots-reads-as-the-first = refl
 an-eviction-takes-its-looks :
     evicted rate (moment 0) false (shard (clockScan + 1) 0 0 (replicate clockScan (slot 1 8 1 0) ++ slot 2 0 0 0 ∷ []) noDebts)
     ≡ outcome Made (shard clockScan 1 0 (slot 2 0 0 0 ∷ replicate (clockScan - 1) (slot 1 8 0 0) ++ noSlot ∷ []) (ledger 1 0 (owing 1 4 ∷ [])))
-unfolding evicted walked walkFrom noted shortfallAt waitAt ceilDiv removeAt removed Ledger.recorded Ledger.recordedAt Ledger.placeOf Ledger.append lowestFrom
+unfolding evicted walked walkFrom noted shortfallAt waitAt ceilDiv removeAt removed Ledger.recorded Ledger.recordedAt
+    Ledger.placeOf Ledger.append lowestFrom
 an-eviction-takes-its-looks = refl
 
 -- The ledger is full of an unsettled debt: none goes. The slots stay, their marks cleared, and the hand and the ledger's cursor have moved.
@@ -68,22 +71,26 @@ twoSlots one two mark hand cursor settles = shard 2 hand 0 (slot 1 one mark 0 �
 
 -- Both waits are a few nanoseconds; a millisecond is told.
 refusal-waits-a-millisecond : evicted rate (moment 0) false (twoSlots 8 4 1 0 0 3) ≡ outcome (Refused (moment 1000000)) (twoSlots 8 4 0 2 1 3)
-unfolding evicted walked walkFrom noted shortfallAt waitAt ceilDiv Ledger.recorded Ledger.recordedAt Ledger.placeOf Ledger.makeRoom Ledger.scan Ledger.scanFrom Ledger.dropChosen lowestFrom
+unfolding evicted walked walkFrom noted shortfallAt waitAt ceilDiv Ledger.recorded Ledger.recordedAt
+    Ledger.placeOf Ledger.makeRoom Ledger.scan Ledger.scanFrom Ledger.dropChosen lowestFrom
 refusal-waits-a-millisecond = refl
 
 -- The soonest recovery is 2 ms, that of the second slot, and the ledger's wait 3 ms; then the recovery is 3 ms and the ledger's wait 1.5 ms.
 refusal-waits-for-the-soonest-recovery :
     evicted rate (moment 0) false (twoSlots 8000000 4000000 1 0 0 3000000) ≡ outcome (Refused (moment 2000000)) (twoSlots 8000000 4000000 0 2 1 3000000)
-unfolding evicted walked walkFrom noted shortfallAt waitAt ceilDiv Ledger.recorded Ledger.recordedAt Ledger.placeOf Ledger.makeRoom Ledger.scan Ledger.scanFrom Ledger.dropChosen lowestFrom
+unfolding evicted walked walkFrom noted shortfallAt waitAt ceilDiv Ledger.recorded Ledger.recordedAt
+    Ledger.placeOf Ledger.makeRoom Ledger.scan Ledger.scanFrom Ledger.dropChosen lowestFrom
 refusal-waits-for-the-soonest-recovery = refl
 
 refusal-waits-for-the-ledger :
     evicted rate (moment 0) false (twoSlots 8000000 6000000 1 0 0 1500000) ≡ outcome (Refused (moment 1500000)) (twoSlots 8000000 6000000 0 2 1 1500000)
-unfolding evicted walked walkFrom noted shortfallAt waitAt ceilDiv Ledger.recorded Ledger.recordedAt Ledger.placeOf Ledger.makeRoom Ledger.scan Ledger.scanFrom Ledger.dropChosen lowestFrom
+unfolding evicted walked walkFrom noted shortfallAt waitAt ceilDiv Ledger.recorded Ledger.recordedAt
+    Ledger.placeOf Ledger.makeRoom Ledger.scan Ledger.scanFrom Ledger.dropChosen lowestFrom
 refusal-waits-for-the-ledger = refl
 
 -- Where debts may be forgotten the ledger's debt gives way, and the first looked at goes.
 forgetting-makes-room :
     evicted rate (moment 0) true (twoSlots 8 4 1 0 0 3) ≡ outcome Made (shard 1 1 0 (slot 2 4 0 0 ∷ noSlot ∷ []) (ledger 1 1 (owing 1 4 ∷ [])))
-unfolding evicted walked walkFrom noted shortfallAt waitAt ceilDiv removeAt removed Ledger.recorded Ledger.recordedAt Ledger.placeOf Ledger.makeRoom Ledger.scan Ledger.scanFrom Ledger.dropChosen Ledger.removeAt Ledger.append lowestFrom
+unfolding evicted walked walkFrom noted shortfallAt waitAt ceilDiv removeAt removed Ledger.recorded Ledger.recordedAt
+    Ledger.placeOf Ledger.makeRoom Ledger.scan Ledger.scanFrom Ledger.dropChosen Ledger.removeAt Ledger.append lowestFrom
 forgetting-makes-room = refl

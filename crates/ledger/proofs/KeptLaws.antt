@@ -18,8 +18,10 @@ use Rattle.rows.proofs.HeldLaws.{total-stored, total-appended, total-removed}
 use Rattle.ledger.specs.declared.Debt.{Debt}
 use Rattle.ledger.specs.declared.Recorded.{Recorded}
 use Rattle.ledger.specs.declared.Recorded.the-variants.{Done, NoRoom}
-use Rattle.ledger.specs.Model.{Ledger, Sound, noDebt, capOf, debtAt, settlesAt, withCursor, withDebt, owes, placeOf, removeAt, append, taken, sweep, later, recorded, credit, paidDown}
-use Rattle.ledger.proofs.StepLaws.{sweep-keeps, cursor-sound, removal-leaves-room, Owing, found-owes, nowhere-owes-none, taken-cases, paid-cases, sooner-by}
+use Rattle.ledger.specs.Model.{Ledger, Sound, noDebt, capOf, debtAt, settlesAt, withCursor, withDebt, owes, placeOf, removeAt, append, taken, sweep}
+use Rattle.ledger.specs.Model.{later, recorded, credit, paidDown}
+use Rattle.ledger.proofs.StepLaws.{sweep-keeps, cursor-sound, removal-leaves-room, Owing, found-owes, nowhere-owes-none, taken-cases, paid-cases}
+use Rattle.ledger.proofs.StepLaws.{sooner-by}
 use Rattle.ledger.proofs.RecordLaws.{Recording, merged, joins, replaces, refused, record-cases, done-is-no-refusal, refusal}
 
 -- The value of a debt by the moment at which it settles, if its hash is h; a debt of another hash has none.

@@ -17,7 +17,8 @@ use Rattle.ledger.specs.declared.Recorded.the-variants.{Done}
 use Rattle.ledger.specs.Model.{Ledger, Sound, debtAt, placeOf, owedAt, owedBy, taken, sweep, later, recorded, credit, paidDown}
 use Rattle.ledger.proofs.StepLaws.{sweep-sound, paid-sound, Owing, found-owes, nowhere-owes-none, owed-where, taken-cases, paid-cases, sooner-by}
 use Rattle.ledger.proofs.RecordLaws.{Recording, merged, joins, replaces, refused, record-cases, recorded-sound, done-is-no-refusal}
-use Rattle.ledger.proofs.KeptLaws.{owed, one, worth, weigh-own, weigh-other, owed-stored, owed-appended, owed-replaced, sweep-never-adds, sweep-keeps-unsettled, nowhere-owes-nothing, found-is-all}
+use Rattle.ledger.proofs.KeptLaws.{owed, one, worth, weigh-own, weigh-other, owed-stored, owed-appended, owed-replaced, sweep-never-adds}
+use Rattle.ledger.proofs.KeptLaws.{sweep-keeps-unsettled, nowhere-owes-nothing, found-is-all}
 
 -- Taking out tells what lookup finds.
 pub taken-tells : (l : Ledger) (h : ℕ) → taken l h .answer ≡ owedBy l h

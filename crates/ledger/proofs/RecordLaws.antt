@@ -17,7 +17,8 @@ use Rattle.ledger.specs.declared.Choice.{Choice}
 use Rattle.ledger.specs.declared.Choice.the-variants.{Settled, Soonest}
 use Rattle.ledger.specs.declared.Recorded.{Recorded}
 use Rattle.ledger.specs.declared.Recorded.the-variants.{Done, NoRoom}
-use Rattle.ledger.specs.Model.{Ledger, Sound, capOf, debtAt, hasSettled, settlesAt, cursorOf, withCursor, withDebt, placeOf, removeAt, append, sooner, scanFrom, scan, dropChosen, makeRoom, joined, later, recordedAt, recorded}
+use Rattle.ledger.specs.Model.{Ledger, Sound, capOf, debtAt, hasSettled, settlesAt, cursorOf, withCursor, withDebt, placeOf, removeAt, append, sooner}
+use Rattle.ledger.specs.Model.{scanFrom, scan, dropChosen, makeRoom, joined, later, recordedAt, recorded}
 use Rattle.ledger.proofs.StepLaws.{cursor-below, cursor-sound, change-sound, append-sound, removal-sound, removal-cap, removal-leaves-room}
 
 -- What the looks at a full ledger come to: nothing but the cursor moves, and the place told has a settled debt, or an unsettled one.

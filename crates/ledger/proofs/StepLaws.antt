@@ -18,7 +18,8 @@ use Rattle.rows.specs.Outcome.{Outcome, outcome}
 use Rattle.rows.proofs.HeldLaws.{wrapped-below, removed-count, removed-length}
 use Rattle.rows.proofs.LowestLaws.{found-passes, nowhere-passes-none}
 use Rattle.ledger.specs.declared.Debt.{Debt}
-use Rattle.ledger.specs.Model.{Ledger, Sound, noDebt, capOf, debtAt, hasSettled, settlesAt, cursorOf, withCursor, withDebt, owes, placeOf, removeAt, append, owedAt, owedBy, takenAt, taken, lookAt, look, sweep, credit, paidAt, paidDown}
+use Rattle.ledger.specs.Model.{Ledger, Sound, noDebt, capOf, debtAt, hasSettled, settlesAt, cursorOf, withCursor, withDebt, owes, placeOf, removeAt}
+use Rattle.ledger.specs.Model.{append, owedAt, owedBy, takenAt, taken, lookAt, look, sweep, credit, paidAt, paidDown}
 
 -- The cursor, as it is read, stands at a debt.
 pub cursor-below : (l : Ledger) → 0 < l .debts .count → cursorOf l < l .debts .count

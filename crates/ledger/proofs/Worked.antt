@@ -12,7 +12,8 @@ use Rattle.rows.specs.Held.{lowestFrom, removed}
 use Rattle.rows.specs.Outcome.{outcome}
 use Rattle.ledger.specs.declared.Debt.{Debt}
 use Rattle.ledger.specs.declared.Recorded.the-variants.{Done, NoRoom}
-use Rattle.ledger.specs.Model.{Ledger, noDebt, placeOf, removeAt, append, taken, lookAt, look, sweep, scanFrom, scan, dropChosen, makeRoom, recordedAt, recorded, paidDown}
+use Rattle.ledger.specs.Model.{Ledger, noDebt, placeOf, removeAt, append, taken, lookAt, look, sweep, scanFrom, scan, dropChosen, makeRoom, recordedAt}
+use Rattle.ledger.specs.Model.{recorded, paidDown}
 
 -- A moment by its nanoseconds.
 abbrev moment : ℕ → Nanos

@@ -46,7 +46,8 @@ module _ {A : Type 0} (read : List ℕ → A) (w cap at first : ℕ) where
     }
 
     -- A whole row stored, and one word of a row.
-    pub held-put : (i : ℕ) (vs : List ℕ) → i < cap → length vs ≡ w → heldIn read w cap at first (sets ws (first + w * i) vs) ≡ stored (heldIn read w cap at first ws) i (read vs)
+    pub held-put : (i : ℕ) (vs : List ℕ) → i < cap → length vs ≡ w
+        → heldIn read w cap at first (sets ws (first + w * i) vs) ≡ stored (heldIn read w cap at first ws) i (read vs)
     unfolding heldIn
     held-put i vs b k =
         let e = row-end w cap i b in
@@ -60,7 +61,8 @@ module _ {A : Type 0} (read : List ℕ → A) (w cap at first : ℕ) where
     unfolding heldIn
     held-put-word i f v b c =
         let e = row-end w cap i b in
-        let word-put : map read (rows w cap (part first (w * cap) (set ws (first + (w * i + f)) v))) ≡ set (map read (rows w cap (part first (w * cap) ws))) i (read (set (part (first + w * i) w ws) f v)) =
+        let word-put : map read (rows w cap (part first (w * cap) (set ws (first + (w * i + f)) v)))
+        ≡ set (map read (rows w cap (part first (w * cap) ws))) i (read (set (part (first + w * i) w ws) f v)) =
         rw (part-set first (w * cap) ws (w * i + f) v (omega arith), ← part-of-part first (w * cap) (w * i) w ws e)
         (record-put-word read w cap (part first (w * cap) ws) i b f v c) in
         λ j. record { count = getD-set-other ws (first + (w * i + f)) at v 0 (λ q. omega arith) j; places = word-put j }

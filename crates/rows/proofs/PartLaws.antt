@@ -5,7 +5,8 @@ use mathlib.Core.Path.{_≡_, refl, ap, sym, _∙_}
 use mathlib.Core.List.{List, [], _∷_, _++_}
 use lib.ListN.{length, getD, set, take, drop, length-drop, List·getD-append, take-append-drop}
 use native.Mathlib.Nat.{add-suc}
-use lib.Seq.{sets, take-take, take-set-lt, drop-set-lt, drop-set-add, drop-drop, drop-append-le, take-append-le, take-at, drop-at, length-take-le, getD-take, take-add}
+use lib.Seq.{sets, take-take, take-set-lt, drop-set-lt, drop-set-add, drop-drop, drop-append-le, take-append-le, take-at, drop-at, length-take-le, getD-take}
+use lib.Seq.{take-add}
 use borrow.Rule.Slice.PartMut.{putMid}
 use Rattle.rows.specs.Parts.{part}
 

@@ -11,7 +11,8 @@ use Rattle.arith.proofs.Cases.{by-le, by-eq}
 use Rattle.arith.proofs.DivisionLaws.{ceilDiv-least}
 use Rattle.settings.specs.declared.Settings.{Settings}
 use Rattle.settings.specs.declared.Shape.{Shape}
-use Rattle.settings.specs.Settings.{mostKeys, mostShards, limitRefusal, sizeRefusal, firstOf, settingsRefusal, shardCount, capOf, shardWords, wordsOf, wordsIn, shapeOf, shardOf, ShapeOfAccepted, idleLimitMillis}
+use Rattle.settings.specs.Settings.{mostKeys, mostShards, limitRefusal, sizeRefusal, firstOf, settingsRefusal, shardCount, capOf, shardWords, wordsOf}
+use Rattle.settings.specs.Settings.{wordsIn, shapeOf, shardOf, ShapeOfAccepted, idleLimitMillis}
 use Rattle.settings.proofs.ShardLaws.{PowerOfTwo, doubled-is-power}
 
 -- The check of the size, outcome by outcome.

@@ -116,7 +116,8 @@ module _ (cap : ℕ) (ws : List ℕ) (size : length ws ≡ shardWords cap) where
       λ j. record { slots = slots-put j; hand = hand-kept j; sweep = sweep-kept j; ledger = Ledger.ledger cap (part-kept j) }
 
   pub slot-put : (i : ℕ) (slot : Slot) → i < cap
-      → shard cap (set (set (set (set (set (set ws (3 + 6 * i) (slot .hash)) (3 + 6 * i + 1) (slot .key)) (3 + 6 * i + 2) (slot .bucket .shortfall)) (3 + 6 * i + 3) (slot .bucket .stamp .0)) (3 + 6 * i + 4) (slot .mark)) (3 + 6 * i + 5) (slot .seen .0))
+      → shard cap (set (set (set (set (set (set ws (3 + 6 * i) (slot .hash)) (3 + 6 * i + 1) (slot .key)) (3 + 6 * i + 2) (slot .bucket .shortfall))
+      (3 + 6 * i + 3) (slot .bucket .stamp .0)) (3 + 6 * i + 4) (slot .mark)) (3 + 6 * i + 5) (slot .seen .0))
       ≡ withSlot (shard cap ws) i slot
   slot-put i slot below =
       let second : 3 + 6 * i + 1 ≡ suc (3 + 6 * i) = omega arith in

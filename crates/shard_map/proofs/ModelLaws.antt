@@ -21,7 +21,8 @@ use Rattle.rows.proofs.OutcomeLaws.{after-is}
 use Rattle.slot.specs.declared.Slot.{Slot}
 use Rattle.slot.specs.Slot.{isKey}
 use Rattle.ledger.specs.Layout as LedgerLayout
-use Rattle.shard_map.specs.Model.{Shard, Sound, noSlot, capOf, slotAt, withCount, withSlot, withSweep, handOf, sweepOf, placeOf, removeAt, insert, reclaimable, idleLookAt, idleLook, sweepIdle}
+use Rattle.shard_map.specs.Model.{Shard, Sound, noSlot, capOf, slotAt, withCount, withSlot, withSweep, handOf, sweepOf, placeOf, removeAt, insert}
+use Rattle.shard_map.specs.Model.{reclaimable, idleLookAt, idleLook, sweepIdle}
 use Rattle.shard_map.specs.Layout.{shard, Lent}
 use Rattle.shard_map.proofs.LayoutLaws.{cap-is, ledger-lent, ledger-long}
 use Rattle.shard_map.proofs.StepLaws.{hand-below, sweep-below, sweep-sound, sweep-idle-sound}

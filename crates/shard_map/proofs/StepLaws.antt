@@ -20,7 +20,8 @@ use Rattle.slot.specs.declared.Slot.{Slot}
 use Rattle.slot.specs.Slot.{isKey, expired}
 use Rattle.slot.proofs.SlotLaws.{is-key-iff}
 use Rattle.ledger.specs.Model as Ledger
-use Rattle.shard_map.specs.Model.{Shard, Sound, noSlot, capOf, slotAt, withSlot, withSweep, withLedger, handOf, sweepOf, placeOf, removeAt, insert, reclaimable, idleLookAt, idleLook, sweepIdle}
+use Rattle.shard_map.specs.Model.{Shard, Sound, noSlot, capOf, slotAt, withSlot, withSweep, withLedger, handOf, sweepOf, placeOf, removeAt, insert}
+use Rattle.shard_map.specs.Model.{reclaimable, idleLookAt, idleLook, sweepIdle}
 
 -- The hand and the sweep, as they are read, stand at a slot.
 pub hand-below : (s : Shard) → 0 < s .slots .count → handOf s < s .slots .count

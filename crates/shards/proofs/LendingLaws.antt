@@ -27,7 +27,8 @@ use Rattle.shards.specs.declared.Part.{Part}
 use Rattle.shards.specs.declared.lending.Lending.{Lending}
 use Rattle.shards.specs.declared.lending.Lending.the-variants.{Refused, Lent}
 use Rattle.shards.specs.Memory.{Placed, partIn, partOf, shardIn, shardAt, inPart, shardEnd, slotCount}
-use Rattle.shards.specs.Refusals.{memoryRefusal, shapeRefusal, countRefusal, keyedRefusal, momentRefusal, timedRefusal, waitRefusal, reserveRefusal, lenRefusal}
+use Rattle.shards.specs.Refusals.{memoryRefusal, shapeRefusal, countRefusal, keyedRefusal, momentRefusal, timedRefusal, waitRefusal, reserveRefusal}
+use Rattle.shards.specs.Refusals.{lenRefusal}
 use Rattle.shards.specs.Lending.{lentUnless}
 use Rattle.shards.proofs.MemoryLaws.{part-placed, shard-ends}
 use Rattle.shards.proofs.RefusalLaws.{SetUp, Accepted, length-is-accepted, len-not-refused, refusals-in-a-row, no-further-refusal}

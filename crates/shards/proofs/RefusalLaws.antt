@@ -14,7 +14,8 @@ use Rattle.settings.specs.Settings.{firstOf, settingsRefusal, capOf, shardCount
 use Rattle.settings.proofs.SettingsLaws.{first-refusal-stands, no-refusal-hands-on, neither-refuses}
 use Rattle.shard_map.specs.Model as Shard
 use Rattle.shards.specs.Memory.{shardAt, slotCount}
-use Rattle.shards.specs.Refusals.{latestMoment, longestMaxWait, memoryRefusal, setUpRefusal, countRefusal, keyedRefusal, momentRefusal, timedRefusal, waitRefusal, reserveRefusal, mostSlots, slotsRefusal, lenRefusal}
+use Rattle.shards.specs.Refusals.{latestMoment, longestMaxWait, memoryRefusal, setUpRefusal, countRefusal, keyedRefusal, momentRefusal, timedRefusal}
+use Rattle.shards.specs.Refusals.{waitRefusal, reserveRefusal, mostSlots, slotsRefusal, lenRefusal}
 use Rattle.shards.proofs.MemoryLaws.{shard-at-cap, shard-at-debt-cap, sound-shard}
 use borrow.Author.Tests.{le-ltb, lt-ltb, eq-eqb, ne-eqb}
 

@@ -19,7 +19,8 @@ use Rattle.ledger.proofs.StepLaws as LedgerSteps
 use Rattle.ledger.proofs.StepLaws.{found-owes, taken-cases, taken-sound, taken-cap, paid-sound, paid-cap}
 use Rattle.ledger.proofs.LookupLaws.{taken-tells}
 use Rattle.shard_map.specs.Model.{Shard, Sound, capOf, slotAt, withSlot, withLedger, inLedger, placeOf, removeAt}
-use Rattle.shard_map.proofs.StepLaws.{Holding, found-holds, removal-cap, removal-ledger, removal-sound, insert-cap, insert-ledger, insert-sound, change-cap, change-sound, ledger-sound}
+use Rattle.shard_map.proofs.StepLaws.{Holding, found-holds, removal-cap, removal-ledger, removal-sound, insert-cap, insert-ledger, insert-sound, change-cap}
+use Rattle.shard_map.proofs.StepLaws.{change-sound, ledger-sound}
 use Rattle.evict.specs.declared.Room.{Room}
 use Rattle.evict.specs.declared.Room.the-variants.{Made, Refused}
 use Rattle.evict.proofs.WalkLaws.{made-is-no-refusal}

@@ -26,7 +26,8 @@ use Rattle.perkey.specs.declared.Reply.{Reply}
 use Rattle.shards.specs.Memory.{shardAt, inShard}
 use Rattle.perkey.specs.Rules.{unlessTrivial, noWait, askedBy, tooMuch, atOnce, requested, policyOf, replyTo, keyed, refundedBy}
 use Rattle.shards.proofs.RefusalLaws.{keyed-not-refused}
-use Rattle.perkey.specs.Calls.{Call, request, look, undo, len, refunds, removes, refund, remove, rules, Answered, settingsOf, momentOf, ofKey, ofUndone, accepted}
+use Rattle.perkey.specs.Calls.{Call, request, look, undo, len, refunds, removes, refund, remove, rules, Answered, settingsOf, momentOf, ofKey, ofUndone}
+use Rattle.perkey.specs.Calls.{accepted}
 use Rattle.window.specs.Demands.{usableFrom, clock}
 use Rattle.window.proofs.GrantLaws.{Grant, bounded-nil}
 use Rattle.window.proofs.BucketKept.{grantsOfAnswer}

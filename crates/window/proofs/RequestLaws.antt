@@ -18,7 +18,9 @@ use Rattle.ledger.specs.Model as Ledger
 use Rattle.ledger.proofs.KeptLaws as Debts
 use Rattle.shard_map.specs.Model.{Shard, Sound, capOf, slotAt, withSlot, withLedger, placeOf, removeAt, insert}
 use Rattle.shard_map.proofs.StepLaws.{Holding}
-use Rattle.shard_map.proofs.KeptLaws.{weight, unpaid, count, held, weight-own, weight-other, hold-own, hold-other, empty-has-nothing, count-removed, held-removed, count-inserted, held-inserted, count-stored, held-stored, Keeps, keeps-trans, later-keeps-line, nowhere-weighs-nothing, nowhere-holds-the-debt, OneSlot, one-slot-is-all}
+use Rattle.shard_map.proofs.KeptLaws.{weight, unpaid, count, held, weight-own, weight-other, hold-own, hold-other, empty-has-nothing, count-removed}
+use Rattle.shard_map.proofs.KeptLaws.{held-removed, count-inserted, held-inserted, count-stored, held-stored, Keeps, keeps-trans, later-keeps-line}
+use Rattle.shard_map.proofs.KeptLaws.{nowhere-weighs-nothing, nowhere-holds-the-debt, OneSlot, one-slot-is-all}
 use Rattle.evict.specs.declared.Room.the-variants.{Made}
 use Rattle.store.specs.declared.Answer.{Answer}
 use Rattle.store.specs.declared.Identity.{Identity}
@@ -26,7 +28,8 @@ use Rattle.store.specs.declared.Policy.{Policy}
 use Rattle.store.specs.Model.{returning, withOrInsert, refunded, removed}
 use Rattle.store.proofs.OwnBucketLaws.{returning-lacks-the-debt}
 use Rattle.store.proofs.RoomLaws.{room-keeps-held, room-made-leaves-room}
-use Rattle.store.proofs.StoreLaws.{Rebucketed, debtTaken, roomFor, debt-taken-sound, Asking, slot-asked, key-joins, no-space, ask-cases, Refunding, slot-refunded, debt-paid, refund-cases, Removing, slot-removed, no-slot, remove-cases}
+use Rattle.store.proofs.StoreLaws.{Rebucketed, debtTaken, roomFor, debt-taken-sound, Asking, slot-asked, key-joins, no-space, ask-cases, Refunding}
+use Rattle.store.proofs.StoreLaws.{slot-refunded, debt-paid, refund-cases, Removing, slot-removed, no-slot, remove-cases}
 use Rattle.window.proofs.GrantLaws.{Grant, bounded-none, bounded-up}
 use Rattle.window.proofs.BucketKept.{grantsOf, grantsOfAnswer, BoundedBy, bounded-by-more, asked-keeps-bound}
 

@@ -53,7 +53,8 @@ set-up-done s ws done′ =
       words = ap (λ (o : Outcome Reply (List ℕ)). o .after) (unless-refused-accepts (setUpRefusal s ws) ws (outcome Done (replicate (wordsOf s) 0)) none);
     })
     (λ some.
-    let told : Refused (setUpRefusal s ws) ≡ Done = ap (λ (o : Outcome Reply (List ℕ)). o .answer) (sym (unless-refused-refuses (setUpRefusal s ws) ws (outcome Done (replicate (wordsOf s) 0)) some)) ∙ done′ in
+    let told : Refused (setUpRefusal s ws) ≡ Done =
+    ap (λ (o : Outcome Reply (List ℕ)). o .answer) (sym (unless-refused-refuses (setUpRefusal s ws) ws (outcome Done (replicate (wordsOf s) 0)) some)) ∙ done′ in
     let z : _≡_ {A = ℕ} 0 1 = cc in absurd (omega arith))
 
 module _ (s : Settings) (rate : Rate) (k : Identity) (a : Accepted (configOf rate)) (never : policyOf s rate .«forget_debt» ≡ false) (rated : s .limit ≡ Open rate) where

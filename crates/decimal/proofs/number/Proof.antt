@@ -5,7 +5,8 @@ use mathlib.Core.List.{List}
 use mathlib.Core.Path.{_≡_, sym, _∙_}
 use lib.ListN.{length, drop}
 use Rattle.decimal.specs.Decimal.{numberOf}
-use Rattle.decimal.proofs.DecimalLaws.{readFrom, empty-is-no-number, long-is-no-number, read-from-the-first, below-ends, above-ends, digit-goes-on, too-much-ends, read-ends}
+use Rattle.decimal.proofs.DecimalLaws.{readFrom, empty-is-no-number, long-is-no-number, read-from-the-first, below-ends, above-ends, digit-goes-on}
+use Rattle.decimal.proofs.DecimalLaws.{too-much-ends, read-ends}
 use borrow.Author.Needs.{needs}
 use Rattle.decimal.proofs.number.Statement.{statement}
 use Rattle.decimal.proofs.number.Tie as tie

@@ -17,8 +17,10 @@ use prog.Wp.{Heap, Calls, Loops, WpFn, Tables}
 use ghost.Atoms.{Atoms, sem}
 use contract.Monad.{Fun, fact}
 use contract.Running.{givenOf, tables, tablesOf}
-use types.Kit.{Given, use1, use2, use3, feqL, ‵, raw, _⊛_, some, later, _$_, _∵_, !, qed, by, move, keep, split, join, pick, fsplit, fjoin, suffices, frame, await, done}
-use types.Run.{look, init, addr, forget, stop, from, load, of-opd, assigns, and-then, no-more, land, returns, enter, alloc1, alloc0, params1, pass1, pass0, free1, free0}
+use types.Kit.{Given, use1, use2, use3, feqL, ‵, raw, _⊛_, some, later, _$_, _∵_, !, qed, by, move, keep, split, join, pick, fsplit, fjoin, suffices, frame}
+use types.Kit.{await, done}
+use types.Run.{look, init, addr, forget, stop, from, load, of-opd, assigns, and-then, no-more, land, returns, enter, alloc1, alloc0, params1, pass1, pass0}
+use types.Run.{free1, free0}
 use types.Tokens.{lft-new, lft-end}
 use types.SemTy.{Body}
 use sound.WpLaws.{FmC, fmOf, WpFn-mono}
@@ -45,7 +47,8 @@ use Rattle.slot.specs.Slot.{touched}
 use Rattle.slot.specs.declared.Slot.{Slot}
 use Rattle.slot.proofs.Slot as S
 use Rattle.slot.proofs.Slot.Laws as S′
-use Rattle.slot.proofs.SlotWalk.{slot-type, slot-val, slot-vals, stamp-val, stamp-vals, IsStamp, slot-typed, stamp-typed, peeks-slot, owned-slot, owned-access, local-lies, lies-local}
+use Rattle.slot.proofs.SlotWalk.{slot-type, slot-val, slot-vals, stamp-val, stamp-vals, IsStamp, slot-typed, stamp-typed, peeks-slot, owned-slot}
+use Rattle.slot.proofs.SlotWalk.{owned-access, local-lies, lies-local}
 use Rattle.slot.proofs.touch as g
 use Rattle.slot.proofs.touch.Symbol as g-def
 use Rattle.slot.proofs.touch.Met as g-thm
@@ -75,7 +78,8 @@ module _ {M : Type 1} (𝓤 : URA M) (H : Heap 𝓤) (A : Atoms 𝓤) (W : Given
     Post = walkOf 𝓤 H A f.ended stayed (f.clauses 𝓤 H A at-mem run) .post ((tt, tt, tt, args, machine), tt)
 
     -- The exit: what is returned is r, the slot touched.
-    exits : (r : Slot) → r ≡ touched s stamp track → ent 𝓤 (sep 𝓤 (sem 𝓤 H A (S.the-row .own r (slot-vals r))) (sem 𝓤 H A (S.the-row .own s (slot-vals s)))) (Post (slot-val r))
+    exits : (r : Slot) → r ≡ touched s stamp track
+        → ent 𝓤 (sep 𝓤 (sem 𝓤 H A (S.the-row .own r (slot-vals r))) (sem 𝓤 H A (S.the-row .own s (slot-vals s)))) (Post (slot-val r))
     exits r e =
         qed W (‵ (S.the-row .own r (slot-vals r)) ∷ ‵ (S.the-row .own s (slot-vals s)) ∷ []) ∵
         suffices ! _ (ends-at 𝓤 H A f.ended stayed (f.clauses 𝓤 H A at-mem run) W ((tt, tt, tt, args, machine), tt) (slot-val r) r (tt, (tt, (tt, tt))) (tt, (tt, (tt, tt)))) $
@@ -119,7 +123,8 @@ module _ {M : Type 1} (𝓤 : URA M) (H : Heap 𝓤) (A : Atoms 𝓤) (W : Given
           (and-then ! (load ! (from ! (stop !)) (look ! 2 refl)) (and-then ! (load ! (from ! (stop !)) (look ! 9 refl)) (and-then ! (load ! (from ! (stop !)) (look ! 7 refl)) (no-more !)))) (λ w.
           use1 W (later (some (λ (r : Unit {0}). ((‵ (flft (ν ∷ []) fullShare) ⊛ ‵ ftrue) ⊛ ‵ (Nothing .own r (w ∷ [])))
           ⊛ raw (ensured 𝓤 H A g.ended (g.clauses 𝓤 H A at-mem run) (ν ∷ [], tt) (ref l₄ γ, (stamp, (track, tt))) tt r)))) (id⊢ 𝓤 _) $ await ! tt $ pick ! (λ r. split ! $ move ! (1 ∷ []) $
-          use1 W (some (λ (zs : Slot × (Unit {0} × (Unit {0} × Unit {0}))). ‵ (lasts g.ended (ν ∷ [], tt) (ref l₄ γ, (stamp, (track, tt))) zs) ⊛ raw (fact 𝓤 (zs .0 ≡ touched s stamp track)))) (id⊢ 𝓤 _) $
+          use1 W (some (λ (zs : Slot × (Unit {0} × (Unit {0} × Unit {0}))). ‵ (lasts g.ended (ν ∷ [], tt) (ref l₄ γ, (stamp, (track, tt))) zs) ⊛
+          raw (fact 𝓤 (zs .0 ≡ touched s stamp track)))) (id⊢ 𝓤 _) $
           pick ! (λ zs. split ! $ move ! (1 ∷ []) $ heard ! (zs .0 ≡ touched s stamp track) (λ e. fsplit ! $ move ! (2 ∷ []) $ split ! $ move ! (1 ∷ []) $ feqL ! (λ u. split ! $
           -- [the token; true; the last value; true; what is lent; _6 at 5; _5 at 7; what frees _4 at 9; _3 at 10; _2 at 12; _1 at 14; _0 at 16]
           land ! (from ! (stop !)) (init ! 7 refl (subst (λ (y : Val). T (hasTy tyUnit y) × WT y) (sym (ap only u)) (tt, tt))) $

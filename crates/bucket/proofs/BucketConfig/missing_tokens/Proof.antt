@@ -26,7 +26,9 @@ saturating-add-requires : tie.Need-saturating-add-requires
 saturating-add-requires c κs = search needs
 
 returns : tie.Need-returns
-returns c = rw (c .saturating-add .ensures, c .before .div-ceil .ensures, c .before .before .before .before .saturating-mul .ensures) (missing-held _ (c .before .before .before .before .before .before .pre))
+returns c =
+    rw (c .saturating-add .ensures, c .before .div-ceil .ensures, c .before .before .before .before .saturating-mul .ensures)
+    (missing-held _ (c .before .before .before .before .before .before .pre))
 
 pub missing-tokens-spec : {M : Type 1} → statement M
 missing-tokens-spec =
