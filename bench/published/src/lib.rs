@@ -4,6 +4,9 @@
 mod key;
 // Much of the published text, and of the oracle's beside it, has no caller here.
 #[allow(dead_code)]
+#[path = "../../../oracle/src/layout.rs"]
+mod layout;
+#[allow(dead_code)]
 #[path = "../../../oracle/src/throttle/mod.rs"]
 mod throttle;
 
