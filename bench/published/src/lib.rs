@@ -103,6 +103,13 @@ impl Limiter {
     pub fn remove(&self, key: Key) -> Answer {
         known(self.published.remove(&key))
     }
+
+    /// The number of keys that have a slot.
+    #[inline]
+    #[must_use]
+    pub fn length(&self) -> Answer {
+        (0, self.published.len() as u64)
+    }
 }
 
 #[inline]
