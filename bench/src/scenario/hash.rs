@@ -5,10 +5,10 @@ use published::Key;
 /// Which hash the keys of a row have.
 #[derive(Clone, Copy, PartialEq, Eq)]
 pub enum Hash {
-    /// Our library's, FNV-1a over the eight bytes, lowest first. The last multiplication carries the low bits into those that choose the shard, so
-    /// keys in a row go from shard to shard in turn, and no shard is fuller than another.
+    /// Our library's, FNV-1a over the eight bytes, lowest first. It does not mix the low bits with those that choose the shard: of keys in a row, those of
+    /// one shard share their low bits, which choose a place in a hash table, more often than by chance, or less often, as the sizes have it.
     Fnv1a,
-    /// SplitMix64's last steps: every bit of the key moves every bit of the hash. Keys in a row go to any shard.
+    /// SplitMix64's last steps: every bit of the key moves every bit of the hash, so shards and places are as by chance.
     Mixed,
 }
 
