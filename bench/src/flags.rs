@@ -1,5 +1,10 @@
 //! The words of the command line.
 
+/// Whether a flag is there.
+pub fn given(flag: &str) -> bool {
+    std::env::args().any(|word| word == flag)
+}
+
 /// The word after a flag.
 pub fn word(flag: &str) -> Option<String> {
     std::env::args().skip_while(|word| word != flag).nth(1)

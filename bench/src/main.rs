@@ -1,9 +1,8 @@
-//! Our library and the published Rust on the same traces: nanoseconds a call and bytes a key.
-//!
-//! `bench [--rounds N] [--calls N] [--only TEXT]`
+//! Our library and the published Rust on the same traces: nanoseconds a call, instructions a call, and bytes a key.
 
+mod callgrind;
+mod compare;
 mod flags;
-mod library;
 mod measure;
 mod memory;
 mod scenario;
@@ -12,111 +11,119 @@ mod times;
 
 use std::process::ExitCode;
 
-use published::Limiter;
-
-use flags::{number, word};
-use library::Store;
+use flags::{given, number, word};
 use measure::round;
-use scenario::Scenario;
+use scenario::rows::{ROWS, Row};
 use sides::{ClockOnly, Nobody, Side};
 use times::Times;
 
 #[global_allocator]
 static ALLOCATOR: memory::Counting = memory::Counting;
 
+const HELP: &str = "bench [--list | --instructions | --memory] [--row NAME | --only TEXT] [--rounds N] [--calls N]
+
+  --list          the names of the rows
+  --instructions  instructions a call in place of times, counted by valgrind's callgrind
+  --memory        bytes a modem
+  --row NAME      one row alone
+  --only TEXT     the rows whose names contain this
+  --rounds N      rounds of each side; 21 if not said
+  --calls N       timed calls a round, fewer in some rows; 100000 if not said, 2000 for --instructions
+  --side SIDE     one round of c, crate, rust or nobody, printing nothing: what --instructions runs under callgrind
+";
+
 fn main() -> ExitCode {
-    let rounds = number("--rounds").unwrap_or(21);
-    let calls = number("--calls").unwrap_or(100_000);
-    let only = word("--only").unwrap_or_default();
-    println!(
-        "rounds {rounds}, calls a round {calls} (fewer where a shard holds more than 256 keys)"
-    );
-    println!();
-    println!(
-        "| scenario | ours, ns | middle half | Rust, ns | middle half | ours / Rust | middle half |"
-    );
-    println!("|---|---:|---:|---:|---:|---:|---:|");
-    let all = scenario::all(calls);
-    for scenario in all.iter().filter(|scenario| scenario.name.contains(&only)) {
-        if let Err(difference) = compare(scenario, rounds) {
-            eprintln!("{}: {difference}", scenario.name);
-            return ExitCode::FAILURE;
+    match run() {
+        Ok(()) => ExitCode::SUCCESS,
+        Err(fault) => {
+            eprintln!("{fault}");
+            ExitCode::FAILURE
         }
     }
-    println!();
-    print_overheads(&all[0], rounds);
-    print_memory();
-    ExitCode::SUCCESS
 }
 
-/// Times both sides in turn and prints a line of the table.
-fn compare(scenario: &Scenario, rounds: usize) -> Result<(), String> {
-    let (mut ours, mut rust, mut ratios) = (Vec::new(), Vec::new(), Vec::new());
-    for _ in 0..rounds {
-        let (our_nanos, our_sums) = round::<Store>(scenario);
-        let (rust_nanos, rust_sums) = round::<Limiter>(scenario);
-        if our_sums != rust_sums {
-            return Err(format!(
-                "sums of codes and numbers: ours {our_sums:?}, Rust {rust_sums:?}"
-            ));
-        }
-        if rust_sums[1].0 != scenario.code * scenario.timed.len() as u64 {
-            return Err(format!("not every timed call got code {}", scenario.code));
-        }
-        ours.push(our_nanos);
-        rust.push(rust_nanos);
-        ratios.push(our_nanos / rust_nanos);
+fn run() -> Result<(), String> {
+    if given("--help") {
+        print!("{HELP}");
+        return Ok(());
     }
-    print_line(
-        &scenario.name,
-        &Times::of(ours),
-        &Times::of(rust),
-        &Times::of(ratios),
+    let rows = chosen()?;
+    if let Some(side) = word("--side") {
+        let calls = number("--calls").unwrap_or(2_000);
+        return rows
+            .iter()
+            .try_for_each(|row| compare::one_round(row, &side, calls));
+    }
+    if given("--list") {
+        rows.iter().for_each(|row| println!("{}", row.name()));
+        return Ok(());
+    }
+    if given("--memory") {
+        memory::print();
+        return Ok(());
+    }
+    if given("--instructions") {
+        return print_counts(&rows);
+    }
+    print_times(&rows)
+}
+
+/// The rows that are asked for.
+fn chosen() -> Result<Vec<Row>, String> {
+    let (name, text) = (word("--row"), word("--only").unwrap_or_default());
+    let chosen = |row: &Row| match &name {
+        Some(name) => row.name() == *name,
+        None => row.name().contains(&text),
+    };
+    let rows: Vec<Row> = ROWS.into_iter().filter(chosen).collect();
+    if rows.is_empty() {
+        return Err("there is no such row; --list names them".to_owned());
+    }
+    Ok(rows)
+}
+
+/// The table of times, and what is in every number of it.
+fn print_times(rows: &[Row]) -> Result<(), String> {
+    let (rounds, calls) = (
+        number("--rounds").unwrap_or(21),
+        number("--calls").unwrap_or(100_000),
+    );
+    println!("{}", compare::TIMES);
+    for row in rows {
+        println!(
+            "{}",
+            compare::times(row, calls, rounds).map_err(|fault| named(row, &fault))?
+        );
+    }
+    println!();
+    println!(
+        "{rounds} rounds. The driver alone takes {:.1} ns a call; with the setting of the Rust's clock it takes {:.1}. Neither is taken off.",
+        alone::<Nobody>(calls, rounds),
+        alone::<ClockOnly>(calls, rounds)
     );
     Ok(())
 }
 
-/// A line of the table. The ratio is that of two rounds side by side, so that it suffers less from what others do to the machine.
-fn print_line(name: &str, ours: &Times, rust: &Times, ratio: &Times) {
-    println!(
-        "| {name} | {:.1} | {:.1} to {:.1} | {:.1} | {:.1} to {:.1} | {:.2} | {:.2} to {:.2} |",
-        ours.median,
-        ours.low,
-        ours.high,
-        rust.median,
-        rust.low,
-        rust.high,
-        ratio.median,
-        ratio.low,
-        ratio.high
-    );
-}
-
-/// What is in every number above: the driver, and for the Rust the setting of its clock.
-fn print_overheads(scenario: &Scenario, rounds: usize) {
-    println!(
-        "driver alone: {:.1} ns a call",
-        alone::<Nobody>(scenario, rounds)
-    );
-    println!(
-        "driver and setting the Rust's clock: {:.1} ns a call",
-        alone::<ClockOnly>(scenario, rounds)
-    );
-    println!();
-}
-
-fn alone<S: Side>(scenario: &Scenario, rounds: usize) -> f64 {
-    Times::of((0..rounds).map(|_| round::<S>(scenario).0).collect()).median
-}
-
-fn print_memory() {
-    println!("| bytes a modem | ours | Rust, slots full | Rust, slots and ledgers full |");
-    println!("|---|---:|---:|---:|");
-    for (max_keys, shards) in scenario::SIZES {
-        let bytes = memory::per_key(max_keys, shards);
-        println!(
-            "| {max_keys} keys, shards {shards} | {:.1} | {:.1} | {:.1} |",
-            bytes.ours, bytes.slots, bytes.ledgers
-        );
+/// The table of instructions, and what is in every number of it.
+fn print_counts(rows: &[Row]) -> Result<(), String> {
+    let calls = number("--calls").unwrap_or(2_000);
+    println!("{}", compare::INSTRUCTIONS);
+    for row in rows {
+        let line = compare::counts(row, calls).map_err(|fault| named(row, &fault))?;
+        println!("{line}");
     }
+    let driver = compare::count(&ROWS[0], "nobody", calls)?;
+    println!();
+    println!("The driver alone takes {driver:.0} instructions a call, which are not taken off.");
+    Ok(())
+}
+
+fn named(row: &Row, fault: &str) -> String {
+    format!("{}: {fault}", row.name())
+}
+
+/// The least time of a side that is no store.
+fn alone<S: Side>(calls: usize, rounds: usize) -> f64 {
+    let scenario = ROWS[0].scenario(calls);
+    Times::of((0..rounds).map(|_| round::<S>(&scenario).nanos).collect()).least
 }

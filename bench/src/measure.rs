@@ -1,5 +1,6 @@
 //! Rounds and their times.
 
+use crate::callgrind;
 use crate::scenario::Scenario;
 use crate::sides::{Side, Sums, drive};
 
@@ -29,12 +30,23 @@ fn cpu_nanos() -> f64 {
     time.seconds as f64 * 1e9 + time.nanos as f64
 }
 
-/// One round: a store brought into its state, and the timed calls. Nanoseconds a call, and the sums of all calls.
-pub fn round<S: Side>(scenario: &Scenario) -> (f64, [Sums; 2]) {
+/// What a round gave: nanoseconds a timed call, and the sums of the calls before and of the timed ones.
+pub struct Round {
+    pub nanos: f64,
+    pub sums: [Sums; 2],
+}
+
+/// One round: a store brought into its state, and the timed calls. Under callgrind only these are counted.
+pub fn round<S: Side>(scenario: &Scenario) -> Round {
     let mut side = S::new(&scenario.setup);
     let before = drive(&mut side, &scenario.before);
+    callgrind::toggle();
     let start = cpu_nanos();
     let timed = drive(&mut side, &scenario.timed);
     let nanos = cpu_nanos() - start;
-    (nanos / scenario.timed.len() as f64, [before, timed])
+    callgrind::toggle();
+    Round {
+        nanos: nanos / scenario.timed.len() as f64,
+        sums: [before, timed],
+    }
 }

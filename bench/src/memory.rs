@@ -3,11 +3,10 @@
 use std::alloc::{GlobalAlloc, Layout, System};
 use std::sync::atomic::{AtomicUsize, Ordering};
 
-use published::Limiter;
-
-use crate::library::Store;
-use crate::scenario::{self, Call, Setup};
-use crate::sides::{Side, drive};
+use crate::scenario::known::fitting;
+use crate::scenario::rows::SIZES;
+use crate::scenario::{self, Call, Hash, Setup};
+use crate::sides::{CCall, Rust, Side, drive};
 
 /// The system's allocator, counting what is held.
 pub struct Counting;
@@ -30,13 +29,26 @@ unsafe impl GlobalAlloc for Counting {
 }
 
 /// Bytes for each key of ours and of the Rust's, with full slots, and with full slots and ledgers.
-pub struct Bytes {
-    pub ours: f64,
-    pub slots: f64,
-    pub ledgers: f64,
+struct Bytes {
+    ours: f64,
+    slots: f64,
+    ledgers: f64,
 }
 
-pub fn per_key(max_keys: usize, shards: usize) -> Bytes {
+/// Prints the table.
+pub fn print() {
+    println!("| bytes a modem | ours | Rust, slots full | Rust, slots and ledgers full |");
+    println!("|---|---:|---:|---:|");
+    for (max_keys, shards) in SIZES {
+        let bytes = per_key(max_keys, shards);
+        println!(
+            "| {max_keys} keys, shards {shards} | {:.1} | {:.1} | {:.1} |",
+            bytes.ours, bytes.slots, bytes.ledgers
+        );
+    }
+}
+
+fn per_key(max_keys: usize, shards: usize) -> Bytes {
     let setup = Setup {
         amount: 1,
         burst: 1_000,
@@ -45,19 +57,19 @@ pub fn per_key(max_keys: usize, shards: usize) -> Bytes {
         idle: None,
         forget_debt: true,
     };
-    let keys = scenario::fitting(&setup, max_keys);
+    let keys = fitting(&setup, max_keys, Hash::Fnv1a);
     let full: Vec<Call> = keys
         .iter()
         .map(|&key| scenario::try_(0, key, 1_000))
         .collect();
     let flood = (1 << 32..)
         .take(20 * max_keys)
-        .map(|n| scenario::try_(1, scenario::key(n), 1_000));
+        .map(|n| scenario::try_(1, Hash::Fnv1a.key(n), 1_000));
     let flood: Vec<Call> = flood.collect();
     Bytes {
-        ours: held_by::<Store>(&setup, &[&full]) / max_keys as f64,
-        slots: held_by::<Limiter>(&setup, &[&full]) / max_keys as f64,
-        ledgers: held_by::<Limiter>(&setup, &[&full, &flood]) / max_keys as f64,
+        ours: held_by::<CCall>(&setup, &[&full]) / max_keys as f64,
+        slots: held_by::<Rust>(&setup, &[&full]) / max_keys as f64,
+        ledgers: held_by::<Rust>(&setup, &[&full, &flood]) / max_keys as f64,
     }
 }
 

@@ -1,7 +1,8 @@
-//! Medians.
+//! The least, the median and the middle half.
 
-/// The median of some times, and the half of them around it.
+/// Of some times, or ratios of times.
 pub struct Times {
+    pub least: f64,
     pub median: f64,
     pub low: f64,
     pub high: f64,
@@ -12,6 +13,7 @@ impl Times {
         nanos.sort_by(f64::total_cmp);
         let at = |part: usize| nanos[(nanos.len() - 1) * part / 4];
         Self {
+            least: nanos[0],
             median: at(2),
             low: at(1),
             high: at(3),

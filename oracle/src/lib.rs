@@ -14,13 +14,16 @@
 //! - [`Limiter`]: the operations, with refusals, answers and words.
 //! - [`OneShard`]: one shard's contents as words, and the published parts called by themselves.
 //! - [`refusals`]: the numbered refusals over any words at all.
+//! - [`Shape`]: how settings divide a memory; [`layout`]: where its words stand.
 //! - [`PerKey`], [`Eviction`], [`WhenFull`], [`Decision`]: the published types.
 
+pub mod layout;
 pub mod refusals;
 
 mod key;
 mod limiter;
 mod settings;
+mod shape;
 mod throttle;
 
 // The published files name each other from the crate's root.
@@ -33,5 +36,6 @@ pub use key::Key;
 pub use limiter::{Answer, Limiter};
 pub use perkey::{PerKey, PerKeyBuilder};
 pub use settings::{Rate, Settings};
+pub use shape::Shape;
 pub use store::MAX_SHARDS;
 pub use store::one_shard::{LoadError, OneShard, Op, Outcome};

@@ -8,8 +8,9 @@ use clock_lib::ManualClock;
 use crate::decision::Decision;
 use crate::key::Key;
 use crate::perkey::PerKey;
-use crate::refusals::{self, Memory, Shape};
+use crate::refusals::{self, Memory};
 use crate::settings::Settings;
+use crate::shape::Shape;
 use crate::store::one_shard::{LoadError, OneShard};
 
 /// A code and a number beside it.
@@ -106,7 +107,7 @@ impl Limiter {
         let lent = if settings.max_keys > refusals::MOST_KEYS {
             0
         } else {
-            Shape::of(&settings).words()
+            Shape::of(&settings).words() as u64
         };
         Self::set_up(settings, lent)
     }
@@ -222,11 +223,11 @@ impl Limiter {
     /// When the Rust has no such contents; shards before the one at fault are then replaced already.
     pub fn load(&self, words: &[u64]) -> Result<(), LoadError> {
         let shape = Shape::of(&self.settings);
-        if self.published.is_none() || words.len() as u64 != shape.words() {
+        if self.published.is_none() || words.len() != shape.words() {
             return Err(LoadError::Length);
         }
-        let rows = words.chunks(shape.shard_words() as usize).enumerate();
-        rows.filter_map(|(index, row)| Some((self.shard(index)?, row)))
+        (0..shape.shards)
+            .filter_map(|index| Some((self.shard(index as usize)?, &words[shape.shard(index)])))
             .try_for_each(|(shard, row)| shard.load(row))
     }
 

@@ -3,7 +3,9 @@
 //!
 //! Each function gives the number of the first refusal that applies, or `None` if the call is not refused.
 
+use crate::layout;
 use crate::settings::{Rate, Settings};
+use crate::shape::Shape;
 
 /// The largest amount and the largest burst; the smallest is 1.
 pub const MOST_TOKENS: u32 = 65_535;
@@ -17,51 +19,6 @@ pub const MOST_SHARDS: u64 = 64;
 pub const LATEST_MOMENT: u64 = 1 << 62;
 /// The longest wait in nanoseconds that a reservation may allow.
 pub const LONGEST_WAIT: u64 = 1 << 46;
-
-/// The shard counts there are.
-const SHARD_COUNTS: [u64; 7] = [1, 2, 4, 8, 16, 32, 64];
-
-/// How a memory is divided: so many shards, each with room for so many slots and as many debts.
-#[derive(Debug, Clone, Copy, PartialEq, Eq)]
-pub struct Shape {
-    /// The number of shards, a power of two.
-    pub shards: u64,
-    /// The slots of a shard, and its debts.
-    pub cap: u64,
-}
-
-impl Shape {
-    /// The shape that settings ask for; meant for settings that are not refused as 4.
-    #[must_use]
-    pub fn of(settings: &Settings) -> Self {
-        let shards = SHARD_COUNTS
-            .into_iter()
-            .find(|&count| count >= settings.shards)
-            .unwrap_or(MOST_SHARDS);
-        Self {
-            shards,
-            cap: settings.max_keys.div_ceil(shards).max(1),
-        }
-    }
-
-    /// The words of a shard.
-    #[must_use]
-    pub const fn shard_words(self) -> u64 {
-        5 + 8 * self.cap
-    }
-
-    /// The words of the whole memory.
-    #[must_use]
-    pub const fn words(self) -> u64 {
-        self.shards * self.shard_words()
-    }
-
-    /// The shard of a key with this hash.
-    #[must_use]
-    pub const fn shard_of(self, hash: u64) -> u64 {
-        hash >> 40 & (self.shards - 1)
-    }
-}
 
 /// What the refusals read of a memory.
 pub trait Memory {
@@ -80,11 +37,11 @@ impl Memory for [u64] {
     }
 
     fn slot_count(&self, shape: Shape, shard: u64) -> u64 {
-        self[(shard * shape.shard_words()) as usize]
+        self[shape.shard(shard)][layout::SLOTS.count]
     }
 
     fn debt_count(&self, shape: Shape, shard: u64) -> u64 {
-        self[(shard * shape.shard_words() + 3 + 6 * shape.cap) as usize]
+        self[shape.shard(shard)][layout::debts(shape.room()).count]
     }
 }
 
@@ -92,7 +49,7 @@ impl Memory for [u64] {
 pub fn set_up<M: Memory + ?Sized>(settings: &Settings, memory: &M) -> Option<u8> {
     let rate = settings.rate.as_ref().and_then(rate);
     rate.or_else(|| sizes(settings))
-        .or_else(|| refuse(5, memory.length() != Shape::of(settings).words()))
+        .or_else(|| refuse(5, memory.length() != Shape::of(settings).words() as u64))
 }
 
 /// Try: 1 to 5 as set-up, 5 for a count of the key's shard, then 6.

@@ -1,7 +1,7 @@
 //! The library as its users call it.
 
-use oracle::refusals::{self, Shape};
-use oracle::{Key, Limiter, LoadError, Op, Outcome, Rate, Settings, WhenFull};
+use oracle::refusals;
+use oracle::{Key, Limiter, LoadError, Op, Outcome, Rate, Settings, Shape, WhenFull};
 
 /// 2 tokens a second, at most 4.
 const R: Rate = Rate {

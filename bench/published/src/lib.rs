@@ -4,6 +4,9 @@
 mod key;
 // Much of the published text, and of the oracle's beside it, has no caller here.
 #[allow(dead_code)]
+#[path = "../../../oracle/src/layout.rs"]
+mod layout;
+#[allow(dead_code)]
 #[path = "../../../oracle/src/throttle/mod.rs"]
 mod throttle;
 
@@ -99,6 +102,13 @@ impl Limiter {
     #[inline]
     pub fn remove(&self, key: Key) -> Answer {
         known(self.published.remove(&key))
+    }
+
+    /// The number of keys that have a slot.
+    #[inline]
+    #[must_use]
+    pub fn length(&self) -> Answer {
+        (0, self.published.len() as u64)
     }
 }
 

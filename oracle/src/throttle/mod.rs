@@ -7,7 +7,9 @@ pub mod error;
 pub mod eviction;
 pub mod perkey;
 
+// Remarks of clippy on the published text, which is left as it is, and on the one edit that leaves its next line without need.
+//
 // Not called here: `Store::with_existing`, which only the left-out `reset` calls, and, when testing, the three calls that the
 // published tests (not at hand) use.
-#[allow(dead_code)]
+#[allow(dead_code, clippy::collapsible_if, clippy::useless_conversion)]
 pub mod store;

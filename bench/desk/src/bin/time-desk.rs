@@ -2,12 +2,14 @@
 //!
 //! `time-desk [--lines N] [--rounds N]`, in the folder bench.
 
+// Much of these three has no caller here.
+#[allow(dead_code)]
 #[path = "../../../src/flags.rs"]
 mod flags;
-// The floods, refunds and removals have no caller here.
 #[allow(dead_code)]
-#[path = "../../../src/scenario.rs"]
+#[path = "../../../src/scenario/mod.rs"]
 mod scenario;
+#[allow(dead_code)]
 #[path = "../../../src/times.rs"]
 mod times;
 
@@ -16,7 +18,9 @@ use std::process::{Command, ExitCode};
 use std::time::Instant;
 
 use flags::number;
-use scenario::Scenario;
+use scenario::hot::{hot, hot_denied};
+use scenario::known::known;
+use scenario::{Hash, Op, Scenario};
 use times::Times;
 
 const OURS: &str = "../target/bin/desk";
@@ -49,12 +53,18 @@ fn main() -> ExitCode {
 /// Scenarios of bench/run, all with 1,000 keys in 8 shards: 8,040 words of the desk's 8,192.
 fn scenarios(lines: usize) -> [Scenario; 3] {
     let mut all = [
-        scenario::hot_granted(lines, None),
-        scenario::hot_denied(lines),
-        scenario::known(lines, 1_000, 8),
+        hot(Op::Try, lines, None),
+        hot_denied(lines),
+        known(Op::Try, lines, (1_000, 8), Hash::Fnv1a),
     ];
-    for scenario in &mut all {
+    let names = [
+        "hot key, granted",
+        "hot key, denied",
+        "1000 known keys, 8 shards",
+    ];
+    for (scenario, name) in all.iter_mut().zip(names) {
         scenario.setup.shards = 8;
+        scenario.name = name.to_owned();
     }
     // Ten times the tokens that are asked for: at just as many some keys would run out in a million calls.
     all[2].setup.amount = 10_000;
@@ -155,6 +165,8 @@ fn children_nanos() -> f64 {
 
 /// A median and its middle half, as two columns.
 fn columns(numbers: impl Iterator<Item = f64>, places: usize) -> String {
-    let Times { median, low, high } = Times::of(numbers.collect());
+    let Times {
+        median, low, high, ..
+    } = Times::of(numbers.collect());
     format!("{median:.places$} | {low:.places$} to {high:.places$}")
 }

@@ -1,8 +1,8 @@
 //! Calls with settings, words and arguments of any content.
 
-use oracle::refusals::{
-    LATEST_MOMENT, LONGEST_PERIOD, LONGEST_WAIT, MOST_KEYS, MOST_SHARDS, Shape,
-};
+use oracle::Shape;
+use oracle::layout::{self, debt, slot};
+use oracle::refusals::{LATEST_MOMENT, LONGEST_PERIOD, LONGEST_WAIT, MOST_KEYS, MOST_SHARDS};
 
 use super::{LARGE, Plan, SMALL};
 use crate::call::Call;
@@ -27,7 +27,7 @@ impl Aside {
         let closed = random.chance(10);
         let mut plan = Plan::new(random, sizes, closed);
         let mut words = match random.below(4) {
-            0 => vec![0; plan.shape.words() as usize],
+            0 => vec![0; plan.shape.words()],
             _ => plan.contents(random),
         };
         damage(random, &mut words, plan.shape, plan.now);
@@ -105,9 +105,10 @@ impl Aside {
         } else {
             random.below(shape.shards)
         };
-        let count = shard * shape.shard_words() + random.pick(&[0, 3 + 6 * shape.cap]);
+        let counts = [layout::SLOTS, layout::debts(shape.room())].map(|items| items.count);
+        let count = shape.shard(shard).start + random.pick(&counts);
         let over = random.pick(&[shape.cap + 1, shape.cap + 2, u64::MAX, 1 << 63]);
-        if let Some(word) = self.words.get_mut(count as usize) {
+        if let Some(word) = self.words.get_mut(count) {
             *word = over;
         }
     }
@@ -163,6 +164,9 @@ fn other(random: &mut Random, raw: &RawSettings) -> RawSettings {
     library::given(&settings, random)
 }
 
+/// The first words of a slot, hash and key, are its identity.
+const IDENTITY: usize = slot::KEY + 1;
+
 /// Damages words in ways that the Rust's memory cannot be damaged: items twice, words past a count, odd marks and counts.
 fn damage(random: &mut Random, words: &mut [u64], shape: Shape, now: u64) {
     let any = random.word();
@@ -180,20 +184,17 @@ fn damage(random: &mut Random, words: &mut [u64], shape: Shape, now: u64) {
         any,
     ];
     for _ in 0..random.pick(&[0, 1, 3, 20]) {
-        let shard = random.below(shape.shards) as usize * shape.shard_words() as usize;
-        let cap = shape.cap as usize;
-        let (one, other) = (
-            random.below(shape.cap) as usize,
-            random.below(shape.cap) as usize,
-        );
-        let (slots, debts) = (shard + 3, shard + 5 + 6 * cap);
+        let row = &mut words[shape.shard(random.below(shape.shards))];
+        let place = |random: &mut Random| random.below(shape.cap) as usize;
+        let (one, other) = (place(random), place(random));
+        let (slots, debts) = (layout::SLOTS, layout::debts(shape.room()));
         match random.below(6) {
-            0 => words.copy_within(slots + 6 * one..slots + 6 * one + 2, slots + 6 * other),
-            1 => words[debts + 2 * one] = words[debts + 2 * other],
-            2 => words[slots + 6 * one + 4] = random.pick(&[2, 1 << 63, u64::MAX]),
-            3 => words[shard] = random.within(0, shape.cap),
-            4 => words[debts - 2] = random.within(0, shape.cap),
-            _ => words[shard + random.below(shape.shard_words()) as usize] = random.pick(&numbers),
+            0 => row.copy_within(slots.at(one)..slots.at(one) + IDENTITY, slots.at(other)),
+            1 => row[debts.at(one) + debt::HASH] = row[debts.at(other) + debt::HASH],
+            2 => row[slots.at(one) + slot::MARK] = random.pick(&[2, 1 << 63, u64::MAX]),
+            3 => row[slots.count] = random.within(0, shape.cap),
+            4 => row[debts.count] = random.within(0, shape.cap),
+            _ => row[random.below(row.len() as u64) as usize] = random.pick(&numbers),
         }
     }
 }

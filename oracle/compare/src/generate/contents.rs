@@ -3,9 +3,44 @@
 use std::collections::HashSet;
 
 use oracle::Key;
+use oracle::layout::{self, debt, slot};
 
 use super::{MS, Plan};
 use crate::random::Random;
+
+/// How a shard is filled.
+struct Fill {
+    /// The most slots, and the most debts.
+    at_most: u64,
+    slots: u64,
+    /// Every slot owes much.
+    deep: bool,
+    /// In so many of a hundred: slots that owe, that have the mark; debts that are settled.
+    owing: u64,
+    marked: u64,
+    settled: u64,
+    /// The key that comes first.
+    first: usize,
+}
+
+impl Fill {
+    fn new(random: &mut Random, keys: &[Key], at_most: u64) -> Self {
+        let full = random.chance(70);
+        Self {
+            at_most,
+            slots: if full {
+                at_most
+            } else {
+                random.within(0, at_most)
+            },
+            deep: random.chance(25),
+            owing: random.pick(&[0, 50, 95, 100, 100]),
+            marked: random.pick(&[0, 50, 100]),
+            settled: random.pick(&[0, 5, 5, 50]),
+            first: random.below(keys.len().max(1) as u64) as usize,
+        }
+    }
+}
 
 impl Plan {
     /// Contents that the Rust can hold, sound or not: any hand, sweep, cursor, shortfall, stamp and settling moment.
@@ -25,7 +60,6 @@ impl Plan {
 
     /// One shard's contents, of these keys and others. A shard that the trace does not name stays empty, mostly.
     fn shard(&self, random: &mut Random, shard: u64, mut keys: Vec<Key>) -> Vec<u64> {
-        let cap = self.shape.cap as usize;
         let at_most = if keys.is_empty() && random.chance(80) {
             0
         } else {
@@ -35,66 +69,57 @@ impl Plan {
             let hash = random.word() & !(63 << 40) | shard << 40;
             keys.push(Key { hash, key: number });
         }
-        let slots = if random.chance(70) {
-            at_most
-        } else {
-            random.within(0, at_most)
-        };
-        // Deep: every slot owes much.
-        let deep = random.chance(25);
-        let (owing, marked, settled) = (
-            random.pick(&[0, 50, 95, 100, 100]),
-            random.pick(&[0, 50, 100]),
-            random.pick(&[0, 5, 5, 50]),
-        );
-        let mut words = vec![0; self.shape.shard_words() as usize];
-        let first = random.below(keys.len().max(1) as u64) as usize;
+        let fill = Fill::new(random, &keys, at_most);
+        let mut words = vec![0; self.shape.shard_words()];
+        self.fill_slots(random, &mut words, &keys, &fill);
+        self.fill_debts(random, &mut words, &keys, &fill);
+        words
+    }
+
+    /// Slots for the keys from the first on, each identity once; hand and sweep.
+    fn fill_slots(&self, random: &mut Random, words: &mut [u64], keys: &[Key], fill: &Fill) {
         let mut held = HashSet::new();
-        let of_slots = keys
-            .iter()
-            .cycle()
-            .skip(first)
-            .take(keys.len())
-            .filter(|key| held.insert((key.hash, key.key)));
+        let from_first = keys.iter().cycle().skip(fill.first).take(keys.len());
+        let once = from_first.filter(|key| held.insert((key.hash, key.key)));
         let mut count = 0;
-        for (place, key) in of_slots.take(slots as usize).enumerate() {
-            let (shortfall, stamp) = if deep {
+        for (place, key) in once.take(fill.slots as usize).enumerate() {
+            let (shortfall, stamp) = if fill.deep {
                 self.deep(random)
             } else {
-                self.bucket(random, owing)
+                self.bucket(random, fill.owing)
             };
-            let slot = [
-                key.hash,
-                key.key,
-                shortfall,
-                stamp,
-                u64::from(random.chance(marked)),
-                self.seen(random),
-            ];
-            words[3 + 6 * place..][..6].copy_from_slice(&slot);
+            let slot = &mut words[layout::SLOTS.item(place)];
+            slot[slot::HASH] = key.hash;
+            slot[slot::KEY] = key.key;
+            slot[slot::SHORTFALL] = shortfall;
+            slot[slot::STAMP] = stamp;
+            slot[slot::MARK] = random.chance(fill.marked).into();
+            slot[slot::LAST_SEEN] = self.seen(random);
             count += 1;
         }
-        words[..3].copy_from_slice(&[count, self.place(random, count), self.place(random, count)]);
-        let debts = if deep || random.chance(60) {
-            at_most
+        words[layout::SLOTS.count] = count;
+        words[layout::HAND] = self.place(random, count);
+        words[layout::SWEEP] = self.place(random, count);
+    }
+
+    /// Debts for the keys from the first on, backwards, each hash once; the cursor.
+    fn fill_debts(&self, random: &mut Random, words: &mut [u64], keys: &[Key], fill: &Fill) {
+        let most = if fill.deep || random.chance(60) {
+            fill.at_most
         } else {
-            random.within(0, at_most)
+            random.within(0, fill.at_most)
         };
-        let (ledger, mut hashes, mut count) = (3 + 6 * cap, HashSet::new(), 0);
-        let of_debts = keys
-            .iter()
-            .rev()
-            .cycle()
-            .skip(first)
-            .take(keys.len())
-            .filter(|key| hashes.insert(key.hash));
-        for (place, key) in of_debts.take(debts as usize).enumerate() {
-            words[ledger + 2 + 2 * place..][..2]
-                .copy_from_slice(&[key.hash, self.settles(random, settled)]);
+        let (debts, mut hashes, mut count) = (self.debts(), HashSet::new(), 0);
+        let backwards = keys.iter().rev().cycle().skip(fill.first).take(keys.len());
+        let once = backwards.filter(|key| hashes.insert(key.hash));
+        for (place, key) in once.take(most as usize).enumerate() {
+            let debt = &mut words[debts.item(place)];
+            debt[debt::HASH] = key.hash;
+            debt[debt::SETTLES_AT] = self.settles(random, fill.settled);
             count += 1;
         }
-        words[ledger..][..2].copy_from_slice(&[count, self.place(random, count)]);
-        words
+        words[debts.count] = count;
+        words[layout::cursor(self.shape.room())] = self.place(random, count);
     }
 
     /// Shortfall and stamp: empty or below.
@@ -116,8 +141,8 @@ impl Plan {
             .saturating_mul(self.burst);
         let stamp = match random.below(8) {
             0..4 => self.now,
-            4..6 => self.now.saturating_sub(random.within(0, self.full)),
-            6 => self.now.saturating_add(random.within(0, self.full)),
+            4..6 => self.now.saturating_sub(random.within(0, self.spans.full)),
+            6 => self.now.saturating_add(random.within(0, self.spans.full)),
             _ => random.word(),
         };
         if !random.chance(owing) {
@@ -137,7 +162,7 @@ impl Plan {
 
     /// A last-seen in ms: about the idle limit ago, now, after now, or any.
     fn seen(&self, random: &mut Random) -> u64 {
-        let (now, limit) = (self.now / MS, self.limit / MS);
+        let (now, limit) = (self.now / MS, self.spans.limit / MS);
         match random.below(6) {
             0 => 0,
             1 => now.saturating_sub(limit),
@@ -155,9 +180,9 @@ impl Plan {
         }
         let later = match random.below(8) {
             0 => 1,
-            1..6 => random.within(1, self.full),
+            1..6 => random.within(1, self.spans.full),
             6 => random.any_size(u64::MAX),
-            _ => self.full,
+            _ => self.spans.full,
         };
         self.now.saturating_add(later)
     }

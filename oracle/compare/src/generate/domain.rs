@@ -1,7 +1,7 @@
 //! Random settings, keys and moments of 01's domain.
 
-use oracle::refusals::{LATEST_MOMENT, LONGEST_PERIOD, Shape};
-use oracle::{Key, Rate};
+use oracle::refusals::{LATEST_MOMENT, LONGEST_PERIOD};
+use oracle::{Key, Rate, Shape};
 
 use super::{MS, SECOND};
 use crate::random::Random;
@@ -47,51 +47,39 @@ pub const LARGE: [Sizes; 4] = [(4_096, 1), (4_096, 64), (4_096, 0), (4_095, 2)];
 
 /// A rate in 01's domain.
 pub fn rate(random: &mut Random) -> Rate {
-    let (amount, period, burst) = match random.below(10) {
-        0 | 1 => (2, SECOND, 4),
-        2 => (
-            random.within(1, 4),
-            random.within(1, 12),
-            random.within(1, 5),
-        ),
-        3 => (
-            random.within(60_000, 65_535),
-            SECOND,
-            random.some_size(65_535),
-        ),
-        4 => (
-            random.pick(&[1, 65_535]),
-            random.pick(&[1, LONGEST_PERIOD]),
-            random.pick(&[1, 65_535]),
-        ),
-        5 => (3, 10 * random.pick(&[1, MS, SECOND]), 4),
-        6 => (
-            random.some_size(65_535),
-            random.some_size(LONGEST_PERIOD),
-            random.some_size(65_535),
-        ),
-        7 => (
-            random.within(1, 3),
-            LONGEST_PERIOD - random.any_size(1 << 40),
-            random.within(1, 9),
-        ),
-        8 => (
-            random.within(1, 2_000),
-            random.within(MS, 5 * MS),
-            random.within(1, 6),
-        ),
-        _ => (
-            random.within(1, 10),
-            random.within(MS, 10 * SECOND),
-            random.within(1, 20),
-        ),
-    };
+    let (amount, period, burst) = rate_and_burst(random);
     let initial = random.pick(&[0, 1, burst / 2, burst, burst + 1, u64::from(u32::MAX)]);
     Rate {
         amount: amount as u32,
         period,
         burst: random.chance(85).then_some(burst as u32),
         initial: random.chance(35).then_some(initial as u32),
+    }
+}
+
+/// Amount, period and burst: those of 01's examples, small ones, large ones, the ends of their ranges, and any.
+fn rate_and_burst(random: &mut Random) -> (u64, u64, u64) {
+    let most = 65_535;
+    let ends = (&[1, most], &[1, LONGEST_PERIOD]);
+    let r = random;
+    match r.below(10) {
+        0 | 1 => (2, SECOND, 4),
+        2 => (r.within(1, 4), r.within(1, 12), r.within(1, 5)),
+        3 => (r.within(60_000, most), SECOND, r.some_size(most)),
+        4 => (r.pick(ends.0), r.pick(ends.1), r.pick(ends.0)),
+        5 => (3, 10 * r.pick(&[1, MS, SECOND]), 4),
+        6 => (
+            r.some_size(most),
+            r.some_size(LONGEST_PERIOD),
+            r.some_size(most),
+        ),
+        7 => (
+            r.within(1, 3),
+            LONGEST_PERIOD - r.any_size(1 << 40),
+            r.within(1, 9),
+        ),
+        8 => (r.within(1, 2_000), r.within(MS, 5 * MS), r.within(1, 6)),
+        _ => (r.within(1, 10), r.within(MS, 10 * SECOND), r.within(1, 20)),
     }
 }
 

@@ -11,15 +11,7 @@ use super::{
     Debt, Entry, LEDGER_SCAN, ShardMap, Slot, Store, TTL_SWEEP, millis, read, restore_debt, write,
 };
 use crate::key::Key;
-
-/// The words before the slots: slot count, hand, sweep.
-const SLOTS_AT: usize = 3;
-/// The words of a slot: hash, key, shortfall, stamp, mark, last-seen.
-const SLOT_WORDS: usize = 6;
-/// The words between the slots and the debts: debt count, cursor.
-const LEDGER_HEAD: usize = 2;
-/// The words of a debt: hash, settles-at.
-const DEBT_WORDS: usize = 2;
+use crate::layout::{self, Items, debt, slot};
 
 /// A shard of a store.
 pub struct OneShard<'a> {
@@ -117,19 +109,12 @@ impl<'a> OneShard<'a> {
             map.slots.len() <= cap && debts.len() <= cap,
             "the shard holds more than its cap"
         );
-        let mut words = vec![map.slots.len() as u64, map.hand as u64, map.sweep as u64];
-        words.extend(map.slots.iter().flat_map(slot_words));
-        words.resize(SLOTS_AT + cap * SLOT_WORDS, 0);
-        words.extend([debts.len() as u64, map.ledger.cursor as u64]);
-        words.extend(
-            debts
-                .iter()
-                .flat_map(|debt| [debt.hash, nanos(debt.settles_at)]),
-        );
-        words.resize(
-            SLOTS_AT + cap * SLOT_WORDS + LEDGER_HEAD + cap * DEBT_WORDS,
-            0,
-        );
+        let mut words = vec![0; layout::shard_words(cap)];
+        words[layout::HAND] = map.hand as u64;
+        words[layout::SWEEP] = map.sweep as u64;
+        words[layout::cursor(cap)] = map.ledger.cursor as u64;
+        put(&mut words, layout::SLOTS, map.slots.iter().map(slot_words));
+        put(&mut words, layout::debts(cap), debts.iter().map(debt_words));
         words
     }
 
@@ -140,28 +125,27 @@ impl<'a> OneShard<'a> {
     /// When the Rust has no such contents; the shard then stays as it was.
     pub fn load(&self, words: &[u64]) -> Result<(), LoadError> {
         let cap = self.cap();
-        if words.len() != SLOTS_AT + cap * SLOT_WORDS + LEDGER_HEAD + cap * DEBT_WORDS {
+        if words.len() != layout::shard_words(cap) {
             return Err(LoadError::Length);
         }
-        let (slots, ledger) = words.split_at(SLOTS_AT + cap * SLOT_WORDS);
         let mut map = ShardMap::new();
-        map.hand = place(slots[1]);
-        map.sweep = place(slots[2]);
-        for row in held(slots[0], cap, &slots[SLOTS_AT..], SLOT_WORDS)?.chunks(SLOT_WORDS) {
+        map.hand = place(words[layout::HAND]);
+        map.sweep = place(words[layout::SWEEP]);
+        for row in held(words, layout::SLOTS, cap)? {
             let key = Key {
-                hash: row[0],
-                key: row[1],
+                hash: row[slot::HASH],
+                key: row[slot::KEY],
             };
             if map.position(key.hash, &key).is_some() {
                 return Err(LoadError::SameIdentity);
             }
             map.insert(key.hash, key, self.entry(row));
         }
-        map.ledger.cursor = place(ledger[1]);
-        for row in held(ledger[0], cap, &ledger[LEDGER_HEAD..], DEBT_WORDS)?.chunks(DEBT_WORDS) {
+        map.ledger.cursor = place(words[layout::cursor(cap)]);
+        for row in held(words, layout::debts(cap), cap)? {
             let debt = Debt {
-                hash: row[0],
-                settles_at: Duration::from_nanos(row[1]),
+                hash: row[debt::HASH],
+                settles_at: Duration::from_nanos(row[debt::SETTLES_AT]),
             };
             if map.ledger.position(debt.hash).is_some() {
                 return Err(LoadError::SameDebt);
@@ -179,10 +163,11 @@ impl<'a> OneShard<'a> {
         let any = || {
             BucketConfig::new(1, 1, Duration::from_nanos(1), 1).expect("the smallest configuration")
         };
+        let config = self.config.unwrap_or_else(any);
         Entry {
-            bucket: BucketCore::from_words(self.config.unwrap_or_else(any), row[2], row[3]),
-            referenced: AtomicBool::new(row[4] != 0),
-            last_seen_ms: AtomicU64::new(row[5]),
+            bucket: BucketCore::from_words(config, row[slot::SHORTFALL], row[slot::STAMP]),
+            referenced: AtomicBool::new(row[slot::MARK] != 0),
+            last_seen_ms: AtomicU64::new(row[slot::LAST_SEEN]),
         }
     }
 
@@ -379,25 +364,42 @@ impl OneShard<'_> {
     }
 }
 
-/// A slot's words.
-fn slot_words(slot: &Slot<Key>) -> [u64; SLOT_WORDS] {
+/// A slot's words, in the order of [`slot::NAMES`].
+fn slot_words(slot: &Slot<Key>) -> [u64; slot::WORDS] {
     let (shortfall, stamp) = slot.entry.bucket.words();
     let mark = u64::from(slot.entry.referenced.load(Ordering::Relaxed));
     let last_seen = slot.entry.last_seen_ms.load(Ordering::Relaxed);
     [slot.hash, slot.key.key, shortfall, stamp, mark, last_seen]
 }
 
-/// The words of the first `count` items of `rows`, if the count is at most the cap and the words past them are 0.
-fn held(count: u64, cap: usize, rows: &[u64], width: usize) -> Result<&[u64], LoadError> {
-    let count = usize::try_from(count)
+/// A debt's words, in the order of [`debt::NAMES`].
+fn debt_words(debt: &Debt) -> [u64; debt::WORDS] {
+    [debt.hash, nanos(debt.settles_at)]
+}
+
+/// Writes items and their count.
+fn put<const N: usize>(words: &mut [u64], items: Items, rows: impl Iterator<Item = [u64; N]>) {
+    for (place, row) in rows.enumerate() {
+        words[items.item(place)].copy_from_slice(&row);
+        words[items.count] += 1;
+    }
+}
+
+/// The items that are held, each its words, if their count is at most the cap and the words past them are 0.
+fn held(
+    words: &[u64],
+    items: Items,
+    cap: usize,
+) -> Result<impl Iterator<Item = &[u64]>, LoadError> {
+    let count = usize::try_from(words[items.count])
         .ok()
         .filter(|&count| count <= cap)
         .ok_or(LoadError::Count)?;
-    let (items, rest) = rows.split_at(count * width);
+    let rest = &words[items.at(count)..items.at(cap)];
     if rest.iter().any(|&word| word != 0) {
         return Err(LoadError::PastCount);
     }
-    Ok(items)
+    Ok((0..count).map(move |place| &words[items.item(place)]))
 }
 
 /// A hand, sweep or cursor, of whatever size.

@@ -1,0 +1,83 @@
+//! Our library over its C interface, as limiter-sys declares it.
+
+use limiter_sys::{LimiterReply, LimiterSettings, limiter_words, slices};
+use published::{Answer, Key};
+
+use super::Store;
+use crate::scenario::{MAX_WAIT, Setup};
+
+/// Settings, and the words lent to the library.
+pub struct CCall {
+    settings: LimiterSettings,
+    words: Vec<u64>,
+}
+
+impl Store for CCall {
+    fn fresh(setup: &Setup) -> Self {
+        let settings = LimiterSettings {
+            period: 1_000_000_000,
+            max_keys: setup.max_keys as u64,
+            shards: setup.shards as u64,
+            idle: setup.idle.unwrap_or(0),
+            amount: setup.amount,
+            has_burst: 1,
+            burst: setup.burst,
+            has_idle: u32::from(setup.idle.is_some()),
+            forget_debt: u32::from(setup.forget_debt),
+            ..LimiterSettings::default()
+        };
+        let words = vec![0; limiter_words(settings) as usize];
+        let mut side = Self { settings, words };
+        assert_eq!(side.set_up().0, 0, "the library accepts the settings");
+        side
+    }
+
+    #[inline]
+    fn set_up(&mut self) -> Answer {
+        answer(slices::set_up(self.settings, &mut self.words))
+    }
+
+    #[inline]
+    fn try_(&mut self, now: u64, key: Key, cost: u32) -> Answer {
+        let (settings, words) = (self.settings, &mut self.words);
+        answer(slices::try_acquire(
+            settings, words, now, key.hash, key.key, cost,
+        ))
+    }
+
+    #[inline]
+    fn reserve(&mut self, now: u64, key: Key, cost: u32) -> Answer {
+        let (settings, words) = (self.settings, &mut self.words);
+        answer(slices::reserve(
+            settings, words, now, key.hash, key.key, cost, MAX_WAIT,
+        ))
+    }
+
+    #[inline]
+    fn peek(&mut self, now: u64, key: Key, cost: u32) -> Answer {
+        let (settings, words) = (self.settings, &self.words);
+        answer(slices::peek(settings, words, now, key.hash, key.key, cost))
+    }
+
+    #[inline]
+    fn refund(&mut self, key: Key, cost: u32) -> Answer {
+        let (settings, words) = (self.settings, &mut self.words);
+        answer(slices::refund(settings, words, key.hash, key.key, cost))
+    }
+
+    #[inline]
+    fn remove(&mut self, key: Key) -> Answer {
+        let (settings, words) = (self.settings, &mut self.words);
+        answer(slices::remove(settings, words, key.hash, key.key))
+    }
+
+    #[inline]
+    fn length(&mut self) -> Answer {
+        answer(slices::length(self.settings, &self.words))
+    }
+}
+
+#[inline]
+const fn answer(reply: LimiterReply) -> Answer {
+    (reply.code, reply.number)
+}

@@ -1,0 +1,109 @@
+//! Our library through the safe crate, as a server in Rust calls it: times are `Duration`s, answers enums.
+
+use core::time::Duration;
+
+use limiter::{Decision, OwnedStore, Rate, Refusal, Settings, WhenFull};
+use published::{Answer, Key};
+
+use super::Store;
+use crate::scenario::{MAX_WAIT, Setup};
+
+/// A store that owns its words.
+pub struct ThroughCrate(OwnedStore);
+
+impl Store for ThroughCrate {
+    fn fresh(setup: &Setup) -> Self {
+        let rate = Rate::per_second(setup.amount).burst(setup.burst);
+        let mut settings = Settings::new(rate, setup.max_keys as u64).shards(setup.shards as u64);
+        settings.idle = setup.idle.map(Duration::from_nanos);
+        if setup.forget_debt {
+            settings.when_full = WhenFull::ForgetDebt;
+        }
+        Self(OwnedStore::new(settings).expect("the library accepts the settings"))
+    }
+
+    /// A new store in place of the old one.
+    #[inline]
+    fn set_up(&mut self) -> Answer {
+        let settings = *self.0.settings();
+        counted(OwnedStore::new(settings).map(|store| {
+            self.0 = store;
+            0
+        }))
+    }
+
+    #[inline]
+    fn try_(&mut self, now: u64, key: Key, cost: u32) -> Answer {
+        decided(self.0.try_acquire(nanos(now), its(key), cost))
+    }
+
+    #[inline]
+    fn reserve(&mut self, now: u64, key: Key, cost: u32) -> Answer {
+        match self.0.reserve(nanos(now), its(key), cost, nanos(MAX_WAIT)) {
+            Ok(Some(reservation)) => (0, wait(reservation.wait)),
+            Ok(None) => (3, 0),
+            Err(refusal) => (refusal.code(), 0),
+        }
+    }
+
+    #[inline]
+    fn peek(&mut self, now: u64, key: Key, cost: u32) -> Answer {
+        decided(self.0.peek(nanos(now), its(key), cost))
+    }
+
+    #[inline]
+    fn refund(&mut self, key: Key, cost: u32) -> Answer {
+        known(self.0.refund(its(key), cost))
+    }
+
+    #[inline]
+    fn remove(&mut self, key: Key) -> Answer {
+        known(self.0.remove(its(key)))
+    }
+
+    #[inline]
+    fn length(&mut self) -> Answer {
+        counted(self.0.len())
+    }
+}
+
+#[inline]
+const fn its(key: Key) -> limiter::Key {
+    limiter::Key::new(key.hash, key.key)
+}
+
+#[inline]
+const fn nanos(time: u64) -> Duration {
+    Duration::from_nanos(time)
+}
+
+#[inline]
+const fn wait(time: Duration) -> u64 {
+    time.as_secs() * 1_000_000_000 + time.subsec_nanos() as u64
+}
+
+#[inline]
+fn decided(decision: Result<Decision, Refusal>) -> Answer {
+    match decision {
+        Ok(Decision::Acquired { .. }) => (0, 0),
+        Ok(Decision::Retry { after, .. }) => (1, wait(after)),
+        Ok(_) => (2, 0),
+        Err(refusal) => (refusal.code(), 0),
+    }
+}
+
+#[inline]
+fn known(known: Result<bool, Refusal>) -> Answer {
+    match known {
+        Ok(known) => (if known { 0 } else { 3 }, 0),
+        Err(refusal) => (refusal.code(), 0),
+    }
+}
+
+#[inline]
+fn counted(count: Result<u64, Refusal>) -> Answer {
+    match count {
+        Ok(count) => (0, count),
+        Err(refusal) => (refusal.code(), 0),
+    }
+}

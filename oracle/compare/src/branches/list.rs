@@ -1,0 +1,186 @@
+//! Every branch of 01's rules that a call can take.
+
+macro_rules! branches {
+    ($($group:literal { $($name:ident = $text:literal),+ $(,)? })+) => {
+        /// A branch of the rules.
+        #[derive(Debug, Clone, Copy, PartialEq, Eq)]
+        pub enum Branch { $($($name),+),+ }
+
+        /// Every branch with its group and what it is.
+        pub const BRANCHES: &[(&str, &str, Branch)] = &[$($(($group, $text, Branch::$name)),+),+];
+    };
+}
+
+branches! {
+    "key" {
+        Known = "known",
+        New = "new",
+        NewSharedHash = "new, and another key of its hash has a slot",
+    }
+    "touch" {
+        MarkThere = "the mark was set",
+        MarkSet = "the mark gets set",
+        SeenRaised = "last-seen raised",
+        SeenKept = "last-seen is not earlier: kept",
+        SeenUntracked = "no idle time: last-seen kept",
+    }
+    "take the debt" {
+        TakeNone = "none",
+        TakeLast = "the last one",
+        TakeSwap = "the last one moves into the gap",
+    }
+    "idle sweep" {
+        IdleOff = "no idle time",
+        IdleNoSlots = "no slots",
+        IdleGoneLast = "the last slot goes",
+        IdleGoneSwap = "a slot goes, the last moves into the gap",
+        IdleYoung = "stays: not idle for long enough",
+        IdleOwing = "stays: idle, not full",
+        IdleRound = "starts again at 0",
+        IdleEmptied = "ends early: none left",
+    }
+    "ledger sweep" {
+        SweepNoDebts = "no debts",
+        SweepGoneLast = "the last debt goes",
+        SweepGoneSwap = "a debt goes, the last moves into the gap",
+        SweepKept = "stays: not settled",
+        SweepRound = "starts again at 0",
+        SweepEmptied = "ends early: none left",
+    }
+    "eviction" {
+        EvictRoom = "not needed",
+        EvictAtOnce = "a full slot without the mark, at once",
+        EvictFirstFull = "the first full slot",
+        EvictFirstUnmarked = "the first slot without the mark",
+        EvictUnmarkedLater = "... which is not the first looked at",
+        EvictFirstLooked = "the first looked at: all marked",
+        EvictGoneLast = "the last slot goes",
+        EvictGoneSwap = "a slot goes, the last moves into the gap",
+        EvictRound = "the hand starts again at 0",
+        EvictAllLooks = "32 looks, and more slots",
+    }
+    "record a debt" {
+        RecordKept = "its hash has a later one",
+        RecordRaised = "its hash has one, which gets later",
+        RecordRoom = "appended, below the cap",
+        RecordSettled = "a settled one is dropped",
+        RecordForgets = "the soonest one is forgotten",
+        RecordForgetsLater = "... which is not the first looked at",
+        RecordNoRoom = "no room",
+        RecordTie = "two looked at settle together",
+        RecordRound = "the cursor starts again at 0",
+        RecordAllLooks = "8 looks, and more debts",
+    }
+    "refused for space" {
+        SpaceFloor = "1 ms, at least",
+        SpaceSlot = "until a slot is full",
+        SpaceLedger = "until a debt is settled",
+        SpaceTry = "a try",
+        SpaceReserve = "a reservation",
+        SpacePutBack = "the debt is put back",
+    }
+    "restore a debt" {
+        RestoreNone = "no debt",
+        RestoreSettled = "settled: nothing",
+        RestoreAsItIs = "the fresh bucket has no more than is left",
+        RestoreCut = "cut to what is left",
+        RestoreCharged = "charged beyond empty",
+        RestoreHeld = "charged, held to the largest shortfall",
+    }
+    "bucket" {
+        BucketLaterStamp = "read before its stamp",
+        BucketFull = "a shortfall that has fallen to 0",
+        BucketPart = "a shortfall that has fallen, not to 0",
+        BucketReadCut = "a stored shortfall over the largest",
+    }
+    "try" {
+        TryOver = "impossible",
+        TryZero = "cost 0",
+        TryGranted = "granted",
+        TryDenied = "retry",
+    }
+    "reserve" {
+        ReserveOver = "none: over the burst",
+        ReserveZero = "cost 0",
+        ReserveNow = "granted, wait 0",
+        ReserveLater = "granted, to be waited for",
+        ReserveLongest = "... the wait is the longest allowed",
+        ReserveNone = "none: too long",
+    }
+    "peek" {
+        PeekOver = "impossible",
+        PeekZero = "cost 0",
+        PeekSlotNow = "slot: acquired",
+        PeekSlotRetry = "slot: retry",
+        PeekFreshNow = "no state: acquired",
+        PeekFreshRetry = "no state: retry",
+        PeekDebtNow = "debt: acquired",
+        PeekDebtRetry = "debt: retry",
+    }
+    "available" {
+        AvailableSlot = "slot",
+        AvailableFresh = "no state",
+        AvailableDebt = "debt",
+        AvailableBelow = "below empty: 0",
+    }
+    "refund" {
+        RefundSlot = "slot",
+        RefundSlotFull = "slot: full now",
+        RefundDebt = "debt",
+        RefundDebtGone = "debt: settles at 0 now",
+        RefundHeld = "debt: the credit is held to 64 bits",
+        RefundUnknown = "unknown",
+    }
+    "remove" {
+        RemoveSlot = "slot only",
+        RemoveDebt = "debt only",
+        RemoveBoth = "slot and debt",
+        RemoveUnknown = "unknown",
+        RemoveSlotLast = "the last slot goes",
+        RemoveSlotSwap = "a slot goes, the last moves into the gap",
+    }
+    "whole store" {
+        SetUp = "set-up",
+        ClearEmpty = "clear, all words 0 before",
+        ClearHeld = "clear",
+        LengthNone = "length 0",
+        LengthSome = "length, not 0",
+    }
+    "closed" {
+        ClosedTryZero = "try, cost 0: acquired",
+        ClosedTry = "try: impossible",
+        ClosedPeekZero = "peek, cost 0: acquired",
+        ClosedPeek = "peek: impossible",
+        ClosedReserveZero = "reserve, cost 0: none",
+        ClosedReserve = "reserve: none",
+        ClosedAvailable = "available: 0",
+        ClosedRefund = "refund: unknown",
+        ClosedRemove = "remove: known",
+        ClosedRemoveUnknown = "remove: unknown",
+        ClosedLength = "length",
+        ClosedClear = "clear",
+    }
+}
+
+/// Proved never to happen: a debt that was taken out leaves room in the ledger, so no refusal for space follows.
+const DEAD: [Branch; 1] = [Branch::SpacePutBack];
+
+/// Not to be had in stores grown from set-up under one settings record: grants leave no shortfall over the largest, and a closed
+/// limiter gets no keys.
+const ONLY_LOADED: [Branch; 2] = [Branch::BucketReadCut, Branch::ClosedRemove];
+
+/// What is said beside a branch that need not be taken.
+pub fn note(branch: Branch) -> &'static str {
+    if DEAD.contains(&branch) {
+        " (proved dead)"
+    } else if ONLY_LOADED.contains(&branch) {
+        " (not in grown stores)"
+    } else {
+        ""
+    }
+}
+
+/// Whether a branch is proved never to be taken.
+pub fn is_dead(branch: Branch) -> bool {
+    DEAD.contains(&branch)
+}

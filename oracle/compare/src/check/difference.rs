@@ -1,0 +1,109 @@
+//! Two of the three that do not agree, and how that is told.
+
+use core::fmt;
+
+use oracle::layout::{self, Items, debt, slot};
+use oracle::refusals::MOST_KEYS;
+use oracle::{Answer, Settings, Shape};
+
+use super::Step;
+use crate::library;
+
+/// Two of the three that do not agree.
+pub struct Difference {
+    pub sides: &'static str,
+    pub step: Step,
+    /// Who answered what.
+    pub answers: Vec<(&'static str, Answer)>,
+    /// A word's place, and what it is on the two sides.
+    pub words: Vec<(usize, u64, u64)>,
+}
+
+/// What comes of a comparison.
+pub type Checked<T> = Result<T, Box<Difference>>;
+
+/// A difference of these two, in answers or in words.
+pub(super) fn differing(
+    sides: &'static str,
+    step: &Step,
+    answers: Vec<(&'static str, Answer)>,
+    ones: &[u64],
+    others: &[u64],
+) -> Box<Difference> {
+    let pairs = ones.iter().zip(others).enumerate();
+    let words = pairs
+        .filter(|(_, (one, other))| one != other)
+        .map(|(at, (&one, &other))| (at, one, other))
+        .collect();
+    Box::new(Difference {
+        sides,
+        step: *step,
+        answers,
+        words,
+    })
+}
+
+impl fmt::Display for Difference {
+    fn fmt(&self, f: &mut fmt::Formatter<'_>) -> fmt::Result {
+        let settings = library::meaning(&self.step.raw);
+        writeln!(f, "{} differ", self.sides)?;
+        writeln!(f, "  {settings:?}")?;
+        writeln!(f, "  given as {:?}", self.step.raw)?;
+        writeln!(f, "  call: {}", self.step.call)?;
+        for (who, answer) in &self.answers {
+            writeln!(f, "  {who}: code {} number {}", answer.code, answer.number)?;
+        }
+        for &(at, one, other) in self.words.iter().take(40) {
+            writeln!(
+                f,
+                "  word {at} ({}): {one} and {other}",
+                place(&settings, at)
+            )?;
+        }
+        if self.words.len() > 40 {
+            writeln!(f, "  and {} more words", self.words.len() - 40)?;
+        }
+        Ok(())
+    }
+}
+
+/// What a word of the memory is.
+fn place(settings: &Settings, at: usize) -> String {
+    if settings.max_keys > MOST_KEYS {
+        return "of no shape".to_string();
+    }
+    let shape = Shape::of(settings);
+    let in_shard = |shard: &u64| shape.shard(*shard).contains(&at);
+    let Some(shard) = (0..shape.shards).find(in_shard) else {
+        return "of no shard".to_string();
+    };
+    let name = name_in_shard(at - shape.shard(shard).start, shape.room());
+    format!("shard {shard} {name}")
+}
+
+/// What a word of a shard is.
+fn name_in_shard(word: usize, cap: usize) -> String {
+    let (slots, debts) = (layout::SLOTS, layout::debts(cap));
+    let heads = [
+        (slots.count, "slot count"),
+        (layout::HAND, "hand"),
+        (layout::SWEEP, "sweep"),
+        (debts.count, "debt count"),
+        (layout::cursor(cap), "cursor"),
+    ];
+    if let Some((_, name)) = heads.iter().find(|&&(at, _)| at == word) {
+        return (*name).to_string();
+    }
+    if word < slots.at(cap) {
+        name_in_item("slot", &slot::NAMES, slots, word)
+    } else {
+        name_in_item("debt", &debt::NAMES, debts, word)
+    }
+}
+
+/// What a word of an item is.
+fn name_in_item(what: &str, names: &[&str], items: Items, word: usize) -> String {
+    let within = word - items.first;
+    let (place, field) = (within / items.width, within % items.width);
+    format!("{what} {place} {}", names[field])
+}

@@ -1,0 +1,165 @@
+//! The calls with a key, each lent the part of its key's shard alone.
+
+use oracle::{Answer, Key, Settings, Shape};
+
+use super::bucket::Wait;
+use super::decision::{IMPOSSIBLE, NONE, acquired, counted, known, retry};
+use super::settings::Policy;
+use super::shard_map::ShardMap;
+use super::store::{Held, Outcome, Request, Store};
+use crate::branches::{Branch, Hits};
+use crate::call::Call;
+
+/// A call with a key. Remove asks nothing of the rate; all others ask whether there is one.
+pub fn answer(
+    settings: &Settings,
+    words: &mut [u64],
+    call: &Call,
+    key: Key,
+    hits: &mut Hits,
+) -> Answer {
+    let shape = Shape::of(settings);
+    let map = ShardMap {
+        words: &mut words[shape.shard(shape.shard_of(key.hash))],
+        cap: shape.room(),
+        hits,
+    };
+    if let Call::Remove { key } = *call {
+        return remove(map, key, settings.rate.is_none());
+    }
+    let Some(rate) = settings.rate else {
+        return closed(call, hits);
+    };
+    let policy = Policy::of(settings, &rate);
+    let mut store = Store { policy, map };
+    match *call {
+        Call::Try { now, key, cost } => store.try_(now, key, cost),
+        Call::Reserve {
+            now,
+            key,
+            cost,
+            max_wait,
+        } => store.reserve(now, key, Request { cost, max_wait }),
+        Call::Peek { now, key, cost } => store.peek(now, key, cost),
+        Call::Available { now, key } => store.available(now, key),
+        Call::Refund { key, cost } => known(store.refund(key, cost)),
+        _ => unreachable!("the other calls are answered before"),
+    }
+}
+
+/// Remove forgets the key, also of a closed limiter.
+fn remove(mut map: ShardMap, key: Key, closed: bool) -> Answer {
+    let gone = map.remove(key);
+    if closed {
+        map.hits
+            .either(gone, (Branch::ClosedRemove, Branch::ClosedRemoveUnknown));
+    }
+    known(gone)
+}
+
+/// A closed limiter grants a cost of 0 alone, and no reservation; it has no tokens and knows nobody.
+fn closed(call: &Call, hits: &mut Hits) -> Answer {
+    use Branch::*;
+    let (branch, answer) = match *call {
+        Call::Try { now, cost: 0, .. } => (ClosedTryZero, acquired(Wait::none(now))),
+        Call::Try { .. } => (ClosedTry, IMPOSSIBLE),
+        Call::Peek { now, cost: 0, .. } => (ClosedPeekZero, acquired(Wait::none(now))),
+        Call::Peek { .. } => (ClosedPeek, IMPOSSIBLE),
+        Call::Reserve { cost: 0, .. } => (ClosedReserveZero, NONE),
+        Call::Reserve { .. } => (ClosedReserve, NONE),
+        Call::Available { .. } => (ClosedAvailable, counted(0)),
+        _ => (ClosedRefund, NONE),
+    };
+    hits.hit(branch);
+    answer
+}
+
+impl Store<'_> {
+    /// Whether a cost is over the burst, so that no bucket can ever meet it.
+    fn over(&self, cost: u32) -> bool {
+        cost > self.policy.config.capacity()
+    }
+
+    /// Try: a cost over the burst is impossible and a cost of 0 is met, and neither touches the memory; any other is asked of the store.
+    fn try_(&mut self, now: u64, key: Key, cost: u32) -> Answer {
+        if self.over(cost) {
+            self.hit(Branch::TryOver);
+            return IMPOSSIBLE;
+        }
+        if cost == 0 {
+            self.hit(Branch::TryZero);
+            return acquired(Wait::none(now));
+        }
+        let request = Request { cost, max_wait: 0 };
+        let (branch, answer) = match self.with_or_insert(now, key, request) {
+            Outcome::Granted(wait) => (Branch::TryGranted, acquired(wait)),
+            Outcome::Denied(wait) => (Branch::TryDenied, retry(wait)),
+            Outcome::NoSpace(wait) => (Branch::SpaceTry, retry(wait)),
+        };
+        self.hit(branch);
+        answer
+    }
+
+    /// Reserve: as try, with none in place of impossible, of a denial and of a refusal for space.
+    fn reserve(&mut self, now: u64, key: Key, request: Request) -> Answer {
+        if self.over(request.cost) {
+            self.hit(Branch::ReserveOver);
+            return NONE;
+        }
+        if request.cost == 0 {
+            self.hit(Branch::ReserveZero);
+            return acquired(Wait::none(now));
+        }
+        let (branch, answer) = match self.with_or_insert(now, key, request) {
+            Outcome::Granted(wait) if wait.nanos == 0 => (Branch::ReserveNow, acquired(wait)),
+            Outcome::Granted(wait) => {
+                if wait.nanos == request.max_wait {
+                    self.hit(Branch::ReserveLongest);
+                }
+                (Branch::ReserveLater, acquired(wait))
+            }
+            Outcome::Denied(_) => (Branch::ReserveNone, NONE),
+            Outcome::NoSpace(_) => (Branch::SpaceReserve, NONE),
+        };
+        self.hit(branch);
+        answer
+    }
+
+    /// Peek: what the bucket that the key has, or would be given, says to the cost.
+    fn peek(&mut self, now: u64, key: Key, cost: u32) -> Answer {
+        use Branch::*;
+        if self.over(cost) {
+            self.hit(PeekOver);
+            return IMPOSSIBLE;
+        }
+        if cost == 0 {
+            self.hit(PeekZero);
+        }
+        let (bucket, held) = self.view(now, key);
+        let wait = bucket.wait(cost);
+        let there = wait.nanos == 0;
+        self.hit(match (held, there) {
+            (Held::Slot, true) => PeekSlotNow,
+            (Held::Slot, false) => PeekSlotRetry,
+            (Held::Debt, true) => PeekDebtNow,
+            (Held::Debt, false) => PeekDebtRetry,
+            (Held::Nothing, true) => PeekFreshNow,
+            (Held::Nothing, false) => PeekFreshRetry,
+        });
+        if there { acquired(wait) } else { retry(wait) }
+    }
+
+    /// Available: the tokens in that bucket.
+    fn available(&mut self, now: u64, key: Key) -> Answer {
+        let (bucket, held) = self.view(now, key);
+        self.hit(match held {
+            Held::Slot => Branch::AvailableSlot,
+            Held::Debt => Branch::AvailableDebt,
+            Held::Nothing => Branch::AvailableFresh,
+        });
+        if bucket.is_below_empty() {
+            self.hit(Branch::AvailableBelow);
+        }
+        counted(bucket.available().into())
+    }
+}

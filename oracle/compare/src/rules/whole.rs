@@ -1,0 +1,46 @@
+//! The calls on the whole memory: set-up, clear, length.
+
+use oracle::{Answer, Settings, Shape, layout};
+
+use super::decision::counted;
+use crate::branches::{Branch, Hits};
+use crate::call::Call;
+
+/// A call without a key.
+pub fn answer(settings: &Settings, words: &mut [u64], call: &Call, hits: &mut Hits) -> Answer {
+    let closed = settings.rate.is_none();
+    match call {
+        Call::Length => len(Shape::of(settings), words, closed, hits),
+        Call::Clear => clear(words, closed, hits),
+        _ => set_up(words, hits),
+    }
+}
+
+/// Set-up: every word becomes 0, whatever it was.
+fn set_up(words: &mut [u64], hits: &mut Hits) -> Answer {
+    hits.hit(Branch::SetUp);
+    words.fill(0);
+    counted(0)
+}
+
+/// Clear: the same.
+fn clear(words: &mut [u64], closed: bool, hits: &mut Hits) -> Answer {
+    let empty = words.iter().all(|&word| word == 0);
+    hits.either(empty, (Branch::ClearEmpty, Branch::ClearHeld));
+    if closed {
+        hits.hit(Branch::ClosedClear);
+    }
+    words.fill(0);
+    counted(0)
+}
+
+/// Length: the slots of all shards.
+fn len(shape: Shape, words: &[u64], closed: bool, hits: &mut Hits) -> Answer {
+    let slots = |shard| words[shape.shard(shard)][layout::SLOTS.count];
+    let length = (0..shape.shards).map(slots).sum();
+    hits.either(length == 0, (Branch::LengthNone, Branch::LengthSome));
+    if closed {
+        hits.hit(Branch::ClosedLength);
+    }
+    counted(length)
+}

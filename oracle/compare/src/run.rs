@@ -1,0 +1,251 @@
+//! Trace after trace, and how it ends.
+
+use std::fmt::Write as _;
+use std::process::ExitCode;
+use std::time::{Duration, Instant};
+
+use oracle::Shape;
+
+use crate::check::{self, Bench, Difference, Start, Step};
+use crate::generate::{Aside, LARGE, Plan};
+use crate::options::{ENOUGH, Options};
+use crate::random::Random;
+use crate::{fault, library};
+
+/// What the traces of a round are. Each has a number of calls.
+#[derive(Clone, Copy)]
+enum Kind {
+    /// Grown from set-up, small shapes.
+    Grown,
+    /// Grown from set-up, the largest shapes, until slots and ledger are full.
+    LargeGrown,
+    /// Loaded with contents that the Rust can hold.
+    Loaded,
+    LargeLoaded,
+    /// Any settings, words and arguments.
+    Any,
+}
+
+/// The traces of a round.
+const ROUND: u64 = 452;
+
+/// The large ones come last in a round, so that a difference shows in a small store first.
+fn kind(trace: u64) -> Kind {
+    match trace % ROUND {
+        450 => Kind::LargeGrown,
+        451 => Kind::LargeLoaded,
+        place => match place % 9 {
+            0 => Kind::Grown,
+            1 => Kind::Any,
+            _ => Kind::Loaded,
+        },
+    }
+}
+
+/// A trace that ended in a difference.
+pub struct Failed {
+    difference: Box<Difference>,
+    text: String,
+}
+
+/// The whole run.
+pub struct Run {
+    options: Options,
+    bench: Bench,
+    calls: u64,
+    began: Instant,
+    reported: Instant,
+}
+
+impl Run {
+    pub fn new(options: Options) -> Self {
+        let now = Instant::now();
+        Self {
+            options,
+            bench: Bench::new(),
+            calls: 0,
+            began: now,
+            reported: now,
+        }
+    }
+
+    /// Trace after trace until there are enough calls.
+    pub fn all(&mut self) -> Result<(), Failed> {
+        if let Some(trace) = self.options.only {
+            return self.trace(trace);
+        }
+        let mut trace = 0;
+        while self.calls < self.options.calls {
+            self.trace(trace)?;
+            trace += 1;
+            self.progress(trace);
+        }
+        Ok(())
+    }
+
+    fn trace(&mut self, trace: u64) -> Result<(), Failed> {
+        fault::at_trace(trace);
+        let mut random = Random::new(self.options.seed, trace);
+        let round = (trace / ROUND) as usize;
+        match kind(trace) {
+            Kind::Any => self.asides(&mut random, 250),
+            Kind::Grown => {
+                let plan = match random.below(10) {
+                    0..3 => Plan::crowded(&mut random),
+                    3..5 => Plan::layered(&mut random),
+                    _ => Plan::small(&mut random),
+                };
+                self.steps(&mut random, plan, false, 900)
+            }
+            Kind::LargeGrown => {
+                let plan = Plan::large(&mut random, LARGE[round % LARGE.len()]);
+                self.steps(&mut random, plan, false, 12_000)
+            }
+            Kind::Loaded => {
+                let plan = Plan::small(&mut random);
+                self.steps(&mut random, plan, true, 40)
+            }
+            Kind::LargeLoaded => {
+                let plan = Plan::new(&mut random, LARGE[round % LARGE.len()], false);
+                self.steps(&mut random, plan, true, 1_500)
+            }
+        }
+    }
+
+    /// A trace of so many calls; now and then a call beside it on a copy of the words, with something wrong.
+    fn steps(
+        &mut self,
+        random: &mut Random,
+        mut plan: Plan,
+        load: bool,
+        calls: u64,
+    ) -> Result<(), Failed> {
+        let start = Start {
+            raw: library::given(&plan.settings, random),
+            loaded: load.then(|| plan.contents(random)),
+        };
+        let mut steps = Vec::new();
+        let mut trio = self
+            .bench
+            .start(&start)
+            .map_err(|difference| self.failed(&start, &steps, difference))?;
+        let origin = self.bench.hits.origin;
+        // Copies of large memories take long.
+        let wrong = if plan.shape.words() > 10_000 { 1 } else { 6 };
+        for _ in 0..calls {
+            let step = Step {
+                raw: library::given(&plan.settings, random),
+                call: plan.call(random, trio.words()),
+            };
+            steps.push(step);
+            self.count(&step);
+            self.bench
+                .step(&mut trio, &step)
+                .map_err(|difference| self.failed(&start, &steps, difference))?;
+            if random.chance(wrong) {
+                let aside = Aside::wrong(random, &mut plan, trio.words());
+                self.aside(&aside)?;
+                self.bench.hits.origin = origin;
+            }
+        }
+        trio.compare_all(steps.last().expect("a trace has calls"))
+            .map_err(|difference| self.failed(&start, &steps, difference))
+    }
+
+    fn asides(&mut self, random: &mut Random, calls: u64) -> Result<(), Failed> {
+        (0..calls).try_for_each(|_| {
+            let aside = Aside::any(random);
+            self.aside(&aside)
+        })
+    }
+
+    fn aside(&mut self, aside: &Aside) -> Result<(), Failed> {
+        self.count(&Step {
+            raw: aside.raw,
+            call: aside.call,
+        });
+        self.bench.aside(aside).map_err(|difference| {
+            let settings = library::meaning(&aside.raw);
+            let head = check::trace_head(&settings, aside.words.len(), Some(&aside.words));
+            let text = format!("{head}{}\ndump\n", aside.call);
+            Failed { difference, text }
+        })
+    }
+
+    fn count(&mut self, step: &Step) {
+        self.calls += 1;
+        fault::at_call(self.calls);
+        if self.options.show {
+            println!("{:?}\n{}", step.raw, step.call);
+        }
+    }
+
+    /// The trace, shortened, for the oracle program, and the difference that it ends in.
+    fn failed(&mut self, start: &Start, steps: &[Step], difference: Box<Difference>) -> Failed {
+        let (steps, difference) = self.bench.shorten(start, steps, difference);
+        let settings = library::meaning(&start.raw);
+        let words = Shape::of(&settings).words();
+        let mut text = check::trace_head(&settings, words, start.loaded.as_deref());
+        for step in steps {
+            let _ = writeln!(text, "{}", step.call);
+        }
+        text.push_str("dump\n");
+        Failed { difference, text }
+    }
+
+    /// A line every ten seconds.
+    fn progress(&mut self, traces: u64) {
+        if self.reported.elapsed() > Duration::from_secs(10) {
+            self.reported = Instant::now();
+            println!(
+                "{traces} traces, {} calls, {} calls/s",
+                self.calls,
+                self.rate()
+            );
+        }
+    }
+
+    fn rate(&self) -> u64 {
+        (self.calls as f64 / self.began.elapsed().as_secs_f64()) as u64
+    }
+
+    /// Says how it ended.
+    pub fn end(&mut self, ended: Result<(), Failed>) -> ExitCode {
+        if let Err(failed) = ended {
+            self.tell(&failed);
+            return ExitCode::FAILURE;
+        }
+        let missing = self.bench.hits.report();
+        let seconds = self.began.elapsed().as_secs_f64();
+        println!(
+            "seed {}: {} calls in {seconds:.1} s, {} calls/s, no difference",
+            self.options.seed,
+            self.calls,
+            self.rate()
+        );
+        if self.calls < ENOUGH {
+            println!("fewer than {ENOUGH} calls: not every branch need be taken");
+            return ExitCode::SUCCESS;
+        }
+        missing
+            .iter()
+            .for_each(|branch| println!("NEVER TAKEN: {branch}"));
+        if missing.is_empty() {
+            ExitCode::SUCCESS
+        } else {
+            ExitCode::FAILURE
+        }
+    }
+
+    /// Prints a difference, and writes the trace that ends in it.
+    fn tell(&self, failed: &Failed) {
+        let (seed, difference) = (self.options.seed, failed.difference.to_string());
+        print!("seed {seed} call {}: {difference}", self.calls);
+        let comment = difference.trim_end().replace('\n', "\n# ");
+        let text = format!("# {comment}\n{}", failed.text);
+        match std::fs::write(&self.options.out, text) {
+            Ok(()) => println!("the calls since set-up that it takes: {}", self.options.out),
+            Err(fault) => println!("{}: {fault}", self.options.out),
+        }
+    }
+}
