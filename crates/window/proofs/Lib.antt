@@ -18,6 +18,7 @@ pub mod GivenLaws
 pub mod CallSteps
 pub mod AppearsLaws
 pub mod Theorem
+pub mod GrownLaws
 pub mod CodeTheorem
 pub mod WriterLaws
 pub mod ExportTheorem

@@ -44,7 +44,7 @@ pub record SetUp (s : Settings) (ws : List ℕ) : Type 0 where
   pub settings : settingsRefusal s ≡ 0
   pub words : setUp s ws .after ≡ replicate (wordsOf s) 0
 
-set-up-done : (s : Settings) (ws : List ℕ) → setUp s ws .answer ≡ Done → SetUp s ws
+pub set-up-done : (s : Settings) (ws : List ℕ) → setUp s ws .answer ≡ Done → SetUp s ws
 unfolding setUp
 set-up-done s ws done′ =
     by-eq (setUpRefusal s ws) 0

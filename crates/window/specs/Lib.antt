@@ -1,5 +1,6 @@
 pub mod Widths
 pub mod Demands
 pub mod Impostors
+pub mod Grown
 pub mod Contracts
 pub mod Exports
