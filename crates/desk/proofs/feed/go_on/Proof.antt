@@ -36,8 +36,7 @@ turn-requires c κs =
         c .before .before
             .before .before .before .before .before .before .before .before .before .before .before .before .before .pre .1,
       ),
-      c .before .before .before
-          .before .before .before .before .before .before .before .before .loop .inv .more,
+      search needs,
     )
 
 add-turns : tie.Need-add-turns Inv-loop μ-loop
@@ -150,7 +149,7 @@ loop-again c =
       same-input = search needs;
       same-output = search needs;
       same-memory = search needs;
-      few = turn′ .ensures .few;
+      few = omega (arith, turn′ .ensures .few);
       more = sym
           (has-ended′ .ensures) ∙ if2′ .left;
       far = goes-on (loop′ .input) (loop′ .inv .far) (read-more′ .ensures .1) ((rw (c .before .before .before
