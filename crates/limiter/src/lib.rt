@@ -45,7 +45,7 @@ pub struct LimiterReply {
     pub number: u64,
 }
 
-// Makes the words an empty store of these settings. Every word is written; what stood in them does not matter.
+// Makes the words an empty store of these settings. Where it is accepted every word is written; what stood in them does not matter.
 #[no_mangle]
 pub extern "C" fn limiter_set_up(settings: LimiterSettings, ws: &mut [u64]) -> LimiterReply
     ensures { λ r. ⌜ outcome r (now (ws .exit)) ≡ told (Rules.setUp (settingsOf settings) (now (ws .entry))) ⌝ }

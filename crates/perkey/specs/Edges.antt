@@ -1,5 +1,5 @@
--- The edges of document 01 that are theorems, and two of our own on keys that share a hash, as a table: a row has its settings, its calls and what they
--- come to. One test goes over all rows.
+-- The edges of document 01 that are theorems, and some of our own beside them (keys that share a hash, the wait of a key's own bucket), as a table: a row has
+-- its settings, its calls and what they come to. One test goes over all rows.
 use Prim.Native.Nat.{ℕ}
 use mathlib.Core.Bool.{Bool, true, false, _&&_}
 use mathlib.Core.List.{List, [], _∷_}

@@ -60,7 +60,7 @@ numberOf (Refused n) = 0
 unfoldable pub unlessRefused : ℕ → List ℕ → Outcome Reply (List ℕ) → Outcome Reply (List ℕ)
 unlessRefused refusal ws accepted = cond (eqb refusal 0) accepted (outcome (Refused refusal) ws)
 
--- The settings that the store on one shard needs.
+-- Whether a full ledger forgets a debt rather than turning a new key away; and the settings that the store on one shard needs.
 abbrev pub forgets : WhenFull → Bool
 forgets RefuseNew = false
 forgets ForgetDebt = true

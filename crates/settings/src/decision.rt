@@ -4,7 +4,7 @@ ghost use Rattle.settings.specs.Decision.{acquired, retryAfter};
 use units::Nanos;
 use units::OptionNanos;
 
-// Granted; refused until the wait is over; or never to be granted, since the cost is more than a full bucket or the limiter is closed.
+// Granted; to be asked for again after the wait; or never to be granted, since the cost is more than a full bucket or the limiter is closed.
 pub enum Decision {
     Acquired,
     Retry { after: Nanos },
@@ -23,7 +23,7 @@ impl Decision {
         }
     }
 
-    // The wait before a retry can succeed, if there is one.
+    // The wait after which to ask again, if there is one.
     pub fn retry_after(self) -> OptionNanos
         ensures { λ r. ⌜ r ≡ retryAfter self ⌝ }
     {

@@ -8,9 +8,8 @@ use units::OptionNanos;
 // The cap on keys where none is named. It is more than this store accepts.
 pub const DEFAULT_MAX_KEYS: usize = 1048576;
 
-// What happens to a new key when no room can be made for it. That is so where the ledger holds no debt of the key's hash, the key's shard is full, no slot
-// looked at has a full bucket, and the ledger cannot take the debt of the slot that would go: it is full, holds no debt of that slot's hash, and no debt
-// looked at has settled. Then the key is turned away, or of the debts looked at the one that settles soonest is forgotten.
+// What to do when a new key that has no debt finds its shard full, and the ledger has no room for the debt of the slot that would go: turn the key away, or
+// forget the debt, of those looked at, that settles soonest.
 pub enum WhenFull {
     RefuseNew,
     ForgetDebt,

@@ -55,7 +55,7 @@ abbrev pub sweptIdle : Policy → Nanos → Shard → OptionMillis → Shard
 sweptIdle p at s millis.None = s
 sweptIdle p at s (millis.Some limit) = sweepIdle (p .config) at limit ttlSweep s
 
--- Before a new key comes in: the idle sweep, the ledger's sweep, and an eviction if the shard is full all the same.
+-- Before a new key comes in: the idle sweep and the ledger's sweep; then an eviction, if the shard is full all the same.
 abbrev pub swept : Policy → Nanos → Shard → Shard
 swept p at s =
     let idle = sweptIdle p at s (idleLimitIn p) in

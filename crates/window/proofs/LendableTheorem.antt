@@ -1,5 +1,4 @@
--- Under the rules, words that can be lent stay words that can be lent: no call, and no set-up, leaves a word that does not fit 64 bits, or another number of
--- words.
+-- Under the rules, words that can be lent stay words that can be lent: neither a call nor set-up leaves a word that does not fit 64 bits.
 use Prim.Native.Nat.{ℕ, _≤_, _^_}
 use mathlib.Core.Path.{_≡_, refl, sym, ap, _∙_}
 use mathlib.Core.Bool.{true, _&&_}

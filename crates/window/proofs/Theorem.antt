@@ -1,4 +1,4 @@
--- The rules meet demand 3, both parts, and demand 2; so does every implementation that meets demand 2.
+-- The rules meet demand 3, both parts; so does every limiter that meets demand 2.
 use Prim.Native.Nat.{ℕ, _+_, _*_, _-_, _≤_}
 use mathlib.Core.Path.{_≡_, refl, sym, ap, _∙_}
 use mathlib.Core.Bool.{true, false}
@@ -88,7 +88,7 @@ module _ (s : Settings) (rate : Rate) (k : Identity) (a : Accepted (configOf rat
       omega (arith, given-within k t u gs c (rules c ws .answer)) in
       rw sums rest
 
-  -- From a fresh memory. A key that no accepted call names is granted nothing; of any other it holds that no accepted call shares its hash.
+  -- From a fresh memory. A key that no accepted call names is granted nothing; of any other it holds that no accepted call names another key of its hash.
   module _ (cs : List Call) (t u : ℕ) (le : t ≤ u) where
     abbrev answered : List Answered
     answered = replies rules cs (replicate (wordsOf s) 0) (replicate (wordsOf s) 0)
