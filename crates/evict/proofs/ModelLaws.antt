@@ -34,8 +34,8 @@ use Rattle.evict.specs.declared.Walk.{Walk}
 use Rattle.evict.specs.declared.Room.{Room}
 use Rattle.evict.specs.declared.Room.the-variants.{Made, Refused}
 use Rattle.evict.specs.Evict.{minRefusalWait, orPlace, placeOr, nothingNoted, noted, looked, goesAtOnce, holds, Within, walkFrom, walked, evictAt}
-use Rattle.evict.specs.Evict.{debtLeft, evictLimited, evictNoted, evicted}
-use Rattle.evict.proofs.WalkLaws.{fullIfAny, walk-kept, remarked-sound}
+use Rattle.evict.specs.Evict.{evictLimited, evictNoted, evicted}
+use Rattle.evict.proofs.WalkLaws.{debtRecorded, fullIfAny, walk-kept, remarked-sound}
 
 -- What a look of the walk notes: of a full slot, and of one that is not full, by its mark.
 module _ (c : BucketConfig) (at : Nanos) (w : Walk) (p : ℕ) (slot : Slot) where
@@ -147,20 +147,16 @@ module _ (c : BucketConfig) (at : Nanos) (forget : Bool) (s : Shard) {victim : P
   unfolding evicted
   evicted-noted is hand gave = rw (ended, is, ← hand) gave
 
--- What a shard's ledger gives, asked to record the debt of the slot at a place: an answer, and the shard after it.
-abbrev pub DebtRecorded : BucketConfig → Nanos → Bool → ℕ → Shard → Recorded → Shard → Type 0
-DebtRecorded c at forget p s r t = outcome r t ≡ inLedger s (Ledger.recorded (s .ledger) (debtLeft c at (slotAt s p)) at forget)
-
--- The code makes that debt of the slot that it read and of the recovery that it worked out.
+-- The code makes the debt of the slot at p of the slot that it read and of the recovery that it worked out.
 pub debt-recorded : (c : BucketConfig) (at : Nanos) (forget : Bool) (p : ℕ) (s : Shard) {t : Shard} {r : Recorded} {slot : Slot} {n : ℕ}
     → slot ≡ slotAt s p → n ≡ recovery c slot at
     → outcome r t ≡ inLedger s (Ledger.recorded (s .ledger) (record { hash = slot .hash; settles = record { 0 = at .0 + n } }) at forget)
-    → DebtRecorded c at forget p s r t
+    → outcome r t ≡ inLedger s (debtRecorded c at forget s p)
 debt-recorded c at forget p s read takes gave = rw (takes, read) at gave
 
 -- The eviction of a slot that leaves a debt, once the debt is recorded, or is not.
 module _ (c : BucketConfig) (at : Nanos) (forget : Bool) (p : ℕ) (soonest : Nanos) {cap : ℕ} {ws : List ℕ} {r : Recorded} {t : Shard} (lent : Lent cap ws)
-    (gave : DebtRecorded c at forget p (shard cap ws) r t) where
+    (gave : outcome r t ≡ inLedger (shard cap ws) (debtRecorded c at forget (shard cap ws) p)) where
   pub limited-made : r ≡ Done → outcome Made (evictAt t p) ≡ evictLimited c at forget (shard cap ws) p soonest
   limited-made is = rw (after-is gave, sym (answer-is gave) ∙ is)
 

@@ -1,8 +1,12 @@
 -- `evict_limited` goes by the ledger's answer, as its definition does. The moment of the debt fits 64 bits, since a recovery is below 2^63 ns.
 use native.Mathlib.Omega.{arith}
+use mathlib.Core.Path.{_≡_}
+use Rattle.rows.specs.Outcome.{outcome}
+use Rattle.shard_map.specs.Model.{inLedger}
 use Rattle.shard_map.specs.Layout.{shard}
 use Rattle.shard_map.proofs.ModelLaws.{lent-below}
-use Rattle.evict.proofs.ModelLaws.{DebtRecorded, after-record, debt-fits, debt-recorded, limited-made, limited-refused}
+use Rattle.evict.proofs.WalkLaws.{debtRecorded}
+use Rattle.evict.proofs.ModelLaws.{after-record, debt-fits, debt-recorded, limited-made, limited-refused}
 use borrow.Author.Needs.{needs}
 use Rattle.evict.proofs.evict_limited.Statement.{statement}
 use Rattle.evict.proofs.evict_limited.Tie as tie
@@ -15,7 +19,8 @@ abbrev recovery : tie.After-record → tie.After-recovers-in
 recovery told = told .before .before .before .before
 
 gave : (r : tie.After-record) → let a = start (recovery r) .args in
-    DebtRecorded (a .config) (a .at) (a .forget) (a .pos) (shard (a .cap) (a .ws .now)) (r .«record» .result) (shard (a .cap) (r .«record» .last .0))
+    outcome (r .«record» .result) (shard (a .cap) (r .«record» .last .0))
+    ≡ inLedger (shard (a .cap) (a .ws .now)) (debtRecorded (a .config) (a .at) (a .forget) (shard (a .cap) (a .ws .now)) (a .pos))
 gave r = debt-recorded _ _ _ _ _ (recovery r .before .get .ensures) (recovery r .recovers-in .ensures) (r .«record» .ensures)
 
 get-requires : tie.Need-get-requires
