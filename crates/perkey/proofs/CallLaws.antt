@@ -107,16 +107,39 @@ request-number : (r : Request) (s : Settings) (at : Nanos) (id : Identity) (cost
 request-number Acquire s at id cost ws = refl
 request-number (Reserve longest) s at id cost ws = sym (refusals-in-a-row (keyedRefusal s (id .hash) ws) (momentRefusal at) (waitRefusal longest))
 
--- A request is told by its number and by the rule of a closed limiter.
+-- A call on a key is told by its number and by its rule.
+module _ (c : Call) (s : Settings) (hash : ℕ) (ws : List ℕ) {refusal further : ℕ} {shape : Shape} {told o : Outcome Reply (List ℕ)} where
+  pub closed-is-told : (further′ : ℕ) → refusal ≡ settingsRefusal s → shape ≡ shapeOf s → further ≡ further′
+      → firstOf (keyedRefusal s hash ws) further′ ≡ refusalOf c ws → told ≡ ruleOf c ws
+      → o ≡ Rules.unlessRefused (firstOf refusal (firstOf (shapeRefusal shape hash ws) further)) ws told → o ≡ rules c ws
+  closed-is-told further′ is-refusal is-shape is-further is-number is-rule gave =
+      let number = keyed-number s hash ws further′ ∙ is-number in
+      (rw (is-refusal, is-shape, is-further, number, is-rule) at gave) ∙ sym (rules-are c ws)
+
+-- The rules of a closed limiter: a request, a peek, the tokens, a refund.
+module _ (s : Settings) (closed : s .limit ≡ Closed) where
+  closed-request : (r : Request) (at : Nanos) (id : Identity) (cost : ℕ) (ws : List ℕ) {reply : Reply} → reply ≡ Rules.closedTo r cost
+      → outcome reply ws ≡ ruleOf (request s at id r cost) ws
+  closed-request r at id cost ws is = rw (closed, is)
+
+  pub closed-peek : (at : Nanos) (id : Identity) (ws : List ℕ) (cost : ℕ) {decision : Decision} → decision ≡ Rules.closed cost
+      → outcome (Tried decision) ws ≡ ruleOf (look s at id (peeks cost)) ws
+  closed-peek at id ws cost is = rw (closed, is)
+
+  pub closed-available : (at : Nanos) (id : Identity) (ws : List ℕ) → outcome (Count 0) ws ≡ ruleOf (look s at id tokens) ws
+  closed-available at id ws = rw closed
+
+  pub closed-refund : (id : Identity) (ws : List ℕ) (cost : ℕ) → outcome Nothing ws ≡ ruleOf (return s id (refunds cost)) ws
+  closed-refund id ws cost = rw closed
+
 module _ (r : Request) (s : Settings) (at : Nanos) (id : Identity) (cost : ℕ) (ws : List ℕ) {refusal further : ℕ} {shape : Shape} {reply : Reply} where
   pub closed-request-is-told : {o : Outcome Reply (List ℕ)} → s .limit ≡ Closed → reply ≡ Rules.closedTo r cost
       → refusal ≡ settingsRefusal s → shape ≡ shapeOf s → further ≡ furtherTo r at
       → o ≡ Rules.unlessRefused (firstOf refusal (firstOf (shapeRefusal shape (id .hash) ws) further)) ws (outcome reply ws)
       → o ≡ rules (request s at id r cost) ws
   closed-request-is-told closed is-reply is-refusal is-shape is-further gave =
-      let ruled : outcome reply ws ≡ ruleOf (request s at id r cost) ws = rw (closed, is-reply) in
-      let number = keyed-number s (id .hash) ws (furtherTo r at) ∙ request-number r s at id cost ws in
-      (rw (is-refusal, is-shape, is-further, number, ruled) at gave) ∙ sym (rules-are (request s at id r cost) ws)
+      let ruled = closed-request s closed r at id cost ws is-reply in
+      closed-is-told (request s at id r cost) s (id .hash) ws (furtherTo r at) is-refusal is-shape is-further (request-number r s at id cost ws) ruled gave
 
 -- A reply of each kind.
 pub data OfKind : Kind → Reply → Type 0 where

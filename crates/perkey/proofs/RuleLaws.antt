@@ -1,12 +1,14 @@
 -- The rules case by case, as the code comes to them, and what a call that is not refused may ask of its shard.
 use Prim.Native.Nat.{ℕ, _≤_, _<_}
-use mathlib.Core.Path.{_≡_, ap}
+use mathlib.Core.Path.{_≡_, ap, _∙_}
 use mathlib.Core.Bool.{Bool}
 use mathlib.Core.List.{List}
 use Rattle.rows.specs.Outcome.{Outcome, outcome}
 use Rattle.units.specs.declared.Nanos.{Nanos}
 use Rattle.bucket.specs.declared.BucketConfig.{BucketConfig}
-use Rattle.bucket.specs.Bucket.{Accepted, waitAt}
+use Rattle.bucket.specs.declared.BucketCore.{BucketCore}
+use Rattle.bucket.specs.Bucket.{Accepted, waitAt, availableAt}
+use Rattle.settings.specs.declared.Limit.{Limit}
 use Rattle.settings.specs.declared.Limit.the-variants.{Open}
 use Rattle.settings.specs.declared.Settings.{Settings}
 use Rattle.settings.specs.declared.decision.Decision.the-variants.{Acquired, Retry, Impossible}
@@ -17,7 +19,6 @@ use Rattle.settings.proofs.RateLaws.{accepted-rate}
 use Rattle.settings.proofs.SettingsLaws.{accepted-parts, neither-refuses}
 use Rattle.store.specs.declared.Identity.{Identity}
 use Rattle.store.specs.Model as Store
-use Rattle.rows.specs.declared.Place.the-variants.{At}
 use Rattle.shard_map.specs.Model.{Shard, Sound}
 use Rattle.shards.specs.declared.Part.{Part}
 use Rattle.shards.specs.Memory.{Placed, partOf, shardIn, inShard}
@@ -26,7 +27,7 @@ use Rattle.shards.proofs.LendingLaws.{accepted-part}
 use Rattle.shards.proofs.RefusalLaws.{keyed-not-refused}
 use Rattle.perkey.specs.declared.Reply.{Reply}
 use Rattle.perkey.specs.declared.Reply.the-variants.{Tried}
-use Rattle.perkey.specs.Rules.{closed, waitReply, policyOf, bucketOf, peekedAt, knownReply, keyed}
+use Rattle.perkey.specs.Rules.{closed, waitReply, policyOf, bucketOf, peekedAt, peekedBy, availableBy, knownReply, keyed}
 use borrow.Author.Tests.{le-ltb, lt-ltb, eq-eqb, ne-eqb}
 
 -- A limiter without a rate.
@@ -63,6 +64,19 @@ module _ (s : Settings) (rate : Rate) (at : Nanos) (id : Identity) (cost : ℕ) 
       → waitReply (record { 0 = waitAt (configOf rate) (bucketOf s rate id at ws) cost at }) ≡ peekedAt s rate at id cost ws
   unfolding peekedAt
   peek-of-bucket within = rw (le-ltb _ _ within)
+
+-- What is told of the bucket that is viewed in the key's part, at a rate: its wait for a cost, and its tokens.
+module _ (s : Settings) (rate : Rate) (at : Nanos) (id : Identity) (ws : List ℕ) {limit : Limit} {part′ : Part} {config : BucketConfig} {bucket : BucketCore}
+    (is-limit : limit ≡ Open rate) (is-part : part′ ≡ partOf s (id .hash)) (is-config : config ≡ configOf rate)
+    (is-bucket : bucket ≡ Store.viewed config id at (shardIn part′ ws)) where
+  pub viewed-wait-is-told : (cost : ℕ) {wait : Nanos} {told : Reply} → cost ≤ burstOf rate → wait .0 ≡ waitAt config bucket cost at → told ≡ waitReply wait
+      → told ≡ peekedBy limit s at id cost ws
+  viewed-wait-is-told cost within is-wait is-reply =
+      let waits = rw (is-bucket, is-config, is-part) at is-wait in
+      rw is-limit (is-reply ∙ ap (λ (n : ℕ). waitReply (record { 0 = n })) waits ∙ peek-of-bucket s rate at id cost ws within)
+
+  pub viewed-tokens-are-told : {told : ℕ} → told ≡ availableAt config bucket at → told ≡ availableBy limit s at id ws
+  viewed-tokens-are-told are = rw is-limit (rw (is-bucket, is-config, is-part) at are)
 
 -- The idle limit by which the store sweeps is that of the settings.
 pub sweeps-by-the-idle-limit : (s : Settings) (rate : Rate) → s .limit ≡ Open rate → Store.idleLimitIn (policyOf s rate) ≡ idleLimit s

@@ -255,37 +255,92 @@ fn reserve_within(
 pub fn peek(settings: Settings, ws: &[u64], at: Nanos, id: Identity, cost: u32) -> Reply
     ensures { λ r. ⌜ outcome r (now (ws .entry)) ≡ Rules.peek settings at id cost (now (ws .entry)) ⌝ }
 {
+    let limit = settings.limit;
+    match limit {
+        Limit::Closed => {
+            let late = refusals::moment_refusal(at);
+            let told = Reply::Tried(closed(cost));
+            unless_refused(
+                settings.refusal(),
+                settings.shape(),
+                ws,
+                id.hash,
+                late,
+                told,
+            )
+        }
+        Limit::Open(rate) => peek_open(settings, rate, ws, at, id, cost),
+    }
+}
+
+// A peek at a rate.
+fn peek_open(
+    settings: Settings,
+    rate: Rate,
+    ws: &[u64],
+    at: Nanos,
+    id: Identity,
+    cost: u32,
+) -> Reply
+    requires { ⌜ settings .limit ≡ Open rate ⌝ }
+    ensures { λ r. ⌜ outcome r (now (ws .entry)) ≡ Rules.peek settings at id cost (now (ws .entry)) ⌝ }
+{
     let refusal = settings.refusal();
     if refusal != 0 {
         return Reply::Refused(refusal);
     }
     match lending::lend(settings.shape(), ws, id.hash, refusals::moment_refusal(at)) {
         Lending::Refused(refusal) => Reply::Refused(refusal),
-        Lending::Lent(part) => look(settings, ws, part, at, id, cost),
+        Lending::Lent(part) => look(settings, rate, ws, part, at, id, cost),
     }
 }
 
 // A peek that is not refused: the wait of the bucket that the key has, or would have if it came in now.
-fn look(settings: Settings, ws: &[u64], part: Part, at: Nanos, id: Identity, cost: u32) -> Reply
-    requires { ⌜ (timedRefusal settings (id .hash) at (now ws) ≡ 0) × (part ≡ partOf settings (id .hash)) ⌝ }
+fn look(
+    settings: Settings,
+    rate: Rate,
+    ws: &[u64],
+    part: Part,
+    at: Nanos,
+    id: Identity,
+    cost: u32,
+) -> Reply
+    requires { ⌜ (timedRefusal settings (id .hash) at (now ws) ≡ 0) × (part ≡ partOf settings (id .hash)) × (settings .limit ≡ Open rate) ⌝ }
     ensures { λ r. ⌜ r ≡ Rules.peekedBy (settings .limit) settings at id cost (now (ws .entry)) ⌝ }
+{
+    let config = rate.config();
+    if config.capacity < cost {
+        return Reply::Tried(Decision::Impossible);
+    }
+    let bucket = shards::view(ws, part, config, id, at);
+    wait_reply(bucket.time_until_at(config, cost, at))
+}
+
+// The whole tokens that a key has; none where there is no rate.
+pub fn available(settings: Settings, ws: &[u64], at: Nanos, id: Identity) -> Reply
+    ensures { λ r. ⌜ outcome r (now (ws .entry)) ≡ Rules.available settings at id (now (ws .entry)) ⌝ }
 {
     let limit = settings.limit;
     match limit {
-        Limit::Closed => Reply::Tried(closed(cost)),
-        Limit::Open(rate) => {
-            let config = rate.config();
-            if config.capacity < cost {
-                return Reply::Tried(Decision::Impossible);
-            }
-            let bucket = shards::view(ws, part, config, id, at);
-            wait_reply(bucket.time_until_at(config, cost, at))
+        Limit::Closed => {
+            let late = refusals::moment_refusal(at);
+            let told = Reply::Count(0);
+            unless_refused(
+                settings.refusal(),
+                settings.shape(),
+                ws,
+                id.hash,
+                late,
+                told,
+            )
         }
+        Limit::Open(rate) => available_open(settings, rate, ws, at, id),
     }
 }
 
-// The whole tokens that a key has.
-pub fn available(settings: Settings, ws: &[u64], at: Nanos, id: Identity) -> Reply
+// The whole tokens at a rate.
+fn available_open(settings: Settings, rate: Rate, ws: &[u64], at: Nanos, id: Identity) -> Reply
+    requires { ⌜ settings .limit ≡ Open rate ⌝ }
     ensures { λ r. ⌜ outcome r (now (ws .entry)) ≡ Rules.available settings at id (now (ws .entry)) ⌝ }
 {
     let refusal = settings.refusal();
@@ -294,28 +349,37 @@ pub fn available(settings: Settings, ws: &[u64], at: Nanos, id: Identity) -> Rep
     }
     match lending::lend(settings.shape(), ws, id.hash, refusals::moment_refusal(at)) {
         Lending::Refused(refusal) => Reply::Refused(refusal),
-        Lending::Lent(part) => Reply::Count(tokens(settings, ws, part, at, id)),
+        Lending::Lent(part) => Reply::Count(tokens(settings, rate, ws, part, at, id)),
     }
 }
 
-// The tokens of the same bucket; none where there is no rate.
-fn tokens(settings: Settings, ws: &[u64], part: Part, at: Nanos, id: Identity) -> u64
-    requires { ⌜ (timedRefusal settings (id .hash) at (now ws) ≡ 0) × (part ≡ partOf settings (id .hash)) ⌝ }
+// The tokens of the same bucket as a peek's.
+fn tokens(settings: Settings, rate: Rate, ws: &[u64], part: Part, at: Nanos, id: Identity) -> u64
+    requires { ⌜ (timedRefusal settings (id .hash) at (now ws) ≡ 0) × (part ≡ partOf settings (id .hash)) × (settings .limit ≡ Open rate) ⌝ }
     ensures { λ r. ⌜ r ≡ Rules.availableBy (settings .limit) settings at id (now (ws .entry)) ⌝ }
+{
+    let config = rate.config();
+    let bucket = shards::view(ws, part, config, id, at);
+    bucket.available_at(config, at) as u64
+}
+
+// Gives tokens back to a key, if it is known. To a closed limiter every key is unknown.
+pub fn refund(settings: Settings, ws: &mut [u64], id: Identity, cost: u32) -> Reply
+    ensures { λ r. ⌜ outcome r (now (ws .exit)) ≡ Rules.refund settings id cost (now (ws .entry)) ⌝ }
 {
     let limit = settings.limit;
     match limit {
-        Limit::Closed => 0,
-        Limit::Open(rate) => {
-            let config = rate.config();
-            let bucket = shards::view(ws, part, config, id, at);
-            bucket.available_at(config, at) as u64
+        Limit::Closed => {
+            let told = Reply::Nothing;
+            unless_refused(settings.refusal(), settings.shape(), ws, id.hash, 0, told)
         }
+        Limit::Open(rate) => refund_open(settings, rate, ws, id, cost),
     }
 }
 
-// Gives tokens back to a key, if it is known.
-pub fn refund(settings: Settings, ws: &mut [u64], id: Identity, cost: u32) -> Reply
+// A refund at a rate.
+fn refund_open(settings: Settings, rate: Rate, ws: &mut [u64], id: Identity, cost: u32) -> Reply
+    requires { ⌜ settings .limit ≡ Open rate ⌝ }
     ensures { λ r. ⌜ outcome r (now (ws .exit)) ≡ Rules.refund settings id cost (now (ws .entry)) ⌝ }
 {
     let refusal = settings.refusal();
@@ -324,20 +388,23 @@ pub fn refund(settings: Settings, ws: &mut [u64], id: Identity, cost: u32) -> Re
     }
     match lending::lend(settings.shape(), ws, id.hash, 0) {
         Lending::Refused(refusal) => Reply::Refused(refusal),
-        Lending::Lent(part) => give_back(settings, ws, part, id, cost),
+        Lending::Lent(part) => give_back(settings, rate, ws, part, id, cost),
     }
 }
 
-// A refund that is not refused. To a closed limiter every key is unknown.
-fn give_back(settings: Settings, ws: &mut [u64], part: Part, id: Identity, cost: u32) -> Reply
-    requires { ⌜ (keyedRefusal settings (id .hash) (now ws) ≡ 0) × (part ≡ partOf settings (id .hash)) ⌝ }
+// A refund that is not refused.
+fn give_back(
+    settings: Settings,
+    rate: Rate,
+    ws: &mut [u64],
+    part: Part,
+    id: Identity,
+    cost: u32,
+) -> Reply
+    requires { ⌜ (keyedRefusal settings (id .hash) (now ws) ≡ 0) × (part ≡ partOf settings (id .hash)) × (settings .limit ≡ Open rate) ⌝ }
     ensures { λ r. ⌜ outcome r (now (ws .exit)) ≡ Rules.refundedBy (settings .limit) settings id cost (now (ws .entry)) ⌝ }
 {
-    let limit = settings.limit;
-    match limit {
-        Limit::Closed => Reply::Nothing,
-        Limit::Open(rate) => known_reply(shards::refund(ws, part, rate.config(), id, cost)),
-    }
+    known_reply(shards::refund(ws, part, rate.config(), id, cost))
 }
 
 // Forgets a key, if it is known.
