@@ -19,7 +19,8 @@ use Rattle.settings.specs.declared.decision.Decision.{Decision}
 use Rattle.settings.specs.declared.decision.Decision.the-variants.{Acquired, Retry, Impossible}
 use Rattle.settings.specs.declared.rate.Rate.{Rate}
 use Rattle.settings.specs.Rate.{configOf}
-use Rattle.settings.specs.Settings.{capOf, shardCount}
+use Rattle.settings.specs.declared.Shape.{Shape}
+use Rattle.settings.specs.Settings.{capOf, shardCount, shapeOf, wordsOf, firstOf, settingsRefusal}
 use Rattle.store.specs.declared.Answer.{Answer}
 use Rattle.store.specs.declared.Answer.the-variants.{Decided, NoSpace}
 use Rattle.store.specs.Model as Store
@@ -31,7 +32,8 @@ use Rattle.shards.specs.declared.lending.Lending.the-variants as Lending
 use Rattle.shards.specs.Lending.{lentUnless}
 use Rattle.shards.proofs.LendingLaws.{refused-number, lent-part}
 use Rattle.shards.specs.Memory.{shardAt, slotCount}
-use Rattle.shards.specs.Refusals.{keyedRefusal, timedRefusal, reserveRefusal, lenRefusal}
+use Rattle.shards.specs.Refusals.{memoryRefusal, countRefusal, shapeRefusal, keyedRefusal, momentRefusal, timedRefusal, waitRefusal, reserveRefusal, lenRefusal}
+use Rattle.shards.proofs.RefusalLaws.{refusals-in-a-row}
 use Rattle.perkey.specs.Rules as Rules
 use Rattle.perkey.proofs.RefusedLaws.{unless-refused-accepts, unless-refused-refuses}
 use Rattle.rows.specs.Held.{sum}
@@ -85,6 +87,59 @@ module _ (c : Call) (ws : List ℕ) {lending : Lending} (part′ : Part) (is : l
 
   pub lent-is-ruled : {p : Part} {o : Outcome Reply (List ℕ)} → lending ≡ Lending.Lent p → o ≡ ruleOf c ws → o ≡ rules c ws
   lent-is-ruled gave is-rule = is-rule ∙ sym (not-refused-is-ruled c ws (lent-part (refusalOf c ws) part′ is gave .0))
+
+-- A closed limiter: the number of a call on a key, found by the settings, then the memory of their shape, then the other arguments.
+keyed-number : (s : Settings) (hash : ℕ) (ws : List ℕ) (further : ℕ)
+    → firstOf (settingsRefusal s) (firstOf (shapeRefusal (shapeOf s) hash ws) further) ≡ firstOf (keyedRefusal s hash ws) further
+keyed-number s hash ws further =
+    let counts = countRefusal (capOf s) (shardAt s hash ws) in
+    let memory = memoryRefusal (wordsOf s) ws in
+    sym (refusals-in-a-row (settingsRefusal s) (firstOf memory counts) further)
+    ∙ ap (λ (n : ℕ). firstOf n further) (sym (refusals-in-a-row (settingsRefusal s) memory counts))
+
+-- The number for the other arguments of a request.
+abbrev pub furtherTo : Request → Nanos → ℕ
+furtherTo Acquire at = momentRefusal at
+furtherTo (Reserve longest) at = firstOf (momentRefusal at) (waitRefusal longest)
+
+request-number : (r : Request) (s : Settings) (at : Nanos) (id : Identity) (cost : ℕ) (ws : List ℕ)
+    → firstOf (keyedRefusal s (id .hash) ws) (furtherTo r at) ≡ refusalOf (request s at id r cost) ws
+request-number Acquire s at id cost ws = refl
+request-number (Reserve longest) s at id cost ws = sym (refusals-in-a-row (keyedRefusal s (id .hash) ws) (momentRefusal at) (waitRefusal longest))
+
+-- A call on a key is told by its number and by its rule.
+module _ (c : Call) (s : Settings) (hash : ℕ) (ws : List ℕ) {refusal further : ℕ} {shape : Shape} {told o : Outcome Reply (List ℕ)} where
+  pub closed-is-told : (further′ : ℕ) → refusal ≡ settingsRefusal s → shape ≡ shapeOf s → further ≡ further′
+      → firstOf (keyedRefusal s hash ws) further′ ≡ refusalOf c ws → told ≡ ruleOf c ws
+      → o ≡ Rules.unlessRefused (firstOf refusal (firstOf (shapeRefusal shape hash ws) further)) ws told → o ≡ rules c ws
+  closed-is-told further′ is-refusal is-shape is-further is-number is-rule gave =
+      let number = keyed-number s hash ws further′ ∙ is-number in
+      (rw (is-refusal, is-shape, is-further, number, is-rule) at gave) ∙ sym (rules-are c ws)
+
+-- The rules of a closed limiter: a request, a peek, the tokens, a refund.
+module _ (s : Settings) (closed : s .limit ≡ Closed) where
+  closed-request : (r : Request) (at : Nanos) (id : Identity) (cost : ℕ) (ws : List ℕ) {reply : Reply} → reply ≡ Rules.closedTo r cost
+      → outcome reply ws ≡ ruleOf (request s at id r cost) ws
+  closed-request r at id cost ws is = rw (closed, is)
+
+  pub closed-peek : (at : Nanos) (id : Identity) (ws : List ℕ) (cost : ℕ) {decision : Decision} → decision ≡ Rules.closed cost
+      → outcome (Tried decision) ws ≡ ruleOf (look s at id (peeks cost)) ws
+  closed-peek at id ws cost is = rw (closed, is)
+
+  pub closed-available : (at : Nanos) (id : Identity) (ws : List ℕ) → outcome (Count 0) ws ≡ ruleOf (look s at id tokens) ws
+  closed-available at id ws = rw closed
+
+  pub closed-refund : (id : Identity) (ws : List ℕ) (cost : ℕ) → outcome Nothing ws ≡ ruleOf (undo s id (refunds cost)) ws
+  closed-refund id ws cost = rw closed
+
+module _ (r : Request) (s : Settings) (at : Nanos) (id : Identity) (cost : ℕ) (ws : List ℕ) {refusal further : ℕ} {shape : Shape} {reply : Reply} where
+  pub closed-request-is-told : {o : Outcome Reply (List ℕ)} → s .limit ≡ Closed → reply ≡ Rules.closedTo r cost
+      → refusal ≡ settingsRefusal s → shape ≡ shapeOf s → further ≡ furtherTo r at
+      → o ≡ Rules.unlessRefused (firstOf refusal (firstOf (shapeRefusal shape (id .hash) ws) further)) ws (outcome reply ws)
+      → o ≡ rules (request s at id r cost) ws
+  closed-request-is-told closed is-reply is-refusal is-shape is-further gave =
+      let ruled = closed-request s closed r at id cost ws is-reply in
+      closed-is-told (request s at id r cost) s (id .hash) ws (furtherTo r at) is-refusal is-shape is-further (request-number r s at id cost ws) ruled gave
 
 -- A reply of each kind.
 pub data OfKind : Kind → Reply → Type 0 where

@@ -1,5 +1,6 @@
 pub mod RefusedLaws
 pub mod RuleLaws
+pub mod RequestLaws
 pub mod CallLaws
 pub mod EdgeLaws
 pub mod WaitLaws

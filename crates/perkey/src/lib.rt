@@ -1,14 +1,17 @@
 // The limiter: its nine operations, on settings, arguments and lent words of any kind. A call that is refused by number changes no word.
 ghost use mathlib.Core.Path.{_≡_};
 ghost use Rattle.rows.specs.Outcome.{outcome};
+ghost use Rattle.settings.specs.declared.Limit.the-variants.{Open};
+ghost use Rattle.settings.specs.Settings.{ShapeOfAccepted, firstOf};
 ghost use Rattle.shards.specs.Memory.{partOf};
-ghost use Rattle.shards.specs.Refusals.{keyedRefusal, timedRefusal};
+ghost use Rattle.shards.specs.Refusals.{shapeRefusal, keyedRefusal, momentRefusal, timedRefusal, waitRefusal};
 ghost use Rattle.perkey.specs.Rules as Rules;
 use bucket::BucketDecision;
 use bucket::Request;
 use rows::Place;
 use settings::Limit;
 use settings::Settings;
+use settings::Shape;
 use settings::decision::Decision;
 use settings::eviction::WhenFull;
 use settings::rate::Rate;
@@ -51,7 +54,8 @@ pub fn set_up(settings: Settings, ws: &mut [u64]) -> Reply
     Reply::Done
 }
 
-// Takes tokens for a key without waiting: granted, to be tried again after a wait, or impossible.
+// Takes tokens for a key without waiting: granted, to be tried again after a wait, or impossible. Each operation on a key asks first whether there is a
+// rate, so that all that follows is compiled for a limiter that has one (docs/DECISIONS.md).
 pub fn try_acquire_with_cost(
     settings: Settings,
     ws: &mut [u64],
@@ -61,47 +65,84 @@ pub fn try_acquire_with_cost(
 ) -> Reply
     ensures { λ r. ⌜ outcome r (now (ws .exit)) ≡ Rules.tryAcquire settings at id cost (now (ws .entry)) ⌝ }
 {
+    let limit = settings.limit;
+    match limit {
+        Limit::Closed => {
+            let late = refusals::moment_refusal(at);
+            let told = Reply::Tried(closed(cost));
+            unless_refused(
+                settings.refusal(),
+                settings.shape(),
+                ws,
+                id.hash,
+                late,
+                told,
+            )
+        }
+        Limit::Open(rate) => try_open(settings, rate, ws, at, id, cost),
+    }
+}
+
+// A try at a rate.
+fn try_open(
+    settings: Settings,
+    rate: Rate,
+    ws: &mut [u64],
+    at: Nanos,
+    id: Identity,
+    cost: u32,
+) -> Reply
+    requires { ⌜ settings .limit ≡ Open rate ⌝ }
+    ensures { λ r. ⌜ outcome r (now (ws .exit)) ≡ Rules.tryAcquire settings at id cost (now (ws .entry)) ⌝ }
+{
     let refusal = settings.refusal();
     if refusal != 0 {
         return Reply::Refused(refusal);
     }
     match lending::lend(settings.shape(), ws, id.hash, refusals::moment_refusal(at)) {
         Lending::Refused(refusal) => Reply::Refused(refusal),
-        Lending::Lent(part) => decide(settings, ws, part, at, id, cost),
+        Lending::Lent(part) => decide(settings, rate, ws, part, at, id, cost),
     }
 }
 
 // A try that is not refused. No state is made for a cost that can never be granted, nor for cost 0. The key's place is found here and not in the
-// store, so that a known key's request is compiled into the call (docs/DECISIONS.md).
+// store, so that a known key's request is compiled into the call (docs/DECISIONS.md); a new key's gets copies, so that a known key's part need not be
+// in memory.
 fn decide(
     settings: Settings,
+    rate: Rate,
     ws: &mut [u64],
     part: Part,
     at: Nanos,
     id: Identity,
     cost: u32,
 ) -> Reply
-    requires { ⌜ (timedRefusal settings (id .hash) at (now ws) ≡ 0) × (part ≡ partOf settings (id .hash)) ⌝ }
+    requires { ⌜ (timedRefusal settings (id .hash) at (now ws) ≡ 0) × (part ≡ partOf settings (id .hash)) × (settings .limit ≡ Open rate) ⌝ }
     ensures { λ r. ⌜ outcome r (now (ws .exit)) ≡ Rules.triedBy (settings .limit) settings at id cost (now (ws .entry)) ⌝ }
 {
-    let limit = settings.limit;
-    match limit {
-        Limit::Closed => Reply::Tried(closed(cost)),
-        Limit::Open(rate) => {
-            if rate.capacity() < cost {
-                return Reply::Tried(Decision::Impossible);
-            }
-            if cost == 0 {
-                return Reply::Tried(Decision::Acquired);
-            }
-            let policy = policy(settings, rate);
+    if rate.capacity() < cost {
+        return Reply::Tried(Decision::Impossible);
+    }
+    if cost == 0 {
+        return Reply::Tried(Decision::Acquired);
+    }
+    match shards::position(ws, part, id) {
+        Place::At(pos) => {
             let request = Request::Acquire;
-            match shards::position(ws, part, id) {
-                Place::At(pos) => {
-                    try_reply(shards::known(ws, part, policy, pos, request, cost, at))
-                }
-                Place::Nowhere => try_reply(shards::new(ws, part, policy, id, request, cost, at)),
-            }
+            try_reply(shards::known(ws, part, policy(settings, rate), pos, request, cost, at))
+        }
+        Place::Nowhere => {
+            let own = part;
+            let key = id;
+            try_reply(shards::new(
+                ws,
+                own,
+                policy(settings, rate),
+                key,
+                Request::Acquire,
+                cost,
+                at,
+            ))
         }
     }
 }
@@ -117,23 +158,62 @@ pub fn reserve(
 ) -> Reply
     ensures { λ r. ⌜ outcome r (now (ws .exit)) ≡ Rules.reserve settings at id cost «max_wait» (now (ws .entry)) ⌝ }
 {
+    let limit = settings.limit;
+    match limit {
+        Limit::Closed => {
+            let further = reserve_refusal(at, max_wait);
+            let told = Reply::Nothing;
+            unless_refused(
+                settings.refusal(),
+                settings.shape(),
+                ws,
+                id.hash,
+                further,
+                told,
+            )
+        }
+        Limit::Open(rate) => reserve_open(settings, rate, ws, at, id, cost, max_wait),
+    }
+}
+
+// A reservation at a rate.
+fn reserve_open(
+    settings: Settings,
+    rate: Rate,
+    ws: &mut [u64],
+    at: Nanos,
+    id: Identity,
+    cost: u32,
+    max_wait: Nanos,
+) -> Reply
+    requires { ⌜ settings .limit ≡ Open rate ⌝ }
+    ensures { λ r. ⌜ outcome r (now (ws .exit)) ≡ Rules.reserve settings at id cost «max_wait» (now (ws .entry)) ⌝ }
+{
     let refusal = settings.refusal();
     if refusal != 0 {
         return Reply::Refused(refusal);
     }
-    let further = refusals::first_of(
-        refusals::moment_refusal(at),
-        refusals::wait_refusal(max_wait),
-    );
+    let further = reserve_refusal(at, max_wait);
     match lending::lend(settings.shape(), ws, id.hash, further) {
         Lending::Refused(refusal) => Reply::Refused(refusal),
-        Lending::Lent(part) => reserve_within(settings, ws, part, at, id, cost, max_wait),
+        Lending::Lent(part) => reserve_within(settings, rate, ws, part, at, id, cost, max_wait),
     }
+}
+
+// The number for the other arguments of a reservation: a late moment, else a long wait.
+fn reserve_refusal(at: Nanos, max_wait: Nanos) -> u32
+    ensures { λ r. ⌜ r ≡ firstOf (momentRefusal at) (waitRefusal «max_wait») ⌝ }
+{
+    refusals::first_of(
+        refusals::moment_refusal(at),
+        refusals::wait_refusal(max_wait),
+    )
 }
 
 // A reservation that is not refused. That its longest wait is within bounds is not needed any more.
 fn reserve_within(
     settings: Settings,
+    rate: Rate,
     ws: &mut [u64],
     part: Part,
     at: Nanos,
@@ -141,29 +221,32 @@ fn reserve_within(
     cost: u32,
     max_wait: Nanos,
 ) -> Reply
-    requires { ⌜ (timedRefusal settings (id .hash) at (now ws) ≡ 0) × (part ≡ partOf settings (id .hash)) ⌝ }
+    requires { ⌜ (timedRefusal settings (id .hash) at (now ws) ≡ 0) × (part ≡ partOf settings (id .hash)) × (settings .limit ≡ Open rate) ⌝ }
     ensures { λ r. ⌜ outcome r (now (ws .exit)) ≡ Rules.reservedBy (settings .limit) settings at id cost «max_wait» (now (ws .entry)) ⌝ }
 {
-    let limit = settings.limit;
-    match limit {
-        Limit::Closed => Reply::Nothing,
-        Limit::Open(rate) => {
-            if rate.capacity() < cost {
-                return Reply::Nothing;
-            }
-            if cost == 0 {
-                return Reply::Reserved(Nanos(0));
-            }
-            let policy = policy(settings, rate);
+    if rate.capacity() < cost {
+        return Reply::Nothing;
+    }
+    if cost == 0 {
+        return Reply::Reserved(Nanos(0));
+    }
+    match shards::position(ws, part, id) {
+        Place::At(pos) => {
             let request = Request::Reserve(max_wait);
-            match shards::position(ws, part, id) {
-                Place::At(pos) => {
-                    reserve_reply(shards::known(ws, part, policy, pos, request, cost, at))
-                }
-                Place::Nowhere => {
-                    reserve_reply(shards::new(ws, part, policy, id, request, cost, at))
-                }
-            }
+            reserve_reply(shards::known(ws, part, policy(settings, rate), pos, request, cost, at))
+        }
+        Place::Nowhere => {
+            let own = part;
+            let key = id;
+            reserve_reply(shards::new(
+                ws,
+                own,
+                policy(settings, rate),
+                key,
+                Request::Reserve(max_wait),
+                cost,
+                at,
+            ))
         }
     }
 }
@@ -172,37 +255,92 @@ fn reserve_within(
 pub fn peek(settings: Settings, ws: &[u64], at: Nanos, id: Identity, cost: u32) -> Reply
     ensures { λ r. ⌜ outcome r (now (ws .exit)) ≡ Rules.peek settings at id cost (now (ws .entry)) ⌝ }
 {
+    let limit = settings.limit;
+    match limit {
+        Limit::Closed => {
+            let late = refusals::moment_refusal(at);
+            let told = Reply::Tried(closed(cost));
+            unless_refused(
+                settings.refusal(),
+                settings.shape(),
+                ws,
+                id.hash,
+                late,
+                told,
+            )
+        }
+        Limit::Open(rate) => peek_open(settings, rate, ws, at, id, cost),
+    }
+}
+
+// A peek at a rate.
+fn peek_open(
+    settings: Settings,
+    rate: Rate,
+    ws: &[u64],
+    at: Nanos,
+    id: Identity,
+    cost: u32,
+) -> Reply
+    requires { ⌜ settings .limit ≡ Open rate ⌝ }
+    ensures { λ r. ⌜ outcome r (now (ws .exit)) ≡ Rules.peek settings at id cost (now (ws .entry)) ⌝ }
+{
     let refusal = settings.refusal();
     if refusal != 0 {
         return Reply::Refused(refusal);
     }
     match lending::lend(settings.shape(), ws, id.hash, refusals::moment_refusal(at)) {
         Lending::Refused(refusal) => Reply::Refused(refusal),
-        Lending::Lent(part) => look(settings, ws, part, at, id, cost),
+        Lending::Lent(part) => look(settings, rate, ws, part, at, id, cost),
     }
 }
 
 // A peek that is not refused: the wait of the bucket that the key has, or would have if it came in now.
-fn look(settings: Settings, ws: &[u64], part: Part, at: Nanos, id: Identity, cost: u32) -> Reply
-    requires { ⌜ (timedRefusal settings (id .hash) at (now ws) ≡ 0) × (part ≡ partOf settings (id .hash)) ⌝ }
+fn look(
+    settings: Settings,
+    rate: Rate,
+    ws: &[u64],
+    part: Part,
+    at: Nanos,
+    id: Identity,
+    cost: u32,
+) -> Reply
+    requires { ⌜ (timedRefusal settings (id .hash) at (now ws) ≡ 0) × (part ≡ partOf settings (id .hash)) × (settings .limit ≡ Open rate) ⌝ }
     ensures { λ r. ⌜ r ≡ Rules.peekedBy (settings .limit) settings at id cost (now (ws .entry)) ⌝ }
+{
+    let config = rate.config();
+    if config.capacity < cost {
+        return Reply::Tried(Decision::Impossible);
+    }
+    let bucket = shards::view(ws, part, config, id, at);
+    wait_reply(bucket.time_until_at(config, cost, at))
+}
+
+// The whole tokens that a key has; none where there is no rate.
+pub fn available(settings: Settings, ws: &[u64], at: Nanos, id: Identity) -> Reply
+    ensures { λ r. ⌜ outcome r (now (ws .exit)) ≡ Rules.available settings at id (now (ws .entry)) ⌝ }
 {
     let limit = settings.limit;
     match limit {
-        Limit::Closed => Reply::Tried(closed(cost)),
-        Limit::Open(rate) => {
-            let config = rate.config();
-            if config.capacity < cost {
-                return Reply::Tried(Decision::Impossible);
-            }
-            let bucket = shards::view(ws, part, config, id, at);
-            wait_reply(bucket.time_until_at(config, cost, at))
+        Limit::Closed => {
+            let late = refusals::moment_refusal(at);
+            let told = Reply::Count(0);
+            unless_refused(
+                settings.refusal(),
+                settings.shape(),
+                ws,
+                id.hash,
+                late,
+                told,
+            )
         }
+        Limit::Open(rate) => available_open(settings, rate, ws, at, id),
     }
 }
 
-// The whole tokens that a key has.
-pub fn available(settings: Settings, ws: &[u64], at: Nanos, id: Identity) -> Reply
+// The whole tokens at a rate.
+fn available_open(settings: Settings, rate: Rate, ws: &[u64], at: Nanos, id: Identity) -> Reply
+    requires { ⌜ settings .limit ≡ Open rate ⌝ }
     ensures { λ r. ⌜ outcome r (now (ws .exit)) ≡ Rules.available settings at id (now (ws .entry)) ⌝ }
 {
     let refusal = settings.refusal();
@@ -211,28 +349,37 @@ pub fn available(settings: Settings, ws: &[u64], at: Nanos, id: Identity) -> Rep
     }
     match lending::lend(settings.shape(), ws, id.hash, refusals::moment_refusal(at)) {
         Lending::Refused(refusal) => Reply::Refused(refusal),
-        Lending::Lent(part) => Reply::Count(tokens(settings, ws, part, at, id)),
+        Lending::Lent(part) => Reply::Count(tokens(settings, rate, ws, part, at, id)),
     }
 }
 
-// The tokens of the same bucket; none where there is no rate.
-fn tokens(settings: Settings, ws: &[u64], part: Part, at: Nanos, id: Identity) -> u64
-    requires { ⌜ (timedRefusal settings (id .hash) at (now ws) ≡ 0) × (part ≡ partOf settings (id .hash)) ⌝ }
+// The tokens of the same bucket as a peek's.
+fn tokens(settings: Settings, rate: Rate, ws: &[u64], part: Part, at: Nanos, id: Identity) -> u64
+    requires { ⌜ (timedRefusal settings (id .hash) at (now ws) ≡ 0) × (part ≡ partOf settings (id .hash)) × (settings .limit ≡ Open rate) ⌝ }
     ensures { λ r. ⌜ r ≡ Rules.availableBy (settings .limit) settings at id (now (ws .entry)) ⌝ }
+{
+    let config = rate.config();
+    let bucket = shards::view(ws, part, config, id, at);
+    bucket.available_at(config, at) as u64
+}
+
+// Gives tokens back to a key, if it is known. To a closed limiter every key is unknown.
+pub fn refund(settings: Settings, ws: &mut [u64], id: Identity, cost: u32) -> Reply
+    ensures { λ r. ⌜ outcome r (now (ws .exit)) ≡ Rules.refund settings id cost (now (ws .entry)) ⌝ }
 {
     let limit = settings.limit;
     match limit {
-        Limit::Closed => 0,
-        Limit::Open(rate) => {
-            let config = rate.config();
-            let bucket = shards::view(ws, part, config, id, at);
-            bucket.available_at(config, at) as u64
+        Limit::Closed => {
+            let told = Reply::Nothing;
+            unless_refused(settings.refusal(), settings.shape(), ws, id.hash, 0, told)
         }
+        Limit::Open(rate) => refund_open(settings, rate, ws, id, cost),
     }
 }
 
-// Gives tokens back to a key, if it is known.
-pub fn refund(settings: Settings, ws: &mut [u64], id: Identity, cost: u32) -> Reply
+// A refund at a rate.
+fn refund_open(settings: Settings, rate: Rate, ws: &mut [u64], id: Identity, cost: u32) -> Reply
+    requires { ⌜ settings .limit ≡ Open rate ⌝ }
     ensures { λ r. ⌜ outcome r (now (ws .exit)) ≡ Rules.refund settings id cost (now (ws .entry)) ⌝ }
 {
     let refusal = settings.refusal();
@@ -241,20 +388,23 @@ pub fn refund(settings: Settings, ws: &mut [u64], id: Identity, cost: u32) -> Re
     }
     match lending::lend(settings.shape(), ws, id.hash, 0) {
         Lending::Refused(refusal) => Reply::Refused(refusal),
-        Lending::Lent(part) => give_back(settings, ws, part, id, cost),
+        Lending::Lent(part) => give_back(settings, rate, ws, part, id, cost),
     }
 }
 
-// A refund that is not refused. To a closed limiter every key is unknown.
-fn give_back(settings: Settings, ws: &mut [u64], part: Part, id: Identity, cost: u32) -> Reply
-    requires { ⌜ (keyedRefusal settings (id .hash) (now ws) ≡ 0) × (part ≡ partOf settings (id .hash)) ⌝ }
+// A refund that is not refused.
+fn give_back(
+    settings: Settings,
+    rate: Rate,
+    ws: &mut [u64],
+    part: Part,
+    id: Identity,
+    cost: u32,
+) -> Reply
+    requires { ⌜ (keyedRefusal settings (id .hash) (now ws) ≡ 0) × (part ≡ partOf settings (id .hash)) × (settings .limit ≡ Open rate) ⌝ }
     ensures { λ r. ⌜ outcome r (now (ws .exit)) ≡ Rules.refundedBy (settings .limit) settings id cost (now (ws .entry)) ⌝ }
 {
-    let limit = settings.limit;
-    match limit {
-        Limit::Closed => Reply::Nothing,
-        Limit::Open(rate) => known_reply(shards::refund(ws, part, rate.config(), id, cost)),
-    }
+    known_reply(shards::refund(ws, part, rate.config(), id, cost))
 }
 
 // Forgets a key, if it is known.
@@ -287,6 +437,29 @@ pub fn len(settings: Settings, ws: &[u64]) -> Reply
         return Reply::Refused(refusal);
     }
     Reply::Count(shards::len(ws, settings) as u64)
+}
+
+// A call on a key to which a closed limiter tells the same whatever the words are: it is refused as any other call is, else told. `refusal` and `shape` are
+// those of the settings, `further` is the number for its other arguments.
+fn unless_refused(
+    refusal: u32,
+    shape: Shape,
+    ws: &[u64],
+    hash: u64,
+    further: u32,
+    told: Reply,
+) -> Reply
+    requires { ⌜ (refusal ≡ 0 → ShapeOfAccepted shape) ⌝ }
+    ensures { λ r. ⌜ outcome r (now (ws .exit)) ≡
+        Rules.unlessRefused (firstOf refusal (firstOf (shapeRefusal shape hash (now (ws .entry))) further)) (now (ws .entry)) (outcome told (now (ws .entry))) ⌝ }
+{
+    if refusal != 0 {
+        return Reply::Refused(refusal);
+    }
+    match lending::lend(shape, ws, hash, further) {
+        Lending::Refused(refusal) => Reply::Refused(refusal),
+        Lending::Lent(_) => told,
+    }
 }
 
 // The answer of a limiter without a rate: it grants only cost 0.

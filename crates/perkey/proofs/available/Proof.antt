@@ -1,63 +1,57 @@
--- `available` tells the refusal, else the tokens.
-use Rattle.perkey.proofs.CallLaws.{refusal-is-told, unlent-is-told, lent-is-ruled}
+-- `available` tells a closed limiter's answer, unless the call is refused, and what `available_open` tells where there is a rate.
+use mathlib.Core.Path.{refl, sym, _∙_}
+use Rattle.shards.specs.Refusals.{momentRefusal}
+use Rattle.shards.proofs.LendingLaws.{accepted-shape}
 use Rattle.perkey.specs.Calls.{available}
-use Rattle.shards.proofs.RefusalLaws.{settings-refuse-timed}
-use Rattle.shards.proofs.LendingLaws.{accepted-shape, lent-part, timed-lending}
-use mathlib.Core.Path.{sym, _∙_}
+use Rattle.perkey.proofs.CallLaws.{closed-is-told, closed-available}
 use borrow.Author.Needs.{needs}
 use Rattle.perkey.proofs.available.Statement.{statement}
 use Rattle.perkey.proofs.available.Tie as tie
 
-refusal-requires : tie.Need-refusal-requires
-refusal-requires c κs = search needs
-
-returns : tie.Need-returns
-returns c =
-    let args′ = c .before .before .before .args in
-    let if1′ = c .if1 in
-    refusal-is-told (available (args′ .settings) (args′ .at) (args′ .id)) (args′ .ws .now) (settings-refuse-timed (args′ .settings) (args′ .id .hash) (args′ .ws .now) (c .before .refusal .ensures) (if1′ .taken) (args′ .at)) (if1′ .taken)
-
-shape-requires : tie.Need-shape-requires
-shape-requires c κs = search needs
+enum-told : tie.Need-enum-told
+enum-told c = search needs
 
 moment-refusal-requires : tie.Need-moment-refusal-requires
 moment-refusal-requires c κs = search needs
 
-lend-requires : tie.Need-lend-requires
-lend-requires c κs = accepted-shape (c .before .before .before .before .before .args .settings) (sym (c .before .before .before .refusal .ensures) ∙ c .before .before .if1 .left) (c .before .shape .ensures)
+refusal-requires : tie.Need-refusal-requires
+refusal-requires c κs = search needs
 
-enum-known-refusal : tie.Need-enum-known-refusal
-enum-known-refusal c = search needs
+shape-requires : tie.Need-shape-requires
+shape-requires c κs = search needs
 
-enum-known-part : tie.Need-enum-known-part
-enum-known-part c = search needs
+unless-refused-requires : tie.Need-unless-refused-requires
+unless-refused-requires c κs =
+    let r = c .before in
+    λ none. accepted-shape (r .before .before .before .before .before .args .settings) (sym (r .refusal .ensures) ∙ none) (c .shape .ensures)
 
-tokens-requires : tie.Need-tokens-requires
-tokens-requires c κs =
-    let args′ = c .before .before .before .before .before .before .before .before .before .args in
-    lent-part _ _ (timed-lending (args′ .settings) (args′ .id .hash) (args′ .ws .now) (sym (c .before .before .before .before .before .before .before .refusal .ensures) ∙ c .before .before .before .before .before .before .if1 .left) (c .before .before .before .before .before .shape .ensures) _ (c .before .before .before .lend .ensures) (args′ .at) (c .before .before .before .before .moment-refusal .ensures)) (c .before .part .given .1)
+enum-known-limit : tie.Need-enum-known-limit
+enum-known-limit c = search needs
+
+available-open-requires : tie.Need-available-open-requires
+available-open-requires c κs = c .before .limit .given .1
+
+returns : tie.Need-returns
+returns c =
+    let r = c .before .before in
+    let a = r .before .before .before .before .before .args in
+    let ruled = closed-available (a .settings) (r .before .before .enum-told .given .1) (a .at) (a .id) (a .ws .now) in
+    closed-is-told (available (a .settings) (a .at) (a .id)) (a .settings) (a .id .hash) (a .ws .now) (momentRefusal (a .at)) (r .refusal .ensures) (c .before .shape .ensures)
+    (r .before .moment-refusal .ensures) refl ruled (c .unless-refused .ensures)
 
 returns-2 : tie.Need-returns-2
-returns-2 c =
-    let args′ = c .before .before .before .before .before .before .before .before .before .args in
-    unlent-is-told (available (args′ .settings) (args′ .at) (args′ .id)) (args′ .ws .now) _ (timed-lending (args′ .settings) (args′ .id .hash) (args′ .ws .now) (sym (c .before .before .before .before .before .before .before .refusal .ensures) ∙ c .before .before .before .before .before .before .if1 .left) (c .before .before .before .before .before .shape .ensures) _ (c .before .before .before .lend .ensures) (args′ .at) (c .before .before .before .before .moment-refusal .ensures)) (c .before .refusal2 .given .1)
-
-returns-3 : tie.Need-returns-3
-returns-3 c =
-    let args′ = c .before .before .before .before .before .before .before .before .before .before .args in
-    lent-is-ruled (available (args′ .settings) (args′ .at) (args′ .id)) (args′ .ws .now) _ (timed-lending (args′ .settings) (args′ .id .hash) (args′ .ws .now) (sym (c .before .before .before .before .before .before .before .before .refusal .ensures) ∙ c .before .before .before .before .before .before .before .if1 .left) (c .before .before .before .before .before .before .shape .ensures) _ (c .before .before .before .before .lend .ensures) (args′ .at) (c .before .before .before .before .before .moment-refusal .ensures)) (c .before .before .part .given .1) (rw (c .tokens .ensures))
+returns-2 c = c .available-open .ensures
 
 pub available-spec : {M : Type 1} → statement M
 available-spec =
     tie.close
     (tie.spec
-    refusal-requires
-    returns
-    shape-requires
+    enum-told
     moment-refusal-requires
-    lend-requires
-    enum-known-refusal
-    enum-known-part
-    tokens-requires
-    returns-2
-    returns-3)
+    refusal-requires
+    shape-requires
+    unless-refused-requires
+    enum-known-limit
+    available-open-requires
+    returns
+    returns-2)

@@ -1,63 +1,61 @@
--- `peek` tells the refusal, else what `look` tells.
-use Rattle.perkey.proofs.CallLaws.{refusal-is-told, unlent-is-told, lent-is-ruled}
+-- `peek` tells a closed limiter's answer, unless the call is refused, and what `peek_open` tells where there is a rate.
+use mathlib.Core.Path.{refl, sym, _∙_}
+use Rattle.shards.specs.Refusals.{momentRefusal}
+use Rattle.shards.proofs.LendingLaws.{accepted-shape}
 use Rattle.perkey.specs.Calls.{peek}
-use Rattle.shards.proofs.RefusalLaws.{settings-refuse-timed}
-use Rattle.shards.proofs.LendingLaws.{accepted-shape, lent-part, timed-lending}
-use mathlib.Core.Path.{sym, _∙_}
+use Rattle.perkey.proofs.CallLaws.{closed-is-told, closed-peek}
 use borrow.Author.Needs.{needs}
 use Rattle.perkey.proofs.peek.Statement.{statement}
 use Rattle.perkey.proofs.peek.Tie as tie
 
-refusal-requires : tie.Need-refusal-requires
-refusal-requires c κs = search needs
-
-returns : tie.Need-returns
-returns c =
-    let args′ = c .before .before .before .args in
-    let if1′ = c .if1 in
-    refusal-is-told (peek (args′ .settings) (args′ .at) (args′ .id) (args′ .cost)) (args′ .ws .now) (settings-refuse-timed (args′ .settings) (args′ .id .hash) (args′ .ws .now) (c .before .refusal .ensures) (if1′ .taken) (args′ .at)) (if1′ .taken)
-
-shape-requires : tie.Need-shape-requires
-shape-requires c κs = search needs
+enum-told : tie.Need-enum-told
+enum-told c = search needs
 
 moment-refusal-requires : tie.Need-moment-refusal-requires
 moment-refusal-requires c κs = search needs
 
-lend-requires : tie.Need-lend-requires
-lend-requires c κs = accepted-shape (c .before .before .before .before .before .args .settings) (sym (c .before .before .before .refusal .ensures) ∙ c .before .before .if1 .left) (c .before .shape .ensures)
+closed-requires : tie.Need-closed-requires
+closed-requires c κs = search needs
 
-enum-known-refusal : tie.Need-enum-known-refusal
-enum-known-refusal c = search needs
+refusal-requires : tie.Need-refusal-requires
+refusal-requires c κs = search needs
 
-enum-known-part : tie.Need-enum-known-part
-enum-known-part c = search needs
+shape-requires : tie.Need-shape-requires
+shape-requires c κs = search needs
 
-look-requires : tie.Need-look-requires
-look-requires c κs =
-    let args′ = c .before .before .before .before .before .before .before .before .before .args in
-    lent-part _ _ (timed-lending (args′ .settings) (args′ .id .hash) (args′ .ws .now) (sym (c .before .before .before .before .before .before .before .refusal .ensures) ∙ c .before .before .before .before .before .before .if1 .left) (c .before .before .before .before .before .shape .ensures) _ (c .before .before .before .lend .ensures) (args′ .at) (c .before .before .before .before .moment-refusal .ensures)) (c .before .part .given .1)
+unless-refused-requires : tie.Need-unless-refused-requires
+unless-refused-requires c κs =
+    let r = c .before in
+    λ none. accepted-shape (r .before .before .before .before .before .before .args .settings) (sym (r .refusal .ensures) ∙ none) (c .shape .ensures)
+
+enum-known-limit : tie.Need-enum-known-limit
+enum-known-limit c = search needs
+
+peek-open-requires : tie.Need-peek-open-requires
+peek-open-requires c κs = c .before .limit .given .1
+
+returns : tie.Need-returns
+returns c =
+    let r = c .before .before in
+    let a = r .before .before .before .before .before .before .args in
+    let ruled = closed-peek (a .settings) (r .before .before .before .enum-told .given .1) (a .at) (a .id) (a .ws .now) (a .cost) (r .before .closed .ensures) in
+    closed-is-told (peek (a .settings) (a .at) (a .id) (a .cost)) (a .settings) (a .id .hash) (a .ws .now) (momentRefusal (a .at)) (r .refusal .ensures) (c .before .shape .ensures)
+    (r .before .before .moment-refusal .ensures) refl ruled (c .unless-refused .ensures)
 
 returns-2 : tie.Need-returns-2
-returns-2 c =
-    let args′ = c .before .before .before .before .before .before .before .before .before .args in
-    unlent-is-told (peek (args′ .settings) (args′ .at) (args′ .id) (args′ .cost)) (args′ .ws .now) _ (timed-lending (args′ .settings) (args′ .id .hash) (args′ .ws .now) (sym (c .before .before .before .before .before .before .before .refusal .ensures) ∙ c .before .before .before .before .before .before .if1 .left) (c .before .before .before .before .before .shape .ensures) _ (c .before .before .before .lend .ensures) (args′ .at) (c .before .before .before .before .moment-refusal .ensures)) (c .before .refusal2 .given .1)
-
-returns-3 : tie.Need-returns-3
-returns-3 c =
-    let args′ = c .before .before .before .before .before .before .before .before .before .before .args in
-    lent-is-ruled (peek (args′ .settings) (args′ .at) (args′ .id) (args′ .cost)) (args′ .ws .now) _ (timed-lending (args′ .settings) (args′ .id .hash) (args′ .ws .now) (sym (c .before .before .before .before .before .before .before .before .refusal .ensures) ∙ c .before .before .before .before .before .before .before .if1 .left) (c .before .before .before .before .before .before .shape .ensures) _ (c .before .before .before .before .lend .ensures) (args′ .at) (c .before .before .before .before .before .moment-refusal .ensures)) (c .before .before .part .given .1) (rw (c .look .ensures))
+returns-2 c = c .peek-open .ensures
 
 pub peek-spec : {M : Type 1} → statement M
 peek-spec =
     tie.close
     (tie.spec
-    refusal-requires
-    returns
-    shape-requires
+    enum-told
     moment-refusal-requires
-    lend-requires
-    enum-known-refusal
-    enum-known-part
-    look-requires
-    returns-2
-    returns-3)
+    closed-requires
+    refusal-requires
+    shape-requires
+    unless-refused-requires
+    enum-known-limit
+    peek-open-requires
+    returns
+    returns-2)

@@ -1,28 +1,50 @@
--- `remove` tells the refusal, else the store's answer in the key's shard.
-use Rattle.perkey.proofs.RuleLaws.{removal-may-be-asked, key-is-told}
-use Rattle.perkey.proofs.CallLaws.{refusal-is-told, unlent-is-told, lent-is-ruled}
-use Rattle.perkey.specs.Calls.{remove}
+-- `remove` tells the refusal, else what the store tells of the key's shard.
+use mathlib.Core.Path.{_≡_, refl, sym, _∙_}
+use Rattle.settings.specs.Settings.{settingsRefusal}
+use Rattle.shards.specs.Lending.{lentUnless}
+use Rattle.shards.specs.Memory.{partOf}
+use Rattle.shards.specs.Refusals.{keyedRefusal}
 use Rattle.shards.proofs.RefusalLaws.{settings-refuse-keyed}
 use Rattle.shards.proofs.LendingLaws.{accepted-shape, lent-part, keyed-lending}
-use mathlib.Core.Path.{refl, sym, _∙_}
+use Rattle.perkey.specs.Calls.{Call, remove}
+use Rattle.perkey.proofs.CallLaws.{refusal-is-told, unlent-is-told, lent-is-ruled}
+use Rattle.perkey.proofs.RuleLaws.{removal-may-be-asked, key-is-told}
 use borrow.Author.Needs.{needs}
 use Rattle.perkey.proofs.remove.Statement.{statement}
 use Rattle.perkey.proofs.remove.Tie as tie
+
+-- The call; where it began, as seen once the settings are accepted and once `lend` has answered; and what `lend` answered.
+abbrev call : tie.Start → Call
+call s = remove (s .args .settings) (s .args .id)
+
+accepted : (e : tie.Else1) → settingsRefusal (e .before .before .before .args .settings) ≡ 0
+accepted e = sym (e .before .refusal .ensures) ∙ e .if1 .left
+
+abbrev start : tie.After-lend → tie.Start
+start l = l .before .before .before .before .before .before
+
+lending : (l : tie.After-lend) → let a = start l .args in l .lend .result ≡ lentUnless (keyedRefusal (a .settings) (a .id .hash) (a .ws .now)) (partOf (a .settings) (a .id .hash))
+lending l =
+    let a = start l .args in
+    let e = l .before .before .before in
+    keyed-lending (a .settings) (a .id .hash) (a .ws .now) (accepted e) (l .before .before .shape .ensures) _ (l .lend .ensures) refl
 
 refusal-requires : tie.Need-refusal-requires
 refusal-requires c κs = search needs
 
 returns : tie.Need-returns
 returns c =
-    let args′ = c .before .before .before .args in
-    let if1′ = c .if1 in
-    refusal-is-told (remove (args′ .settings) (args′ .id)) (args′ .ws .now) (settings-refuse-keyed (args′ .settings) (args′ .id .hash) (args′ .ws .now) (c .before .refusal .ensures) (if1′ .taken)) (if1′ .taken)
+    let s = c .before .before .before in
+    let a = s .args in
+    refusal-is-told (call s) (a .ws .now) (settings-refuse-keyed (a .settings) (a .id .hash) (a .ws .now) (c .before .refusal .ensures) (c .if1 .taken)) (c .if1 .taken)
 
 shape-requires : tie.Need-shape-requires
 shape-requires c κs = search needs
 
 lend-requires : tie.Need-lend-requires
-lend-requires c κs = accepted-shape (c .before .before .before .before .before .args .settings) (sym (c .before .before .before .refusal .ensures) ∙ c .before .before .if1 .left) (c .before .shape .ensures)
+lend-requires c κs =
+    let e = c .before .before in
+    accepted-shape (e .before .before .before .args .settings) (accepted e) (c .before .shape .ensures)
 
 enum-known-refusal : tie.Need-enum-known-refusal
 enum-known-refusal c = search needs
@@ -32,8 +54,10 @@ enum-known-part c = search needs
 
 remove-requires : tie.Need-remove-requires
 remove-requires c κs =
-    let args′ = c .before .before .before .before .before .before .before .before .before .before .args in
-    let lent = lent-part _ _ (keyed-lending (args′ .settings) (args′ .id .hash) (args′ .ws .now) (sym (c .before .before .before .before .before .before .before .before .refusal .ensures) ∙ c .before .before .before .before .before .before .before .if1 .left) (c .before .before .before .before .before .before .shape .ensures) _ (c .before .before .before .before .lend .ensures) refl) (c .before .before .part .given .1) in removal-may-be-asked (args′ .settings) (args′ .id .hash) (args′ .ws .now) (lent .1) (lent .0)
+    let l = c .before .before .before .before in
+    let lent = lent-part _ _ (lending l) (c .before .before .part .given .1) in
+    let a = start l .args in
+    removal-may-be-asked (a .settings) (a .id .hash) (a .ws .now) (lent .1) (lent .0)
 
 known-reply-requires : tie.Need-known-reply-requires
 known-reply-requires c κs = search needs
@@ -43,21 +67,19 @@ same-length c = search needs
 
 returns-2 : tie.Need-returns-2
 returns-2 c =
-    let args′ = c .before .before .before .before .before .before .before .before .before .args in
-    unlent-is-told (remove (args′ .settings) (args′ .id)) (args′ .ws .now) _ (keyed-lending (args′ .settings) (args′ .id .hash) (args′ .ws .now) (sym (c .before .before .before .before .before .before .before .refusal .ensures) ∙ c .before .before .before .before .before .before .if1 .left) (c .before .before .before .before .before .shape .ensures) _ (c .before .before .before .lend .ensures) refl) (c .before .refusal2 .given .1)
+    let l = c .before .before .before in
+    unlent-is-told (call (start l)) (start l .args .ws .now) _ (lending l) (c .before .refusal2 .given .1)
 
 same-length-2 : tie.Need-same-length-2
 same-length-2 c = search needs
 
 returns-3 : tie.Need-returns-3
 returns-3 c =
-    let args′ = c .before .before .before .before .before .before .before .before .before .before .before .before .before .before .args in
-    let refusal′ = c .before .before .before .before .before .before .before .before .before .before .before .before .refusal in
-    let if1′ = c .before .before .before .before .before .before .before .before .before .before .before .if1 in
-    let shape′ = c .before .before .before .before .before .before .before .before .before .before .shape in
-    let lend′ = c .before .before .before .before .before .before .before .before .lend in
-    let part′ = c .before .before .before .before .before .before .part in
-    lent-is-ruled (remove (args′ .settings) (args′ .id)) (args′ .ws .now) _ (keyed-lending (args′ .settings) (args′ .id .hash) (args′ .ws .now) (sym (refusal′ .ensures) ∙ if1′ .left) (shape′ .ensures) _ (lend′ .ensures) refl) (part′ .given .1) (key-is-told (args′ .settings) (args′ .id) (args′ .ws .now) _ (rw (lent-part _ _ (keyed-lending (args′ .settings) (args′ .id .hash) (args′ .ws .now) (sym (refusal′ .ensures) ∙ if1′ .left) (shape′ .ensures) _ (lend′ .ensures) refl) (part′ .given .1) .1) at (c .before .before .before .remove .ensures)) (c .known-reply .ensures))
+    let p = c .before .before .before .before .before .before in
+    let l = p .before .before in
+    let a = start l .args in
+    let removed = rw (lent-part _ _ (lending l) (p .part .given .1) .1) at (c .before .before .before .remove .ensures) in
+    lent-is-ruled (call (start l)) (a .ws .now) _ (lending l) (p .part .given .1) (key-is-told (a .settings) (a .id) (a .ws .now) _ removed (c .known-reply .ensures))
 
 pub remove-spec : {M : Type 1} → statement M
 remove-spec =

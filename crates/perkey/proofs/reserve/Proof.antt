@@ -1,80 +1,64 @@
--- `reserve` tells the refusal, else what `reserve_within` tells.
-use Rattle.perkey.proofs.RuleLaws.{reserve-is-timed}
-use Rattle.perkey.proofs.CallLaws.{refusal-is-told, unlent-is-told, lent-is-ruled}
-use Rattle.perkey.specs.Calls.{reserve}
-use Rattle.shards.proofs.RefusalLaws.{settings-refuse-reserve}
-use Rattle.shards.proofs.LendingLaws.{accepted-shape, lent-part, reserve-lending}
-use mathlib.Core.Path.{sym, _∙_}
+-- `reserve` tells nothing on a closed limiter, unless the call is refused, and what `reserve_open` tells where there is a rate.
+use mathlib.Core.Path.{refl, sym, _∙_}
+use Rattle.bucket.specs.declared.Request.the-variants.{Reserve}
+use Rattle.shards.proofs.LendingLaws.{accepted-shape}
+use Rattle.perkey.proofs.CallLaws.{closed-request-is-told}
 use borrow.Author.Needs.{needs}
 use Rattle.perkey.proofs.reserve.Statement.{statement}
 use Rattle.perkey.proofs.reserve.Tie as tie
 
+enum-told : tie.Need-enum-told
+enum-told c = search needs
+
+reserve-refusal-requires : tie.Need-reserve-refusal-requires
+reserve-refusal-requires c κs = search needs
+
 refusal-requires : tie.Need-refusal-requires
 refusal-requires c κs = search needs
-
-returns : tie.Need-returns
-returns c =
-    let args′ = c .before .before .before .args in
-    let if1′ = c .if1 in
-    refusal-is-told (reserve (args′ .settings) (args′ .at) (args′ .id) (args′ .cost) (args′ .max-wait)) (args′ .ws .now) (settings-refuse-reserve (args′ .settings) (args′ .id .hash) (args′ .ws .now) (c .before .refusal .ensures) (if1′ .taken) (args′ .at) (args′ .max-wait)) (if1′ .taken)
-
-moment-refusal-requires : tie.Need-moment-refusal-requires
-moment-refusal-requires c κs = search needs
-
-wait-refusal-requires : tie.Need-wait-refusal-requires
-wait-refusal-requires c κs = search needs
-
-first-of-requires : tie.Need-first-of-requires
-first-of-requires c κs = search needs
 
 shape-requires : tie.Need-shape-requires
 shape-requires c κs = search needs
 
-lend-requires : tie.Need-lend-requires
-lend-requires c κs = accepted-shape (c .before .before .before .before .before .before .before .before .args .settings) (sym (c .before .before .before .before .before .before .refusal .ensures) ∙ c .before .before .before .before .before .if1 .left) (c .before .shape .ensures)
+unless-refused-requires : tie.Need-unless-refused-requires
+unless-refused-requires c κs =
+    let r = c .before .before in
+    λ none. accepted-shape (r .before .before .before .before .before .args .settings) (sym (r .refusal .ensures) ∙ none) (c .before .shape .ensures)
 
-enum-known-refusal : tie.Need-enum-known-refusal
-enum-known-refusal c = search needs
+enum-known-limit : tie.Need-enum-known-limit
+enum-known-limit c = search needs
 
-enum-known-part : tie.Need-enum-known-part
-enum-known-part c = search needs
-
-reserve-within-requires : tie.Need-reserve-within-requires
-reserve-within-requires c κs =
-    let args′ = c .before .before .before .before .before .before .before .before .before .before .before .before .before .args in
-    let lent = lent-part _ _ (reserve-lending (args′ .settings) (args′ .id .hash) (args′ .ws .now) (sym (c .before .before .before .before .before .before .before .before .before .before .before .refusal .ensures) ∙ c .before .before .before .before .before .before .before .before .before .before .if1 .left) (c .before .before .before .before .before .before .shape .ensures) _ (c .before .before .before .before .lend .ensures) (args′ .at) (args′ .max-wait) (c .before .before .before .before .before .before .before .before .before .moment-refusal .ensures) (c .before .before .before .before .before .before .before .before .wait-refusal .ensures) (c .before .before .before .before .before .before .before .first-of .ensures)) (c .before .before .part .given .1) in (reserve-is-timed (args′ .settings) (args′ .id .hash) (args′ .ws .now) (args′ .at) (args′ .max-wait) (lent .0), lent .1)
+reserve-open-requires : tie.Need-reserve-open-requires
+reserve-open-requires c κs = c .before .before .limit .given .1
 
 same-length : tie.Need-same-length
 same-length c = search needs
 
-returns-2 : tie.Need-returns-2
-returns-2 c =
-    let args′ = c .before .before .before .before .before .before .before .before .before .before .before .before .args in
-    unlent-is-told (reserve (args′ .settings) (args′ .at) (args′ .id) (args′ .cost) (args′ .max-wait)) (args′ .ws .now) _ (reserve-lending (args′ .settings) (args′ .id .hash) (args′ .ws .now) (sym (c .before .before .before .before .before .before .before .before .before .before .refusal .ensures) ∙ c .before .before .before .before .before .before .before .before .before .if1 .left) (c .before .before .before .before .before .shape .ensures) _ (c .before .before .before .lend .ensures) (args′ .at) (args′ .max-wait) (c .before .before .before .before .before .before .before .before .moment-refusal .ensures) (c .before .before .before .before .before .before .before .wait-refusal .ensures) (c .before .before .before .before .before .before .first-of .ensures)) (c .before .refusal2 .given .1)
+returns : tie.Need-returns
+returns c =
+    let r = c .before .before .before in
+    let f = r .before in
+    let a = f .before .before .before .before .args in
+    closed-request-is-told (Reserve (a .max-wait)) (a .settings) (a .at) (a .id) (a .cost) (a .ws .now) (f .before .enum-told .given .1) refl
+    (r .refusal .ensures) (c .before .before .shape .ensures) (f .reserve-refusal .ensures) (c .unless-refused .ensures)
 
 same-length-2 : tie.Need-same-length-2
 same-length-2 c = search needs
 
-returns-3 : tie.Need-returns-3
-returns-3 c =
-    let args′ = c .before .before .before .before .before .before .before .before .before .before .before .before .before .before .before .before .args in
-    lent-is-ruled (reserve (args′ .settings) (args′ .at) (args′ .id) (args′ .cost) (args′ .max-wait)) (args′ .ws .now) _ (reserve-lending (args′ .settings) (args′ .id .hash) (args′ .ws .now) (sym (c .before .before .before .before .before .before .before .before .before .before .before .before .before .before .refusal .ensures) ∙ c .before .before .before .before .before .before .before .before .before .before .before .before .before .if1 .left) (c .before .before .before .before .before .before .before .before .before .shape .ensures) _ (c .before .before .before .before .before .before .before .lend .ensures) (args′ .at) (args′ .max-wait) (c .before .before .before .before .before .before .before .before .before .before .before .before .moment-refusal .ensures) (c .before .before .before .before .before .before .before .before .before .before .before .wait-refusal .ensures) (c .before .before .before .before .before .before .before .before .before .before .first-of .ensures)) (c .before .before .before .before .before .part .given .1) (c .before .before .reserve-within .ensures)
+returns-2 : tie.Need-returns-2
+returns-2 c = c .before .before .reserve-open .ensures
 
 pub reserve-spec : {M : Type 1} → statement M
 reserve-spec =
     tie.close
     (tie.spec
+    enum-told
+    reserve-refusal-requires
     refusal-requires
-    returns
-    moment-refusal-requires
-    wait-refusal-requires
-    first-of-requires
     shape-requires
-    lend-requires
-    enum-known-refusal
-    enum-known-part
-    reserve-within-requires
+    unless-refused-requires
+    enum-known-limit
+    reserve-open-requires
     same-length
-    returns-2
+    returns
     same-length-2
-    returns-3)
+    returns-2)

@@ -23,8 +23,9 @@ same-length-2 c = search needs
 
 returns-2 : tie.Need-returns-2
 returns-2 c =
-    let args′ = c .before .before .before .before .before .before .before .before .args in
-    rw (c .before .before .clear .ensures) (set-up-zeroes (args′ .settings) (args′ .ws .now) (c .before .before .before .before .before .set-up-refusal .ensures) (c .before .before .before .before .if1 .left))
+    let e = c .before .before .before .before in
+    let a = e .before .before .before .before .args in
+    rw (c .before .before .clear .ensures) (set-up-zeroes (a .settings) (a .ws .now) (e .before .set-up-refusal .ensures) (e .if1 .left))
 
 pub set-up-spec : {M : Type 1} → statement M
 set-up-spec =

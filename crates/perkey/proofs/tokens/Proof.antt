@@ -1,44 +1,44 @@
--- `tokens` goes by the limit, and counts the bucket that it views.
-use Rattle.perkey.proofs.RuleLaws.{bucket-may-be-viewed}
+-- `tokens` counts the bucket that it views.
+use Rattle.bucket.specs.Bucket.{Accepted}
+use Rattle.shard_map.specs.Model.{Sound}
+use Rattle.shards.specs.Memory.{Placed, shardIn}
+use Rattle.perkey.proofs.RuleLaws.{bucket-may-be-viewed, viewed-tokens-are-told}
 use borrow.Author.Needs.{needs}
 use Rattle.perkey.proofs.tokens.Statement.{statement}
 use Rattle.perkey.proofs.tokens.Tie as tie
 
-enum-told : tie.Need-enum-told
-enum-told c = search needs
+-- Where the call began, as seen once the configuration is made, and that the bucket may be viewed.
+abbrev start : tie.After-config → tie.Start
+start k = k .before .before
 
-enum-known-limit : tie.Need-enum-known-limit
-enum-known-limit c = search needs
+viewed : (k : tie.After-config) → let a = start k .args in Placed (a .part) (a .ws .now) × Sound (shardIn (a .part) (a .ws .now)) × Accepted (k .config .result)
+viewed k =
+    let a = start k .args in
+    let pre′ = start k .pre in
+    bucket-may-be-viewed (a .settings) (a .id .hash) (a .ws .now) (pre′ .1) (a .at) (pre′ .0) (a .rate) (pre′ .2) (k .config .ensures)
 
 config-requires : tie.Need-config-requires
 config-requires c κs = search needs
 
 view-requires : tie.Need-view-requires
-view-requires c κs =
-    let args′ = c .before .before .before .before .before .args in
-    let start′ = c .before .before .before .before .before in
-    bucket-may-be-viewed (args′ .settings) (args′ .id .hash) (args′ .ws .now) (start′ .pre .1) (args′ .at) (start′ .pre .0) _ (c .before .before .limit .given .1) (c .config .ensures)
+view-requires c κs = viewed c
 
 available-at-requires : tie.Need-available-at-requires
-available-at-requires c κs =
-    let args′ = c .before .before .before .before .before .before .args in
-    let start′ = c .before .before .before .before .before .before in
-    bucket-may-be-viewed (args′ .settings) (args′ .id .hash) (args′ .ws .now) (start′ .pre .1) (args′ .at) (start′ .pre .0) _ (c .before .before .before .limit .given .1) (c .before .config .ensures) .2
+available-at-requires c κs = viewed (c .before) .2
 
 returns : tie.Need-returns
-returns c = search needs
-
-returns-2 : tie.Need-returns-2
-returns-2 c = rw (c .before .before .before .before .limit .given .1, c .available-at .ensures, c .before .view .ensures, c .before .before .config .ensures, c .before .before .before .before .before .before .before .pre .1)
+returns c =
+    let k = c .before .before in
+    let a = start k .args in
+    let pre′ = start k .pre in
+    viewed-tokens-are-told (a .settings) (a .rate) (a .at) (a .id) (a .ws .now) (pre′ .2) (pre′ .1) (k .config .ensures) (c .before .view .ensures)
+    (c .available-at .ensures)
 
 pub tokens-spec : {M : Type 1} → statement M
 tokens-spec =
     tie.close
     (tie.spec
-    enum-told
-    enum-known-limit
     config-requires
     view-requires
     available-at-requires
-    returns
-    returns-2)
+    returns)

@@ -1,0 +1,19 @@
+-- `reserve_refusal` tells the first number of the two.
+use borrow.Author.Needs.{needs}
+use Rattle.perkey.proofs.reserve_refusal.Statement.{statement}
+use Rattle.perkey.proofs.reserve_refusal.Tie as tie
+
+moment-refusal-requires : tie.Need-moment-refusal-requires
+moment-refusal-requires c κs = search needs
+
+wait-refusal-requires : tie.Need-wait-refusal-requires
+wait-refusal-requires c κs = search needs
+
+first-of-requires : tie.Need-first-of-requires
+first-of-requires c κs = search needs
+
+returns : tie.Need-returns
+returns c = rw (c .before .before .moment-refusal .ensures, c .before .wait-refusal .ensures) at (c .first-of .ensures)
+
+pub reserve-refusal-spec : {M : Type 1} → statement M
+reserve-refusal-spec = tie.close (tie.spec moment-refusal-requires wait-refusal-requires first-of-requires returns)
