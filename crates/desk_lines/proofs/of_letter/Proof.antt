@@ -42,7 +42,10 @@ returns-6 : tie.Need-returns-6
 returns-6 c = rw (after-letter (c .before .before .before .before .before .before .before .before .args .line .now)) at (c .set-up-line .ensures) ∙ letter-s _ _ (c .before .if6 .taken)
 
 returns-7 : tie.Need-returns-7
-returns-7 c = other-letter _ _ (c .before .before .before .before .before .if1 .left) (c .before .before .before .before .if2 .left) (c .before .before .before .if3 .left) (c .before .before .if4 .left) (c .before .if5 .left) (c .if6 .left)
+returns-7 c =
+    let third = c .before .before .before in
+    let second = third .before in
+    other-letter _ _ (second .before .if1 .left) (second .if2 .left) (third .if3 .left) (c .before .before .if4 .left) (c .before .if5 .left) (c .if6 .left)
 
 pub of-letter-spec : {M : Type 1} → statement M
 of-letter-spec =
