@@ -37,8 +37,9 @@ returns c =
     let fourth = c .before .before .before .before in
     let third = fourth .before in
     let second = third .before in
+    let first = second .before in
     let a = start fourth .args in
-    rate-taken (a .line .now) (a .rest) _ _ _ _ (second .before .number .ensures) (second .number2 .ensures) (third .number3 .ensures) (fourth .number4 .ensures)
+    rate-taken (a .line .now) (a .rest) _ _ _ _ (first .number .ensures) (second .number2 .ensures) (third .number3 .ensures) (fourth .number4 .ensures)
 
 pub rate-spec : {M : Type 1} → statement M
 rate-spec =
