@@ -23,7 +23,8 @@ use Rattle.desk_lines.specs.declared.Line.{Line}
 use Rattle.desk_lines.specs.declared.Line.the-variants.{SetUp, Malformed}
 use Rattle.desk_lines.specs.Fields.{fields, fieldEnd, fieldsFrom}
 use Rattle.desk_lines.specs.Lines as Lines
-use Rattle.desk_lines.specs.Lines.{Reading, left, Taken, taken, takenIdle, takenRequest, takenRate, nanosOf, isFinished, finished, most32, most64, mostRule, longestLine, lineOfLetter, lineOfFields, lineOf}
+use Rattle.desk_lines.specs.Lines.{Reading, left, Taken, taken, takenIdle, takenRequest, takenRate, nanosOf, isFinished, finished}
+use Rattle.desk_lines.specs.Lines.{most32, most64, mostRule, longestLine, lineOfLetter, lineOfFields, lineOf}
 use Rattle.desk_lines.specs.Places.{readingAt, numberAt, idleAt, rateAt}
 use Rattle.desk_lines.proofs.FieldLaws.{field-ends-inside, first-field}
 use borrow.Author.Tests.{le-leb, lt-leb, ne-eqb}
@@ -58,7 +59,10 @@ module _ (line : List ℕ) (rest : Rest) where
   pub rate-taken : (amount period burst initial : NumberRead) → numberAt line amount ≡ taken most32 (readingAt line rest)
       → numberAt line period ≡ taken most64 (readingAt line (amount .rest)) → numberAt line burst ≡ taken most32 (readingAt line (period .rest))
       → numberAt line initial ≡ taken most32 (readingAt line (burst .rest))
-      → rateAt line (record { value = record { amount = amount .value; period = nanosOf (period .value); burst = tokens.Some (burst .value); initial = tokens.Some (initial .value) }; rest = initial .rest })
+      → rateAt line (record {
+        value = record { amount = amount .value; period = nanosOf (period .value); burst = tokens.Some (burst .value); initial = tokens.Some (initial .value) };
+        rest = initial .rest;
+      })
       ≡ takenRate (readingAt line rest)
   rate-taken amount period burst initial e₁ e₂ e₃ e₄ =
       let e₂′ = taken-after most64 e₂ (restOf e₁) in

@@ -42,7 +42,8 @@ unfolding fields taken isDash whenFullOf lineOfLetter lineOf isDigit allDigits d
 peek-line = refl
 
 -- "r 500000000 7 3 1000000000"
-pub reserve-line : lineOf (114 ∷ 32 ∷ 53 ∷ 48 ∷ 48 ∷ 48 ∷ 48 ∷ 48 ∷ 48 ∷ 48 ∷ 48 ∷ 32 ∷ 55 ∷ 32 ∷ 51 ∷ 32 ∷ 49 ∷ 48 ∷ 48 ∷ 48 ∷ 48 ∷ 48 ∷ 48 ∷ 48 ∷ 48 ∷ 48 ∷ []) ≡ Reserve (request 500000000 7 3) (nanosOf 1000000000)
+pub reserve-line : lineOf (114 ∷ 32 ∷ 53 ∷ 48 ∷ 48 ∷ 48 ∷ 48 ∷ 48 ∷ 48 ∷ 48 ∷ 48 ∷ 32 ∷ 55 ∷ 32 ∷ 51 ∷ 32 ∷ 49 ∷ 48 ∷ 48 ∷ 48 ∷ 48 ∷ 48 ∷ 48 ∷ 48 ∷ 48 ∷ 48 ∷ [])
+    ≡ Reserve (request 500000000 7 3) (nanosOf 1000000000)
 unfolding fields taken isDash whenFullOf lineOfLetter lineOf isDigit allDigits decimalFrom numberOf
 reserve-line = refl
 

@@ -19,7 +19,8 @@ use Rattle.desk_turns.specs.declared.Feed.{Feed}
 use Rattle.desk_turns.specs.declared.Turned.{Turned}
 use Rattle.desk_turns.specs.Feeding.{stateOf, OneTurn}
 use Rattle.desk_lines.specs.Fields as Fields
-use Rattle.desk_turns.specs.Run.{State, hasEnded, lineAnswered, andThen, linesAnswered, Cut, onFirst, cut, lastLine, linesOf, printedAll, keptOf, Standing, turned, turnedOver, printedInTurns, joined}
+use Rattle.desk_turns.specs.Run.{State, hasEnded, lineAnswered, andThen, linesAnswered, Cut, onFirst, cut, lastLine, linesOf, printedAll, keptOf}
+use Rattle.desk_turns.specs.Run.{Standing, turned, turnedOver, printedInTurns, joined}
 use Rattle.desk_turns.proofs.RunLaws.{none-once-ended}
 
 -- Bytes among which there is no line feed.

@@ -83,13 +83,19 @@ same-length-4 : tie.Need-same-length-4
 same-length-4 c = search needs
 
 returns-5 : tie.Need-returns-5
-returns-5 c = rw (c .before .before .before .before .before .before .before .line4 .given .1) (outcome-is-told (rw (c .before .before .before .before .identity .ensures) at (c .before .before .before .refund .ensures)) (c .told-as .ensures))
+returns-5 c =
+    let r = c .before .before .before in
+    rw (r .before .before .before .before .line4 .given .1)
+    (outcome-is-told (rw (r .before .identity .ensures) at (r .refund .ensures)) (c .told-as .ensures))
 
 same-length-5 : tie.Need-same-length-5
 same-length-5 c = search needs
 
 returns-6 : tie.Need-returns-6
-returns-6 c = rw (c .before .before .before .before .before .before .before .line5 .given .1) (outcome-is-told (rw (c .before .before .before .before .identity2 .ensures) at (c .before .before .before .remove .ensures)) (c .told-as2 .ensures))
+returns-6 c =
+    let r = c .before .before .before in
+    rw (r .before .before .before .before .line5 .given .1)
+    (outcome-is-told (rw (r .before .identity2 .ensures) at (r .remove .ensures)) (c .told-as2 .ensures))
 
 returns-7 : tie.Need-returns-7
 returns-7 c = rw (c .before .enum-told2 .given .1, c .malformed2 .ensures)

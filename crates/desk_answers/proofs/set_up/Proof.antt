@@ -5,6 +5,10 @@ use borrow.Author.Needs.{needs}
 use Rattle.desk_answers.proofs.set_up.Statement.{statement}
 use Rattle.desk_answers.proofs.set_up.Tie as tie
 
+-- Where the call began, once the store's size is known.
+abbrev start : tie.After-store-size → tie.Start
+start z = z .before .before
+
 store-size-requires : tie.Need-store-size-requires
 store-size-requires c κs = search needs
 
@@ -31,8 +35,11 @@ same-length c = search needs
 
 returns : tie.Need-returns
 returns c =
-    let args′ = c .before .before .before .before .before .before .before .before .args in
-    first-served (args′ .settings) (outcome-is-told (lent-answered (args′ .settings) (args′ .memory .now) _ (Rules.setUp (args′ .settings)) (c .before .before .before .before .before .before .store-size .ensures) (c .before .before .before .before .set-up .ensures)) (c .before .told-as .ensures)) (c .stage-after .ensures)
+    let u = c .before .before .before .before in
+    let z = u .before .before in
+    let a = start z .args in
+    let gave = lent-answered (a .settings) (a .memory .now) _ (Rules.setUp (a .settings)) (z .store-size .ensures) (u .set-up .ensures) in
+    first-served (a .settings) (outcome-is-told gave (c .before .told-as .ensures)) (c .stage-after .ensures)
 
 pub set-up-spec : {M : Type 1} → statement M
 set-up-spec =

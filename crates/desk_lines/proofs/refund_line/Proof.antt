@@ -22,11 +22,14 @@ cast-t7 c = record { fits = omega (arith, value-within most32 _ (c .before .befo
 
 returns : tie.Need-returns
 returns c =
-    let number′ = c .before .before .before .before .number in
-    let cost = taken-after most32 (c .before .before .before .number2 .ensures) (restOf (number′ .ensures)) in finished-line (c .before .before .is-finished .ensures) (restOf cost) (c .before .if1 .taken) (λ j. Refund (number′ .ensures j .value) (cost j .value))
+    let key = c .before .before .before .before .number .ensures in
+    let cost = taken-after most32 (c .before .before .before .number2 .ensures) (restOf key) in
+    finished-line (c .before .before .is-finished .ensures) (restOf cost) (c .before .if1 .taken) (λ j. Refund (key j .value) (cost j .value))
 
 returns-2 : tie.Need-returns-2
-returns-2 c = unfinished-line (c .before .is-finished .ensures) (restOf (taken-after most32 (c .before .before .number2 .ensures) (restOf (c .before .before .before .number .ensures)))) _ (c .if1 .left)
+returns-2 c =
+    let cost = taken-after most32 (c .before .before .number2 .ensures) (restOf (c .before .before .before .number .ensures)) in
+    unfinished-line (c .before .is-finished .ensures) (restOf cost) _ (c .if1 .left)
 
 pub refund-line-spec : {M : Type 1} → statement M
 refund-line-spec =

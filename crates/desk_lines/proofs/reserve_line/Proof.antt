@@ -17,11 +17,14 @@ is-finished-requires c κs = search needs
 
 returns : tie.Need-returns
 returns c =
-    let request′ = c .before .before .before .before .request in
-    let longest = taken-after most64 (c .before .before .number .ensures) (restOf (request′ .ensures)) in finished-line (c .before .is-finished .ensures) (restOf longest) (c .if1 .taken) (λ j. Reserve (request′ .ensures j .value) (nanosOf (longest j .value)))
+    let request = c .before .before .before .before .request .ensures in
+    let longest = taken-after most64 (c .before .before .number .ensures) (restOf request) in
+    finished-line (c .before .is-finished .ensures) (restOf longest) (c .if1 .taken) (λ j. Reserve (request j .value) (nanosOf (longest j .value)))
 
 returns-2 : tie.Need-returns-2
-returns-2 c = unfinished-line (c .before .is-finished .ensures) (restOf (taken-after most64 (c .before .before .number .ensures) (restOf (c .before .before .before .before .request .ensures)))) _ (c .if1 .left)
+returns-2 c =
+    let longest = taken-after most64 (c .before .before .number .ensures) (restOf (c .before .before .before .before .request .ensures)) in
+    unfinished-line (c .before .is-finished .ensures) (restOf longest) _ (c .if1 .left)
 
 pub reserve-line-spec : {M : Type 1} → statement M
 reserve-line-spec =

@@ -4,6 +4,10 @@ use borrow.Author.Needs.{needs}
 use Rattle.desk_lines.proofs.set_up_line.Statement.{statement}
 use Rattle.desk_lines.proofs.set_up_line.Tie as tie
 
+-- Where the call began, once the rule is taken.
+abbrev start : tie.After-number3 → tie.Start
+start n = n .before .before .before .before .before .before
+
 rate-requires : tie.Need-rate-requires
 rate-requires c κs = search needs
 
@@ -27,18 +31,26 @@ eviction-requires c κs = search needs
 
 returns : tie.Need-returns
 returns c =
-    let args′ = c .before .before .before .before .before .before .before .before .before .before .args in
-    let rate′ = c .before .before .before .before .before .before .before .before .rate in
-    let number′ = c .before .before .before .before .before .before .before .number in
-    let number2′ = c .before .before .before .before .before .before .number2 in
-    let idle′ = c .before .before .before .before .before .idle in
-    let number3′ = c .before .before .before .before .number3 in
-    finished-line (c .before .before .before .is-finished .ensures) (set-up-rest (args′ .line .now) (args′ .rest) _ _ _ _ _ (rate′ .ensures) (number′ .ensures) (number2′ .ensures) (idle′ .ensures) (number3′ .ensures)) (c .before .before .if1 .taken) (set-up-line (args′ .line .now) (args′ .rest) _ _ _ _ _ (rate′ .ensures) (number′ .ensures) (number2′ .ensures) (idle′ .ensures) (number3′ .ensures) (c .eviction .ensures))
+    let n = c .before .before .before .before in
+    let a = start n .args in
+    let rate = n .before .before .before .before .rate .ensures in
+    let keys = n .before .before .before .number .ensures in
+    let shards = n .before .before .number2 .ensures in
+    let idle = n .before .idle .ensures in
+    let rule = n .number3 .ensures in
+    let rest = set-up-rest (a .line .now) (a .rest) _ _ _ _ _ rate keys shards idle rule in
+    finished-line (c .before .before .before .is-finished .ensures) rest (c .before .before .if1 .taken)
+    (set-up-line (a .line .now) (a .rest) _ _ _ _ _ rate keys shards idle rule (c .eviction .ensures))
 
 returns-2 : tie.Need-returns-2
 returns-2 c =
-    let args′ = c .before .before .before .before .before .before .before .before .args in
-    unfinished-line (c .before .is-finished .ensures) (set-up-rest (args′ .line .now) (args′ .rest) _ _ _ _ _ (c .before .before .before .before .before .before .rate .ensures) (c .before .before .before .before .before .number .ensures) (c .before .before .before .before .number2 .ensures) (c .before .before .before .idle .ensures) (c .before .before .number3 .ensures)) _ (c .if1 .left)
+    let n = c .before .before in
+    let a = start n .args in
+    let rate = n .before .before .before .before .rate .ensures in
+    let keys = n .before .before .before .number .ensures in
+    let shards = n .before .before .number2 .ensures in
+    let rest = set-up-rest (a .line .now) (a .rest) _ _ _ _ _ rate keys shards (n .before .idle .ensures) (n .number3 .ensures) in
+    unfinished-line (c .before .is-finished .ensures) rest _ (c .if1 .left)
 
 pub set-up-line-spec : {M : Type 1} → statement M
 set-up-line-spec =

@@ -4,6 +4,13 @@ use borrow.Author.Needs.{needs}
 use Rattle.desk_turns.proofs.answer_line.Statement.{statement}
 use Rattle.desk_turns.proofs.answer_line.Tie as tie
 
+-- Where the call began, once the line is numbered; and where it was numbered, once it is served.
+abbrev start : tie.After-wrapping-add-u64 → tie.Start
+start n = n .before .before .before .before
+
+abbrev numbered : tie.After-serve → tie.After-wrapping-add-u64
+numbered s = s .before .before .before
+
 wrapping-add-u64-requires : tie.Need-wrapping-add-u64-requires
 wrapping-add-u64-requires c κs = search needs
 
@@ -24,8 +31,12 @@ same-length-2 c = search needs
 
 returns : tie.Need-returns
 returns c =
-    let args′ = c .before .before .before .before .before .before .before .before .before .before .before .before .before .before .args in
-    line-is-one (args′ .feed) (args′ .line .now) (args′ .memory .now) (args′ .output .now) (c .before .before .before .before .before .before .before .before .before .before .before .before .before .before .pre) (c .before .before .before .before .before .before .before .before .before .before .wrapping-add-u64 .ensures) (rw (c .before .before .before .before .before .before .before .before .before .read .ensures) at (c .before .before .before .before .before .before .before .serve .ensures)) (c .before .before .line .ensures)
+    let s = c .before .before .before .before .before .before .before in
+    let n = numbered s in
+    let a = start n .args in
+    let gave = rw (s .before .before .read .ensures) at (s .serve .ensures) in
+    let prints = c .before .before .line .ensures in
+    line-is-one (a .feed) (a .line .now) (a .memory .now) (a .output .now) (start n .pre) (n .wrapping-add-u64 .ensures) gave prints
 
 pub answer-line-spec : {M : Type 1} → statement M
 answer-line-spec =

@@ -1,5 +1,5 @@
 -- `keep_rest` copies byte after byte: those copied are the first of the rest, those further on are as they were.
-use Prim.Native.Nat.{ℕ, _+_, _-_, _≤_}
+use Prim.Native.Nat.{ℕ, _+_, _-_, _≤_, _<_}
 use native.Mathlib.Omega.{arith}
 use mathlib.Core.Path.{refl, ap, _∙_, _≡_}
 use lib.ListN.{length}
@@ -46,9 +46,12 @@ loop-less c = search needs
 
 loop-again : tie.Need-loop-again Inv-loop μ-loop
 loop-again c =
-    let loop′ = c .before .before .loop in
-    let args′ = c .before .before .before .before .before .args in
-    (search needs, loop′ .inv .1, omega arith, rw (loop′ .inv .3) (copied-further (args′ .input .now) (args′ .from) (loop′ .i) (omega (arith, c .before .loop-test .taken, loop′ .inv .1, c .before .before .before .before .before .pre .1))))
+    let head = c .before .before in
+    let s = head .before .before .before in
+    let a = s .args in
+    let inv = head .loop .inv in
+    let inside : a .from + head .loop .i < length (a .input .now) = omega (arith, c .before .loop-test .taken, inv .1, s .pre .1) in
+    (search needs, inv .1, omega arith, rw (inv .3) (copied-further (a .input .now) (a .from) (head .loop .i) inside))
 
 same-length : tie.Need-same-length Inv-loop μ-loop
 same-length c = search needs

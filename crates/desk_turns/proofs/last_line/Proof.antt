@@ -6,14 +6,23 @@ use borrow.Author.Needs.{needs}
 use Rattle.desk_turns.proofs.last_line.Statement.{statement}
 use Rattle.desk_turns.proofs.last_line.Tie as tie
 
+-- Where the call began, once nothing counts as printed.
+abbrev start : tie.After-unprinted → tie.Start
+start u = u .before .before .before .before
+
 unprinted-requires : tie.Need-unprinted-requires
 unprinted-requires c κs = search needs
 
 returns : tie.Need-returns
 returns c =
-    let unprinted′ = c .before .unprinted in
-    let args′ = c .before .before .before .before .before .args in
-    record { answers = rw (unprinted′ .ensures) (no-last-line (args′ .feed) (args′ .held) (args′ .input .now) (args′ .memory .now) (args′ .output .now) (omega (arith, c .if1 .taken))); fits = rw (unprinted′ .ensures) (search needs); beyond = refl }
+    let u = c .before in
+    let a = start u .args in
+    let none = no-last-line (a .feed) (a .held) (a .input .now) (a .memory .now) (a .output .now) (omega (arith, c .if1 .taken)) in
+    record {
+      answers = rw (u .unprinted .ensures) none;
+      fits = rw (u .unprinted .ensures) (search needs);
+      beyond = refl;
+    }
 
 sub-answer-line : tie.Need-sub-answer-line
 sub-answer-line c = search needs
@@ -25,7 +34,9 @@ part-answer-line-end : tie.Need-part-answer-line-end
 part-answer-line-end c = search needs
 
 answer-line-requires : tie.Need-answer-line-requires
-answer-line-requires c κs = rw (c .before .before .before .before .unprinted .ensures) (omega (arith, c .before .before .before .before .before .before .before .before .pre .1))
+answer-line-requires c κs =
+    let u = c .before .before .before .before in
+    rw (u .unprinted .ensures) (omega (arith, start u .pre .1))
 
 same-length : tie.Need-same-length
 same-length c = search needs
@@ -35,11 +46,19 @@ same-length-2 c = search needs
 
 returns-2 : tie.Need-returns-2
 returns-2 c =
-    let args′ = c .before .before .before .before .before .before .before .before .before .before .before .before .before .args in
-    let pre′ = c .before .before .before .before .before .before .before .before .before .before .before .before .before .pre in
-    let unprinted′ = c .before .before .before .before .before .before .before .before .before .unprinted in
-    let answer-line′ = c .before .before .before .before .answer-line in
-    record { answers = last-is-answered (args′ .feed) (args′ .held) (args′ .input .now) (args′ .memory .now) (args′ .output .now) (λ none. omega (arith, none, c .before .before .before .before .before .before .before .before .if1 .left)) (pre′ .0) (pre′ .2) (rw (unprinted′ .ensures) at (answer-line′ .ensures .answers)); fits = omega (arith, rw (unprinted′ .ensures) at (answer-line′ .ensures .fits), pre′ .1); beyond = answer-line′ .ensures .beyond }
+    let l = c .before .before .before .before in
+    let some = l .before .before .before .before in
+    let u = some .before in
+    let s = start u in
+    let a = s .args in
+    let answered = l .answer-line .ensures in
+    let is-answered = rw (u .unprinted .ensures) at (answered .answers) in
+    let last = last-is-answered (a .feed) (a .held) (a .input .now) (a .memory .now) (a .output .now) in
+    record {
+      answers = last (λ none. omega (arith, none, some .if1 .left)) (s .pre .0) (s .pre .2) is-answered;
+      fits = omega (arith, rw (u .unprinted .ensures) at (answered .fits), s .pre .1);
+      beyond = answered .beyond;
+    }
 
 pub last-line-spec : {M : Type 1} → statement M
 last-line-spec =

@@ -1,11 +1,21 @@
 -- `turn` answers the whole lines and keeps the rest.
-use Prim.Native.Nat.{_-_}
+use Prim.Native.Nat.{_-_, _≤_}
 use native.Mathlib.Omega.{arith}
 use lib.ListN.{length-take}
 use Rattle.desk_turns.proofs.FeedingLaws.{turn-answers, turn-keeps, turn-leaves-beyond}
 use borrow.Author.Needs.{needs}
 use Rattle.desk_turns.proofs.turn.Statement.{statement}
 use Rattle.desk_turns.proofs.turn.Tie as tie
+
+-- Where the call began, once nothing counts as printed.
+abbrev start : tie.After-unprinted → tie.Start
+start u = u .before .before .before .before .before .before .before .before
+
+-- The whole lines end among the bytes that have been read.
+ends-inside : (w : tie.After-whole-lines) → w .whole-lines .result .at ≤ start (w .before) .args .end
+ends-inside w =
+    let a = start (w .before) .args in
+    omega (arith, w .whole-lines .ensures .within, length-take (a .end - 0) (a .input .now))
 
 sub-whole-lines : tie.Need-sub-whole-lines
 sub-whole-lines c = search needs
@@ -21,9 +31,8 @@ unprinted-requires c κs = search needs
 
 whole-lines-requires : tie.Need-whole-lines-requires
 whole-lines-requires c κs =
-    let pre′ = c .before .before .before .before .before .before .before .before .pre in
-    let args′ = c .before .before .before .before .before .before .before .before .args in
-    rw (c .unprinted .ensures) (omega (arith, pre′ .1, length-take (args′ .end - 0) (args′ .input .now)), pre′ .2)
+    let s = start c in
+    rw (c .unprinted .ensures) (omega (arith, s .pre .1, length-take (s .args .end - 0) (s .args .input .now)), s .pre .2)
 
 keep-rest-requires : tie.Need-keep-rest-requires
 keep-rest-requires c κs = search needs
@@ -39,10 +48,22 @@ same-length-3 c = search needs
 
 returns : tie.Need-returns
 returns c =
-    let args′ = c .before .before .before .before .before .before .before .before .before .before .before .before .before .before .before .before .before .before .args in
-    let whole-lines′ = c .before .before .before .before .before .before .before .before .before .whole-lines in
-    let keep-rest′ = c .before .before .before .keep-rest in
-    record { answers = turn-answers (args′ .end) (args′ .input .now) (args′ .feed) (args′ .memory .now) (args′ .output .now) (rw (c .before .before .before .before .before .before .before .before .before .before .unprinted .ensures) at (whole-lines′ .ensures .answers)); keeps = λ goes-on. turn-keeps (args′ .end) (args′ .input .now) (whole-lines′ .result .at) (omega (arith, whole-lines′ .ensures .within, length-take (args′ .end - 0) (args′ .input .now))) (c .before .before .before .before .before .before .before .before .before .before .before .before .before .before .before .before .before .before .pre .0) (keep-rest′ .ensures .0) (keep-rest′ .ensures .1) (whole-lines′ .ensures .leaves goes-on); few = omega (arith, keep-rest′ .ensures .0); fits = whole-lines′ .ensures .fits; beyond-printed = whole-lines′ .ensures .beyond; beyond-held = turn-leaves-beyond (args′ .end) (args′ .input .now) (whole-lines′ .result .at) (omega (arith, whole-lines′ .ensures .within, length-take (args′ .end - 0) (args′ .input .now))) (c .before .before .before .before .before .before .before .before .before .before .before .before .before .before .before .before .before .before .pre .0) (keep-rest′ .ensures .0) (keep-rest′ .ensures .1) }
+    let k = c .before .before .before in
+    let w = k .before .before .before .before .before .before in
+    let s = start (w .before) in
+    let a = s .args in
+    let answered = w .whole-lines .ensures in
+    let at = w .whole-lines .result .at in
+    let kept = k .keep-rest .ensures in
+    record {
+      answers = turn-answers (a .end) (a .input .now) (a .feed) (a .memory .now) (a .output .now)
+          (rw (w .before .unprinted .ensures) at (answered .answers));
+      keeps = λ goes-on. turn-keeps (a .end) (a .input .now) at (ends-inside w) (s .pre .0) (kept .0) (kept .1) (answered .leaves goes-on);
+      few = omega (arith, kept .0);
+      fits = answered .fits;
+      beyond-printed = answered .beyond;
+      beyond-held = turn-leaves-beyond (a .end) (a .input .now) at (ends-inside w) (s .pre .0) (kept .0) (kept .1);
+    }
 
 pub turn-spec : {M : Type 1} → statement M
 turn-spec =

@@ -5,6 +5,10 @@ use borrow.Author.Needs.{needs}
 use Rattle.desk.proofs.feed.finish.Statement.{statement}
 use Rattle.desk.proofs.feed.finish.Tie as tie
 
+-- Where the last line was answered, once the run is asked whether it has ended.
+abbrev answered : tie.After-has-ended → tie.After-last-line
+answered e = e .before .before .before .before .before .before .before .before
+
 last-line-requires : tie.Need-last-line-requires
 last-line-requires c κs = search needs
 
@@ -37,7 +41,7 @@ same-length-4 c = search needs
 returns-2 : tie.Need-returns-2
 returns-2 c = record {
   last = refl;
-  stands = last-stands (c .before .before .before .before .before .before .before .before .before .last-line .ensures);
+  stands = last-stands (answered (c .before) .last-line .ensures);
   rightly = sym (c .before .has-ended .ensures) ∙ c .if2 .taken;
   counted = refl;
 }
@@ -51,7 +55,7 @@ same-length-6 c = search needs
 returns-3 : tie.Need-returns-3
 returns-3 c = record {
   last = refl;
-  stands = last-stands (c .before .before .before .before .before .before .before .before .before .last-line .ensures);
+  stands = last-stands (answered (c .before) .last-line .ensures);
   rightly = sym (c .before .has-ended .ensures) ∙ c .if2 .left;
   counted = refl;
 }

@@ -3,7 +3,8 @@
 use Rattle.desk.proofs.RanLaws.{GoingOn, none-turned, goes-on, over-by-write, over-by-line-1, over-by-read, over-by-turns, over-at-end}
 use mathlib.Core.Path.{refl, sym, _∙_}
 use native.Mathlib.Omega.{arith}
-use Prim.Native.Nat.{_-_, _^_}
+use Prim.Native.Nat.{_-_, _^_, _≤_}
+use lib.ListN.{length}
 use borrow.Author.Needs.{needs}
 use Rattle.desk.proofs.feed.go_on.Statement.{statement}
 use Rattle.desk.proofs.feed.go_on.Tie as tie
@@ -13,6 +14,28 @@ Inv-loop input₀ held₀ output₀ memory₀ feed₀ turns₀ input held output
 
 abbrev μ-loop : tie.MeasureT-loop
 μ-loop input₀ held₀ output₀ memory₀ feed₀ turns₀ input held output memory feed turns = 2 ^ 64 - turns
+
+-- Where the call began, from the loop's head; the loop's head, once more was read; that read, once it is known to have brought bytes; where that is known,
+-- once they are turned; and the turn, once what it printed is to be written.
+abbrev start : tie.At-loop Inv-loop μ-loop → tie.Start Inv-loop μ-loop
+start head = head .before .before .before .before
+
+abbrev turn-head : tie.After-read-more Inv-loop μ-loop → tie.At-loop Inv-loop μ-loop
+turn-head r = r .before .before .before
+
+abbrev read : tie.After-got Inv-loop μ-loop → tie.After-read-more Inv-loop μ-loop
+read g = g .before .before .before .before
+
+abbrev known : tie.After-turn Inv-loop μ-loop → tie.After-got Inv-loop μ-loop
+known t = t .before .before .before .before .before
+
+abbrev turned : tie.After-flush-arg Inv-loop μ-loop → tie.After-turn Inv-loop μ-loop
+turned w = w .before .before .before .before .before .before .before .before
+
+-- The bytes that the read brought come after those that were held, and lie within the input.
+grown : (g : tie.After-got Inv-loop μ-loop) → let end = g .got .given .0 .0 in let loop′ = turn-head (read g) .loop in
+    (loop′ .held ≤ end) × (end ≤ length (loop′ .input))
+grown g = let r = g .before .before .before .before in rw (g .got .given .1) at (r .read-more .ensures .0)
 
 loop-holds : tie.Need-loop-holds Inv-loop μ-loop
 loop-holds c =
@@ -27,17 +50,9 @@ enum-known-got c = search needs
 
 turn-requires : tie.Need-turn-requires Inv-loop μ-loop
 turn-requires c κs =
-    let got′ = c .before .before .before .before .got in
-    let read-more′ = c .before .before .before .before .before .before .before .before .read-more in (
-      omega (arith, rw (got′ .given .1) at (read-more′ .ensures .0)),
-      omega (
-        arith,
-        rw (got′ .given .1) at (read-more′ .ensures .0),
-        c .before .before
-            .before .before .before .before .before .before .before .before .before .before .before .before .before .pre .1,
-      ),
-      search needs,
-    )
+    let g = c .before .before .before .before in
+    let head = turn-head (read g) in
+    (omega (arith, grown g), omega (arith, grown g, start head .pre .1), head .loop .inv .more)
 
 add-turns : tie.Need-add-turns Inv-loop μ-loop
 add-turns c = search needs
@@ -46,15 +61,9 @@ enum-told : tie.Need-enum-told Inv-loop μ-loop
 enum-told c = search needs
 
 finish-requires : tie.Need-finish-requires Inv-loop μ-loop
-finish-requires c κs = (
-  omega arith,
-  omega (
-    arith,
-    c .before .before .before .before .before .before .before .before .before .before .before .before
-        .before .before .pre .1,
-  ),
-  c .before .before .before .before .before .before .before .before .before .before .loop .inv .more,
-)
+finish-requires c κs =
+    let head = turn-head (c .before .before .before .before .before .before .before) in
+    (omega arith, omega (arith, start head .pre .1), head .loop .inv .more)
 
 same-length : tie.Need-same-length Inv-loop μ-loop
 same-length c = search needs
@@ -67,9 +76,10 @@ same-length-3 c = search needs
 
 returns : tie.Need-returns Inv-loop μ-loop
 returns c =
-    let loop′ = c .before .before .before .before .before .before .before .before .before .before .before .before .before .before .before .loop in
-    over-at-end (loop′ .held) (loop′ .input) (loop′ .feed) (loop′ .inv .far) _ (c .before .before .before .before .before .before .before .before
-    .before .before .before .before .read-more .ensures .1) (c .before .before .before .before .finish .ensures)
+    let end = c .before .before .before .before in
+    let r = end .before .before .before .before .before .before .before .before in
+    let loop′ = turn-head r .loop in
+    over-at-end (loop′ .held) (loop′ .input) (loop′ .feed) (loop′ .inv .far) _ (r .read-more .ensures .1) (end .finish .ensures)
 
 enum-told-2 : tie.Need-enum-told-2 Inv-loop μ-loop
 enum-told-2 c = search needs
@@ -89,7 +99,7 @@ returns-2 c =
     over-by-read (loop′ .held) (loop′ .input) (loop′ .feed) (loop′ .inv .far) (loop′ .inv .more)
 
 flush-requires : tie.Need-flush-requires Inv-loop μ-loop
-flush-requires c κs = omega (arith, c .before .before .before .before .before .before .before .before .turn .ensures .fits)
+flush-requires c κs = omega (arith, turned c .turn .ensures .fits)
 
 same-length-7 : tie.Need-same-length-7 Inv-loop μ-loop
 same-length-7 c = search needs
@@ -102,13 +112,10 @@ same-length-9 c = search needs
 
 returns-3 : tie.Need-returns-3 Inv-loop μ-loop
 returns-3 c =
-    let loop′ = c .before .before .before .before .before .before .before .before .before .before .before .before .before .before .before .before
-    .before .before .before .before .before .before .loop in
-    let read-more′ = c .before .before .before .before .before .before .before .before .before .before .before .before .before .before .before .before
-    .before .before .before .read-more in
-    over-by-write (loop′ .input) (loop′ .inv .far) (read-more′ .ensures .1) ((rw (c .before .before .before .before .before .before .before .before
-    .before .before .before .before .before .before .before .got .given .1) at (read-more′ .ensures .0)) .0) (omega arith) (c .before .before .before
-    .before .before .before .before .before .before .before .turn .ensures)
+    let t = turned (c .before .before) in
+    let r = read (known t) in
+    let loop′ = turn-head r .loop in
+    over-by-write (loop′ .input) (loop′ .inv .far) (r .read-more .ensures .1) (grown (known t) .0) (omega arith) (t .turn .ensures)
 
 has-ended-requires : tie.Need-has-ended-requires Inv-loop μ-loop
 has-ended-requires c κs = search needs
@@ -124,37 +131,28 @@ same-length-12 c = search needs
 
 returns-4 : tie.Need-returns-4 Inv-loop μ-loop
 returns-4 c =
-    let loop′ = c .before .before .before .before .before .before .before .before .before .before .before .before .before .before .before .before
-    .before .before .before .before .before .before .before .before .loop in
-    let read-more′ = c .before .before .before .before .before .before .before .before .before .before .before .before .before .before .before .before
-    .before .before .before .before .before .read-more in
-    over-by-line-1 (loop′ .input) (loop′ .inv .far) (read-more′ .ensures .1) ((rw (c .before .before .before .before .before .before .before .before
-    .before .before .before .before .before .before .before .before .before .got .given .1) at (read-more′ .ensures .0)) .0) (omega arith) (c .before
-    .before .before .before .before .before .before .before .before .before .before .before .turn .ensures) (sym (c
-    .before .has-ended .ensures) ∙ c .if2 .taken)
+    let t = turned (c .before .before .before .before) in
+    let r = read (known t) in
+    let loop′ = turn-head r .loop in
+    let ended = sym (c .before .has-ended .ensures) ∙ c .if2 .taken in
+    over-by-line-1 (loop′ .input) (loop′ .inv .far) (r .read-more .ensures .1) (grown (known t) .0) (omega arith) (t .turn .ensures) ended
 
 loop-less : tie.Need-loop-less Inv-loop μ-loop
 loop-less c = search needs
 
 loop-again : tie.Need-loop-again Inv-loop μ-loop
 loop-again c =
-    let turn′ = c .before .before .before .before .before .before .before .before .before .before .before .before .turn in
-    let has-ended′ = c .before .has-ended in
-    let if2′ = c .if2 in
-    let loop′ = c .before .before .before .before .before .before .before .before .before .before .before .before .before .before .before .before
-    .before .before .before .before .before .before .before .before .loop in
-    let read-more′ = c .before .before .before .before .before .before .before .before .before .before .before .before .before .before .before .before
-    .before .before .before .before .before .read-more in
+    let t = turned (c .before .before .before .before) in
+    let r = read (known t) in
+    let loop′ = turn-head r .loop in
+    let more = sym (c .before .has-ended .ensures) ∙ c .if2 .left in
     record {
       same-input = search needs;
       same-output = search needs;
       same-memory = search needs;
-      few = omega (arith, turn′ .ensures .few);
-      more = sym
-          (has-ended′ .ensures) ∙ if2′ .left;
-      far = goes-on (loop′ .input) (loop′ .inv .far) (read-more′ .ensures .1) ((rw (c .before .before .before
-          .before .before .before .before .before .before .before .before .before .before .before .before .before .before .got .given .1) at
-          (read-more′ .ensures .0)) .0) (omega arith) (turn′ .ensures) (sym (has-ended′ .ensures) ∙ if2′ .left);
+      few = omega (arith, t .turn .ensures .few);
+      more = more;
+      far = goes-on (loop′ .input) (loop′ .inv .far) (r .read-more .ensures .1) (grown (known t) .0) (omega arith) (t .turn .ensures) more;
     }
 
 same-length-13 : tie.Need-same-length-13 Inv-loop μ-loop

@@ -8,6 +8,10 @@ use borrow.Author.Needs.{needs}
 use Rattle.desk.proofs.feed.read_more.Statement.{statement}
 use Rattle.desk.proofs.feed.read_more.Tie as tie
 
+-- Where the call began, once the input has been read.
+abbrev start : tie.After-read → tie.Start
+start r = r .before .before .before
+
 sub-read : tie.Need-sub-read
 sub-read c = search needs
 
@@ -43,12 +47,9 @@ same-length c = search needs
 
 returns : tie.Need-returns
 returns c =
-    let start′ = c .before .before .before .before .before .before .before .before .before .before in
-    let held′ = start′ .args .held in let input′ = start′ .args .input .now in let inside : held′ ≤ length input′ = omega arith in (
-      rw (c .brought .ensures)
-          (grows _ _ _ _ _ (omega arith)),
-      rw take-put,
-    )
+    let a = start (c .before .before .before .before .before .before .before) .args in
+    let inside : a .held ≤ length (a .input .now) = omega arith in
+    (rw (c .brought .ensures) (grows _ _ _ _ _ (omega arith)), rw take-put)
 
 pub read-more-spec : {M : Type 1} → statement M
 read-more-spec =

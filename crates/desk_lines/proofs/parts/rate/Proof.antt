@@ -7,6 +7,10 @@ use borrow.Author.Needs.{needs}
 use Rattle.desk_lines.proofs.parts.rate.Statement.{statement}
 use Rattle.desk_lines.proofs.parts.rate.Tie as tie
 
+-- Where the call began, once the fourth number is taken.
+abbrev start : tie.After-number4 → tie.Start
+start n = n .before .before .before .before .before
+
 number-requires : tie.Need-number-requires
 number-requires c κs = search needs
 
@@ -30,8 +34,12 @@ cast-t12 c = record { fits = omega (arith, value-within most32 _ (c .before .bef
 
 returns : tie.Need-returns
 returns c =
-    let args′ = c .before .before .before .before .before .before .before .before .before .args in
-    rate-taken (args′ .line .now) (args′ .rest) _ _ _ _ (c .before .before .before .before .before .before .before .number .ensures) (c .before .before .before .before .before .before .number2 .ensures) (c .before .before .before .before .before .number3 .ensures) (c .before .before .before .before .number4 .ensures)
+    let fourth = c .before .before .before .before in
+    let third = fourth .before in
+    let second = third .before in
+    let first = second .before in
+    let a = start fourth .args in
+    rate-taken (a .line .now) (a .rest) _ _ _ _ (first .number .ensures) (second .number2 .ensures) (third .number3 .ensures) (fourth .number4 .ensures)
 
 pub rate-spec : {M : Type 1} → statement M
 rate-spec =
