@@ -85,6 +85,13 @@ pub granted-within-longest : (c : BucketConfig) (request : Request) (b : BucketC
 unfolding asked
 granted-within-longest c request b cost at h = rw (le-leb _ _ h)
 
+-- The same as the code comes to it: the wait by its number, and the bucket as it was worked out before.
+pub grant-is-told : (c : BucketConfig) (request : Request) (b : BucketCore) (cost : ℕ) (at : Nanos) {wait : Nanos} {after : BucketCore}
+    → wait .0 ≡ waitAt c b cost at → after ≡ spent c b cost at → wait .0 ≤ longestWait request
+    → record { decision = Allowed wait; bucket = after } ≡ asked c request b cost at
+grant-is-told c request b cost at {wait = wait} is-wait is-after within =
+    rw (same-nanos wait is-wait, is-after) (sym (granted-within-longest c request b cost at (rw is-wait at within)))
+
 pub denied-beyond-longest : (c : BucketConfig) (request : Request) (b : BucketCore) (cost : ℕ) (at : Nanos) → longestWait request < waitAt c b cost at →
     asked c request b cost at ≡ record { decision = Denied (record { 0 = waitAt c b cost at }); bucket = b }
 unfolding asked

@@ -121,10 +121,18 @@ impl BucketCore {
         requires { ⌜ Accepted config × (cost ≤ config .capacity) ⌝ }
         ensures { λ r. ⌜ r .0 ≡ waitAt config self cost at ⌝ }
     {
+        let spent = self.spent_at(config, cost, at);
+        self.wait_for(config, spent.shortfall, cost, at)
+    }
+
+    // The same, from what a grant would store: it is worked out once for the wait and for the grant.
+    fn wait_for(self, config: BucketConfig, wanted: u64, cost: u32, at: Nanos) -> Nanos
+        requires { ⌜ Accepted config × (wanted ≡ spent config self cost at .shortfall) ⌝ }
+        ensures { λ r. ⌜ r .0 ≡ waitAt config self cost at ⌝ }
+    {
         if cost == 0 {
             return Nanos(0);
         }
-        let wanted = self.shortfall_at(config, at) + (cost as u64) * config.period.0;
         let full = config.full_parts();
         if wanted <= full {
             return Nanos(0);
@@ -162,11 +170,12 @@ impl BucketCore {
         requires { ⌜ Accepted config × (cost ≤ config .capacity) ⌝ }
         ensures { λ r. ⌜ r ≡ asked config request self cost at ⌝ }
     {
-        let wait = self.time_until_at(config, cost, at);
+        let spent = self.spent_at(config, cost, at);
+        let wait = self.wait_for(config, spent.shortfall, cost, at);
         if wait.0 <= request.longest().0 {
             return BucketOutcome {
                 decision: BucketDecision::Allowed(wait),
-                bucket: self.spent_at(config, cost, at),
+                bucket: spent,
             };
         }
         BucketOutcome {
