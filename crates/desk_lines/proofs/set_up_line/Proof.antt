@@ -1,12 +1,27 @@
 -- `set_up_line` is finished after all eight fields.
+use mathlib.Core.Path.{_≡_}
+use Rattle.desk_lines.specs.Lines.{taken, takenIdle, takenRate, most64, mostRule}
+use Rattle.desk_lines.specs.Places.{readingAt}
 use Rattle.desk_lines.proofs.LineLaws.{finished-line, unfinished-line, set-up-rest, set-up-line}
 use borrow.Author.Needs.{needs}
 use Rattle.desk_lines.proofs.set_up_line.Statement.{statement}
 use Rattle.desk_lines.proofs.set_up_line.Tie as tie
 
--- Where the call began, once the rule is taken.
+-- Once the rule is taken: where the call began, where the keys were taken, and what is left of the line.
 abbrev start : tie.After-number3 → tie.Start
 start n = n .before .before .before .before .before .before
+
+abbrev keys : tie.After-number3 → tie.After-number
+keys n = n .before .before .before
+
+rest-left : (n : tie.After-number3) → let a = start n .args in let r = readingAt (a .line .now) (a .rest) in
+    readingAt (a .line .now) (n .number3 .result .rest)
+    ≡ taken mostRule (takenIdle (taken most64 (taken most64 (takenRate r .rest) .rest) .rest) .rest) .rest
+rest-left n =
+    let a = start n .args in
+    let k = keys n in
+    set-up-rest (a .line .now) (a .rest) _ _ _ _ _
+    (k .before .rate .ensures) (k .number .ensures) (n .before .before .number2 .ensures) (n .before .idle .ensures) (n .number3 .ensures)
 
 rate-requires : tie.Need-rate-requires
 rate-requires c κs = search needs
@@ -33,24 +48,14 @@ returns : tie.Need-returns
 returns c =
     let n = c .before .before .before .before in
     let a = start n .args in
-    let rate = n .before .before .before .before .rate .ensures in
-    let keys = n .before .before .before .number .ensures in
-    let shards = n .before .before .number2 .ensures in
-    let idle = n .before .idle .ensures in
-    let rule = n .number3 .ensures in
-    let rest = set-up-rest (a .line .now) (a .rest) _ _ _ _ _ rate keys shards idle rule in
-    finished-line (c .before .before .before .is-finished .ensures) rest (c .before .before .if1 .taken)
-    (set-up-line (a .line .now) (a .rest) _ _ _ _ _ rate keys shards idle rule (c .eviction .ensures))
+    let k = keys n in
+    finished-line (c .before .before .before .is-finished .ensures) (rest-left n) (c .before .before .if1 .taken)
+    (set-up-line (a .line .now) (a .rest) _ _ _ _ _
+    (k .before .rate .ensures) (k .number .ensures) (n .before .before .number2 .ensures) (n .before .idle .ensures) (n .number3 .ensures)
+    (c .eviction .ensures))
 
 returns-2 : tie.Need-returns-2
-returns-2 c =
-    let n = c .before .before in
-    let a = start n .args in
-    let rate = n .before .before .before .before .rate .ensures in
-    let keys = n .before .before .before .number .ensures in
-    let shards = n .before .before .number2 .ensures in
-    let rest = set-up-rest (a .line .now) (a .rest) _ _ _ _ _ rate keys shards (n .before .idle .ensures) (n .number3 .ensures) in
-    unfinished-line (c .before .is-finished .ensures) rest _ (c .if1 .left)
+returns-2 c = unfinished-line (c .before .is-finished .ensures) (rest-left (c .before .before)) _ (c .if1 .left)
 
 pub set-up-line-spec : {M : Type 1} → statement M
 set-up-line-spec =
