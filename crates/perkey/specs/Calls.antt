@@ -23,8 +23,8 @@ pub data Undo : Type 0 where
   refunds : ℕ → Undo
   removes : Undo
 
--- A call names its settings, and its moment and its key if it has them. It is a request (a try or a reservation of so many tokens), a look at a key, the undoing
--- of what a key spent, or a look at how many keys have a slot. Set-up and clear are no calls of a list.
+-- A call names its settings, and its moment and its key if it has them. It is a request (a try or a reservation of so many tokens), a look at a key, the
+-- undoing of what a key spent, or a look at how many keys have a slot. Set-up and clear are no calls of a list.
 pub data Call : Type 0 where
   request : Settings → Nanos → Identity → Request → ℕ → Call
   look : Settings → Nanos → Identity → Look → Call

@@ -1,6 +1,6 @@
 -- Code as its caller knows it: what the contracts of the nine operations of `perkey` tell.
--- `Asked` and `Learnt` are an operation's `requires` and `ensures`, in crates/perkey/src/lib.rt, as the check gives them to its callers: `Asked` of the arguments,
--- `Learnt` of the arguments at entry, the result, and the arguments at exit.
+-- `Asked` and `Learnt` are an operation's `requires` and `ensures` (crates/perkey/src/lib.rt) as the check gives them to its callers: `Asked` of the
+-- arguments, `Learnt` of the arguments at entry, the result, and the arguments at exit.
 use Prim.Native.Nat.{ℕ}
 use mathlib.Core.Path.{_≡_}
 use mathlib.Core.Bool.{true}
