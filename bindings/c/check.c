@@ -82,7 +82,7 @@ static void words_to_lend(void)
     CHECK(limiter_words(s) == 13);
 }
 
-/* The eight bytes "chongo w" of the FNV authors' test suite, and keys as crates/fnv_vectors has them. */
+/* The eight bytes "chongo w" of the FNV authors' test suite, and keys as crates/test_fnv_vectors has them. */
 static void hash_vectors(void)
 {
     CHECK(limiter_key_hash(UINT64_C(0x77206f676e6f6863)) == UINT64_C(0xd1edd10b507344d0));

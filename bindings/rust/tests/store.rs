@@ -57,7 +57,7 @@ fn the_hash_is_fnv1a() {
     // From the FNV authors' test suite: the eight bytes "chongo w".
     let published = Key::fnv1a(u64::from_le_bytes(*b"chongo w"));
     assert_eq!(published.hash, 0xd1ed_d10b_5073_44d0);
-    // As crates/fnv_vectors has them.
+    // As crates/test_fnv_vectors has them.
     let vectors = [
         (0, 12_161_962_213_042_174_405),
         (1, 9_929_646_806_074_584_996),

@@ -1,7 +1,7 @@
 // The 64-bit arithmetic that Rust has as methods of its integers, each function equal to a definition on the natural numbers.
 ghost use mathlib.Core.Path.{_≡_};
 ghost use Prim.Native.Nat.{_+_, _-_, _*_, _<_, _^_, min, max};
-ghost use Rattle.arith.specs.Arith.{ceilDiv, held};
+ghost use Rattle.arith.specs.Arith.{ceilDiv, saturated};
 
 // The smaller of two numbers.
 pub fn smaller(a: u64, b: u64) -> u64
@@ -33,14 +33,14 @@ pub fn saturating_sub(a: u64, b: u64) -> u64
 
 // The sum, held to 64 bits.
 pub fn saturating_add(a: u64, b: u64) -> u64
-    ensures { λ r. ⌜ r ≡ held (a + b) ⌝ }
+    ensures { λ r. ⌜ r ≡ saturated (a + b) ⌝ }
 {
     if a <= u64::MAX - b { a + b } else { u64::MAX }
 }
 
 // The product, held to 64 bits. The two halves of a are multiplied separately, so that neither product wraps. The only division is by a power of two.
 pub fn saturating_mul(a: u64, b: u32) -> u64
-    ensures { λ r. ⌜ r ≡ held (a * b) ⌝ }
+    ensures { λ r. ⌜ r ≡ saturated (a * b) ⌝ }
 {
     let wide = b as u64;
     let high = (a / 0x1_0000_0000) * wide;

@@ -5,7 +5,7 @@ use mathlib.Core.Bool.{true}
 use native.Mathlib.Nat.{mul-comm, mul-le-mul, mul-le-mul-right, mul-pos, mul-div-cancel, div-mul-le-self, sub-zero}
 use native.Mathlib.Omega.{arith}
 use borrow.Author.Tests.{eq-eqb, ne-eqb, le-leb, lt-leb, eqb-true}
-use Rattle.arith.specs.Arith.{ceilDiv, held}
+use Rattle.arith.specs.Arith.{ceilDiv, saturated}
 use Rattle.arith.proofs.Cases.{by-eq}
 use Rattle.arith.proofs.DivisionLaws.{ceilDiv-only}
 use Rattle.units.specs.declared.Nanos.{Nanos}
@@ -39,14 +39,14 @@ pub grant-fits : {c : BucketConfig} (b : BucketCore) (cost : ℕ) (at : Nanos) �
 grant-fits {c} b cost at a h = omega (arith, shortfall-most c b at, parts-within c cost h, full-parts-most a)
 
 -- What is taken from a number below 2^64 may be held to 64 bits first: past that the difference is 0 either way.
-pub fall-held : (x fall : ℕ) → x < 2 ^ 64 → x - held fall ≡ x - fall
-fall-held x fall h = omega arith
+pub fall-saturated : (x fall : ℕ) → x < 2 ^ 64 → x - saturated fall ≡ x - fall
+fall-saturated x fall h = omega arith
 
 -- The shortfall, by a fall held to 64 bits: the code's product of elapsed time and amount may be wider.
-pub shortfall-by-held : {c : BucketConfig} (b : BucketCore) (at : Nanos) → Accepted c →
-    readShortfall c b - held ((at .0 - b .stamp .0) * c .amount) ≡ shortfallAt c b at
+pub shortfall-by-saturated : {c : BucketConfig} (b : BucketCore) (at : Nanos) → Accepted c →
+    readShortfall c b - saturated ((at .0 - b .stamp .0) * c .amount) ≡ shortfallAt c b at
 unfolding shortfallAt
-shortfall-by-held b at a = fall-held _ _ (omega (arith, most-shortfall-fits a))
+shortfall-by-saturated b at a = fall-saturated _ _ (omega (arith, most-shortfall-fits a))
 
 -- The tokens that are there are the whole tokens among the parts that are there.
 pub available-by-parts : (c : BucketConfig) (b : BucketCore) (at : Nanos) → (fullParts c - shortfallAt c b at) / c .period .0 ≡ availableAt c b at
@@ -54,10 +54,10 @@ unfolding availableAt
 available-by-parts c b at = refl
 
 -- A refund, by parts held to 64 bits: its cost is any 32-bit number, so they may be more.
-pub refund-by-held : {c : BucketConfig} (b : BucketCore) (cost : ℕ) → Accepted c →
-    record { shortfall = readShortfall c b - held (c .period .0 * cost); stamp = b .stamp } ≡ refunded c b cost
-refund-by-held {c} b cost a =
-    rw (mul-comm (c .period .0) cost) (ap (λ (n : ℕ). record { shortfall = n; stamp = b .stamp }) (fall-held _ _ (omega (arith, most-shortfall-fits a))))
+pub refund-by-saturated : {c : BucketConfig} (b : BucketCore) (cost : ℕ) → Accepted c →
+    record { shortfall = readShortfall c b - saturated (c .period .0 * cost); stamp = b .stamp } ≡ refunded c b cost
+refund-by-saturated {c} b cost a =
+    rw (mul-comm (c .period .0) cost) (ap (λ (n : ℕ). record { shortfall = n; stamp = b .stamp }) (fall-saturated _ _ (omega (arith, most-shortfall-fits a))))
 
 -- The wait: none for no cost; else until what the bucket lacks has come back; so none where it lacks nothing, and there the code does not divide.
 pub no-cost-no-wait : (c : BucketConfig) (b : BucketCore) (cost : ℕ) (at : Nanos) → cost ≡ 0 → 0 ≡ waitAt c b cost at

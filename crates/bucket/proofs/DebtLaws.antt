@@ -5,7 +5,7 @@ use native.Mathlib.Nat.{mod-lt, div-add-mod', div-lt-iff-lt-mul, le-div-iff-mul-
 use native.Mathlib.Nat.{mul-div-cancel, sub-self, max-eq-left, le-refl}
 use native.Mathlib.Omega.{arith}
 use borrow.Author.Tests.{eq-eqb, ne-eqb}
-use Rattle.arith.specs.Arith.{ceilDiv, held}
+use Rattle.arith.specs.Arith.{ceilDiv, saturated}
 use Rattle.arith.proofs.Cases.{by-le, by-eq}
 use Rattle.arith.proofs.DivisionLaws.{ceilDiv-only, ceilDiv-split}
 use Rattle.units.specs.declared.Nanos.{Nanos}
@@ -13,7 +13,7 @@ use Rattle.bucket.specs.declared.BucketConfig.{BucketConfig}
 use Rattle.bucket.specs.declared.BucketCore.{BucketCore}
 use Rattle.bucket.specs.Bucket.{Accepted, partsOf, fullParts, mostShortfall, shortfallAt, availableAt, fresh}
 use Rattle.bucket.specs.Debt.{missingTokens, charged, takenOut, lacking, restored}
-use Rattle.bucket.proofs.BucketLaws.{most-shortfall-fits, shortfall-most, parts-within, fall-held}
+use Rattle.bucket.proofs.BucketLaws.{most-shortfall-fits, shortfall-most, parts-within, fall-saturated}
 
 -- The missing tokens, with quotient and rest by the period taken apart. Of their sum, held to 64 bits, the first may be held before: so the code needs no
 -- wider number.
@@ -23,9 +23,9 @@ missing-split {c} remaining a =
     ap (λ (n : ℕ). ceilDiv (n * c .amount) (c .period .0)) (sym (div-add-mod' remaining (c .period .0)))
     ∙ ceilDiv-split (remaining / c .period .0) (remaining % c .period .0) (c .amount) (c .period .0) (a .period-least)
 
-pub missing-held : {c : BucketConfig} (remaining : ℕ) → Accepted c →
-    held (held (remaining / c .period .0 * c .amount) + ceilDiv (remaining % c .period .0 * c .amount) (c .period .0)) ≡ held (missingTokens c remaining)
-missing-held remaining a = omega (arith, missing-split remaining a)
+pub missing-saturated : {c : BucketConfig} (remaining : ℕ) → Accepted c →
+    saturated (saturated (remaining / c .period .0 * c .amount) + ceilDiv (remaining % c .period .0 * c .amount) (c .period .0)) ≡ saturated (missingTokens c remaining)
+missing-saturated remaining a = omega (arith, missing-split remaining a)
 
 -- The rest is below the period, at most 2^46, so its product with the amount fits.
 pub rest-product-fits : {c : BucketConfig} (remaining : ℕ) → Accepted c → remaining % c .period .0 * c .amount < 2 ^ 64
@@ -57,20 +57,20 @@ unfolding takenOut
 some-taken-out c b tokens at some = rw (ne-eqb _ _ some)
 
 -- Missing tokens held to 64 bits make the same debt as all of them: a token is at least one part, so what 64 bits cannot hold is past the most.
-taken-out-held : {c : BucketConfig} (b : BucketCore) (missing : ℕ) (at : Nanos) → Accepted c →
-    takenOut c b (held missing - c .capacity) at ≡ takenOut c b (missing - c .capacity) at
-taken-out-held {c} b missing at a =
+taken-out-saturated : {c : BucketConfig} (b : BucketCore) (missing : ℕ) (at : Nanos) → Accepted c →
+    takenOut c b (saturated missing - c .capacity) at ≡ takenOut c b (missing - c .capacity) at
+taken-out-saturated {c} b missing at a =
     let most : mostShortfall c / c .period .0 < 2 ^ 63 = lt-of-le-of-lt (div-le-self _ _) (most-shortfall-fits a) in
     by-le missing (2 ^ 64 - 1) (λ fits. ap (λ (n : ℕ). takenOut c b (n - c .capacity) at) (omega arith))
     (λ more.
-    sym (some-taken-out c b (held missing - c .capacity) at (λ none. omega (arith, a .capacity-most)))
+    sym (some-taken-out c b (saturated missing - c .capacity) at (λ none. omega (arith, a .capacity-most)))
     ∙ sym (charge-beyond-most b _ at a (omega (arith, a .capacity-most)))
     ∙ charge-beyond-most b _ at a (omega (arith, a .capacity-most))
     ∙ some-taken-out c b (missing - c .capacity) at (λ none. omega (arith, a .capacity-most)))
 
-pub restore-held : {c : BucketConfig} (b : BucketCore) (missing : ℕ) (at : Nanos) → Accepted c → lacking c b (held missing) at ≡ lacking c b missing at
+pub restore-saturated : {c : BucketConfig} (b : BucketCore) (missing : ℕ) (at : Nanos) → Accepted c → lacking c b (saturated missing) at ≡ lacking c b missing at
 unfolding lacking
-restore-held {c} b missing at a = rw (fall-held (c .capacity) missing (omega (arith, a .capacity-most))) (taken-out-held _ missing at a)
+restore-saturated {c} b missing at a = rw (fall-saturated (c .capacity) missing (omega (arith, a .capacity-most))) (taken-out-saturated _ missing at a)
 
 -- The cut and the charge that put a bucket into debt, as the code makes them.
 pub lacking-by-taking-out : (c : BucketConfig) (b : BucketCore) (missing : ℕ) (at : Nanos) →

@@ -1,7 +1,7 @@
 // The token bucket, by value: its shortfall in parts, and the moment at which that was the shortfall. Every function is exact for any stored words.
 ghost use mathlib.Core.Path.{_≡_};
 ghost use Prim.Native.Nat.{_≤_};
-ghost use Rattle.arith.specs.Arith.{held};
+ghost use Rattle.arith.specs.Arith.{saturated};
 ghost use Rattle.bucket.specs.Bucket.{Accepted, fullParts, mostShortfall, readShortfall, shortfallAt, availableAt, fullAt, fresh, waitAt, recoveryAt, spent, longestWait, asked, refunded};
 ghost use Rattle.bucket.specs.Debt.{missingTokens, charged, takenOut, restored};
 use units::Nanos;
@@ -59,7 +59,7 @@ impl BucketConfig {
     // The tokens that come back in a span, rounded up and held to 64 bits. Whole periods and the rest are counted separately, so that nothing wraps.
     pub fn missing_tokens(self, remaining: Nanos) -> u64
         requires { ⌜ Accepted self ⌝ }
-        ensures { λ r. ⌜ r ≡ held (missingTokens self (remaining .0)) ⌝ }
+        ensures { λ r. ⌜ r ≡ saturated (missingTokens self (remaining .0)) ⌝ }
     {
         let period = self.period.0;
         let whole = arith::saturating_mul(remaining.0 / period, self.amount);

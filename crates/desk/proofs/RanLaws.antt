@@ -6,7 +6,7 @@ use mathlib.Core.Bool.{true, false}
 use mathlib.Core.List.{List, [], _∷_, _++_}
 use lib.ListN.{length, take, drop, length-append, length-take, length-drop}
 use Rattle.rows.specs.Outcome.{Outcome}
-use Rattle.rows.specs.Parts.{part}
+use Rattle.rows.specs.Segments.{segment}
 use Rattle.rows.proofs.OutcomeLaws.{after-is}
 use Rattle.desk_lines.specs.Lines.{longestLine}
 use Rattle.desk_turns.specs.declared.Feed.{Feed}
@@ -20,14 +20,14 @@ use Rattle.desk.specs.declared.feed.Why.the-variants.{Input, Refused, Re
 use Rattle.desk.specs.Ran.{standing, atStart, Short, TurnedTo, withLast, lastAnswered, AtEnd, RanFrom}
 
 -- How the loop stands at its head.
-pub record GoingOn (input₀ : List ℕ) (held₀ : ℕ) (output₀ memory₀ : List ℕ) (f₀ : Feed) (input : List ℕ) (held : ℕ) (output memory : List ℕ) (f : Feed)
+pub record GoingOn (input₀ : List ℕ) (pending₀ : ℕ) (output₀ memory₀ : List ℕ) (f₀ : Feed) (input : List ℕ) (pending : ℕ) (output memory : List ℕ) (f : Feed)
     (turns : ℕ) : Type 0 where
   pub same-input : length input ≡ length input₀
   pub same-output : length output ≡ length output₀
   pub same-memory : length memory ≡ length memory₀
-  pub few : held ≤ longestLine + 1
+  pub few : pending ≤ longestLine + 1
   pub more : hasEnded (f .stage) ≡ false
-  pub far : TurnedTo (standing held₀ input₀ f₀ memory₀) (length input₀) turns (standing held input f memory)
+  pub far : TurnedTo (standing pending₀ input₀ f₀ memory₀) (length input₀) turns (standing pending input f memory)
 
 -- No read yet, and one more.
 pub none-turned : (s : Standing) (size : ℕ) → TurnedTo s size 0 s
@@ -50,29 +50,29 @@ one-more {from} {size = size} read fits far =
 
 -- Nothing is left to answer once the run has ended.
 ended-answers-none : (s : Standing) → hasEnded (s .state .stage) ≡ true → lastAnswered s ≡ s .state
-ended-answers-none s ended = ap (λ (o : Outcome (List ℕ) State). o .after) (none-once-ended (lastLine (s .held)) (s .state) ended)
+ended-answers-none s ended = ap (λ (o : Outcome (List ℕ) State). o .after) (none-once-ended (lastLine (s .pending)) (s .state) ended)
 
--- A turn after a read, which leaves the bytes that are held.
-module _ (input₀ : List ℕ) {from : Standing} {size turns held end : ℕ} {f : Feed} {input memory output : List ℕ} {r : Turned} {input′ memory′ output′ : List ℕ}
-    (far : TurnedTo from size turns (standing held input₀ f memory)) (stays : take held input ≡ take held input₀) (within : held ≤ end)
+-- A turn after a read, which leaves the bytes that are pending.
+module _ (input₀ : List ℕ) {from : Standing} {size turns pending end : ℕ} {f : Feed} {input memory output : List ℕ} {r : Turned} {input′ memory′ output′ : List ℕ}
+    (far : TurnedTo from size turns (standing pending input₀ f memory)) (stays : take pending input ≡ take pending input₀) (within : pending ≤ end)
     (fits : length input ≤ size)
     (one : OneTurn f end input memory output r input′ memory′ output′) where
   abbrev read : List ℕ
-  read = part held (end - held) input
+  read = segment pending (end - pending) input
 
   abbrev next : Standing
-  next = turned read (standing held input f memory) .after
+  next = turned read (standing pending input f memory) .after
 
   next-turned : TurnedTo from size (turns + 1) next
-  next-turned = one-more read (omega (arith, fits, length-take (end - held) (drop held input), length-drop held input)) (rw stays far)
+  next-turned = one-more read (omega (arith, fits, length-take (end - pending) (drop pending input), length-drop pending input)) (rw stays far)
 
   stands-next : stateOf (r .feed) memory′ ≡ next .state
-  stands-next = turn-is-turned held within one .1
+  stands-next = turn-is-turned pending within one .1
 
-  pub goes-on : hasEnded (r .feed .stage) ≡ false → TurnedTo from size (turns + 1) (standing (r .held) input′ (r .feed) memory′)
+  pub goes-on : hasEnded (r .feed .stage) ≡ false → TurnedTo from size (turns + 1) (standing (r .pending) input′ (r .feed) memory′)
   goes-on more =
-      let keeps = turn-is-turned held within one .2 more in
-      let same : standing (r .held) input′ (r .feed) memory′ ≡ next = λ j. record { held = keeps j; state = stands-next j } in
+      let keeps = turn-is-turned pending within one .2 more in
+      let same : standing (r .pending) input′ (r .feed) memory′ ≡ next = λ j. record { pending = keeps j; state = stands-next j } in
       rw same next-turned
 
   pub over-by-write : RanFrom from size (record { why = Write; feed = r .feed; turns = turns + 1 }) memory′
@@ -84,18 +84,18 @@ module _ (input₀ : List ℕ) {from : Standing} {size turns held end : ℕ} {f 
       record { to = next; turned-to = next-turned; stands = stands-next ∙ sym (ended-answers-none next ended′); rightly = ended }
 
 -- Without a turn.
-module _ (held : ℕ) (input : List ℕ) (f : Feed) {from : Standing} {size turns : ℕ} {memory : List ℕ}
-    (far : TurnedTo from size turns (standing held input f memory)) where
+module _ (pending : ℕ) (input : List ℕ) (f : Feed) {from : Standing} {size turns : ℕ} {memory : List ℕ}
+    (far : TurnedTo from size turns (standing pending input f memory)) where
   pub over-by-read : hasEnded (f .stage) ≡ false → RanFrom from size (record { why = Read; feed = f; turns = turns }) memory
-  over-by-read more = record { to = standing held input f memory; turned-to = far; stands = refl; rightly = more }
+  over-by-read more = record { to = standing pending input f memory; turned-to = far; stands = refl; rightly = more }
 
   pub over-by-turns : hasEnded (f .stage) ≡ false → RanFrom from size (record { why = Turns; feed = f; turns = turns }) memory
-  over-by-turns more = record { to = standing held input f memory; turned-to = far; stands = refl; rightly = more }
+  over-by-turns more = record { to = standing pending input f memory; turned-to = far; stands = refl; rightly = more }
 
-  pub over-at-end : (input₁ : List ℕ) {r : Ran} {memory′ : List ℕ} → take held input₁ ≡ take held input
-      → AtEnd (standing held input₁ f memory) turns r memory′ → RanFrom from size r memory′
+  pub over-at-end : (input₁ : List ℕ) {r : Ran} {memory′ : List ℕ} → take pending input₁ ≡ take pending input
+      → AtEnd (standing pending input₁ f memory) turns r memory′ → RanFrom from size r memory′
   over-at-end input₁ stays end =
-      record { to = standing held input₁ f memory; turned-to = rw (end .counted, stays) far; stands = rw (end .last) (end .stands); rightly = end .rightly }
+      record { to = standing pending input₁ f memory; turned-to = rw (end .counted, stays) far; stands = rw (end .last) (end .stands); rightly = end .rightly }
 
 -- Where the last line is answered, the run stands where the lines of all that was read bring it, whatever the pieces.
 pub whole-input-is-answered : {memory memory′ : List ℕ} {size : ℕ} {r : Ran} (ran : RanFrom (atStart memory) size r memory′) → withLast (r .why) ≡ true
@@ -105,6 +105,6 @@ whole-input-is-answered {memory} ran last =
     (rw last at (ran .stands)) ∙ ap lastAnswered (far .is-turned) ∙ every-cutting-stands-the-same (far .reads) (atStart memory .state)
 
 -- The last line.
-pub last-stands : {f r : Feed} {held : ℕ} {input memory output memory′ output′ : List ℕ} → LastLine f held input memory output r memory′ output′
-    → stateOf r memory′ ≡ lastAnswered (standing held input f memory)
+pub last-stands : {f r : Feed} {pending : ℕ} {input memory output memory′ output′ : List ℕ} → LastLine f pending input memory output r memory′ output′
+    → stateOf r memory′ ≡ lastAnswered (standing pending input f memory)
 last-stands last = after-is (last .answers)

@@ -23,29 +23,29 @@ pub is-no-interrupt : (error : ℤ) → (ofZ w32 error ≡ 4 → ⊥) → isInte
 is-no-interrupt (pos e) other = ne-eqb e 4 other
 is-no-interrupt (negsuc e) other = refl
 
-pub brings-none-yet : (answer error : ℤ) (held count : ℕ) → ltZ answer (pos 0) ≡ true → isInterrupt error ≡ true → More held ≡ broughtBy answer error held count
+pub brings-none-yet : (answer error : ℤ) (pending count : ℕ) → ltZ answer (pos 0) ≡ true → isInterrupt error ≡ true → More pending ≡ broughtBy answer error pending count
 unfolding broughtBy
-brings-none-yet (pos k) error held count negative is = absurd (omega (arith, ltb-true k 0 negative))
-brings-none-yet (negsuc k) error held count negative is = rw is
+brings-none-yet (pos k) error pending count negative is = absurd (omega (arith, ltb-true k 0 negative))
+brings-none-yet (negsuc k) error pending count negative is = rw is
 
-pub has-failed : (answer error : ℤ) (held count : ℕ) → ltZ answer (pos 0) ≡ true → isInterrupt error ≡ false → Failed ≡ broughtBy answer error held count
+pub has-failed : (answer error : ℤ) (pending count : ℕ) → ltZ answer (pos 0) ≡ true → isInterrupt error ≡ false → Failed ≡ broughtBy answer error pending count
 unfolding broughtBy
-has-failed (pos k) error held count negative other = absurd (omega (arith, ltb-true k 0 negative))
-has-failed (negsuc k) error held count negative other = rw other
+has-failed (pos k) error pending count negative other = absurd (omega (arith, ltb-true k 0 negative))
+has-failed (negsuc k) error pending count negative other = rw other
 
-pub is-at-end : (answer error : ℤ) (held count : ℕ) → ltZ answer (pos 0) ≡ false → count ≡ 0 → End ≡ broughtBy answer error held count
+pub is-at-end : (answer error : ℤ) (pending count : ℕ) → ltZ answer (pos 0) ≡ false → count ≡ 0 → End ≡ broughtBy answer error pending count
 unfolding broughtBy
-is-at-end (pos k) error held count counts none = rw (eq-eqb count 0 none)
-is-at-end (negsuc k) error held count counts none = told-true counts
+is-at-end (pos k) error pending count counts none = rw (eq-eqb count 0 none)
+is-at-end (negsuc k) error pending count counts none = told-true counts
 
-pub brings-more : (answer error : ℤ) (held count : ℕ) → ltZ answer (pos 0) ≡ false → (count ≡ 0 → ⊥) → More (held + count) ≡ broughtBy answer error held count
+pub brings-more : (answer error : ℤ) (pending count : ℕ) → ltZ answer (pos 0) ≡ false → (count ≡ 0 → ⊥) → More (pending + count) ≡ broughtBy answer error pending count
 unfolding broughtBy
-brings-more (pos k) error held count counts some = rw (ne-eqb count 0 some)
-brings-more (negsuc k) error held count counts some = told-true counts
+brings-more (pos k) error pending count counts some = rw (ne-eqb count 0 some)
+brings-more (negsuc k) error pending count counts some = told-true counts
 
 -- It lies within the input.
-pub grows : (answer error : ℤ) (held count size : ℕ) → held + count ≤ size → Grows held size (broughtBy answer error held count)
+pub grows : (answer error : ℤ) (pending count size : ℕ) → pending + count ≤ size → Grows pending size (broughtBy answer error pending count)
 unfolding broughtBy
-grows (pos k) error held count size fits =
+grows (pos k) error pending count size fits =
     by-test (eqb count 0) (λ none. rw none tt) (λ some. rw some (omega arith, fits))
-grows (negsuc k) error held count size fits = by-test (isInterrupt error) (λ is. rw is (omega arith, omega (arith, fits))) (λ other. rw other tt)
+grows (negsuc k) error pending count size fits = by-test (isInterrupt error) (λ is. rw is (omega arith, omega (arith, fits))) (λ other. rw other tt)

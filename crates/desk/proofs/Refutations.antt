@@ -1,4 +1,4 @@
--- What wrong programs leave does not meet the contract of `go_on`: one that leaves the last line unanswered, and one that drops the bytes that are held.
+-- What wrong programs leave does not meet the contract of `go_on`: one that leaves the last line unanswered, and one that drops the bytes that are pending.
 use Prim.Native.Nat.{ℕ}
 use native.Mathlib.Omega.{arith}
 use mathlib.Core.Path.{_≡_, refl, sym, ap, _∙_}
@@ -21,25 +21,25 @@ use Rattle.desk.specs.declared.feed.Why.{Why}
 use Rattle.desk.specs.declared.feed.Why.the-variants.{Input}
 use Rattle.desk.specs.Ran.{withLast, lastAnswered, overAt, RanFrom}
 
--- Before line 1, of which the byte `x` (120) is held.
+-- Before line 1, of which the byte `x` (120) is pending.
 abbrev beforeLine1 : List ℕ → State
 beforeLine1 memory = record { stage = First; number = 0; memory = memory }
 
-abbrev xHeld : List ℕ → Standing
-xHeld memory = record { held = 120 ∷ []; state = beforeLine1 memory }
+abbrev xPending : List ℕ → Standing
+xPending memory = record { pending = 120 ∷ []; state = beforeLine1 memory }
 
 nothing-read : {from to : Standing} (reads : List (List ℕ)) → length reads ≡ 0 → to ≡ turnedOver reads from → to ≡ from
 unfolding turnedOver
 nothing-read [] none is = is
 nothing-read (read ∷ reads) none is = absurd (omega (arith, none))
 
--- The input ends without a read. A run that stands then where it stood has not answered the line that it held.
+-- The input ends without a read. A run that stands then where it stood has not answered the line that was pending.
 pub last-line-has-to-be-answered : (memory memory′ : List ℕ) (size put : ℕ)
-    → RanFrom (xHeld memory) size (record { why = Input; feed = record { stage = First; number = 0; put = put }; turns = 0 }) memory′ → ⊥
+    → RanFrom (xPending memory) size (record { why = Input; feed = record { stage = First; number = 0; put = put }; turns = 0 }) memory′ → ⊥
 unfolding linesAnswered lineAnswered lineOf lineOfLetter Fields.fields
 last-line-has-to-be-answered memory memory′ size put ran =
     let far = ran .turned-to in
-    let here : ran .to ≡ xHeld memory = nothing-read (far .reads) (far .counted) (far .is-turned) in
+    let here : ran .to ≡ xPending memory = nothing-read (far .reads) (far .counted) (far .is-turned) in
     let numbers : _≡_ {A = ℕ} 0 1 = ap (λ (s : State). s .number) (ran .stands ∙ ap lastAnswered here) in
     omega (arith, numbers)
 
@@ -70,16 +70,16 @@ isOpen First = false
 isOpen (Open settings) = true
 isOpen (Ended code) = false
 
-shut-once-ended : (why : Why) (held : List ℕ) {s : State} (memory : List ℕ) → s ≡ record { stage = Ended 9; number = 1; memory = memory }
-    → isOpen (overAt why (record { held = held; state = s }) .stage) ≡ false
-shut-once-ended why held memory is =
+shut-once-ended : (why : Why) (pending : List ℕ) {s : State} (memory : List ℕ) → s ≡ record { stage = Ended 9; number = 1; memory = memory }
+    → isOpen (overAt why (record { pending = pending; state = s }) .stage) ≡ false
+shut-once-ended why pending memory is =
     let ended : State = record { stage = Ended 9; number = 1; memory = memory } in
     rw is (by-test (withLast why) (λ last. rw last (ap (λ (o : Outcome (List ℕ) State). isOpen (o .after .stage)) (none-once-ended
-    (lastLine held) ended refl))) (λ none. rw none))
+    (lastLine pending) ended refl))) (λ none. rw none))
 
 shut-after-x : (why : Why) (lines : List (List ℕ)) (rest memory : List ℕ)
     → isOpen (overAt why (record {
-      held = keptOf (onFirst 120 lines rest .rest);
+      pending = keptOf (onFirst 120 lines rest .rest);
       state = linesAnswered (onFirst 120 lines rest .lines)
           (beforeLine1 memory) .after;
     }) .stage) ≡ false
@@ -89,9 +89,9 @@ shut-after-x why [] rest memory = by-test (withLast why) (λ last. rw last (ap (
 shut-after-x why (line ∷ lines) rest memory = shut-once-ended why (keptOf rest) memory (x-ends-the-run line lines memory)
 
 -- A program that drops the `x` and opens the desk by the settings line that comes next does not meet the contract.
-pub held-bytes-have-to-be-kept : {memory memory′ : List ℕ} {size : ℕ} {r : Ran} → RanFrom (xHeld memory) size r memory′ → isOpen (r .feed .stage) ≡ false
+pub pending-bytes-have-to-be-kept : {memory memory′ : List ℕ} {size : ℕ} {r : Ran} → RanFrom (xPending memory) size r memory′ → isOpen (r .feed .stage) ≡ false
 unfolding cut
-held-bytes-have-to-be-kept {memory} {r = r} ran =
+pending-bytes-have-to-be-kept {memory} {r = r} ran =
     let far = ran .turned-to in
     let rest = cut (joined (far .reads)) in
     let stands = far .is-turned ∙ stands-from (120 ∷ []) (refl, tt) (far .reads) (beforeLine1 memory) in

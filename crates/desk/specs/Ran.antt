@@ -13,13 +13,13 @@ use Rattle.desk.specs.declared.feed.Ran.{Ran}
 use Rattle.desk.specs.declared.feed.Why.{Why}
 use Rattle.desk.specs.declared.feed.Why.the-variants.{Input, Refused, Read, Write, LastWrite, Turns}
 
--- How the run stands: so many bytes at the start of the input are held.
+-- How the run stands: so many bytes at the start of the input are pending.
 abbrev pub standing : ℕ → List ℕ → Feed → List ℕ → Standing
-standing held input f memory = record { held = take held input; state = stateOf f memory }
+standing pending input f memory = record { pending = take pending input; state = stateOf f memory }
 
--- Before line 1, at number 0, nothing is held.
+-- Before line 1, at number 0, nothing is pending.
 abbrev pub atStart : List ℕ → Standing
-atStart memory = record { held = []; state = record { stage = First; number = 0; memory = memory } }
+atStart memory = record { pending = []; state = record { stage = First; number = 0; memory = memory } }
 
 -- None of the reads brought more bytes than there are in the input.
 abbrev pub Short : ℕ → List (List ℕ) → Type 0
@@ -44,7 +44,7 @@ withLast Write = false
 withLast Turns = false
 
 abbrev pub lastAnswered : Standing → State
-lastAnswered s = linesAnswered (lastLine (s .held)) (s .state) .after
+lastAnswered s = linesAnswered (lastLine (s .pending)) (s .state) .after
 
 abbrev pub overAt : Why → Standing → State
 overAt why s = cond (withLast why) (lastAnswered s) (s .state)

@@ -18,12 +18,12 @@ isInterrupt (negsuc error) = false
 -- What a read brought, by its answer: -1 where it failed, with the number of the error, else a count of bytes, 0 of them at the end of the input. A read that
 -- is interrupted brings none, and is made again.
 unfoldable pub broughtBy : ℤ → ℤ → ℕ → ℕ → Got
-broughtBy (negsuc k) error held count = cond (isInterrupt error) (More held) Failed
-broughtBy (pos k) error held count = cond (eqb count 0) End (More (held + count))
+broughtBy (negsuc k) error pending count = cond (isInterrupt error) (More pending) Failed
+broughtBy (pos k) error pending count = cond (eqb count 0) End (More (pending + count))
 
--- A read brings bytes after those that are held, as far as there is room. Which bytes these are no definition decides, nor which stand in the input after
+-- A read brings bytes after those that are pending, as far as there is room. Which bytes these are no definition decides, nor which stand in the input after
 -- them: any bytes may.
 abbrev pub Grows : ℕ → ℕ → Got → Type 0
-Grows held size (More end) = (held ≤ end) × (end ≤ size)
-Grows held size End = Unit {0}
-Grows held size Failed = Unit {0}
+Grows pending size (More end) = (pending ≤ end) × (end ≤ size)
+Grows pending size End = Unit {0}
+Grows pending size Failed = Unit {0}

@@ -16,7 +16,7 @@ use libc::STDOUT_FILENO;
 
 // What a read brought.
 pub enum Got {
-    // Bytes: with them, so many are held. A read that a signal interrupts brings none, so that the next turn makes it again.
+    // Bytes: with them, so many are pending. A read that a signal interrupts brings none, so that the next turn makes it again.
     More(usize),
     // The end of the input.
     End,
@@ -64,28 +64,28 @@ pub(crate) fn run(input: &mut [u8], output: &mut [u8], memory: &mut [u64]) -> Ra
 // The output has room for the answers of a turn, whose lines have a byte at least.
 fn go_on(
     input: &mut [u8],
-    mut held: usize,
+    mut pending: usize,
     output: &mut [u8],
     memory: &mut [u64],
     from: Feed,
 ) -> Ran
     requires { ⌜ (longestLine + 1 < length (now input)) × (longestPrinted * length (now input) ≤ length (now output))
-        × (held ≤ longestLine + 1) × (hasEnded (from .stage) ≡ false) ⌝ }
-    ensures { λ r. ⌜ RanFrom (standing held (now (input .entry)) from (now (memory .entry))) (length (now (input .entry))) r (now (memory .exit)) ⌝ }
+        × (pending ≤ longestLine + 1) × (hasEnded (from .stage) ≡ false) ⌝ }
+    ensures { λ r. ⌜ RanFrom (standing pending (now (input .entry)) from (now (memory .entry))) (length (now (input .entry))) r (now (memory .exit)) ⌝ }
 {
     let mut feed = from;
     let mut turns: u64 = 0;
     while turns < u64::MAX {
-        let got = read_more(input, held);
+        let got = read_more(input, pending);
         match got {
             Got::More(end) => {
                 let turned = desk_turns::turn(input, end, output, memory, feed);
                 turns += 1;
                 feed = turned.feed;
-                held = turned.held;
+                pending = turned.pending;
             }
             Got::End => {
-                return finish(input, held, output, memory, feed, turns);
+                return finish(input, pending, output, memory, feed, turns);
             }
             Got::Failed => {
                 let why = Why::Read;
@@ -105,19 +105,19 @@ fn go_on(
     Ran { why, feed, turns }
 }
 
-// The end of the input: the last line is answered, if one has begun. After a read that failed none is, since what is held of it may be cut.
+// The end of the input: the last line is answered, if one has begun. After a read that failed none is, since what is pending of it may be cut.
 fn finish(
     input: &[u8],
-    held: usize,
+    pending: usize,
     output: &mut [u8],
     memory: &mut [u64],
     feed: Feed,
     turns: u64,
 ) -> Ran
-    requires { ⌜ (held ≤ length (now input)) × (longestPrinted ≤ length (now output)) × (hasEnded (feed .stage) ≡ false) ⌝ }
-    ensures { λ r. ⌜ AtEnd (standing held (now (input .entry)) feed (now (memory .entry))) turns r (now (memory .exit)) ⌝ }
+    requires { ⌜ (pending ≤ length (now input)) × (longestPrinted ≤ length (now output)) × (hasEnded (feed .stage) ≡ false) ⌝ }
+    ensures { λ r. ⌜ AtEnd (standing pending (now (input .entry)) feed (now (memory .entry))) turns r (now (memory .exit)) ⌝ }
 {
-    let feed = desk_turns::last_line(input, held, output, memory, feed);
+    let feed = desk_turns::last_line(input, pending, output, memory, feed);
     if !flush(output, feed) {
         let why = Why::LastWrite;
         return Ran { why, feed, turns };
@@ -138,30 +138,30 @@ fn flush(output: &[u8], feed: Feed) -> bool
     io::write_all(STDOUT_FILENO, &output[0..put])
 }
 
-// Reads into the input after the bytes that are held, which stay.
-fn read_more(input: &mut [u8], held: usize) -> Got
-    requires { ⌜ held < length (now input) ⌝ }
-    ensures { λ r. ⌜ Grows held (length (now (input .entry))) r × (take held (now (input .exit)) ≡ take held (now (input .entry))) ⌝ }
+// Reads into the input after the bytes that are pending, which stay.
+fn read_more(input: &mut [u8], pending: usize) -> Got
+    requires { ⌜ pending < length (now input) ⌝ }
+    ensures { λ r. ⌜ Grows pending (length (now (input .entry))) r × (take pending (now (input .exit)) ≡ take pending (now (input .entry))) ⌝ }
 {
-    let answer = libc::read(STDIN_FILENO, &mut input[held..]);
+    let answer = libc::read(STDIN_FILENO, &mut input[pending..]);
     let error = os::errno();
-    let count = io::count(answer, &input[held..]);
-    brought(answer, error, held, count)
+    let count = io::count(answer, &input[pending..]);
+    brought(answer, error, pending, count)
 }
 
 // What a read brought, by its answer, and by the number of the error where it failed. There was room, so that a read of nothing is the end of the input.
-fn brought(answer: isize, error: i32, held: usize, count: usize) -> Got
-    requires { ⌜ held + count < 2 ^ 64 ⌝ }
-    ensures { λ r. ⌜ r ≡ broughtBy answer error held count ⌝ }
+fn brought(answer: isize, error: i32, pending: usize, count: usize) -> Got
+    requires { ⌜ pending + count < 2 ^ 64 ⌝ }
+    ensures { λ r. ⌜ r ≡ broughtBy answer error pending count ⌝ }
 {
     if answer < 0 {
         if error == EINTR {
-            return Got::More(held);
+            return Got::More(pending);
         }
         return Got::Failed;
     }
     if count == 0 {
         return Got::End;
     }
-    Got::More(held + count)
+    Got::More(pending + count)
 }

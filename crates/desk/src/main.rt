@@ -7,7 +7,7 @@ mod words;
 // The words of the memory from which the store is lent its own.
 const MEMORY_WORDS: usize = 8192;
 
-// The bytes that are read at once, with those held of a line that has not ended. The answers to so many lines have room in the output.
+// The bytes that are read at once, with those pending of a line that has not ended. The answers to so many lines have room in the output.
 const INPUT_BYTES: usize = 1024;
 
 fn main() {

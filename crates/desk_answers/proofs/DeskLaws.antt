@@ -13,8 +13,8 @@ use Rattle.rows.specs.Outcome.{Outcome, outcome}
 use Rattle.settings.specs.declared.Settings.{Settings}
 use Rattle.settings.specs.Settings.{settingsRefusal, sizeRefusal, wordsOf}
 use Rattle.settings.proofs.SettingsLaws.{no-refusal-hands-on}
-use Rattle.shards.specs.Refusals.{setUpRefusal}
-use Rattle.shards.proofs.RefusalLaws.{other-length-is-refused}
+use Rattle.store.specs.Refusals.{setUpRefusal}
+use Rattle.store.proofs.RefusalLaws.{other-length-is-refused}
 use Rattle.perkey.proofs.RefusedLaws.{set-up-refusal-is-told}
 use Rattle.perkey.specs.declared.Reply.{Reply}
 use Rattle.desk_answers.specs.declared.Told.{Told}

@@ -9,7 +9,7 @@ use Rattle.units.specs.declared.Nanos.{Nanos}
 use Rattle.settings.specs.declared.Settings.{Settings}
 use Rattle.settings.specs.Settings.{sizeRefusal, wordsOf}
 use Rattle.hash.specs.Fnv.{keyHash}
-use Rattle.store.specs.declared.Identity.{Identity}
+use Rattle.shard.specs.declared.Identity.{Identity}
 use Rattle.perkey.specs.declared.Reply.{Reply}
 use Rattle.perkey.specs.Rules as Rules
 use Rattle.desk_lines.specs.declared.Request.{Request}

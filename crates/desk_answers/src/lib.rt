@@ -7,7 +7,7 @@ use desk_lines::Line;
 use desk_lines::Request;
 use perkey::Reply;
 use settings::Settings;
-use store::Identity;
+use shard::Identity;
 use units::Nanos;
 
 // The code and the wait that are printed for a line.

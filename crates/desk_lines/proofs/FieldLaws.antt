@@ -8,7 +8,7 @@ use lib.Dec.{eqb, leb}
 use lib.ListN.{length, take, drop, length-drop}
 use lib.Seq.{take-length, drop-drop}
 use Rattle.arith.proofs.Cases.{by-test, by-le}
-use Rattle.rows.specs.Parts.{part}
+use Rattle.rows.specs.Segments.{segment}
 use Rattle.bytes.specs.Bytes.{indexAfter, indexOf, slice}
 use Rattle.desk_lines.specs.Fields.{space, fields, fieldEnd, fieldsFrom}
 use borrow.Author.Tests.{le-leb, lt-leb}
@@ -67,7 +67,7 @@ module _ (line : List ℕ) (from : ℕ) where
     inside-fields = rw (le-leb _ _ inside)
 
     -- Else the first field stands before the space, and the next begins after it.
-    pub first-field : fieldsFrom line from ≡ part from (fieldEnd line from - from) line ∷ fieldsFrom line (fieldEnd line from + 1)
+    pub first-field : fieldsFrom line from ≡ segment from (fieldEnd line from - from) line ∷ fieldsFrom line (fieldEnd line from + 1)
     first-field =
         let u = indexOf space (drop from line) in
         let end : fieldEnd line from - from ≡ u = omega arith in

@@ -7,9 +7,9 @@ use mathlib.Core.List.{List, [], _∷_, _++_}
 use lib.ListN.{length, getD, take, length-append}
 use lib.Seq.{take-all, length-take-le}
 use Rattle.arith.proofs.Cases.{by-le}
-use Rattle.rows.specs.Parts.{part}
-use Rattle.rows.proofs.PartLaws.{part-length}
-use Rattle.rows.proofs.RowLaws.{part-word}
+use Rattle.rows.specs.Segments.{segment}
+use Rattle.rows.proofs.SegmentLaws.{segment-length}
+use Rattle.rows.proofs.RowLaws.{segment-word}
 use Rattle.units.specs.declared.OptionNanos.{OptionNanos}
 use Rattle.settings.specs.declared.Limit.the-variants.{Open}
 use Rattle.settings.specs.declared.eviction.Eviction.{Eviction}
@@ -172,25 +172,25 @@ module _ (line : List ℕ) where
   too-long long = rw (lt-leb (length line) longestLine long)
 
   module _ (short : length line ≤ longestLine) where
-    line-of-first : lineOf line ≡ lineOfFields (part 0 (fieldEnd line 0) line ∷ fieldsFrom line (fieldEnd line 0 + 1))
+    line-of-first : lineOf line ≡ lineOfFields (segment 0 (fieldEnd line 0) line ∷ fieldsFrom line (fieldEnd line 0 + 1))
     unfolding lineOf fieldsFrom
     line-of-first =
         let whole : fieldEnd line 0 - 0 ≡ fieldEnd line 0 = omega arith in
         rw (le-leb (length line) longestLine short) (ap lineOfFields (rw (le-leb 0 (length line) (omega arith), whole) at (first-field line 0 (omega arith))))
 
-    first-length : length (part 0 (fieldEnd line 0) line) ≡ fieldEnd line 0
-    first-length = part-length 0 (fieldEnd line 0) line (omega (arith, field-ends-inside line 0 (omega arith)))
+    first-length : length (segment 0 (fieldEnd line 0) line) ≡ fieldEnd line 0
+    first-length = segment-length 0 (fieldEnd line 0) line (omega (arith, field-ends-inside line 0 (omega arith)))
 
     pub no-letter : (fieldEnd line 0 ≡ 1 → ⊥) → Malformed ≡ lineOf line
-    no-letter other = sym (line-of-first ∙ other-first (part 0 (fieldEnd line 0) line) (fieldsFrom line (fieldEnd line 0 + 1)) (λ one. other (sym first-length ∙ one)))
+    no-letter other = sym (line-of-first ∙ other-first (segment 0 (fieldEnd line 0) line) (fieldsFrom line (fieldEnd line 0 + 1)) (λ one. other (sym first-length ∙ one)))
 
     pub letter-inside : fieldEnd line 0 ≡ 1 → 0 < length line
     letter-inside one = omega (arith, one, field-ends-inside line 0 (omega arith))
 
     pub by-letter : fieldEnd line 0 ≡ 1 → lineOfLetter (getD line 0 0) (left (fieldsFrom line 2)) ≡ lineOf line
     by-letter one =
-        let byte = part-word 0 (fieldEnd line 0) line 0 (omega (arith, one)) in
-        sym (line-of-first ∙ one-letter (part 0 (fieldEnd line 0) line) (fieldsFrom line (fieldEnd line 0 + 1)) (first-length ∙ one) ∙ rw (byte, one))
+        let byte = segment-word 0 (fieldEnd line 0) line 0 (omega (arith, one)) in
+        sym (line-of-first ∙ one-letter (segment 0 (fieldEnd line 0) line) (fieldsFrom line (fieldEnd line 0 + 1)) (first-length ∙ one) ∙ rw (byte, one))
 
 -- Of the bytes before a place one more than a line may have is enough, whatever follows: all of a short beginning is kept, and a longer one is
 -- malformed with that many bytes already.

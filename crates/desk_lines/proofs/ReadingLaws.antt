@@ -8,9 +8,9 @@ use mathlib.Core.List.{List, [], _∷_}
 use lib.Dec.{eqb, leb, ltb}
 use lib.ListN.{length, getD}
 use Rattle.arith.proofs.Cases.{by-test, by-le, by-eq}
-use Rattle.rows.specs.Parts.{part}
-use Rattle.rows.proofs.PartLaws.{part-length}
-use Rattle.rows.proofs.RowLaws.{part-word}
+use Rattle.rows.specs.Segments.{segment}
+use Rattle.rows.proofs.SegmentLaws.{segment-length}
+use Rattle.rows.proofs.RowLaws.{segment-word}
 use Rattle.units.specs.declared.OptionNanos.the-variants as nanos
 use Rattle.decimal.specs.declared.OptionNumber.{OptionNumber}
 use Rattle.decimal.specs.declared.OptionNumber.the-variants as number
@@ -37,7 +37,7 @@ module _ (line : List ℕ) (rest : Rest) where
   reading-ended good past = reading-good good ∙ ap left (none-left line (rest .at) past)
 
   abbrev firstFieldAt : List ℕ
-  firstFieldAt = part (rest .at) (fieldEnd line (rest .at) - rest .at) line
+  firstFieldAt = segment (rest .at) (fieldEnd line (rest .at) - rest .at) line
 
   reading-inside : rest .good ≡ true → rest .at ≤ length line → readingAt line rest ≡ left (firstFieldAt ∷ fieldsFrom line (fieldEnd line (rest .at) + 1))
   reading-inside good inside = reading-good good ∙ ap left (first-field line (rest .at) inside)
@@ -50,7 +50,7 @@ read-is-taken line next (number.Some n) = refl
 
 module _ (line : List ℕ) (rest : Rest) (most : ℕ) where
   pub number-is-taken : {end : ℕ} {o : OptionNumber} {r : NumberRead} → rest .good ≡ true → rest .at ≤ length line → end ≡ fieldEnd line (rest .at)
-      → o ≡ numberOf most (part (rest .at) (end - rest .at) line) → r ≡ numberRead (end + 1) o → numberAt line r ≡ taken most (readingAt line rest)
+      → o ≡ numberOf most (segment (rest .at) (end - rest .at) line) → r ≡ numberRead (end + 1) o → numberAt line r ≡ taken most (readingAt line rest)
   unfolding taken
   number-is-taken good inside is-end is-number is-read =
       rw (is-read, is-number, is-end, reading-inside line rest good inside) (read-is-taken line (fieldEnd line (rest .at) + 1) (numberOf most (firstFieldAt line rest)))
@@ -83,10 +83,10 @@ module _ (line : List ℕ) (rest : Rest) where
   field = firstFieldAt line rest
 
   field-length : rest .at ≤ length line → length field ≡ fieldEnd line (rest .at) - rest .at
-  field-length inside = part-length (rest .at) (fieldEnd line (rest .at) - rest .at) line (omega (arith, field-ends-inside line (rest .at) inside))
+  field-length inside = segment-length (rest .at) (fieldEnd line (rest .at) - rest .at) line (omega (arith, field-ends-inside line (rest .at) inside))
 
   field-byte : rest .at ≤ length line → length field ≡ 1 → getD field 0 0 ≡ getD line (rest .at) 0
-  field-byte inside one = rw add-zero at (part-word (rest .at) (fieldEnd line (rest .at) - rest .at) line 0 (omega (arith, one, field-length inside)))
+  field-byte inside one = rw add-zero at (segment-word (rest .at) (fieldEnd line (rest .at) - rest .at) line 0 (omega (arith, one, field-length inside)))
 
   pub failed-has-no-dash : rest .good ≡ false → false ≡ dashNext (readingAt line rest)
   failed-has-no-dash bad = rw (reading-failed line rest bad)

@@ -9,7 +9,7 @@ use lib.ListN.{take}
 use lib.Seq.{take-add}
 use Rattle.arith.proofs.Cases.{by-test}
 use Rattle.rows.specs.Outcome.{Outcome, outcome}
-use Rattle.rows.specs.Parts.{part}
+use Rattle.rows.specs.Segments.{segment}
 use Rattle.rows.proofs.OutcomeLaws.{answer-is, after-is}
 use Rattle.desk_lines.specs.Lines.{longestLine, lineOf}
 use Rattle.desk_lines.specs.Printed.{lineFeed}
@@ -139,7 +139,7 @@ answered-in-parts (line ∷ lines) others s =
     (λ goes-on. rw goes-on (ap (after (o .answer)) (answered-in-parts lines others (o .after))
     ∙ ap (λ (l : List ℕ). outcome l (q .after)) (sym (append-assoc (o .answer) (p .answer) (q .answer)))))
 
--- From a line's beginning on, with what is kept of it held: at the end of the input, and with one read more.
+-- From a line's beginning on, with what is kept of it pending: at the end of the input, and with one read more.
 rest-is-last : (rest : List ℕ) → NoFeed rest → linesOf (rest ++ []) ≡ lastLine rest
 unfolding linesOf cut
 rest-is-last rest none = rw (cut-onto rest [] none, append-nil rest)
@@ -153,7 +153,7 @@ module _ (rest : List ℕ) (none : NoFeed rest) (read : List ℕ) (reads : List 
       ∙ ap (λ (lines : List (List ℕ)). linesAnswered lines s .answer) whole
 
 printed-from : (rest : List ℕ) → NoFeed rest → (reads : List (List ℕ)) (s : State)
-    → printedInTurns reads (record { held = keptOf rest; state = s }) ≡ linesAnswered (linesOf (rest ++ joined reads)) s .answer
+    → printedInTurns reads (record { pending = keptOf rest; state = s }) ≡ linesAnswered (linesOf (rest ++ joined reads)) s .answer
 unfolding printedInTurns joined turned
 printed-from rest none [] s = ap (λ (o : Outcome (List ℕ) State). o .answer) (last-by-kept rest s) ∙ rw (rest-is-last rest none)
 printed-from rest none (read ∷ reads) s =
@@ -164,17 +164,17 @@ printed-from rest none (read ∷ reads) s =
 
 -- For every cutting of an input into reads the turns print what is printed for the input's lines.
 pub every-cutting-prints-the-same : (reads : List (List ℕ)) (memory : List ℕ)
-    → printedInTurns reads (record { held = []; state = record { stage = First; number = 0; memory = memory } }) ≡ printedAll First 0 (linesOf (joined reads)) memory
+    → printedInTurns reads (record { pending = []; state = record { stage = First; number = 0; memory = memory } }) ≡ printedAll First 0 (linesOf (joined reads)) memory
 every-cutting-prints-the-same reads memory = printed-from [] tt reads (record { stage = First; number = 0; memory = memory })
 
--- What the contract of `turn` says of the buffers is a turn: the bytes that were held, and after them those that were read.
-pub turn-is-turned : {f : Feed} {end : ℕ} {input memory output : List ℕ} {r : Turned} {input′ memory′ output′ : List ℕ} (held : ℕ) → held ≤ end
-    → OneTurn f end input memory output r input′ memory′ output′ → let t = turned (part held (end - held) input) (record { held = take held input; state = stateOf f memory }) in
-    (take (r .feed .put) output′ ≡ t .answer) × (stateOf (r .feed) memory′ ≡ t .after .state) × (hasEnded (r .feed .stage) ≡ false → take (r .held) input′ ≡ t .after .held)
+-- What the contract of `turn` says of the buffers is a turn: the bytes that were pending, and after them those that were read.
+pub turn-is-turned : {f : Feed} {end : ℕ} {input memory output : List ℕ} {r : Turned} {input′ memory′ output′ : List ℕ} (pending : ℕ) → pending ≤ end
+    → OneTurn f end input memory output r input′ memory′ output′ → let t = turned (segment pending (end - pending) input) (record { pending = take pending input; state = stateOf f memory }) in
+    (take (r .feed .put) output′ ≡ t .answer) × (stateOf (r .feed) memory′ ≡ t .after .state) × (hasEnded (r .feed .stage) ≡ false → take (r .pending) input′ ≡ t .after .pending)
 unfolding turned
-turn-is-turned {end = end} {input = input} held within one =
-    let place : held + (end - held) ≡ end = omega (arith, within) in
-    let whole : take held input ++ part held (end - held) input ≡ take end input = sym (take-add held (end - held) input) ∙ ap (λ (k : ℕ). take k input) place in
+turn-is-turned {end = end} {input = input} pending within one =
+    let place : pending + (end - pending) ≡ end = omega (arith, within) in
+    let whole : take pending input ++ segment pending (end - pending) input ≡ take end input = sym (take-add pending (end - pending) input) ∙ ap (λ (k : ℕ). take k input) place in
     rw whole (answer-is (one .answers), after-is (one .answers), one .keeps)
 
 -- One read more.
@@ -201,22 +201,22 @@ cut-in-parts (b ∷ bs) more =
     (λ feed. rw feed (ap (λ (c : Cut). record { lines = [] ∷ c .lines; rest = c .rest }) (cut-in-parts bs more)))
     (λ other. rw other (ap (λ (c : Cut). onFirst b (c .lines) (c .rest)) (cut-in-parts bs more) ∙ byte-before b (cut bs .lines) (cut bs .rest) more other))
 
--- How the run stands after bytes: the whole lines among them are answered, and what is kept of the last one is held.
+-- How the run stands after bytes: the whole lines among them are answered, and what is kept of the last one is pending.
 abbrev pub standsAfter : List ℕ → State → Standing
-standsAfter bytes s = record { held = keptOf (cut bytes .rest); state = linesAnswered (cut bytes .lines) s .after }
+standsAfter bytes s = record { pending = keptOf (cut bytes .rest); state = linesAnswered (cut bytes .lines) s .after }
 
 stands-in-parts : (bs more : List ℕ) (s : State) → standsAfter (cut bs .rest ++ more) (linesAnswered (cut bs .lines) s .after) ≡ standsAfter (bs ++ more) s
 stands-in-parts bs more s =
     let rest = cut (cut bs .rest ++ more) in
     rw (cut-in-parts bs more)
-    (ap (λ (o : Outcome (List ℕ) State). record { held = keptOf (rest .rest); state = o .after }) (sym (answered-in-parts (cut bs .lines) (rest .lines) s)))
+    (ap (λ (o : Outcome (List ℕ) State). record { pending = keptOf (rest .rest); state = o .after }) (sym (answered-in-parts (cut bs .lines) (rest .lines) s)))
 
-begun-stands : (rest : List ℕ) → NoFeed rest → (s : State) → record { held = keptOf rest; state = s } ≡ standsAfter (rest ++ []) s
+begun-stands : (rest : List ℕ) → NoFeed rest → (s : State) → record { pending = keptOf rest; state = s } ≡ standsAfter (rest ++ []) s
 unfolding cut linesAnswered
 begun-stands rest none s = rw (cut-onto rest [] none, append-nil rest)
 
 pub stands-from : (rest : List ℕ) → NoFeed rest → (reads : List (List ℕ)) (s : State)
-    → turnedOver reads (record { held = keptOf rest; state = s }) ≡ standsAfter (rest ++ joined reads) s
+    → turnedOver reads (record { pending = keptOf rest; state = s }) ≡ standsAfter (rest ++ joined reads) s
 unfolding turnedOver turned joined
 stands-from rest none [] s = begun-stands rest none s
 stands-from rest none (read ∷ reads) s =
@@ -225,8 +225,8 @@ stands-from rest none (read ∷ reads) s =
     ∙ stands-in-parts (rest ++ read) (joined reads) s ∙ ap (λ (bytes : List ℕ). standsAfter bytes s) (append-assoc rest read (joined reads)))
 
 -- For every cutting of an input into reads the run stands, after the last line, where the input's lines bring it.
-pub every-cutting-stands-the-same : (reads : List (List ℕ)) (s : State) → let t = turnedOver reads (record { held = []; state = s }) in
-    linesAnswered (lastLine (t .held)) (t .state) .after ≡ linesAnswered (linesOf (joined reads)) s .after
+pub every-cutting-stands-the-same : (reads : List (List ℕ)) (s : State) → let t = turnedOver reads (record { pending = []; state = s }) in
+    linesAnswered (lastLine (t .pending)) (t .state) .after ≡ linesAnswered (linesOf (joined reads)) s .after
 unfolding linesOf
 every-cutting-stands-the-same reads s =
     let c = cut (joined reads) in

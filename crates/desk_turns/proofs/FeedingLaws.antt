@@ -17,7 +17,7 @@ use Rattle.desk_lines.proofs.PrintLaws.{field-short}
 use Rattle.desk_answers.specs.declared.Served.{Served}
 use Rattle.desk_answers.specs.Desk.{served}
 use Rattle.bytes.specs.Bytes.{indexOf}
-use Rattle.rows.specs.Parts.{part}
+use Rattle.rows.specs.Segments.{segment}
 use Rattle.desk_turns.specs.declared.Feed.{Feed}
 use Rattle.desk_turns.specs.Feeding.{stateOf, unprinted, fed, SameFrom, OneLine, keptFrom, movedToStart}
 use Rattle.desk_turns.specs.Run.{State, hasEnded, lineAnswered, andThen, linesAnswered, cut, lastLine, keptOf}
@@ -107,8 +107,8 @@ module _ {f₀ : Feed} {bytes memory₀ output₀ : List ℕ} {f : Feed} {at : �
 
   -- The next line was answered: the others come after what is printed then.
   module _ {stop : ℕ} {o : Outcome (List ℕ) State} (goes-on : hasEnded (f .stage) ≡ false) (found : stop ≡ at + indexOf lineFeed (drop at bytes)) (inside : stop < length bytes)
-      (is-answered : o ≡ andThen (fed f memory output) (lineAnswered (part at (stop - at) bytes))) where
-    parted : cut (drop at bytes) ≡ record { lines = part at (stop - at) bytes ∷ cut (drop (stop + 1) bytes) .lines; rest = cut (drop (stop + 1) bytes) .rest }
+      (is-answered : o ≡ andThen (fed f memory output) (lineAnswered (segment at (stop - at) bytes))) where
+    parted : cut (drop at bytes) ≡ record { lines = segment at (stop - at) bytes ∷ cut (drop (stop + 1) bytes) .lines; rest = cut (drop (stop + 1) bytes) .rest }
     parted =
         let rest = drop at bytes in
         let i = indexOf lineFeed rest in
@@ -120,7 +120,7 @@ module _ {f₀ : Feed} {bytes memory₀ output₀ : List ℕ} {f : Feed} {at : �
     pub others-follow : andThen o (linesAnswered (cut (drop (stop + 1) bytes) .lines)) ≡ andThen (fed f₀ memory₀ output₀) (linesAnswered (cut bytes .lines))
     others-follow =
         ap (λ (p : Outcome (List ℕ) State). andThen p (linesAnswered (cut (drop (stop + 1) bytes) .lines))) is-answered
-        ∙ sym (one-and-others (fed f memory output) (part at (stop - at) bytes) (cut (drop (stop + 1) bytes) .lines) goes-on) ∙ rw parted at (far .answers)
+        ∙ sym (one-and-others (fed f memory output) (segment at (stop - at) bytes) (cut (drop (stop + 1) bytes) .lines) goes-on) ∙ rw parted at (far .answers)
 
     pub rest-follows : cut (drop (stop + 1) bytes) .rest ≡ cut bytes .rest
     rest-follows = rw parted at (far .leaves)
@@ -128,23 +128,23 @@ module _ {f₀ : Feed} {bytes memory₀ output₀ : List ℕ} {f : Feed} {at : �
     pub none-follow : hasEnded (o .after .stage) ≡ true → o ≡ andThen (fed f₀ memory₀ output₀) (linesAnswered (cut bytes .lines))
     none-follow ended = sym (ended-is-all o (cut (drop (stop + 1) bytes) .lines) ended) ∙ others-follow
 
--- The last line: none where nothing is held, else what is held.
-pub no-last-line : (f : Feed) (held : ℕ) (input memory output : List ℕ) → held ≡ 0 → fed (unprinted f) memory output ≡ linesAnswered (lastLine (take held input)) (stateOf f memory)
+-- The last line: none where nothing is pending, else what is pending.
+pub no-last-line : (f : Feed) (pending : ℕ) (input memory output : List ℕ) → pending ≡ 0 → fed (unprinted f) memory output ≡ linesAnswered (lastLine (take pending input)) (stateOf f memory)
 unfolding linesAnswered
-no-last-line f held input memory output none = rw none
+no-last-line f pending input memory output none = rw none
 
 begun-is-last : (line : List ℕ) → 0 < length line → lastLine line ≡ line ∷ []
 begun-is-last [] begun = absurd (omega (arith, begun))
 begun-is-last (b ∷ bs) begun = refl
 
-pub last-is-answered : (f : Feed) (held : ℕ) (input memory output : List ℕ) {o : Outcome (List ℕ) State} → (held ≡ 0 → ⊥) → held ≤ length input → hasEnded (f .stage) ≡ false
-    → o ≡ andThen (fed (unprinted f) memory output) (lineAnswered (take (held - 0) input)) → o ≡ linesAnswered (lastLine (take held input)) (stateOf f memory)
+pub last-is-answered : (f : Feed) (pending : ℕ) (input memory output : List ℕ) {o : Outcome (List ℕ) State} → (pending ≡ 0 → ⊥) → pending ≤ length input → hasEnded (f .stage) ≡ false
+    → o ≡ andThen (fed (unprinted f) memory output) (lineAnswered (take (pending - 0) input)) → o ≡ linesAnswered (lastLine (take pending input)) (stateOf f memory)
 unfolding linesAnswered
-last-is-answered f held input memory output some inside goes-on is-answered =
-    let same : held - 0 ≡ held = omega arith in
+last-is-answered f pending input memory output some inside goes-on is-answered =
+    let same : pending - 0 ≡ pending = omega arith in
     let s = stateOf f memory in
-    rw (begun-is-last (take held input) (omega (arith, some, inside, length-take held input)), goes-on)
-    ((rw same at is-answered) ∙ sym (nothing-follows (lineAnswered (take held input) s)))
+    rw (begun-is-last (take pending input) (omega (arith, some, inside, length-take pending input)), goes-on)
+    ((rw same at is-answered) ∙ sym (nothing-follows (lineAnswered (take pending input) s)))
 
 -- What was told as true is not false.
 pub told-true : {A : Type 0} → true ≡ false → A
@@ -211,12 +211,12 @@ module _ (end : ℕ) (input : List ℕ) where
       → o ≡ linesAnswered (cut (take end input) .lines) (stateOf f memory)
   turn-answers f memory output answers = let same : end - 0 ≡ end = omega arith in rw same at answers
 
-  pub turn-keeps : (at : ℕ) {held : ℕ} {input′ : List ℕ} → at ≤ end → end ≤ length input → held ≡ keptFrom at end → input′ ≡ movedToStart at held input
-      → drop at (take (end - 0) input) ≡ cut (take (end - 0) input) .rest → take held input′ ≡ keptOf (cut (take end input) .rest)
+  pub turn-keeps : (at : ℕ) {pending : ℕ} {input′ : List ℕ} → at ≤ end → end ≤ length input → pending ≡ keptFrom at end → input′ ≡ movedToStart at pending input
+      → drop at (take (end - 0) input) ≡ cut (take (end - 0) input) .rest → take pending input′ ≡ keptOf (cut (take end input) .rest)
   turn-keeps at within inside few moved leaves =
       let same : end - 0 ≡ end = omega arith in
       rw (moved, few) (rest-is-kept at end input within inside) ∙ ap keptOf (rw same at leaves)
 
-  pub turn-leaves-beyond : (at : ℕ) {held : ℕ} {input′ : List ℕ} → at ≤ end → end ≤ length input → held ≡ keptFrom at end
-      → input′ ≡ movedToStart at held input → SameFrom held input input′
-  turn-leaves-beyond at {held} within inside few moved = rw moved (beyond-moved at held input (omega (arith, within, inside, few)))
+  pub turn-leaves-beyond : (at : ℕ) {pending : ℕ} {input′ : List ℕ} → at ≤ end → end ≤ length input → pending ≡ keptFrom at end
+      → input′ ≡ movedToStart at pending input → SameFrom pending input input′
+  turn-leaves-beyond at {pending} within inside few moved = rw moved (beyond-moved at pending input (omega (arith, within, inside, few)))

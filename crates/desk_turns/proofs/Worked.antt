@@ -20,13 +20,13 @@ nul-is-line-1 memory = refl
 
 -- The same in two reads, the first of them the NUL: the run has ended with code 9, and the memory is as it was.
 pub nul-in-two-reads : (memory : List ℕ) → turnedOver ((0 ∷ []) ∷ (10 ∷ 200 ∷ []) ∷ []) (record {
-  held = [];
+  pending = [];
   state = record {
     stage = First;
     number = 0;
     memory = memory;
   };
 })
-    ≡ record { held = 200 ∷ []; state = record { stage = Ended 9; number = 1; memory = memory } }
+    ≡ record { pending = 200 ∷ []; state = record { stage = Ended 9; number = 1; memory = memory } }
 unfolding turnedOver turned cut linesAnswered lineAnswered lineOf lineOfLetter fields
 nul-in-two-reads memory = refl

@@ -24,7 +24,7 @@ unprinted f = record { stage = f .stage; number = f .number; put = 0 }
 abbrev pub fed : Feed → List ℕ → List ℕ → Outcome (List ℕ) State
 fed f memory output = outcome (take (f .put) output) (stateOf f memory)
 
--- From a place on, past what is printed or held, the bytes are as they were.
+-- From a place on, past what is printed or pending, the bytes are as they were.
 abbrev pub SameFrom : ℕ → List ℕ → List ℕ → Type 0
 SameFrom place bytes bytes′ = drop place bytes′ ≡ drop place bytes
 
@@ -44,24 +44,24 @@ pub record WholeLines (f : Feed) (bytes memory output : List ℕ) (r : Lines) (m
   pub fits : r .feed .put ≤ length output
   pub beyond : SameFrom (r .feed .put) output output′
 
--- The bytes that are held after a turn. Once the run has ended no definition decides which they are. What holds of them then: they are no more than are kept
+-- The bytes that are pending after a turn. Once the run has ended no definition decides which they are. What holds of them then: they are no more than are kept
 -- of a line (`few`), and no line is answered from them any more (`none-once-ended`).
-abbrev pub heldBy : Turned → List ℕ → List ℕ
-heldBy r input′ = take (r .held) input′
+abbrev pub pendingBy : Turned → List ℕ → List ℕ
+pendingBy r input′ = take (r .pending) input′
 
 -- A turn: the whole lines among the bytes that have been read are answered, and nothing else stands printed. Unless the run has ended, what is left
 -- is kept at the start of the input. All other bytes are as they were.
 pub record OneTurn (f : Feed) (end : ℕ) (input memory output : List ℕ) (r : Turned) (input′ memory′ output′ : List ℕ) : Type 0 where
   pub answers : fed (r .feed) memory′ output′ ≡ linesAnswered (cut (take end input) .lines) (stateOf f memory)
-  pub keeps : hasEnded (r .feed .stage) ≡ false → heldBy r input′ ≡ keptOf (cut (take end input) .rest)
-  pub few : r .held ≤ longestLine + 1
+  pub keeps : hasEnded (r .feed .stage) ≡ false → pendingBy r input′ ≡ keptOf (cut (take end input) .rest)
+  pub few : r .pending ≤ longestLine + 1
   pub fits : r .feed .put ≤ length output
   pub beyond-printed : SameFrom (r .feed .put) output output′
-  pub beyond-held : SameFrom (r .held) input input′
+  pub beyond-pending : SameFrom (r .pending) input input′
 
--- The end of the input: the bytes that are held are the last line. Where none are held, no line begins, and nothing stands printed.
-pub record LastLine (f : Feed) (held : ℕ) (input memory output : List ℕ) (r : Feed) (memory′ output′ : List ℕ) : Type 0 where
-  pub answers : fed r memory′ output′ ≡ linesAnswered (lastLine (take held input)) (stateOf f memory)
+-- The end of the input: the bytes that are pending are the last line. Where none are pending, no line begins, and nothing stands printed.
+pub record LastLine (f : Feed) (pending : ℕ) (input memory output : List ℕ) (r : Feed) (memory′ output′ : List ℕ) : Type 0 where
+  pub answers : fed r memory′ output′ ≡ linesAnswered (lastLine (take pending input)) (stateOf f memory)
   pub fits : r .put ≤ length output
   pub beyond : SameFrom (r .put) output output′
 

@@ -74,17 +74,17 @@ printedAll stage number lines memory = linesAnswered lines (record { stage = sta
 abbrev pub keptOf : List ℕ → List ℕ
 keptOf rest = take (longestLine + 1) rest
 
--- How the run stands between two reads: the bytes that are held of a line that has not ended come before those that are read next.
+-- How the run stands between two reads: the bytes that are pending of a line that has not ended come before those that are read next.
 pub record Standing : Type 0 where
-  pub held : List ℕ
+  pub pending : List ℕ
   pub state : State
 
--- A turn: the lines that a read has ended are answered, and what is left is held.
+-- A turn: the lines that a read has ended are answered, and what is left is pending.
 unfoldable pub turned : List ℕ → Standing → Outcome (List ℕ) Standing
 turned read s =
-    let c = cut (s .held ++ read) in
+    let c = cut (s .pending ++ read) in
     let o = linesAnswered (c .lines) (s .state) in
-    outcome (o .answer) (record { held = keptOf (c .rest); state = o .after })
+    outcome (o .answer) (record { pending = keptOf (c .rest); state = o .after })
 
 -- How the run stands after some reads, each of them turned.
 unfoldable pub turnedOver : List (List ℕ) → Standing → Standing
@@ -93,7 +93,7 @@ turnedOver (read ∷ reads) s = turnedOver reads (turned read s .after)
 
 -- What a run prints whose input comes in some reads: turn after turn until the run has ended, and the last line at the end of the input.
 unfoldable pub printedInTurns : List (List ℕ) → Standing → List ℕ
-printedInTurns [] s = linesAnswered (lastLine (s .held)) (s .state) .answer
+printedInTurns [] s = linesAnswered (lastLine (s .pending)) (s .state) .answer
 printedInTurns (read ∷ reads) s = cond (hasEnded (s .state .stage)) [] (turned read s .answer ++ printedInTurns reads (turned read s .after))
 
 -- The bytes of all reads.

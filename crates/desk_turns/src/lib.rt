@@ -26,10 +26,10 @@ pub struct Lines {
     pub at: usize,
 }
 
-// How far the run has come after a turn, and how many bytes at the start of the input are held of a line that has not ended.
+// How far the run has come after a turn, and how many bytes at the start of the input are pending of a line that has not ended.
 pub struct Turned {
     pub feed: Feed,
-    pub held: usize,
+    pub pending: usize,
 }
 
 // Answers the whole lines among the first `end` bytes of the input, and keeps what is left.
@@ -44,27 +44,27 @@ pub fn turn(
     ensures { λ r. ⌜ OneTurn feed end (now (input .entry)) (now (memory .entry)) (now (output .entry)) r (now (input .exit)) (now (memory .exit)) (now (output .exit)) ⌝ }
 {
     let lines = whole_lines(&input[0..end], output, memory, unprinted(feed));
-    let held = keep_rest(input, lines.at, end);
+    let pending = keep_rest(input, lines.at, end);
     let feed = lines.feed;
-    Turned { feed, held }
+    Turned { feed, pending }
 }
 
 // Answers the line that the end of the input ends, if one has begun.
 pub fn last_line(
     input: &[u8],
-    held: usize,
+    pending: usize,
     output: &mut [u8],
     memory: &mut [u64],
     feed: Feed,
 ) -> Feed
-    requires { ⌜ (held ≤ length (now input)) × (longestPrinted ≤ length (now output)) × (hasEnded (feed .stage) ≡ false) ⌝ }
-    ensures { λ r. ⌜ LastLine feed held (now (input .entry)) (now (memory .entry)) (now (output .entry)) r (now (memory .exit)) (now (output .exit)) ⌝ }
+    requires { ⌜ (pending ≤ length (now input)) × (longestPrinted ≤ length (now output)) × (hasEnded (feed .stage) ≡ false) ⌝ }
+    ensures { λ r. ⌜ LastLine feed pending (now (input .entry)) (now (memory .entry)) (now (output .entry)) r (now (memory .exit)) (now (output .exit)) ⌝ }
 {
     let feed = unprinted(feed);
-    if held == 0 {
+    if pending == 0 {
         return feed;
     }
-    answer_line(&input[0..held], output, memory, feed)
+    answer_line(&input[0..pending], output, memory, feed)
 }
 
 // The same, with nothing printed.

@@ -21,7 +21,7 @@ use Rattle.ledger.specs.Model as Ledger
 use Rattle.ledger.proofs.KeptLaws.{weigh, owed, one, weigh-own, weigh-other, record-adds-at-most, record-keeps-unsettled, refusal-keeps}
 use Rattle.shard_map.specs.Model.{Shard, Sound, slotAt, withLedger, removeAt}
 use Rattle.shard_map.proofs.StepLaws.{removal-ledger}
-use Rattle.shard_map.proofs.KeptLaws.{weight, hold, unpaid, overAll, Keeps, keeps-trans, weight-of-hash, hold-own, hold-other, count-removed, held-removed}
+use Rattle.shard_map.proofs.KeptLaws.{weight, short, unpaid, overAll, Keeps, keeps-trans, weight-of-hash, short-own, short-other, count-removed, shortage-removed}
 use Rattle.shard_map.proofs.KeptLaws.{unpaid-settled, full-slot-loses-nothing}
 use Rattle.evict.specs.declared.Room.{Room}
 use Rattle.evict.specs.Evict.{walked, debtLeft, evictAt, evicted}
@@ -48,11 +48,11 @@ debt-lasts c b at a =
 
 module _ (c : BucketConfig) (h k : ℕ) where
   -- The walk changes neither sum.
-  walk-keeps-held : (at : Nanos) (s t : Shard) → Remarked s t → Keeps c h k at s t
-  unfolding weight hold
-  walk-keeps-held at s t r = record {
+  walk-keeps-shortage : (at : Nanos) (s t : Shard) → Remarked s t → Keeps c h k at s t
+  unfolding weight short
+  walk-keeps-shortage at s t r = record {
     fewer = omega (arith, all-remarked h (weight h k) one (λ slot mark. refl) s t r);
-    more = λ single. omega (arith, all-remarked h (hold c h at) (unpaid c at) (λ slot mark. refl) s t r);
+    more = λ single. omega (arith, all-remarked h (short c h at) (unpaid c at) (λ slot mark. refl) s t r);
   }
 
   -- The debt that a slot leaves counts no more than the slot, and holds what it held.
@@ -61,12 +61,12 @@ module _ (c : BucketConfig) (h k : ℕ) where
       let d : Debt = debtLeft c at slot in
       by-eq (slot .hash) h (λ own. omega (arith, weigh-own h one d own, weight-of-hash h k slot own)) (λ other. omega (arith, weigh-other h one d other))
 
-  debt-holds-as-much : (at : Nanos) (slot : Slot) → Accepted c → hold c h at slot ≤ weigh h (unpaid c at) (debtLeft c at slot)
+  debt-holds-as-much : (at : Nanos) (slot : Slot) → Accepted c → short c h at slot ≤ weigh h (unpaid c at) (debtLeft c at slot)
   debt-holds-as-much at slot a =
       let d : Debt = debtLeft c at slot in
       by-eq (slot .hash) h
-      (λ own. omega (arith, weigh-own h (unpaid c at) d own, hold-own c h at slot own, debt-lasts c (slot .bucket) at a, shortfall-most c (slot .bucket) at))
-      (λ other. omega (arith, hold-other c h at slot other))
+      (λ own. omega (arith, weigh-own h (unpaid c at) d own, short-own c h at slot own, debt-lasts c (slot .bucket) at a, shortfall-most c (slot .bucket) at))
+      (λ other. omega (arith, short-other c h at slot other))
 
   -- A slot goes once its debt is recorded, where debts may not be forgotten; and a recording that is refused changes nothing.
   owing-slot-loses-nothing : (at : Nanos) (forget : Bool) (s : Shard) (p : ℕ) → Accepted c → Sound s → forget ≡ false → p < s .slots .count
@@ -82,7 +82,7 @@ module _ (c : BucketConfig) (h k : ℕ) where
             let alone : owed h one (s .ledger) + weigh h one d ≤ 1 = omega (arith, count-removed h k s p u below, ap (owed h one) (removal-ledger s p), debt-counts-no-more at slot) in
             omega (
               arith,
-              held-removed c h at (withLedger s l) p v below,
+              shortage-removed c h at (withLedger s l) p v below,
               record-keeps-unsettled h (unpaid c at) (s .ledger) (u .ledger) d at forget never (unpaid-settled c at) alone done,
               debt-holds-as-much at slot a,
             );
@@ -98,9 +98,9 @@ module _ (c : BucketConfig) (h k : ℕ) where
       }
 
   -- An eviction loses nothing, whether it makes room or is refused, where debts may not be forgotten.
-  pub evict-keeps-held : (at : Nanos) (forget : Bool) (s : Shard) → Accepted c → Sound s → 0 < s .slots .count → forget ≡ false → Keeps c h k at s (evicted c at forget s .after)
-  evict-keeps-held at forget s a u some never =
-      keeps-trans c h k at s (walked c at s .after) (evicted c at forget s .after) (walk-keeps-held at s (walked c at s .after) walk)
+  pub evict-keeps-shortage : (at : Nanos) (forget : Bool) (s : Shard) → Accepted c → Sound s → 0 < s .slots .count → forget ≡ false → Keeps c h k at s (evicted c at forget s .after)
+  evict-keeps-shortage at forget s a u some never =
+      keeps-trans c h k at s (walked c at s .after) (evicted c at forget s .after) (walk-keeps-shortage at s (walked c at s .after) walk)
       (go (remarked-sound s (walked c at s .after) walk u) (evict-cases c at forget s u some))
     where
       walk : Remarked s (walked c at s .after)

@@ -27,13 +27,13 @@ use Rattle.ledger.specs.declared.Recorded.the-variants.{Done, NoRoom}
 use Rattle.ledger.specs.Model as Ledger
 use Rattle.ledger.proofs.RecordLaws.{recorded-sound}
 use Rattle.shard_map.specs.Model.{Shard, slotAt, inLedger, handOf}
-use Rattle.shard_map.specs.Layout.{shard, Lent}
+use Rattle.shard_map.specs.Layout.{shard, Intact}
 use Rattle.shard_map.proofs.StepLaws.{hand-below, change-sound, ledger-sound}
-use Rattle.shard_map.proofs.ModelLaws.{lent-after, lent-after-answer, StillLent}
+use Rattle.shard_map.proofs.ModelLaws.{intact-after, intact-after-answer, StillLent}
 use Rattle.evict.specs.declared.Walk.{Walk}
 use Rattle.evict.specs.declared.Room.{Room}
 use Rattle.evict.specs.declared.Room.the-variants.{Made, Refused}
-use Rattle.evict.specs.Evict.{minRefusalWait, orPlace, placeOr, nothingNoted, noted, looked, goesAtOnce, holds, Within, walkFrom, walked, evictAt}
+use Rattle.evict.specs.Evict.{minRefusalWait, orPlace, placeOr, nothingNoted, noted, looked, goesAtOnce, inUse, Within, walkFrom, walked, evictAt}
 use Rattle.evict.specs.Evict.{evictLimited, evictNoted, evicted}
 use Rattle.evict.proofs.WalkLaws.{debtRecorded, fullIfAny, walk-kept, remarked-sound}
 
@@ -81,45 +81,45 @@ module _ (c : BucketConfig) (at : Nanos) (left : ℕ) (s : Shard) (w : Walk) {t 
       rw (noting, after-is saw, answer-is saw, there) (ap (λ (n : ℕ). walkFrom c at n s w) e ∙ rw (walkFrom, test))
 
 -- After a look of the walk, and after a debt is recorded, the words are still lent, and hold as many slots as before.
-module _ {cap : ℕ} {ws ws′ : List ℕ} (lent : Lent cap ws) (same : length ws′ ≡ length ws) where
+module _ {cap : ℕ} {ws ws′ : List ℕ} (intact : Intact cap ws) (same : length ws′ ≡ length ws) where
   pub after-look : {a slot : Slot} (pos : ℕ) → outcome a (shard cap ws′) ≡ outcome slot (looked (shard cap ws) pos) → StillLent cap ws ws′
   after-look pos gave =
-      let cleared = change-sound (shard cap ws) pos _ (lent .sound) in
+      let cleared = change-sound (shard cap ws) pos _ (intact .sound) in
       record {
-        lent = lent-after-answer lent same gave (record { room = cleared .room; held = cleared .held; ledger = cleared .ledger });
+        intact = intact-after-answer intact same gave (record { room = cleared .room; count-fits = cleared .count-fits; ledger = cleared .ledger });
         count = ap (λ s. s .slots .count) (after-is gave);
       }
 
   pub after-record : {r : Recorded} (d : Debt) (at : Nanos) (forget : Bool)
       → outcome r (shard cap ws′) ≡ inLedger (shard cap ws) (Ledger.recorded (shard cap ws .ledger) d at forget) → StillLent cap ws ws′
   after-record d at forget gave = record {
-    lent = lent-after-answer lent same gave (ledger-sound (shard cap ws) _ (lent .sound) (recorded-sound (shard cap ws .ledger) d at forget (lent .sound .ledger)));
+    intact = intact-after-answer intact same gave (ledger-sound (shard cap ws) _ (intact .sound) (recorded-sound (shard cap ws .ledger) d at forget (intact .sound .ledger)));
     count = ap (λ s. s .slots .count) (after-is gave);
   }
 
 -- After the walk the words are still lent, and what it noted, and the place at which it ended, hold slots.
 pub record AfterWalk (cap : ℕ) (ws : List ℕ) (first : ℕ) (victim : Place) (w : Walk) : Type 0 where
-  pub lent : Lent cap ws
-  pub held : holds (shard cap ws) victim
+  pub intact : Intact cap ws
+  pub victim-in-use : inUse (shard cap ws) victim
   pub within : Within (shard cap ws) first w
 
-full-held : (c : BucketConfig) (at : Nanos) (s t : Shard) (place : Place) → t .slots .count ≡ s .slots .count → fullIfAny c at s place → holds t place
+full-held : (c : BucketConfig) (at : Nanos) (s t : Shard) (place : Place) → t .slots .count ≡ s .slots .count → fullIfAny c at s place → inUse t place
 full-held c at s t (At p) same full = omega (arith, full .below)
 full-held c at s t Nowhere same full = tt
 
-still-held : (s t : Shard) (place : Place) → t .slots .count ≡ s .slots .count → holds s place → holds t place
-still-held s t (At p) same held = omega arith
-still-held s t Nowhere same held = tt
+still-held : (s t : Shard) (place : Place) → t .slots .count ≡ s .slots .count → inUse s place → inUse t place
+still-held s t (At p) same used = omega arith
+still-held s t Nowhere same used = tt
 
-pub after-walk : (c : BucketConfig) (at : Nanos) {cap : ℕ} {ws ws′ : List ℕ} {victim : Place} {w : Walk} → Lent cap ws → 0 < shard cap ws .slots .count
+pub after-walk : (c : BucketConfig) (at : Nanos) {cap : ℕ} {ws ws′ : List ℕ} {victim : Place} {w : Walk} → Intact cap ws → 0 < shard cap ws .slots .count
     → length ws′ ≡ length ws → walked c at (shard cap ws) ≡ record { victim = victim; walk = w; after = shard cap ws′ }
     → AfterWalk cap ws′ (handOf (shard cap ws)) victim w
-after-walk c at {cap} {ws} {ws′} {victim} {w} lent some same ended =
-    let kept = rw ended at (walk-kept c at (shard cap ws) (lent .sound) some) in
+after-walk c at {cap} {ws} {ws′} {victim} {w} intact some same ended =
+    let kept = rw ended at (walk-kept c at (shard cap ws) (intact .sound) some) in
     let count = kept .same .count in
     record {
-      lent = lent-after lent same refl (remarked-sound (shard cap ws) (shard cap ws′) (kept .same) (lent .sound));
-      held = full-held c at (shard cap ws) (shard cap ws′) victim count (kept .victim);
+      intact = intact-after intact same refl (remarked-sound (shard cap ws) (shard cap ws′) (kept .same) (intact .sound));
+      victim-in-use = full-held c at (shard cap ws) (shard cap ws′) victim count (kept .victim);
       within = record {
         first = omega (arith, hand-below (shard cap ws) some);
         full = full-held c at (shard cap ws) (shard cap ws′) (w .full) count (kept .full);
@@ -128,7 +128,7 @@ after-walk c at {cap} {ws} {ws′} {victim} {w} lent some same ended =
     }
 
 -- The slot that goes with its debt, the first unmarked or else the first looked at, is held.
-placed-below : (s : Shard) (place : Place) (first : ℕ) → holds s place → first < s .slots .count → placeOr place first < s .slots .count
+placed-below : (s : Shard) (place : Place) (first : ℕ) → inUse s place → first < s .slots .count → placeOr place first < s .slots .count
 placed-below s (At p) first held below = held
 placed-below s Nowhere first held below = below
 
@@ -155,7 +155,7 @@ pub debt-recorded : (c : BucketConfig) (at : Nanos) (forget : Bool) (p : ℕ) (s
 debt-recorded c at forget p s read takes gave = rw (takes, read) at gave
 
 -- The eviction of a slot that leaves a debt, once the debt is recorded, or is not.
-module _ (c : BucketConfig) (at : Nanos) (forget : Bool) (p : ℕ) (soonest : Nanos) {cap : ℕ} {ws : List ℕ} {r : Recorded} {t : Shard} (lent : Lent cap ws)
+module _ (c : BucketConfig) (at : Nanos) (forget : Bool) (p : ℕ) (soonest : Nanos) {cap : ℕ} {ws : List ℕ} {r : Recorded} {t : Shard} (intact : Intact cap ws)
     (gave : outcome r t ≡ inLedger (shard cap ws) (debtRecorded c at forget (shard cap ws) p)) where
   pub limited-made : r ≡ Done → outcome Made (evictAt t p) ≡ evictLimited c at forget (shard cap ws) p soonest
   limited-made is = rw (after-is gave, sym (answer-is gave) ∙ is)

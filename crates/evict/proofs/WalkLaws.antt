@@ -26,7 +26,7 @@ use Rattle.evict.specs.declared.Walk.{Walk}
 use Rattle.evict.specs.declared.Room.{Room}
 use Rattle.evict.specs.declared.Room.the-variants.{Made, Refused}
 use Rattle.shard_map.specs.Model.{Shard, Sound, noSlot, capOf, slotAt, withLedger, handOf, removeAt}
-use Rattle.evict.specs.Evict.{minRefusalWait, orPlace, placeOr, nothingNoted, noted, looked, goesAtOnce, holds, Walked, walkFrom, walked, evictAt}
+use Rattle.evict.specs.Evict.{minRefusalWait, orPlace, placeOr, nothingNoted, noted, looked, goesAtOnce, inUse, Walked, walkFrom, walked, evictAt}
 use Rattle.evict.specs.Evict.{debtLeft, evictOwing, evictLimited, evictNoted, evictWalked, evicted}
 use Rattle.shard_map.proofs.StepLaws.{hand-below, removal-count, removal-cap, removal-ledger, ledger-sound}
 
@@ -47,7 +47,7 @@ pub remarked-bucket : (s t : Shard) → Remarked s t → (i : ℕ) → slotAt t 
 remarked-bucket s t r = remarked-slots s t r (λ slot. slot .bucket) (λ slot mark. refl)
 
 pub remarked-sound : (s t : Shard) → Remarked s t → Sound s → Sound t
-remarked-sound s t r u = record { room = omega (arith, r .cap, u .room); held = omega (arith, r .cap, r .count, u .held); ledger = rw (r .ledger) (u .ledger) }
+remarked-sound s t r u = record { room = omega (arith, r .cap, u .room); count-fits = omega (arith, r .cap, r .count, u .count-fits); ledger = rw (r .ledger) (u .ledger) }
 
 -- A look at a place changes nothing else.
 look-remarks : (s t : Shard) (p : ℕ) → Remarked s t → p < capOf t → Remarked s (looked t p)
@@ -76,19 +76,19 @@ pub record WalkKept (c : BucketConfig) (at : Nanos) (s : Shard) (w : Walked) : T
   pub same : Remarked s (w .after)
   pub victim : fullIfAny c at s (w .victim)
   pub full : fullIfAny c at s (w .walk .full)
-  pub unmarked : holds s (w .walk .unmarked)
+  pub unmarked : inUse s (w .walk .unmarked)
 
 -- What has been noted so far: the first of each kind stays noted.
 record NotedKept (c : BucketConfig) (at : Nanos) (s : Shard) (w : Walk) : Type 0 where
   full : fullIfAny c at s (w .full)
-  unmarked : holds s (w .unmarked)
+  unmarked : inUse s (w .unmarked)
 
 module _ (c : BucketConfig) (at : Nanos) (s : Shard) where
   first-full : (place : Place) (p : ℕ) → fullIfAny c at s place → FullSlot c at s p → fullIfAny c at s (orPlace place p)
   first-full (At q) p earlier this = earlier
   first-full Nowhere p earlier this = this
 
-  first-held : (place : Place) (p : ℕ) → holds s place → p < s .slots .count → holds s (orPlace place p)
+  first-held : (place : Place) (p : ℕ) → inUse s place → p < s .slots .count → inUse s (orPlace place p)
   first-held (At q) p earlier this = earlier
   first-held Nowhere p earlier this = this
 
@@ -114,7 +114,7 @@ module _ (c : BucketConfig) (at : Nanos) (s : Shard) where
   walkFrom-kept (suc left) t w u some r n =
       let below : handOf t < t .slots .count = hand-below t (omega (arith, r .count)) in
       let held : handOf t < s .slots .count = omega (arith, r .count) in
-      let next : Remarked s (looked t (handOf t)) = look-remarks s t (handOf t) r (omega (arith, r .count, r .cap, u .held)) in
+      let next : Remarked s (looked t (handOf t)) = look-remarks s t (handOf t) r (omega (arith, r .count, r .cap, u .count-fits)) in
       by-test (goesAtOnce c at (slotAt t (handOf t)))
       (λ goes. rw (goes, walkFrom) (record { same = next; victim = seen-full t (handOf t) r held (at-once-is-full (slotAt t (handOf t)) goes); full = n .full; unmarked = n .unmarked }))
       (λ stays. rw (stays, walkFrom) (walkFrom-kept left (looked t (handOf t)) (noted c at w (handOf t) (slotAt t (handOf t))) u some next (noted-kept t w (handOf t) r held n)))
@@ -165,9 +165,9 @@ evict-cases c at forget s u some = by-victim (walked c at s .victim) (kept .vict
     kept : WalkKept c at s (walked c at s)
     kept = walk-kept c at s u some
 
-    chosen-below : (place : Place) → holds s place → placeOr place (handOf s) < t .slots .count
-    chosen-below (At p) held = omega (arith, kept .same .count)
-    chosen-below Nowhere held = omega (arith, kept .same .count, hand-below s some)
+    chosen-below : (place : Place) → inUse s place → placeOr place (handOf s) < t .slots .count
+    chosen-below (At p) count-fits = omega (arith, kept .same .count)
+    chosen-below Nowhere count-fits = omega (arith, kept .same .count, hand-below s some)
 
     by-full : (place : Place) → fullIfAny c at s place → Evicting c at forget t (evictNoted c at forget t (handOf s) w place)
     by-full (At p) f = full-goes p (remarked-full c at s t p (kept .same) f)
@@ -239,7 +239,7 @@ module _ (c : BucketConfig) (at : Nanos) (forget : Bool) (s : Shard) (u : Sound 
   pub evict-sound : Sound (evicted c at forget s .after)
   evict-sound = record {
     room = omega (arith, evict-cap, u .room);
-    held = omega (arith, evict-cap, evict-count, u .held);
+    count-fits = omega (arith, evict-cap, evict-count, u .count-fits);
     ledger = evict-keeps-ledger Ledger.Sound (λ l d v same. recorded-sound l d at forget v) (u .ledger);
   }
 
@@ -253,7 +253,7 @@ module _ (c : BucketConfig) (at : Nanos) (forget : Bool) (s : Shard) (u : Sound 
       go {t} (none-goes p wait ledger-wait below told least) e = made-is-no-refusal (sym e)
 
   pub evict-made-leaves-room : evicted c at forget s .answer ≡ Made → evicted c at forget s .after .slots .count < capOf (evicted c at forget s .after)
-  evict-made-leaves-room made = omega (arith, evict-made-count made, evict-cap, u .held)
+  evict-made-leaves-room made = omega (arith, evict-made-count made, evict-cap, u .count-fits)
 
   pub evict-refusal : (wait : Nanos) → evicted c at forget s .answer ≡ Refused wait → EvictRefusal forget s wait (evicted c at forget s .after)
   evict-refusal wait = go walk-remarks walk-sound (evict-cases c at forget s u some)

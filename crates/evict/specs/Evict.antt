@@ -56,14 +56,14 @@ abbrev pub goesAtOnce : BucketConfig → Nanos → Slot → Bool
 goesAtOnce c at slot = cond (lossless c slot at) (not (marked slot)) false
 
 -- The places that a walk has noted, and the first that it looked at, hold slots.
-abbrev pub holds : Shard → Place → Type 0
-holds s (At p) = p < s .slots .count
-holds s Nowhere = Unit {0}
+abbrev pub inUse : Shard → Place → Type 0
+inUse s (At p) = p < s .slots .count
+inUse s Nowhere = Unit {0}
 
 pub record Within (s : Shard) (start : ℕ) (w : Walk) : Type 0 where
   pub first : start < s .slots .count
-  pub full : holds s (w .full)
-  pub unmarked : holds s (w .unmarked)
+  pub full : inUse s (w .full)
+  pub unmarked : inUse s (w .unmarked)
 
 -- The walk's end: the place at which it ended at once, if it did, what it noted, and the shard with the marks cleared and the hand moved.
 pub record Walked : Type 0 where

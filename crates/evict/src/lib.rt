@@ -4,7 +4,7 @@ ghost use Prim.Native.Nat.{_≤_, _<_, _^_};
 ghost use Rattle.rows.specs.Outcome.{outcome};
 ghost use Rattle.bucket.specs.Bucket.{Accepted};
 ghost use Rattle.shard_map.specs.Model as Model;
-ghost use Rattle.shard_map.specs.Layout.{shard, Lent};
+ghost use Rattle.shard_map.specs.Layout.{shard, Intact};
 ghost use Rattle.evict.specs.Evict as Evict;
 use bucket::BucketConfig;
 use ledger::Debt;
@@ -54,7 +54,7 @@ impl Walk {
         let soonest = self.soonest;
         if slot.is_lossless(config, at) {
             return Walk {
-                full: first_of(full, pos),
+                full: first_noted(full, pos),
                 unmarked,
                 soonest,
             };
@@ -64,7 +64,7 @@ impl Walk {
         if slot.mark == 0 {
             return Walk {
                 full,
-                unmarked: first_of(unmarked, pos),
+                unmarked: first_noted(unmarked, pos),
                 soonest: sooner,
             };
         }
@@ -77,7 +77,7 @@ impl Walk {
 }
 
 // The place noted, if there is one, else this one.
-fn first_of(noted: Place, pos: usize) -> Place
+fn first_noted(noted: Place, pos: usize) -> Place
     ensures { λ r. ⌜ r ≡ Evict.orPlace noted pos ⌝ }
 {
     match noted {
@@ -108,8 +108,8 @@ fn goes_at_once(slot: Slot, config: BucketConfig, at: Nanos) -> bool
 }
 
 // A look of the hand. It gives the slot as it is; then it clears the slot's mark and steps the hand on.
-fn look(ws: &mut [u64], cap: usize, pos: usize) -> Slot
-    requires { ⌜ Lent cap (now ws) × (pos < cap) ⌝ }
+fn hand_look(ws: &mut [u64], cap: usize, pos: usize) -> Slot
+    requires { ⌜ Intact cap (now ws) × (pos < cap) ⌝ }
     ensures { λ r. ⌜ outcome r (shard cap (now (ws .exit))) ≡ outcome (Model.slotAt (shard cap (now (ws .entry))) pos) (Evict.looked (shard cap (now (ws .entry))) pos) ⌝ }
 {
     let slot = shard_map::get(ws, cap, pos);
@@ -120,7 +120,7 @@ fn look(ws: &mut [u64], cap: usize, pos: usize) -> Slot
 
 // Evicts one slot of a full shard. The walk ends at once at the first full slot without the mark; else one that it noted goes.
 pub fn evict_one(ws: &mut [u64], cap: usize, config: BucketConfig, at: Nanos, forget: bool) -> Room
-    requires { ⌜ Lent cap (now ws) × Accepted config × (0 < shard cap (now ws) .slots .count) × (at .0 ≤ 2 ^ 62) ⌝ }
+    requires { ⌜ Intact cap (now ws) × Accepted config × (0 < shard cap (now ws) .slots .count) × (at .0 ≤ 2 ^ 62) ⌝ }
     ensures { λ r. ⌜ outcome r (shard cap (now (ws .exit))) ≡ Evict.evicted config at forget (shard cap (now (ws .entry))) ⌝ }
 {
     let first = words::hand(ws, cap);
@@ -131,7 +131,7 @@ pub fn evict_one(ws: &mut [u64], cap: usize, config: BucketConfig, at: Nanos, fo
             break Place::Nowhere;
         }
         let pos = words::hand(ws, cap);
-        let slot = look(ws, cap, pos);
+        let slot = hand_look(ws, cap, pos);
         if goes_at_once(slot, config, at) {
             break Place::At(pos);
         }
@@ -149,7 +149,7 @@ pub fn evict_one(ws: &mut [u64], cap: usize, config: BucketConfig, at: Nanos, fo
 
 // The slot at a place goes, and the hand steps past what moved into its place.
 fn evict_at(ws: &mut [u64], cap: usize, pos: usize)
-    requires { ⌜ Lent cap (now ws) × (pos < shard cap (now ws) .slots .count) ⌝ }
+    requires { ⌜ Intact cap (now ws) × (pos < shard cap (now ws) .slots .count) ⌝ }
     ensures { λ _. ⌜ shard cap (now (ws .exit)) ≡ Evict.evictAt (shard cap (now (ws .entry))) pos ⌝ }
 {
     shard_map::remove_at(ws, cap, pos);
@@ -166,7 +166,7 @@ fn evict_noted(
     first: usize,
     walk: Walk,
 ) -> Room
-    requires { ⌜ Lent cap (now ws) × Accepted config × (at .0 ≤ 2 ^ 62) × Evict.Within (shard cap (now ws)) first walk ⌝ }
+    requires { ⌜ Intact cap (now ws) × Accepted config × (at .0 ≤ 2 ^ 62) × Evict.Within (shard cap (now ws)) first walk ⌝ }
     ensures { λ r. ⌜ outcome r (shard cap (now (ws .exit))) ≡ Evict.evictNoted config at forget (shard cap (now (ws .entry))) first walk (walk .full) ⌝ }
 {
     let full = walk.full;
@@ -199,7 +199,7 @@ fn evict_limited(
     pos: usize,
     soonest: Nanos,
 ) -> Room
-    requires { ⌜ Lent cap (now ws) × Accepted config × (at .0 ≤ 2 ^ 62) × (pos < shard cap (now ws) .slots .count) ⌝ }
+    requires { ⌜ Intact cap (now ws) × Accepted config × (at .0 ≤ 2 ^ 62) × (pos < shard cap (now ws) .slots .count) ⌝ }
     ensures { λ r. ⌜ outcome r (shard cap (now (ws .exit))) ≡ Evict.evictLimited config at forget (shard cap (now (ws .entry))) pos soonest ⌝ }
 {
     let slot = shard_map::get(ws, cap, pos);

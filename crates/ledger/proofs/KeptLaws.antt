@@ -75,7 +75,7 @@ module _ (h : ℕ) (value : ℕ → ℕ) where
   -- The steps: a debt that leaves takes its value away, one that joins adds its own, one that is changed changes its own. The cursor has no part in it.
   pub owed-removed : (l : Ledger) (p : ℕ) → Sound l → p < l .debts .count → owed h value (removeAt l p) + weigh h value (debtAt l p) ≡ owed h value l
   unfolding owed removeAt
-  owed-removed l p s below = total-removed noDebt (weigh h value) (l .debts) p (record { held = s .held }) below
+  owed-removed l p s below = total-removed noDebt (weigh h value) (l .debts) p (record { count-fits = s .count-fits }) below
 
   pub owed-appended : (l : Ledger) (d : Debt) → l .debts .count < capOf l → owed h value (append l d) ≡ owed h value l + weigh h value d
   unfolding owed append
@@ -83,7 +83,7 @@ module _ (h : ℕ) (value : ℕ → ℕ) where
 
   pub owed-stored : (l : Ledger) (p : ℕ) (d : Debt) → Sound l → p < l .debts .count → owed h value (withDebt l p d) + weigh h value (debtAt l p) ≡ owed h value l + weigh h value d
   unfolding owed
-  owed-stored l p d s below = total-stored noDebt (weigh h value) (l .debts) p d (record { held = s .held }) below
+  owed-stored l p d s below = total-stored noDebt (weigh h value) (l .debts) p d (record { count-fits = s .count-fits }) below
 
   pub owed-cursor : (l : Ledger) (c : ℕ) → owed h value (withCursor l c) ≡ owed h value l
   unfolding owed
@@ -94,7 +94,7 @@ module _ (h : ℕ) (value : ℕ → ℕ) where
       → owed h value (append (removeAt (withCursor l c) p) d) + weigh h value (debtAt l p) ≡ owed h value l + weigh h value d
   owed-replaced l c p d s below =
       let moved : Ledger = withCursor l c in
-      omega (arith, owed-appended (removeAt moved p) d (removal-leaves-room moved p (s .held) below), owed-removed moved p (cursor-sound l c s) below, owed-cursor l c)
+      omega (arith, owed-appended (removeAt moved p) d (removal-leaves-room moved p (s .count-fits) below), owed-removed moved p (cursor-sound l c s) below, owed-cursor l c)
 
   -- A sweep never adds, and of what is unsettled it loses nothing.
   pub sweep-never-adds : (at : Nanos) (n : ℕ) (l : Ledger) → Sound l → owed h value (sweep at n l) ≤ owed h value l

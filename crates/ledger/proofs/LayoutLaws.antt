@@ -9,7 +9,7 @@ use mathlib.Core.List.{List, [], _∷_}
 use lib.ListN.{length, getD, set}
 use lib.Seq.{sets, getD-set-same, getD-set-other, take-all}
 use Rattle.rows.specs.Layout.{heldIn}
-use Rattle.rows.proofs.RowLaws.{part-word, by-listed, getD-sets-lt}
+use Rattle.rows.proofs.RowLaws.{segment-word, by-listed, getD-sets-lt}
 use Rattle.rows.proofs.LayoutLaws.{held-count, held-length, held-item, held-count-put, held-put, held-set-before, held-round}
 use Rattle.ledger.specs.declared.Debt.{Debt}
 use Rattle.ledger.specs.Model.{capOf, debtAt, cursorOf, withCount, withCursor, withDebt}
@@ -38,8 +38,8 @@ module _ (cap : ℕ) (ws : List ℕ) where
   pub debt-read : (i : ℕ) → i < cap → debtOf (getD ws (2 + 2 * i) 0 ∷ getD ws (2 + 2 * i + 1) 0 ∷ []) ≡ debtAt (ledger cap ws) i
   unfolding ledger
   debt-read i below =
-      let hash-word = rw add-zero at (part-word (2 + 2 * i) 2 ws 0 (lit< tt)) in
-      let settles-word = part-word (2 + 2 * i) 2 ws 1 (lit< tt) in
+      let hash-word = rw add-zero at (segment-word (2 + 2 * i) 2 ws 0 (lit< tt)) in
+      let settles-word = segment-word (2 + 2 * i) 2 ws 1 (lit< tt) in
       sym (held-item debtOf 2 cap 0 2 ws i below ∙ (λ j. record { hash = hash-word j; settles = record { 0 = settles-word j } }))
 
 -- Stores: each changes one field of the ledger, and nothing else.

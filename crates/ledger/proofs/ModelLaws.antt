@@ -25,7 +25,7 @@ use Rattle.ledger.specs.declared.Recorded.the-variants.{Done, NoRoom}
 use Rattle.ledger.specs.Model.{Ledger, Sound, noDebt, capOf, debtAt, settlesAt, cursorOf, withCount, withCursor, withDebt, owes, placeOf, removeAt}
 use Rattle.ledger.specs.Model.{append, takenAt, taken, lookAt, look, sweep, sooner, scanFrom, scan, dropChosen, makeRoom, joined, later, recordedAt}
 use Rattle.ledger.specs.Model.{recorded, credit, paidAt, paidDown}
-use Rattle.ledger.specs.Layout.{ledger, Lent}
+use Rattle.ledger.specs.Layout.{ledger, Intact}
 use Rattle.ledger.proofs.LayoutLaws.{cap-is}
 use Rattle.ledger.proofs.StepLaws.{cursor-below, found-owes}
 use Rattle.ledger.proofs.RecordLaws.{sooner-is-either, chosen, scan-chooses-held, scan-sound, make-room-sound, make-room-makes-room}
@@ -157,58 +157,58 @@ module _ (l : Ledger) (d : Debt) (at : Nanos) (forget : Bool) where
 
 -- Words that are lent have room for cap debts, and a debt that is held stands below the cap. Where there is a debt the cursor stands at one, and the
 -- sooner of two that are held is held.
-pub lent-cap : {cap : ℕ} {ws : List ℕ} → Lent cap ws → capOf (ledger cap ws) ≡ cap
-lent-cap {cap} {ws} lent = cap-is cap ws
+pub intact-cap : {cap : ℕ} {ws : List ℕ} → Intact cap ws → capOf (ledger cap ws) ≡ cap
+intact-cap {cap} {ws} intact = cap-is cap ws
 
-pub lent-below : {cap : ℕ} {ws : List ℕ} {i : ℕ} → Lent cap ws → i < ledger cap ws .debts .count → i < cap
-lent-below lent held = omega (arith, lent .sound .held, lent-cap lent)
+pub intact-below : {cap : ℕ} {ws : List ℕ} {i : ℕ} → Intact cap ws → i < ledger cap ws .debts .count → i < cap
+intact-below intact below = omega (arith, intact .sound .count-fits, intact-cap intact)
 
-pub lent-cursor : {cap c : ℕ} {ws : List ℕ} → Lent cap ws → 0 < ledger cap ws .debts .count → c ≡ cursorOf (ledger cap ws)
+pub intact-cursor : {cap c : ℕ} {ws : List ℕ} → Intact cap ws → 0 < ledger cap ws .debts .count → c ≡ cursorOf (ledger cap ws)
     → c < ledger cap ws .debts .count
-lent-cursor {cap} {c} {ws} lent some is = rw is (cursor-below (ledger cap ws) some)
+intact-cursor {cap} {c} {ws} intact some is = rw is (cursor-below (ledger cap ws) some)
 
-pub lent-sooner : {cap : ℕ} {ws : List ℕ} {best c : ℕ} → Lent cap ws → best < ledger cap ws .debts .count → c < ledger cap ws .debts .count
+pub intact-sooner : {cap : ℕ} {ws : List ℕ} {best c : ℕ} → Intact cap ws → best < ledger cap ws .debts .count → c < ledger cap ws .debts .count
     → sooner (ledger cap ws) best c < ledger cap ws .debts .count
-lent-sooner {cap} {ws} {best} {c} lent b d = sooner-is-either (ledger cap ws) best c (λ p. p < ledger cap ws .debts .count) b d
+intact-sooner {cap} {ws} {best} {c} intact b d = sooner-is-either (ledger cap ws) best c (λ p. p < ledger cap ws .debts .count) b d
 
 -- In words that are lent, a place that lookup gives holds a debt.
-module _ {cap : ℕ} {ws : List ℕ} (hash : ℕ) {place : Place} {p : ℕ} (lent : Lent cap ws)
+module _ {cap : ℕ} {ws : List ℕ} (hash : ℕ) {place : Place} {p : ℕ} (intact : Intact cap ws)
     (gave : place ≡ placeOf (ledger cap ws) hash) (is : place ≡ At p) where
   pub found-held : p < ledger cap ws .debts .count
   found-held = found-owes (ledger cap ws) hash p (sym gave ∙ is) .below
 
   pub found-below : p < cap
-  found-below = lent-below lent found-held
+  found-below = intact-below intact found-held
 
 -- Words stay lent while their length is kept and their ledger is sound. After a call that is so by what the call gave (the ledger alone, or an
 -- answer with it) and by what its operation keeps.
-module _ {cap : ℕ} {ws ws′ : List ℕ} (lent : Lent cap ws) (same : length ws′ ≡ length ws) where
-  pub lent-after : {l : Ledger} → ledger cap ws′ ≡ l → Sound l → Lent cap ws′
-  lent-after gave s = record { size = same ∙ lent .size; sound = rw gave s }
+module _ {cap : ℕ} {ws ws′ : List ℕ} (intact : Intact cap ws) (same : length ws′ ≡ length ws) where
+  pub intact-after : {l : Ledger} → ledger cap ws′ ≡ l → Sound l → Intact cap ws′
+  intact-after gave s = record { size = same ∙ intact .size; sound = rw gave s }
 
-  pub lent-after-answer : {A : Type 0} {a : A} {o : Outcome A Ledger} → outcome a (ledger cap ws′) ≡ o → Sound (o .after) → Lent cap ws′
-  lent-after-answer gave s = lent-after (after-is gave) s
+  pub intact-after-answer : {A : Type 0} {a : A} {o : Outcome A Ledger} → outcome a (ledger cap ws′) ≡ o → Sound (o .after) → Intact cap ws′
+  intact-after-answer gave s = intact-after (after-is gave) s
 
 -- After a scan the words are still lent, and the place that it chose holds a debt.
 pub record AfterScan (cap : ℕ) (ws : List ℕ) (choice : Choice) : Type 0 where
-  pub lent : Lent cap ws
-  pub held : chosen choice < ledger cap ws .debts .count
+  pub intact : Intact cap ws
+  pub chosen-below : chosen choice < ledger cap ws .debts .count
 
-pub after-scan : {cap : ℕ} {ws ws′ : List ℕ} {choice : Choice} (at : Nanos) → Lent cap ws → 0 < ledger cap ws .debts .count → length ws′ ≡ length ws
+pub after-scan : {cap : ℕ} {ws ws′ : List ℕ} {choice : Choice} (at : Nanos) → Intact cap ws → 0 < ledger cap ws .debts .count → length ws′ ≡ length ws
     → outcome choice (ledger cap ws′) ≡ scan at (ledger cap ws) → AfterScan cap ws′ choice
-after-scan {cap} {ws} at lent some same gave = record {
-  lent = lent-after-answer lent same gave (scan-sound at (ledger cap ws) some (lent .sound));
-  held = rw (answer-is gave, after-is gave) (scan-chooses-held at (ledger cap ws) some);
+after-scan {cap} {ws} at intact some same gave = record {
+  intact = intact-after-answer intact same gave (scan-sound at (ledger cap ws) some (intact .sound));
+  chosen-below = rw (answer-is gave, after-is gave) (scan-chooses-held at (ledger cap ws) some);
 }
 
 pub choice-held : {cap : ℕ} {ws : List ℕ} {choice known : Choice} → AfterScan cap ws choice → choice ≡ known
     → chosen known < ledger cap ws .debts .count
-choice-held after is = rw is at (after .held)
+choice-held after is = rw is at (after .chosen-below)
 
 -- After room was made the words are still lent, and there is room for a debt.
-pub after-make-room : {cap : ℕ} {ws ws′ : List ℕ} {r : Recorded} (at : Nanos) (forget : Bool) → Lent cap ws → 0 < ledger cap ws .debts .count → length ws′ ≡ length ws
-    → outcome r (ledger cap ws′) ≡ makeRoom at forget (ledger cap ws) → r ≡ Done → Lent cap ws′ × (ledger cap ws′ .debts .count < cap)
-after-make-room {cap} {ws} {ws′} at forget lent some same gave done =
-    let free = make-room-makes-room (ledger cap ws) at forget some (lent .sound) (sym (answer-is gave) ∙ done) in
+pub after-make-room : {cap : ℕ} {ws ws′ : List ℕ} {r : Recorded} (at : Nanos) (forget : Bool) → Intact cap ws → 0 < ledger cap ws .debts .count → length ws′ ≡ length ws
+    → outcome r (ledger cap ws′) ≡ makeRoom at forget (ledger cap ws) → r ≡ Done → Intact cap ws′ × (ledger cap ws′ .debts .count < cap)
+after-make-room {cap} {ws} {ws′} at forget intact some same gave done =
+    let free = make-room-makes-room (ledger cap ws) at forget some (intact .sound) (sym (answer-is gave) ∙ done) in
     let free′ : ledger cap ws′ .debts .count < capOf (ledger cap ws′) = rw (after-is gave) free in
-    (lent-after-answer lent same gave (make-room-sound (ledger cap ws) at forget some (lent .sound)), omega (arith, free′, cap-is cap ws′))
+    (intact-after-answer intact same gave (make-room-sound (ledger cap ws) at forget some (intact .sound)), omega (arith, free′, cap-is cap ws′))

@@ -119,7 +119,7 @@ module _ (l : Ledger) (at : Nanos) (forget : Bool) (some : 0 < l .debts .count) 
   make-room-makes-room = go (room-cases l at forget some)
     where
       go : {o : Outcome Recorded Ledger} → MakingRoom l at forget o → o .answer ≡ Done → o .after .debts .count < capOf (o .after)
-      go (one-leaves p c below settled) done = removal-leaves-room (withCursor l c) p (s .held) below
+      go (one-leaves p c below settled) done = removal-leaves-room (withCursor l c) p (s .count-fits) below
       go (none-leaves p c below never unsettled) done = done-is-no-refusal (sym done)
 
 -- How a recording goes, for every ledger that is sound: the hash is there and is merged; there is room and the debt joins; a debt leaves for it, which is
@@ -155,7 +155,7 @@ recorded-sound l d at forget s = go (record-cases l d at forget s)
     go : {o : Outcome Recorded Ledger} → Recording l d at forget o → Sound (o .after)
     go (merged p e) = change-sound l p (later (debtAt l p) (d .settles)) s
     go (joins new free) = append-sound l d free
-    go (replaces p c new below settled) = append-sound (removeAt (withCursor l c) p) d (removal-leaves-room (withCursor l c) p (s .held) below)
+    go (replaces p c new below settled) = append-sound (removeAt (withCursor l c) p) d (removal-leaves-room (withCursor l c) p (s .count-fits) below)
     go (refused p c full below never unsettled) = cursor-sound l c s
 
 pub recorded-cap : (l : Ledger) (d : Debt) (at : Nanos) (forget : Bool) → Sound l → capOf (recorded l d at forget .after) ≡ capOf l
@@ -179,7 +179,7 @@ record-succeeds l d at forget s room = go (record-cases l d at forget s)
     go (refused p c full below never unsettled) = absurd (omega (arith, room never))
 
 pub record-below-cap-never-fails : (l : Ledger) (d : Debt) (at : Nanos) (forget : Bool) → l .debts .count < capOf l → recorded l d at forget .answer ≡ Done
-record-below-cap-never-fails l d at forget room = record-succeeds l d at forget (record { room = omega arith; held = omega arith }) (λ _. room)
+record-below-cap-never-fails l d at forget room = record-succeeds l d at forget (record { room = omega arith; count-fits = omega arith }) (λ _. room)
 
 pub record-forgetting-never-fails : (l : Ledger) (d : Debt) (at : Nanos) → Sound l → recorded l d at true .answer ≡ Done
 record-forgetting-never-fails l d at s = record-succeeds l d at true s (λ e. absurd (true≢false e))

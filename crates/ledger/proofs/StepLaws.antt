@@ -45,7 +45,7 @@ owed-where l h looked-up = rw looked-up
 
 -- The cursor has no part in whether a ledger is sound.
 pub cursor-sound : (l : Ledger) (c : ℕ) → Sound l → Sound (withCursor l c)
-cursor-sound l c s = record { room = s .room; held = s .held }
+cursor-sound l c s = record { room = s .room; count-fits = s .count-fits }
 
 -- A removal leaves one debt less and the same room.
 pub removal-count : (l : Ledger) (p : ℕ) → removeAt l p .debts .count ≡ l .debts .count - 1
@@ -57,7 +57,7 @@ unfolding removeAt
 removal-cap l p = removed-length noDebt (l .debts) p
 
 pub removal-sound : (l : Ledger) (p : ℕ) → Sound l → Sound (removeAt l p)
-removal-sound l p s = record { room = omega (arith, removal-cap l p); held = omega (arith, removal-cap l p, removal-count l p) }
+removal-sound l p s = record { room = omega (arith, removal-cap l p); count-fits = omega (arith, removal-cap l p, removal-count l p) }
 
 -- So there is room for another debt.
 pub removal-leaves-room : (l : Ledger) (p : ℕ) → l .debts .count ≤ capOf l → p < l .debts .count → removeAt l p .debts .count < capOf (removeAt l p)
@@ -65,11 +65,11 @@ removal-leaves-room l p held below = omega (arith, removal-cap l p, removal-coun
 
 -- A debt that is changed, or that joins where there is room, leaves a sound ledger.
 pub change-sound : (l : Ledger) (p : ℕ) (d : Debt) → Sound l → Sound (withDebt l p d)
-change-sound l p d s = record { room = simp length-set (s .room); held = simp length-set (s .held) }
+change-sound l p d s = record { room = simp length-set (s .room); count-fits = simp length-set (s .count-fits) }
 
 pub append-sound : (l : Ledger) (d : Debt) → l .debts .count < capOf l → Sound (append l d)
 unfolding append
-append-sound l d room = record { room = simp length-set (omega arith); held = simp length-set (omega arith) }
+append-sound l d room = record { room = simp length-set (omega arith); count-fits = simp length-set (omega arith) }
 
 -- A debt that settles so much sooner.
 abbrev pub sooner-by : Nanos → Debt → Debt

@@ -27,6 +27,6 @@ unfoldable pub wordsOf : Ledger → List ℕ
 wordsOf l = l .debts .count ∷ l .cursor ∷ unrow (map debtWords (l .debts .places))
 
 -- The words that a function of the ledger is lent: just those of a ledger that is sound.
-pub record Lent (cap : ℕ) (ws : List ℕ) : Type 0 where
+pub record Intact (cap : ℕ) (ws : List ℕ) : Type 0 where
   pub size : length ws ≡ ledgerWords cap
   pub sound : Sound (ledger cap ws)

@@ -3,7 +3,7 @@ use Prim.Native.Nat.{ℕ, zero, suc, _+_, _*_, _-_, _/_, _≤_, _<_, min, max}
 use mathlib.Core.Bool.{Bool, true, false, cond}
 use lib.ListN.{length}
 use lib.Dec.{ltb, leb, eqb}
-use Rattle.arith.specs.Arith.{held}
+use Rattle.arith.specs.Arith.{saturated}
 use Rattle.units.specs.declared.Nanos.{Nanos}
 use Rattle.units.specs.declared.OptionNanos.{OptionNanos}
 use Rattle.units.specs.declared.OptionNanos.the-variants.{None, Some}
@@ -35,7 +35,7 @@ capOf l = length (l .debts .places)
 -- There is room for a debt, and no more are held than there is room for.
 pub record Sound (l : Ledger) : Type 0 where
   pub room : 0 < capOf l
-  pub held : l .debts .count ≤ capOf l
+  pub count-fits : l .debts .count ≤ capOf l
 
 -- The debt at a place, and the moment at which it settles.
 abbrev pub debtAt : Ledger → ℕ → Debt
@@ -153,7 +153,7 @@ recorded l d at forget = recordedAt l d at forget (placeOf l (d .hash))
 
 -- What a refund of some tokens takes off a debt: the time that each token takes to come back, rounded down, held to 64 bits.
 abbrev pub credit : BucketConfig → ℕ → Nanos
-credit c cost = record { 0 = held (c .period .0 / c .amount * cost) }
+credit c cost = record { 0 = saturated (c .period .0 / c .amount * cost) }
 
 -- The debt of a hash settles that much sooner, not before moment 0; whether there is one is told.
 abbrev pub paidAt : Ledger → Nanos → Place → Outcome Bool Ledger

@@ -7,7 +7,7 @@ ghost use Rattle.rows.specs.declared.Place.the-variants.{Nowhere};
 ghost use Rattle.rows.specs.Outcome.{outcome};
 ghost use Rattle.bucket.specs.Bucket.{Accepted};
 ghost use Rattle.ledger.specs.Model as Model;
-ghost use Rattle.ledger.specs.Layout.{ledger, ledgerWords, Lent};
+ghost use Rattle.ledger.specs.Layout.{ledger, ledgerWords, Intact};
 use bucket::BucketConfig;
 use rows::Place;
 use settings::eviction::Eviction;
@@ -44,7 +44,7 @@ pub fn len(ws: &[u64], cap: usize) -> usize
 
 // The lowest place that has the hash.
 pub fn position(ws: &[u64], cap: usize, hash: u64) -> Place
-    requires { ⌜ Lent cap (now ws) ⌝ }
+    requires { ⌜ Intact cap (now ws) ⌝ }
     ensures { λ r. ⌜ r ≡ Model.placeOf (ledger cap (now (ws .entry))) hash ⌝ }
 {
     let count = words::count(ws, cap);
@@ -60,7 +60,7 @@ pub fn position(ws: &[u64], cap: usize, hash: u64) -> Place
 
 // When the debt of the hash settles, if there is one.
 pub fn owed_by(ws: &[u64], cap: usize, hash: u64) -> OptionNanos
-    requires { ⌜ Lent cap (now ws) ⌝ }
+    requires { ⌜ Intact cap (now ws) ⌝ }
     ensures { λ r. ⌜ r ≡ Model.owedBy (ledger cap (now (ws .entry))) hash ⌝ }
 {
     match position(ws, cap, hash) {
@@ -71,7 +71,7 @@ pub fn owed_by(ws: &[u64], cap: usize, hash: u64) -> OptionNanos
 
 // Removes the debt at a place: the last debt moves into the gap.
 pub fn remove_at(ws: &mut [u64], cap: usize, pos: usize)
-    requires { ⌜ Lent cap (now ws) × (pos < ledger cap (now ws) .debts .count) ⌝ }
+    requires { ⌜ Intact cap (now ws) × (pos < ledger cap (now ws) .debts .count) ⌝ }
     ensures { λ _. ⌜ ledger cap (now (ws .exit)) ≡ Model.removeAt (ledger cap (now (ws .entry))) pos ⌝ }
 {
     let last = words::count(ws, cap) - 1;
@@ -87,7 +87,7 @@ pub fn remove_at(ws: &mut [u64], cap: usize, pos: usize)
 
 // Takes out the debt of the hash, if there is one, and tells when it settles.
 pub fn take(ws: &mut [u64], cap: usize, hash: u64) -> OptionNanos
-    requires { ⌜ Lent cap (now ws) ⌝ }
+    requires { ⌜ Intact cap (now ws) ⌝ }
     ensures { λ r. ⌜ outcome r (ledger cap (now (ws .exit))) ≡ Model.taken (ledger cap (now (ws .entry))) hash ⌝ }
 {
     match position(ws, cap, hash) {
@@ -102,7 +102,7 @@ pub fn take(ws: &mut [u64], cap: usize, hash: u64) -> OptionNanos
 
 // One look of the sweep, at a ledger that holds a debt.
 fn look(ws: &mut [u64], cap: usize, at: Nanos)
-    requires { ⌜ Lent cap (now ws) × (0 < ledger cap (now ws) .debts .count) ⌝ }
+    requires { ⌜ Intact cap (now ws) × (0 < ledger cap (now ws) .debts .count) ⌝ }
     ensures { λ _. ⌜ ledger cap (now (ws .exit)) ≡ Model.look at (ledger cap (now (ws .entry))) ⌝ }
 {
     let cursor = words::cursor(ws, cap);
@@ -117,7 +117,7 @@ fn look(ws: &mut [u64], cap: usize, at: Nanos)
 
 // Drops settled debts among the next `budget` looks.
 pub fn sweep(ws: &mut [u64], cap: usize, at: Nanos, budget: usize)
-    requires { ⌜ Lent cap (now ws) ⌝ }
+    requires { ⌜ Intact cap (now ws) ⌝ }
     ensures { λ _. ⌜ ledger cap (now (ws .exit)) ≡ Model.sweep at budget (ledger cap (now (ws .entry))) ⌝ }
 {
     let mut left = budget;
@@ -132,7 +132,7 @@ pub fn sweep(ws: &mut [u64], cap: usize, at: Nanos, budget: usize)
 
 // Of two debts, the place of the one that settles sooner; `best` where both settle at one moment.
 fn sooner(ws: &[u64], cap: usize, best: usize, looked: usize) -> usize
-    requires { ⌜ Lent cap (now ws) × (best < cap) × (looked < cap) ⌝ }
+    requires { ⌜ Intact cap (now ws) × (best < cap) × (looked < cap) ⌝ }
     ensures { λ r. ⌜ r ≡ Model.sooner (ledger cap (now (ws .entry))) best looked ⌝ }
 {
     let looked_settles = words::settles_at(ws, cap, looked);
@@ -146,7 +146,7 @@ fn sooner(ws: &[u64], cap: usize, best: usize, looked: usize) -> usize
 
 // Looks for a debt to drop from a full ledger: the first settled one, failing that the soonest looked at.
 fn scan(ws: &mut [u64], cap: usize, at: Nanos) -> Choice
-    requires { ⌜ Lent cap (now ws) × (0 < ledger cap (now ws) .debts .count) ⌝ }
+    requires { ⌜ Intact cap (now ws) × (0 < ledger cap (now ws) .debts .count) ⌝ }
     ensures { λ r. ⌜ outcome r (ledger cap (now (ws .exit))) ≡ Model.scan at (ledger cap (now (ws .entry))) ⌝ }
 {
     let mut left = arith::fewer(Eviction::ledger_looks(), words::count(ws, cap));
@@ -167,7 +167,7 @@ fn scan(ws: &mut [u64], cap: usize, at: Nanos) -> Choice
 
 // Drops a debt of a full ledger: a settled one, else under `forget` the soonest looked at. Where it drops none, it tells how long the soonest still takes.
 fn make_room(ws: &mut [u64], cap: usize, at: Nanos, forget: bool) -> Recorded
-    requires { ⌜ Lent cap (now ws) × (0 < ledger cap (now ws) .debts .count) ⌝ }
+    requires { ⌜ Intact cap (now ws) × (0 < ledger cap (now ws) .debts .count) ⌝ }
     ensures { λ r. ⌜ outcome r (ledger cap (now (ws .exit))) ≡ Model.makeRoom at forget (ledger cap (now (ws .entry))) ⌝ }
 {
     match scan(ws, cap, at) {
@@ -189,7 +189,7 @@ fn make_room(ws: &mut [u64], cap: usize, at: Nanos, forget: bool) -> Recorded
 
 // A new debt comes last.
 fn append(ws: &mut [u64], cap: usize, debt: Debt)
-    requires { ⌜ Lent cap (now ws) × (ledger cap (now ws) .debts .count < cap) ⌝ }
+    requires { ⌜ Intact cap (now ws) × (ledger cap (now ws) .debts .count < cap) ⌝ }
     ensures { λ _. ⌜ ledger cap (now (ws .exit)) ≡ Model.append (ledger cap (now (ws .entry))) debt ⌝ }
 {
     let count = words::count(ws, cap);
@@ -199,7 +199,7 @@ fn append(ws: &mut [u64], cap: usize, debt: Debt)
 
 // Records the debt of a hash that the ledger does not have.
 fn record_new(ws: &mut [u64], cap: usize, debt: Debt, at: Nanos, forget: bool) -> Recorded
-    requires { ⌜ Lent cap (now ws) ⌝ }
+    requires { ⌜ Intact cap (now ws) ⌝ }
     ensures { λ r. ⌜ outcome r (ledger cap (now (ws .exit))) ≡ Model.recordedAt (ledger cap (now (ws .entry))) debt at forget Nowhere ⌝ }
 {
     if words::count(ws, cap) < cap {
@@ -217,7 +217,7 @@ fn record_new(ws: &mut [u64], cap: usize, debt: Debt, at: Nanos, forget: bool) -
 
 // Records a debt, making room for it where the ledger is full. A hash that is there keeps the later moment.
 pub fn record(ws: &mut [u64], cap: usize, debt: Debt, at: Nanos, forget: bool) -> Recorded
-    requires { ⌜ Lent cap (now ws) ⌝ }
+    requires { ⌜ Intact cap (now ws) ⌝ }
     ensures { λ r. ⌜ outcome r (ledger cap (now (ws .exit))) ≡ Model.recorded (ledger cap (now (ws .entry))) debt at forget ⌝ }
 {
     match position(ws, cap, debt.hash) {
@@ -231,7 +231,7 @@ pub fn record(ws: &mut [u64], cap: usize, debt: Debt, at: Nanos, forget: bool) -
 
 // The debt at a place settles at the later of its moment and another.
 fn keep_later(ws: &mut [u64], cap: usize, pos: usize, settles: Nanos)
-    requires { ⌜ Lent cap (now ws) × (pos < cap) ⌝ }
+    requires { ⌜ Intact cap (now ws) × (pos < cap) ⌝ }
     ensures { λ _. ⌜ ledger cap (now (ws .exit)) ≡ Model.withDebt (ledger cap (now (ws .entry))) pos (Model.later (Model.debtAt (ledger cap (now (ws .entry))) pos) settles) ⌝ }
 {
     let held = words::load(ws, cap, pos);
@@ -251,7 +251,7 @@ fn keep_later(ws: &mut [u64], cap: usize, pos: usize, settles: Nanos)
 // Pays tokens off the debt of the hash: for each token it settles sooner by the time that a token takes to come back, rounded down. Tells whether there was
 // a debt.
 pub fn pay_down(ws: &mut [u64], cap: usize, hash: u64, cost: u32, config: BucketConfig) -> bool
-    requires { ⌜ Lent cap (now ws) × Accepted config ⌝ }
+    requires { ⌜ Intact cap (now ws) × Accepted config ⌝ }
     ensures { λ r. ⌜ outcome r (ledger cap (now (ws .exit))) ≡ Model.paidDown (ledger cap (now (ws .entry))) hash cost config ⌝ }
 {
     match position(ws, cap, hash) {

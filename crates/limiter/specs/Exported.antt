@@ -19,7 +19,7 @@ use Rattle.settings.specs.declared.eviction.WhenFull.the-variants.{RefuseNew}
 use Rattle.settings.specs.Eviction.{bounds, whenFullOf, withWhenFull}
 use Rattle.settings.specs.Settings.{sizeRefusal, wordsOf}
 use Rattle.hash.specs.Fnv.{fnv1a, lowestFirst}
-use Rattle.store.specs.declared.Identity.{Identity}
+use Rattle.shard.specs.declared.Identity.{Identity}
 use Rattle.perkey.specs.declared.Reply.{Reply}
 use Rattle.perkey.specs.Rules.{codeOf, numberOf}
 use Rattle.limiter.specs.declared.LimiterSettings.{LimiterSettings}

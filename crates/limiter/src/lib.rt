@@ -12,7 +12,7 @@ use settings::eviction::Eviction;
 use settings::eviction::WhenFull;
 use settings::rate::OptionTokens;
 use settings::rate::Rate;
-use store::Identity;
+use shard::Identity;
 use units::Nanos;
 
 // The settings as numbers. A flag is off at 0 and on at any other number.

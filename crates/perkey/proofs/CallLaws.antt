@@ -12,7 +12,7 @@ use Rattle.bucket.specs.declared.Request.{Request}
 use Rattle.bucket.specs.declared.Request.the-variants.{Acquire, Reserve}
 use Rattle.units.specs.declared.Nanos.{Nanos}
 use Rattle.settings.specs.declared.Settings.{Settings}
-use Rattle.store.specs.declared.Identity.{Identity}
+use Rattle.shard.specs.declared.Identity.{Identity}
 use Rattle.settings.specs.declared.Limit.{Limit}
 use Rattle.settings.specs.declared.Limit.the-variants.{Closed, Open}
 use Rattle.settings.specs.declared.decision.Decision.{Decision}
@@ -20,20 +20,20 @@ use Rattle.settings.specs.declared.decision.Decision.the-variants.{Acquired, Re
 use Rattle.settings.specs.declared.rate.Rate.{Rate}
 use Rattle.settings.specs.Rate.{configOf}
 use Rattle.settings.specs.declared.Shape.{Shape}
-use Rattle.settings.specs.Settings.{capOf, shardCount, shapeOf, wordsOf, firstOf, settingsRefusal}
-use Rattle.store.specs.declared.Answer.{Answer}
-use Rattle.store.specs.declared.Answer.the-variants.{Decided, NoSpace}
-use Rattle.store.specs.Model as Store
+use Rattle.settings.specs.Settings.{capOf, shardCount, shapeOf, wordsOf, firstRefusal, settingsRefusal}
+use Rattle.shard.specs.declared.Answer.{Answer}
+use Rattle.shard.specs.declared.Answer.the-variants.{Decided, NoSpace}
+use Rattle.shard.specs.Model as OneShard
 use Rattle.perkey.specs.declared.Reply.{Reply}
 use Rattle.perkey.specs.declared.Reply.the-variants.{Tried, Reserved, Nothing, Done, Count, Refused}
-use Rattle.shards.specs.declared.Part.{Part}
-use Rattle.shards.specs.declared.lending.Lending.{Lending}
-use Rattle.shards.specs.declared.lending.Lending.the-variants as Lending
-use Rattle.shards.specs.Lending.{lentUnless}
-use Rattle.shards.proofs.LendingLaws.{refused-number, lent-part}
-use Rattle.shards.specs.Memory.{shardAt, slotCount}
-use Rattle.shards.specs.Refusals.{memoryRefusal, countRefusal, shapeRefusal, keyedRefusal, momentRefusal, timedRefusal, waitRefusal, reserveRefusal, lenRefusal}
-use Rattle.shards.proofs.RefusalLaws.{refusals-in-a-row}
+use Rattle.store.specs.declared.Part.{Part}
+use Rattle.store.specs.declared.lending.Lending.{Lending}
+use Rattle.store.specs.declared.lending.Lending.the-variants as Lending
+use Rattle.store.specs.Lending.{lentUnless}
+use Rattle.store.proofs.LendingLaws.{refused-number, lent-part}
+use Rattle.store.specs.Memory.{shardAt, slotCount}
+use Rattle.store.specs.Refusals.{memoryRefusal, countRefusal, shapeRefusal, keyedRefusal, momentRefusal, timedRefusal, waitRefusal, reserveRefusal, lenRefusal}
+use Rattle.store.proofs.RefusalLaws.{refusals-in-a-row}
 use Rattle.perkey.specs.Rules as Rules
 use Rattle.perkey.proofs.RefusedLaws.{unless-refused-accepts, unless-refused-refuses}
 use Rattle.rows.specs.Held.{sum}
@@ -55,7 +55,7 @@ ruleOf (look s at id (peeks cost)) ws = outcome (Rules.peekedBy (s .limit) s at 
 ruleOf (look s at id tokens) ws = outcome (Count (Rules.availableBy (s .limit) s at id ws)) ws
 ruleOf (len s) ws = outcome (Count (sum (shardCount s) (λ i. slotCount (capOf s) i ws))) ws
 ruleOf (undo s id (refunds cost)) ws = Rules.refundedBy (s .limit) s id cost ws
-ruleOf (undo s id removes) ws = Rules.keyed s id ws (Store.removed id (shardAt s (id .hash) ws))
+ruleOf (undo s id removes) ws = Rules.keyed s id ws (OneShard.removed id (shardAt s (id .hash) ws))
 
 rules-are : (c : Call) (ws : List ℕ) → rules c ws ≡ Rules.unlessRefused (refusalOf c ws) ws (ruleOf c ws)
 unfolding Rules.tryAcquire Rules.reserve Rules.peek Rules.available Rules.len Rules.refund Rules.remove
@@ -90,28 +90,28 @@ module _ (c : Call) (ws : List ℕ) {lending : Lending} (part′ : Part) (is : l
 
 -- A closed limiter: the number of a call on a key, found by the settings, then the memory of their shape, then the other arguments.
 keyed-number : (s : Settings) (hash : ℕ) (ws : List ℕ) (further : ℕ)
-    → firstOf (settingsRefusal s) (firstOf (shapeRefusal (shapeOf s) hash ws) further) ≡ firstOf (keyedRefusal s hash ws) further
+    → firstRefusal (settingsRefusal s) (firstRefusal (shapeRefusal (shapeOf s) hash ws) further) ≡ firstRefusal (keyedRefusal s hash ws) further
 keyed-number s hash ws further =
     let counts = countRefusal (capOf s) (shardAt s hash ws) in
     let memory = memoryRefusal (wordsOf s) ws in
-    sym (refusals-in-a-row (settingsRefusal s) (firstOf memory counts) further)
-    ∙ ap (λ (n : ℕ). firstOf n further) (sym (refusals-in-a-row (settingsRefusal s) memory counts))
+    sym (refusals-in-a-row (settingsRefusal s) (firstRefusal memory counts) further)
+    ∙ ap (λ (n : ℕ). firstRefusal n further) (sym (refusals-in-a-row (settingsRefusal s) memory counts))
 
 -- The number for the other arguments of a request.
 abbrev pub furtherTo : Request → Nanos → ℕ
 furtherTo Acquire at = momentRefusal at
-furtherTo (Reserve longest) at = firstOf (momentRefusal at) (waitRefusal longest)
+furtherTo (Reserve longest) at = firstRefusal (momentRefusal at) (waitRefusal longest)
 
 request-number : (r : Request) (s : Settings) (at : Nanos) (id : Identity) (cost : ℕ) (ws : List ℕ)
-    → firstOf (keyedRefusal s (id .hash) ws) (furtherTo r at) ≡ refusalOf (request s at id r cost) ws
+    → firstRefusal (keyedRefusal s (id .hash) ws) (furtherTo r at) ≡ refusalOf (request s at id r cost) ws
 request-number Acquire s at id cost ws = refl
 request-number (Reserve longest) s at id cost ws = sym (refusals-in-a-row (keyedRefusal s (id .hash) ws) (momentRefusal at) (waitRefusal longest))
 
 -- A call on a key is told by its number and by its rule.
 module _ (c : Call) (s : Settings) (hash : ℕ) (ws : List ℕ) {refusal further : ℕ} {shape : Shape} {told o : Outcome Reply (List ℕ)} where
   pub closed-is-told : (further′ : ℕ) → refusal ≡ settingsRefusal s → shape ≡ shapeOf s → further ≡ further′
-      → firstOf (keyedRefusal s hash ws) further′ ≡ refusalOf c ws → told ≡ ruleOf c ws
-      → o ≡ Rules.unlessRefused (firstOf refusal (firstOf (shapeRefusal shape hash ws) further)) ws told → o ≡ rules c ws
+      → firstRefusal (keyedRefusal s hash ws) further′ ≡ refusalOf c ws → told ≡ ruleOf c ws
+      → o ≡ Rules.unlessRefused (firstRefusal refusal (firstRefusal (shapeRefusal shape hash ws) further)) ws told → o ≡ rules c ws
   closed-is-told further′ is-refusal is-shape is-further is-number is-rule gave =
       let number = keyed-number s hash ws further′ ∙ is-number in
       (rw (is-refusal, is-shape, is-further, number, is-rule) at gave) ∙ sym (rules-are c ws)
@@ -135,7 +135,7 @@ module _ (s : Settings) (closed : s .limit ≡ Closed) where
 module _ (r : Request) (s : Settings) (at : Nanos) (id : Identity) (cost : ℕ) (ws : List ℕ) {refusal further : ℕ} {shape : Shape} {reply : Reply} where
   pub closed-request-is-told : {o : Outcome Reply (List ℕ)} → s .limit ≡ Closed → reply ≡ Rules.closedTo r cost
       → refusal ≡ settingsRefusal s → shape ≡ shapeOf s → further ≡ furtherTo r at
-      → o ≡ Rules.unlessRefused (firstOf refusal (firstOf (shapeRefusal shape (id .hash) ws) further)) ws (outcome reply ws)
+      → o ≡ Rules.unlessRefused (firstRefusal refusal (firstRefusal (shapeRefusal shape (id .hash) ws) further)) ws (outcome reply ws)
       → o ≡ rules (request s at id r cost) ws
   closed-request-is-told closed is-reply is-refusal is-shape is-further gave =
       let ruled = closed-request s closed r at id cost ws is-reply in
@@ -210,7 +210,7 @@ peeked-in-kind (Open rate) s at id cost ws =
 
 refunded-in-kind : (c : Limit) (s : Settings) (id : Identity) (cost : ℕ) (ws : List ℕ) → OfKind knows (Rules.refundedBy c s id cost ws .answer)
 refunded-in-kind Closed s id cost ws = unknown
-refunded-in-kind (Open rate) s id cost ws = key-is-known-or-not (Store.refunded (configOf rate) id cost (shardAt s (id .hash) ws) .answer)
+refunded-in-kind (Open rate) s id cost ws = key-is-known-or-not (OneShard.refunded (configOf rate) id cost (shardAt s (id .hash) ws) .answer)
 
 pub rule-answers-in-kind : (c : Call) (ws : List ℕ) → OfKind (kindOf c) (ruleOf c ws .answer)
 rule-answers-in-kind (request s at id Acquire cost) ws = asked-in-kind Acquire (s .limit) s at id cost ws
@@ -219,7 +219,7 @@ rule-answers-in-kind (look s at id (peeks cost)) ws = peeked-in-kind (s .limit) 
 rule-answers-in-kind (look s at id tokens) ws = counted _
 rule-answers-in-kind (len s) ws = counted _
 rule-answers-in-kind (undo s id (refunds cost)) ws = refunded-in-kind (s .limit) s id cost ws
-rule-answers-in-kind (undo s id removes) ws = key-is-known-or-not (Store.removed id (shardAt s (id .hash) ws) .answer)
+rule-answers-in-kind (undo s id removes) ws = key-is-known-or-not (OneShard.removed id (shardAt s (id .hash) ws) .answer)
 
 -- So no rule answers with a number of a refusal.
 in-kind-not-numbered : {kind : Kind} {r : Reply} → OfKind kind r → numbered r ≡ false

@@ -15,18 +15,18 @@ use Rattle.ledger.specs.Model as Ledger
 use Rattle.shard_map.specs.Layout as Layout
 use Rattle.shard_map.specs.Model as Shard
 use Rattle.evict.specs.Evict.{noted, walkFrom, walked, evicted}
-use Rattle.store.specs.Model as Store
-use Rattle.shards.specs.Refusals as Refusals
+use Rattle.shard.specs.Model as OneShard
+use Rattle.store.specs.Refusals as Refusals
 use Rattle.perkey.specs.Rules as Rules
 use Rattle.perkey.specs.Edges.{allHold, edges}
 
 pub every-edge-holds : allHold edges ≡ true
 unfolding ceilDiv rows unrow heldIn lowestFrom removed shortfallAt availableAt waitAt asked takenOut lacking restored
-    Rate.unlessWithin Rate.rateRefusal Settings.sizeRefusal Settings.firstOf Settings.doubledUpTo hashFrom
+    Rate.unlessWithin Rate.rateRefusal Settings.sizeRefusal Settings.firstRefusal Settings.doubledUpTo hashFrom
     Debts.ledger Debts.wordsOf Ledger.placeOf Ledger.removeAt Ledger.append Ledger.owedBy Ledger.taken Ledger.lookAt Ledger.look Ledger.sweep
     Ledger.scanFrom Ledger.scan Ledger.dropChosen Ledger.makeRoom Ledger.recordedAt Ledger.recorded Ledger.paidDown
     Layout.shard Layout.wordsOf Shard.placeOf Shard.removeAt Shard.insert Shard.idleLookAt Shard.idleLook Shard.sweepIdle
-    noted walkFrom walked evicted Store.makeRoom Store.known Store.new Store.withOrInsert Store.viewed Store.refunded
+    noted walkFrom walked evicted OneShard.makeRoom OneShard.withExisting OneShard.admit OneShard.withOrInsert OneShard.viewed OneShard.refunded
     Refusals.memoryRefusal Refusals.countRefusal Refusals.momentRefusal
     Rules.unlessRefused Rules.setUp Rules.unlessTrivial Rules.tryAcquire Rules.available Rules.refund
 every-edge-holds = refl

@@ -5,10 +5,10 @@ use mathlib.Core.List.{List}
 use lib.ListN.{length, replicate}
 use Rattle.rows.specs.Outcome.{Outcome, outcome}
 use Rattle.settings.specs.declared.Settings.{Settings}
-use Rattle.settings.specs.Settings.{firstOf}
+use Rattle.settings.specs.Settings.{firstRefusal}
 use Rattle.settings.proofs.SettingsLaws.{first-refusal-stands, no-refusal-hands-on}
-use Rattle.shards.specs.Refusals.{setUpRefusal}
-use Rattle.shards.proofs.RefusalLaws.{set-up-not-refused}
+use Rattle.store.specs.Refusals.{setUpRefusal}
+use Rattle.store.proofs.RefusalLaws.{set-up-not-refused}
 use Rattle.perkey.specs.declared.Reply.{Reply}
 use Rattle.perkey.specs.declared.Reply.the-variants.{Done, Refused}
 use Rattle.perkey.specs.Rules.{unlessRefused, setUp}
@@ -26,15 +26,15 @@ module _ (refusal : ℕ) (ws : List ℕ) (accepted : Outcome Reply (List ℕ)) w
 
 -- Of two numbers, as the code comes to them: the first that is not 0 is told, and where both are 0 the call is accepted.
 module _ (first second : ℕ) (ws : List ℕ) (accepted : Outcome Reply (List ℕ)) where
-  pub first-number-is-told : (first ≡ 0 → ⊥) → outcome (Refused first) ws ≡ unlessRefused (firstOf first second) ws accepted
+  pub first-number-is-told : (first ≡ 0 → ⊥) → outcome (Refused first) ws ≡ unlessRefused (firstRefusal first second) ws accepted
   first-number-is-told some = rw (first-refusal-stands first second some) (sym (unless-refused-refuses first ws accepted some))
 
-  pub second-number-is-told : {told : ℕ} → first ≡ 0 → told ≡ second → (told ≡ 0 → ⊥) → outcome (Refused told) ws ≡ unlessRefused (firstOf first second) ws accepted
+  pub second-number-is-told : {told : ℕ} → first ≡ 0 → told ≡ second → (told ≡ 0 → ⊥) → outcome (Refused told) ws ≡ unlessRefused (firstRefusal first second) ws accepted
   second-number-is-told none is some =
       rw (no-refusal-hands-on first second none, is) (sym (unless-refused-refuses second ws accepted (λ no. some (is ∙ no))))
 
-  pub neither-refuses-is-told : first ≡ 0 → second ≡ 0 → accepted ≡ unlessRefused (firstOf first second) ws accepted
-  neither-refuses-is-told none no-other = sym (unless-refused-accepts (firstOf first second) ws accepted (no-refusal-hands-on first second none ∙ no-other))
+  pub neither-refuses-is-told : first ≡ 0 → second ≡ 0 → accepted ≡ unlessRefused (firstRefusal first second) ws accepted
+  neither-refuses-is-told none no-other = sym (unless-refused-accepts (firstRefusal first second) ws accepted (no-refusal-hands-on first second none ∙ no-other))
 
 -- Set-up and clear, as the code comes to them.
 module _ (s : Settings) (ws : List ℕ) {told : ℕ} (is : told ≡ setUpRefusal s ws) where

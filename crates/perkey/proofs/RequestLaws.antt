@@ -13,17 +13,17 @@ use Rattle.settings.specs.declared.Limit.the-variants.{Open}
 use Rattle.settings.specs.declared.Settings.{Settings}
 use Rattle.settings.specs.declared.rate.Rate.{Rate}
 use Rattle.settings.specs.Rate.{burstOf}
-use Rattle.store.specs.declared.Identity.{Identity}
-use Rattle.store.specs.declared.Policy.{Policy}
-use Rattle.store.specs.declared.Answer.{Answer}
-use Rattle.store.specs.Model as Store
-use Rattle.store.proofs.ModelLaws.{ask-with-slot, ask-without-slot}
+use Rattle.shard.specs.declared.Identity.{Identity}
+use Rattle.shard.specs.declared.Policy.{Policy}
+use Rattle.shard.specs.declared.Answer.{Answer}
+use Rattle.shard.specs.Model as OneShard
+use Rattle.shard.proofs.ModelLaws.{ask-with-slot, ask-without-slot}
 use Rattle.shard_map.specs.Model.{Sound, placeOf}
-use Rattle.shards.specs.declared.Part.{Part}
-use Rattle.shards.specs.Memory.{Placed, partOf, shardIn, shardAt, inPart, inShard}
-use Rattle.shards.specs.Refusals.{timedRefusal}
-use Rattle.shards.proofs.LendingLaws.{found-place-below}
-use Rattle.shards.proofs.RefusalLaws.{timed-not-refused}
+use Rattle.store.specs.declared.Part.{Part}
+use Rattle.store.specs.Memory.{Placed, partOf, shardIn, shardAt, inPart, inShard}
+use Rattle.store.specs.Refusals.{timedRefusal}
+use Rattle.store.proofs.LendingLaws.{found-place-below}
+use Rattle.store.proofs.RefusalLaws.{timed-not-refused}
 use Rattle.perkey.specs.declared.Reply.{Reply}
 use Rattle.perkey.specs.Rules.{unlessTrivial, policyOf, requested, tooMuch, atOnce, replyTo, askedBy}
 use Rattle.perkey.proofs.RuleLaws.{bucket-may-be-viewed}
@@ -71,19 +71,19 @@ module _ {s : Settings} {at : Nanos} {id : Identity} {cost : ℕ} {ws : List ℕ
 
     -- What the store's answer, in the shard of the key, makes of the reply and of all words.
     module _ (r : Request) {answer : Answer} {told : Reply} {ws′ : List ℕ} (is-reply : told ≡ replyTo r answer) where
-      request-is-told : outcome answer ws′ ≡ inShard s (id .hash) ws (Store.withOrInsert policy id r cost at (shardAt s (id .hash) ws))
+      request-is-told : outcome answer ws′ ≡ inShard s (id .hash) ws (OneShard.withOrInsert policy id r cost at (shardAt s (id .hash) ws))
           → outcome told ws′ ≡ askedBy r (s .limit) s at id cost ws
       request-is-told gave =
           rw is-reply (ap (λ (o : Outcome Answer (List ℕ)). outcome (replyTo r (o .answer)) (o .after)) (rw is-policy at gave))
           ∙ bucket-is-asked r s at id cost ws (a .is-limit) (a .within) (a .some)
 
-      pub known-is-told : (i : ℕ) → place ≡ At i → outcome answer ws′ ≡ inPart part′ ws (Store.known policy r cost at (shardIn part′ ws) i)
+      pub known-is-told : (i : ℕ) → place ≡ At i → outcome answer ws′ ≡ inPart part′ ws (OneShard.withExisting policy r cost at (shardIn part′ ws) i)
           → outcome told ws′ ≡ askedBy r (s .limit) s at id cost ws
       known-is-told i found gave =
           let with-slot = ask-with-slot policy id r cost at (shardAt s (id .hash) ws) i (rw (a .is-part) at (sym is-place ∙ found)) in
           request-is-told ((rw (a .is-part) at gave) ∙ ap (inShard s (id .hash) ws) with-slot)
 
-      pub new-is-told : place ≡ Nowhere → outcome answer ws′ ≡ inPart part′ ws (Store.new policy id r cost at (shardIn part′ ws))
+      pub new-is-told : place ≡ Nowhere → outcome answer ws′ ≡ inPart part′ ws (OneShard.admit policy id r cost at (shardIn part′ ws))
           → outcome told ws′ ≡ askedBy r (s .limit) s at id cost ws
       new-is-told missed gave =
           let without-slot = ask-without-slot policy id r cost at (shardAt s (id .hash) ws) (rw (a .is-part) at (sym is-place ∙ missed)) in

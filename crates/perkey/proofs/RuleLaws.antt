@@ -17,14 +17,14 @@ use Rattle.settings.specs.Rate.{burstOf, configOf}
 use Rattle.settings.specs.Settings.{idleLimit}
 use Rattle.settings.proofs.RateLaws.{accepted-rate}
 use Rattle.settings.proofs.SettingsLaws.{accepted-parts, neither-refuses}
-use Rattle.store.specs.declared.Identity.{Identity}
-use Rattle.store.specs.Model as Store
+use Rattle.shard.specs.declared.Identity.{Identity}
+use Rattle.shard.specs.Model as OneShard
 use Rattle.shard_map.specs.Model.{Shard, Sound}
-use Rattle.shards.specs.declared.Part.{Part}
-use Rattle.shards.specs.Memory.{Placed, partOf, shardIn, inShard}
-use Rattle.shards.specs.Refusals.{keyedRefusal, momentRefusal, timedRefusal, waitRefusal, reserveRefusal}
-use Rattle.shards.proofs.LendingLaws.{accepted-part}
-use Rattle.shards.proofs.RefusalLaws.{keyed-not-refused}
+use Rattle.store.specs.declared.Part.{Part}
+use Rattle.store.specs.Memory.{Placed, partOf, shardIn, inShard}
+use Rattle.store.specs.Refusals.{keyedRefusal, momentRefusal, timedRefusal, waitRefusal, reserveRefusal}
+use Rattle.store.proofs.LendingLaws.{accepted-part}
+use Rattle.store.proofs.RefusalLaws.{keyed-not-refused}
 use Rattle.perkey.specs.declared.Reply.{Reply}
 use Rattle.perkey.specs.declared.Reply.the-variants.{Tried}
 use Rattle.perkey.specs.Rules.{closed, waitReply, policyOf, bucketOf, peekedAt, peekedBy, availableBy, knownReply, keyed}
@@ -68,7 +68,7 @@ module _ (s : Settings) (rate : Rate) (at : Nanos) (id : Identity) (cost : ℕ) 
 -- What is told of the bucket that is viewed in the key's part, at a rate: its wait for a cost, and its tokens.
 module _ (s : Settings) (rate : Rate) (at : Nanos) (id : Identity) (ws : List ℕ) {limit : Limit} {part′ : Part} {config : BucketConfig} {bucket : BucketCore}
     (is-limit : limit ≡ Open rate) (is-part : part′ ≡ partOf s (id .hash)) (is-config : config ≡ configOf rate)
-    (is-bucket : bucket ≡ Store.viewed config id at (shardIn part′ ws)) where
+    (is-bucket : bucket ≡ OneShard.viewed config id at (shardIn part′ ws)) where
   pub viewed-wait-is-told : (cost : ℕ) {wait : Nanos} {told : Reply} → cost ≤ burstOf rate → wait .0 ≡ waitAt config bucket cost at → told ≡ waitReply wait
       → told ≡ peekedBy limit s at id cost ws
   viewed-wait-is-told cost within is-wait is-reply =
@@ -79,7 +79,7 @@ module _ (s : Settings) (rate : Rate) (at : Nanos) (id : Identity) (ws : List �
   viewed-tokens-are-told are = rw is-limit (rw (is-bucket, is-config, is-part) at are)
 
 -- The idle limit by which the store sweeps is that of the settings.
-pub sweeps-by-the-idle-limit : (s : Settings) (rate : Rate) → s .limit ≡ Open rate → Store.idleLimitIn (policyOf s rate) ≡ idleLimit s
+pub sweeps-by-the-idle-limit : (s : Settings) (rate : Rate) → s .limit ≡ Open rate → OneShard.idleLimitIn (policyOf s rate) ≡ idleLimit s
 sweeps-by-the-idle-limit s rate is = rw is
 
 -- A call that is not refused: its part is placed and its shard sound; a rate that it has is accepted.

@@ -16,7 +16,7 @@ use Rattle.settings.specs.declared.rate.Rate.{Rate}
 use Rattle.settings.specs.Eviction.{capacityOf, boundedBy}
 use Rattle.settings.specs.Settings.{shardCount, capOf, wordsOf, idleLimit}
 use Rattle.hash.specs.Fnv.{fnv1a}
-use Rattle.store.specs.declared.Identity.{Identity}
+use Rattle.shard.specs.declared.Identity.{Identity}
 use Rattle.perkey.specs.declared.Reply.{Reply}
 use Rattle.perkey.specs.Rules.{codeOf, numberOf, setUp}
 use Rattle.perkey.specs.Calls.{Call, try, available, refund, rules}
@@ -99,16 +99,16 @@ limitIs (millis.Some ms) limit = eqb (ms .0) limit
 abbrev endsIn : Outcome Reply (List ℕ) → ℕ → ℕ → List ℕ → Bool
 endsIn o code number words = eqb (codeOf (o .answer)) code && eqb (numberOf (o .answer)) number && sameWords (o .after) words
 
-abbrev holds : Edge → Bool
-holds (sized s shards cap words) = eqb (shardCount s) shards && eqb (capOf s) cap && eqb (wordsOf s) words
-holds (idles s limit) = limitIs (idleLimit s) limit
-holds (ends s cs code number words) = endsIn (ran s cs) code number words
-holds (hashes bytes hash) = eqb (fnv1a bytes) hash
+abbrev passes : Edge → Bool
+passes (sized s shards cap words) = eqb (shardCount s) shards && eqb (capOf s) cap && eqb (wordsOf s) words
+passes (idles s limit) = limitIs (idleLimit s) limit
+passes (ends s cs code number words) = endsIn (ran s cs) code number words
+passes (hashes bytes hash) = eqb (fnv1a bytes) hash
 
 -- Every row passes its test.
 abbrev pub allHold : List Edge → Bool
 allHold [] = true
-allHold (edge ∷ rest) = holds edge && allHold rest
+allHold (edge ∷ rest) = passes edge && allHold rest
 
 -- The table. The words of a shard are its slot count, hand and sweep, six a slot (hash, key, shortfall, stamp, mark, last-seen), its debt count and
 -- cursor, and two a debt (hash, settles-at).

@@ -23,16 +23,16 @@ use Rattle.settings.specs.declared.eviction.WhenFull.the-variants.{RefuseNew, F
 use Rattle.settings.specs.declared.rate.Rate.{Rate}
 use Rattle.settings.specs.Rate.{configOf}
 use Rattle.settings.specs.Settings.{shardCount, capOf, wordsOf}
-use Rattle.store.specs.declared.Identity.{Identity}
-use Rattle.store.specs.declared.Policy.{Policy}
-use Rattle.store.specs.declared.Answer.{Answer}
-use Rattle.store.specs.declared.Answer.the-variants.{Decided, NoSpace}
+use Rattle.shard.specs.declared.Identity.{Identity}
+use Rattle.shard.specs.declared.Policy.{Policy}
+use Rattle.shard.specs.declared.Answer.{Answer}
+use Rattle.shard.specs.declared.Answer.the-variants.{Decided, NoSpace}
 use Rattle.shard_map.specs.Model.{Shard}
-use Rattle.store.specs.Model as Store
+use Rattle.shard.specs.Model as OneShard
 use Rattle.perkey.specs.declared.Reply.{Reply}
 use Rattle.perkey.specs.declared.Reply.the-variants.{Tried, Reserved, Nothing, Done, Count, Refused}
-use Rattle.shards.specs.Memory.{shardAt, inShard, slotCount}
-use Rattle.shards.specs.Refusals.{setUpRefusal, keyedRefusal, timedRefusal, reserveRefusal, lenRefusal}
+use Rattle.store.specs.Memory.{shardAt, inShard, slotCount}
+use Rattle.store.specs.Refusals.{setUpRefusal, keyedRefusal, timedRefusal, reserveRefusal, lenRefusal}
 
 -- The desk's code of a reply: 0 granted, accepted, known or counted, 1 to be tried again, 2 impossible, 3 none or unknown, 10 + n refused as n.
 abbrev pub codeOf : Reply → ℕ
@@ -100,7 +100,7 @@ noWait = record { 0 = 0 }
 -- What a request does in its shard, and its answer.
 abbrev pub requested : Settings → Rate → Identity → Request → ℕ → Nanos → List ℕ → (Answer → Reply) → Outcome Reply (List ℕ)
 requested s rate id request cost at ws reply =
-    let o = inShard s (id .hash) ws (Store.withOrInsert (policyOf s rate) id request cost at (shardAt s (id .hash) ws)) in
+    let o = inShard s (id .hash) ws (OneShard.withOrInsert (policyOf s rate) id request cost at (shardAt s (id .hash) ws)) in
     outcome (reply (o .answer)) (o .after)
 
 -- A cost of more than a full bucket has an answer of its own, and so has cost 0, which is granted at once; neither touches a word.
@@ -147,7 +147,7 @@ reserve s at id cost longest ws = unlessRefused (reserveRefusal s (id .hash) at 
 
 -- The bucket that a key has, or would have if it came in now.
 abbrev pub bucketOf : Settings → Rate → Identity → Nanos → List ℕ → BucketCore
-bucketOf s rate id at ws = Store.viewed (configOf rate) id at (shardAt s (id .hash) ws)
+bucketOf s rate id at ws = OneShard.viewed (configOf rate) id at (shardAt s (id .hash) ws)
 
 -- A peek: the wait of that bucket. It changes no word.
 unfoldable pub waitReply : Nanos → Reply
@@ -184,14 +184,14 @@ keyed s id ws o = outcome (knownReply (o .answer)) (inShard s (id .hash) ws o .a
 -- A refund; to a refund on a closed limiter every key is unknown.
 abbrev pub refundedBy : Limit → Settings → Identity → ℕ → List ℕ → Outcome Reply (List ℕ)
 refundedBy Closed s id cost ws = outcome Nothing ws
-refundedBy (Open rate) s id cost ws = keyed s id ws (Store.refunded (configOf rate) id cost (shardAt s (id .hash) ws))
+refundedBy (Open rate) s id cost ws = keyed s id ws (OneShard.refunded (configOf rate) id cost (shardAt s (id .hash) ws))
 
 unfoldable pub refund : Settings → Identity → ℕ → List ℕ → Outcome Reply (List ℕ)
 refund s id cost ws = unlessRefused (keyedRefusal s (id .hash) ws) ws (refundedBy (s .limit) s id cost ws)
 
 -- A removal.
 unfoldable pub remove : Settings → Identity → List ℕ → Outcome Reply (List ℕ)
-remove s id ws = unlessRefused (keyedRefusal s (id .hash) ws) ws (keyed s id ws (Store.removed id (shardAt s (id .hash) ws)))
+remove s id ws = unlessRefused (keyedRefusal s (id .hash) ws) ws (keyed s id ws (OneShard.removed id (shardAt s (id .hash) ws)))
 
 -- Clear does what set-up does.
 abbrev pub clear : Settings → List ℕ → Outcome Reply (List ℕ)

@@ -2,9 +2,9 @@
 ghost use mathlib.Core.Path.{_≡_};
 ghost use Rattle.rows.specs.Outcome.{outcome};
 ghost use Rattle.settings.specs.declared.Limit.the-variants.{Open};
-ghost use Rattle.settings.specs.Settings.{ShapeOfAccepted, firstOf};
-ghost use Rattle.shards.specs.Memory.{partOf};
-ghost use Rattle.shards.specs.Refusals.{shapeRefusal, keyedRefusal, momentRefusal, timedRefusal, waitRefusal};
+ghost use Rattle.settings.specs.Settings.{ShapeOfAccepted, firstRefusal};
+ghost use Rattle.store.specs.Memory.{partOf};
+ghost use Rattle.store.specs.Refusals.{shapeRefusal, keyedRefusal, momentRefusal, timedRefusal, waitRefusal};
 ghost use Rattle.perkey.specs.Rules as Rules;
 use bucket::BucketDecision;
 use bucket::Request;
@@ -15,13 +15,13 @@ use settings::Shape;
 use settings::decision::Decision;
 use settings::eviction::WhenFull;
 use settings::rate::Rate;
-use shards::Part;
-use shards::lending;
-use shards::lending::Lending;
-use shards::refusals;
-use store::Answer;
-use store::Identity;
-use store::Policy;
+use shard::Answer;
+use shard::Identity;
+use shard::Policy;
+use store::Part;
+use store::lending;
+use store::lending::Lending;
+use store::refusals;
 use units::Nanos;
 
 pub mod codes;
@@ -50,7 +50,7 @@ pub fn set_up(settings: Settings, ws: &mut [u64]) -> Reply
     if refusal != 0 {
         return Reply::Refused(refusal);
     }
-    shards::clear(ws);
+    store::clear(ws);
     Reply::Done
 }
 
@@ -126,15 +126,23 @@ fn decide(
     if cost == 0 {
         return Reply::Tried(Decision::Acquired);
     }
-    match shards::position(ws, part, id) {
+    match store::position(ws, part, id) {
         Place::At(pos) => {
             let request = Request::Acquire;
-            try_reply(shards::known(ws, part, policy(settings, rate), pos, request, cost, at))
+            try_reply(store::with_existing(
+                ws,
+                part,
+                policy(settings, rate),
+                pos,
+                request,
+                cost,
+                at,
+            ))
         }
         Place::Nowhere => {
             let own = part;
             let key = id;
-            try_reply(shards::new(
+            try_reply(store::admit(
                 ws,
                 own,
                 policy(settings, rate),
@@ -202,9 +210,9 @@ fn reserve_open(
 
 // The number for the other arguments of a reservation: a late moment, else a long wait.
 fn reserve_refusal(at: Nanos, max_wait: Nanos) -> u32
-    ensures { λ r. ⌜ r ≡ firstOf (momentRefusal at) (waitRefusal «max_wait») ⌝ }
+    ensures { λ r. ⌜ r ≡ firstRefusal (momentRefusal at) (waitRefusal «max_wait») ⌝ }
 {
-    refusals::first_of(
+    refusals::first_refusal(
         refusals::moment_refusal(at),
         refusals::wait_refusal(max_wait),
     )
@@ -230,15 +238,23 @@ fn reserve_within(
     if cost == 0 {
         return Reply::Reserved(Nanos(0));
     }
-    match shards::position(ws, part, id) {
+    match store::position(ws, part, id) {
         Place::At(pos) => {
             let request = Request::Reserve(max_wait);
-            reserve_reply(shards::known(ws, part, policy(settings, rate), pos, request, cost, at))
+            reserve_reply(store::with_existing(
+                ws,
+                part,
+                policy(settings, rate),
+                pos,
+                request,
+                cost,
+                at,
+            ))
         }
         Place::Nowhere => {
             let own = part;
             let key = id;
-            reserve_reply(shards::new(
+            reserve_reply(store::admit(
                 ws,
                 own,
                 policy(settings, rate),
@@ -291,12 +307,12 @@ fn peek_open(
     }
     match lending::lend(settings.shape(), ws, id.hash, refusals::moment_refusal(at)) {
         Lending::Refused(refusal) => Reply::Refused(refusal),
-        Lending::Lent(part) => look(settings, rate, ws, part, at, id, cost),
+        Lending::Lent(part) => peek_bucket(settings, rate, ws, part, at, id, cost),
     }
 }
 
 // A peek that is not refused: the wait of the bucket that the key has, or would have if it came in now.
-fn look(
+fn peek_bucket(
     settings: Settings,
     rate: Rate,
     ws: &[u64],
@@ -312,7 +328,7 @@ fn look(
     if config.capacity < cost {
         return Reply::Tried(Decision::Impossible);
     }
-    let bucket = shards::view(ws, part, config, id, at);
+    let bucket = store::view(ws, part, config, id, at);
     wait_reply(bucket.time_until_at(config, cost, at))
 }
 
@@ -359,7 +375,7 @@ fn tokens(settings: Settings, rate: Rate, ws: &[u64], part: Part, at: Nanos, id:
     ensures { λ r. ⌜ r ≡ Rules.availableBy (settings .limit) settings at id (now (ws .entry)) ⌝ }
 {
     let config = rate.config();
-    let bucket = shards::view(ws, part, config, id, at);
+    let bucket = store::view(ws, part, config, id, at);
     bucket.available_at(config, at) as u64
 }
 
@@ -404,7 +420,7 @@ fn give_back(
     requires { ⌜ (keyedRefusal settings (id .hash) (now ws) ≡ 0) × (part ≡ partOf settings (id .hash)) × (settings .limit ≡ Open rate) ⌝ }
     ensures { λ r. ⌜ outcome r (now (ws .exit)) ≡ Rules.refundedBy (settings .limit) settings id cost (now (ws .entry)) ⌝ }
 {
-    known_reply(shards::refund(ws, part, rate.config(), id, cost))
+    known_reply(store::refund(ws, part, rate.config(), id, cost))
 }
 
 // Forgets a key, if it is known.
@@ -417,7 +433,7 @@ pub fn remove(settings: Settings, ws: &mut [u64], id: Identity) -> Reply
     }
     match lending::lend(settings.shape(), ws, id.hash, 0) {
         Lending::Refused(refusal) => Reply::Refused(refusal),
-        Lending::Lent(part) => known_reply(shards::remove(ws, part, id)),
+        Lending::Lent(part) => known_reply(store::remove(ws, part, id)),
     }
 }
 
@@ -436,7 +452,7 @@ pub fn len(settings: Settings, ws: &[u64]) -> Reply
     if refusal != 0 {
         return Reply::Refused(refusal);
     }
-    Reply::Count(shards::len(ws, settings) as u64)
+    Reply::Count(store::len(ws, settings) as u64)
 }
 
 // A call on a key to which a closed limiter tells the same whatever the words are: it is refused as any other call is, else told. `refusal` and `shape` are
@@ -451,7 +467,7 @@ fn unless_refused(
 ) -> Reply
     requires { ⌜ (refusal ≡ 0 → ShapeOfAccepted shape) ⌝ }
     ensures { λ r. ⌜ outcome r (now (ws .exit)) ≡
-        Rules.unlessRefused (firstOf refusal (firstOf (shapeRefusal shape hash (now (ws .entry))) further)) (now (ws .entry)) (outcome told (now (ws .entry))) ⌝ }
+        Rules.unlessRefused (firstRefusal refusal (firstRefusal (shapeRefusal shape hash (now (ws .entry))) further)) (now (ws .entry)) (outcome told (now (ws .entry))) ⌝ }
 {
     if refusal != 0 {
         return Reply::Refused(refusal);

@@ -17,7 +17,7 @@ wrapped-below i count some = by-test (ltb i count) (λ t. rw t (ltb-true _ _ t))
 
 -- The items stand in places that there are.
 pub record Sound {A : Type 0} (h : Held A) : Type 0 where
-  pub held : h .count ≤ length (h .places)
+  pub count-fits : h .count ≤ length (h .places)
 
 module _ {A : Type 0} (free : A) where
   pub item-stored : (h : Held A) (i : ℕ) (x : A) → i < length (h .places) → itemAt free (stored h i x) i ≡ x
@@ -37,7 +37,7 @@ module _ {A : Type 0} (free : A) where
   unfolding removed
   item-moved h p s b =
       getD-set-other (set (h .places) p (itemAt free h (h .count - 1))) (h .count - 1) p free free (λ e. omega arith)
-      ∙ getD-set-same (h .places) p (itemAt free h (h .count - 1)) free (omega (arith, s .held))
+      ∙ getD-set-same (h .places) p (itemAt free h (h .count - 1)) free (omega (arith, s .count-fits))
 
   pub item-kept : (h : Held A) (p i : ℕ) → i < h .count - 1 → (i ≡ p → ⊥) → itemAt free (removed free h p) i ≡ itemAt free h i
   unfolding removed
@@ -57,7 +57,7 @@ module _ {A : Type 0} (free : A) where
   pub total-stored : (w : A → ℕ) (h : Held A) (i : ℕ) (x : A) → Sound h → i < h .count
       → total free w (stored h i x) + w (itemAt free h i) ≡ total free w h + w x
   total-stored w h i x s b =
-      rw (item-stored h i x (omega (arith, s .held))) at
+      rw (item-stored h i x (omega (arith, s .count-fits))) at
       (sum-changed (h .count) (λ j. w (itemAt free (stored h i x) j)) (λ j. w (itemAt free h j)) i b (λ j below other. ap w (item-stored-other h i x j other)))
 
   pub total-appended : (w : A → ℕ) (h : Held A) (x : A) → h .count < length (h .places)

@@ -6,11 +6,11 @@ use native.Mathlib.Omega.{arith}
 use lib.ListN.{length, getD, set, length-map}
 use lib.Seq.{sets, getD-set-same, getD-set-other}
 use borrow.Rule.Slice.PartMut.{putMid}
-use Rattle.rows.specs.Parts.{part}
+use Rattle.rows.specs.Segments.{segment}
 use Rattle.rows.specs.Rows.{rows, unrow}
 use Rattle.rows.specs.Held.{itemAt, stored}
 use Rattle.rows.specs.Layout.{heldIn}
-use Rattle.rows.proofs.PartLaws.{part-set, part-set-below, part-sets, part-length, part-of-part, part-kept-below, word-kept}
+use Rattle.rows.proofs.SegmentLaws.{segment-set, segment-set-below, segment-sets, segment-length, segment-of-segment, segment-kept-below, word-kept}
 use Rattle.rows.proofs.RowLaws.{rows-length, record-at, record-put, record-put-word, row-end, getD-sets-lt, rows-round, unrow-rows}
 
 module _ {A : Type 0} (read : List ℕ → A) (w cap at first : ℕ) where
@@ -20,29 +20,29 @@ module _ {A : Type 0} (read : List ℕ → A) (w cap at first : ℕ) where
 
   pub held-length : (ws : List ℕ) → length (heldIn read w cap at first ws .places) ≡ cap
   unfolding heldIn
-  held-length ws = length-map (rows w cap (part first (w * cap) ws)) read ∙ rows-length w cap (part first (w * cap) ws)
+  held-length ws = length-map (rows w cap (segment first (w * cap) ws)) read ∙ rows-length w cap (segment first (w * cap) ws)
 
   -- The item at place i is read from the words of row i.
-  pub held-item : (ws : List ℕ) (i : ℕ) → i < cap → itemAt (read []) (heldIn read w cap at first ws) i ≡ read (part (first + w * i) w ws)
+  pub held-item : (ws : List ℕ) (i : ℕ) → i < cap → itemAt (read []) (heldIn read w cap at first ws) i ≡ read (segment (first + w * i) w ws)
   unfolding heldIn
   held-item ws i b =
-      record-at read w cap (part first (w * cap) ws) i b
-      ∙ ap read (part-of-part first (w * cap) (w * i) w ws (row-end w cap i b))
+      record-at read w cap (segment first (w * cap) ws) i b
+      ∙ ap read (segment-of-segment first (w * cap) (w * i) w ws (row-end w cap i b))
 
   -- Items written as the rows that they were read from give the words of those rows.
   pub held-round : (write : A → List ℕ) (ws : List ℕ) → ((row : List ℕ) → length row ≡ w → write (read row) ≡ row) → first + w * cap ≤ length ws
-      → unrow (map write (heldIn read w cap at first ws .places)) ≡ part first (w * cap) ws
+      → unrow (map write (heldIn read w cap at first ws .places)) ≡ segment first (w * cap) ws
   unfolding heldIn
   held-round write ws round room =
-      let all = part-length first (w * cap) ws room in
-      rw (rows-round read write w cap (part first (w * cap) ws) round (omega (arith, all))) (unrow-rows w cap (part first (w * cap) ws) all)
+      let all = segment-length first (w * cap) ws room in
+      rw (rows-round read write w cap (segment first (w * cap) ws) round (omega (arith, all))) (unrow-rows w cap (segment first (w * cap) ws) all)
 
   module _ (ws : List ℕ) (before : at < first) (room : first + w * cap ≤ length ws) where
     pub held-count-put : (n : ℕ) → heldIn read w cap at first (set ws at n) ≡ record { count = n; places = heldIn read w cap at first ws .places }
     unfolding heldIn
     held-count-put n = λ j. record {
       count = getD-set-same ws at n 0 (omega arith) j;
-      places = map read (rows w cap (part-set-below first (w * cap) ws at n before j));
+      places = map read (rows w cap (segment-set-below first (w * cap) ws at n before j));
     }
 
     -- A whole row stored, and one word of a row.
@@ -51,20 +51,20 @@ module _ {A : Type 0} (read : List ℕ → A) (w cap at first : ℕ) where
     unfolding heldIn
     held-put i vs b k =
         let e = row-end w cap i b in
-        let rows-put : map read (rows w cap (part first (w * cap) (sets ws (first + w * i) vs))) ≡ set (map read (rows w cap (part first (w * cap) ws))) i (read vs) =
-        rw (part-sets first (w * cap) ws (w * i) vs (omega arith))
-        (record-put read w cap (part first (w * cap) ws) i b vs k (omega (arith, part-length first (w * cap) ws room))) in
+        let rows-put : map read (rows w cap (segment first (w * cap) (sets ws (first + w * i) vs))) ≡ set (map read (rows w cap (segment first (w * cap) ws))) i (read vs) =
+        rw (segment-sets first (w * cap) ws (w * i) vs (omega arith))
+        (record-put read w cap (segment first (w * cap) ws) i b vs k (omega (arith, segment-length first (w * cap) ws room))) in
         λ j. record { count = getD-sets-lt ws (first + w * i) at vs (omega arith) j; places = rows-put j }
 
     pub held-put-word : (i f v : ℕ) → i < cap → f < w
-        → heldIn read w cap at first (set ws (first + (w * i + f)) v) ≡ stored (heldIn read w cap at first ws) i (read (set (part (first + w * i) w ws) f v))
+        → heldIn read w cap at first (set ws (first + (w * i + f)) v) ≡ stored (heldIn read w cap at first ws) i (read (set (segment (first + w * i) w ws) f v))
     unfolding heldIn
     held-put-word i f v b c =
         let e = row-end w cap i b in
-        let word-put : map read (rows w cap (part first (w * cap) (set ws (first + (w * i + f)) v)))
-        ≡ set (map read (rows w cap (part first (w * cap) ws))) i (read (set (part (first + w * i) w ws) f v)) =
-        rw (part-set first (w * cap) ws (w * i + f) v (omega arith), ← part-of-part first (w * cap) (w * i) w ws e)
-        (record-put-word read w cap (part first (w * cap) ws) i b f v c) in
+        let word-put : map read (rows w cap (segment first (w * cap) (set ws (first + (w * i + f)) v)))
+        ≡ set (map read (rows w cap (segment first (w * cap) ws))) i (read (set (segment (first + w * i) w ws) f v)) =
+        rw (segment-set first (w * cap) ws (w * i + f) v (omega arith), ← segment-of-segment first (w * cap) (w * i) w ws e)
+        (record-put-word read w cap (segment first (w * cap) ws) i b f v c) in
         λ j. record { count = getD-set-other ws (first + (w * i + f)) at v 0 (λ q. omega arith) j; places = word-put j }
 
     -- A word before the items that is not the count.
@@ -72,7 +72,7 @@ module _ {A : Type 0} (read : List ℕ → A) (w cap at first : ℕ) where
     unfolding heldIn
     held-set-before j v b other = λ k. record {
       count = getD-set-other ws j at v 0 other k;
-      places = map read (rows w cap (part-set-below first (w * cap) ws j v b k));
+      places = map read (rows w cap (segment-set-below first (w * cap) ws j v b k));
     }
 
     -- A part past the items that was lent and came back.
@@ -81,5 +81,5 @@ module _ {A : Type 0} (read : List ℕ → A) (w cap at first : ℕ) where
     unfolding heldIn
     held-lent-after b n ys h k past = λ j. record {
       count = word-kept b n ws ys h k at (omega arith) j;
-      places = map read (rows w cap (part-kept-below b n ws ys h k first (w * cap) past j));
+      places = map read (rows w cap (segment-kept-below b n ws ys h k first (w * cap) past j));
     }

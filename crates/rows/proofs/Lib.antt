@@ -1,4 +1,4 @@
-pub mod PartLaws
+pub mod SegmentLaws
 pub mod RowLaws
 pub mod SumLaws
 pub mod LowestLaws

@@ -6,7 +6,7 @@ use mathlib.Core.Path.{_≡_, refl, sym}
 use mathlib.Core.List.{List, [], _∷_, map}
 use lib.ListN.{length, getD, length-append}
 use lib.Seq.{take-at, drop-at}
-use Rattle.rows.specs.Parts.{part}
+use Rattle.rows.specs.Segments.{segment}
 use Rattle.rows.specs.Rows.{rows, unrow}
 use Rattle.rows.specs.Held.{Held}
 use Rattle.rows.specs.Layout.{heldIn}
@@ -30,8 +30,8 @@ module _ {A : Type 0} (write : A → List ℕ) (w : ℕ) (long : (x : A) → len
 
     -- Held items read back from words that have the count in its word, and the items' rows in the part for them.
     pub held-of-written : (h : Held A) (cap at first : ℕ) (ws : List ℕ) → length (h .places) ≡ cap → getD ws at 0 ≡ h .count
-        → part first (w * cap) ws ≡ unrow (map write (h .places)) → heldIn read w cap at first ws ≡ h
+        → segment first (w * cap) ws ≡ unrow (map write (h .places)) → heldIn read w cap at first ws ≡ h
     unfolding heldIn
     held-of-written h cap at first ws full count rows-there =
-        let items : map read (rows w cap (part first (w * cap) ws)) ≡ h .places = rw (rows-there, ← full) (rows-of-written (h .places)) in
+        let items : map read (rows w cap (segment first (w * cap) ws)) ≡ h .places = rw (rows-there, ← full) (rows-of-written (h .places)) in
         λ j. record { count = count j; places = items j }

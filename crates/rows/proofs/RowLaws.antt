@@ -8,7 +8,7 @@ use lib.ListN.{length, getD, set, take, drop, length-drop, List·getD-map, drop-
 use lib.Seq.{drop-drop, take-set-lt, take-set-le, drop-set-lt, drop-set-add, getD-take, getD-drop, length-take-le, sets, getD-set-same, getD-set-other}
 use lib.Seq.{set-getD, set-set, take-add, take-all, sets-eq}
 use Rattle.rows.specs.Rows.{rows, unrow}
-use Rattle.rows.specs.Parts.{part}
+use Rattle.rows.specs.Segments.{segment}
 
 pub rows-length : (w n : ℕ) (ws : List ℕ) → length (rows w n ws) ≡ n
 unfolding rows
@@ -84,8 +84,8 @@ pub row-puts : (w n : ℕ) (ws : List ℕ) (i : ℕ) (vs : List ℕ) → i < n �
 row-puts w n ws i vs b c = rw (add-zero (w * i)) at (row-puts-from w n ws i 0 vs b (omega arith))
 
 -- Row i as a part of the words, and where it ends.
-pub row-part : (w n : ℕ) (ws : List ℕ) (i : ℕ) → i < n → part (w * i) w ws ≡ getD (rows w n ws) i []
-row-part w n ws i b = sym (row-at w n ws i b)
+pub row-segment : (w n : ℕ) (ws : List ℕ) (i : ℕ) → i < n → segment (w * i) w ws ≡ getD (rows w n ws) i []
+row-segment w n ws i b = sym (row-at w n ws i b)
 
 pub row-end : (w n i : ℕ) → i < n → w * i + w ≤ w * n
 row-end w n i b = let m : w * suc i ≤ w * n = mul-le-mul-left w b in let e = next-row w i in omega arith
@@ -118,7 +118,7 @@ sets-all row vs e =
     sets-eq vs row 0 (omega arith) ∙ rw (drop-of-length-le row {i = 0 + length vs} (omega arith)) (append-nil vs)
 
 module _ {A : Type 0} (f : List ℕ → A) (w n : ℕ) (ws : List ℕ) (i : ℕ) (b : i < n) where
-  pub record-at : getD (map f (rows w n ws)) i (f []) ≡ f (part (w * i) w ws)
+  pub record-at : getD (map f (rows w n ws)) i (f []) ≡ f (segment (w * i) w ws)
   record-at = List·getD-map f (rows w n ws) i [] ∙ ap f (row-at w n ws i b)
 
   pub record-put : (vs : List ℕ) → length vs ≡ w → w * n ≤ length ws → map f (rows w n (sets ws (w * i) vs)) ≡ set (map f (rows w n ws)) i (f vs)
@@ -126,9 +126,9 @@ module _ {A : Type 0} (f : List ℕ → A) (w n : ℕ) (ws : List ℕ) (i : ℕ)
       let l = row-length w n ws i b c in
       rw (row-puts w n ws i vs b (omega arith), sets-all (getD (rows w n ws) i []) vs (omega arith), map-set)
 
-  pub record-put-word : (k v : ℕ) → k < w → map f (rows w n (set ws (w * i + k) v)) ≡ set (map f (rows w n ws)) i (f (set (part (w * i) w ws) k v))
-  record-put-word k v c = rw (row-put w n ws i k v b c, map-set, row-part w n ws i b)
+  pub record-put-word : (k v : ℕ) → k < w → map f (rows w n (set ws (w * i + k) v)) ≡ set (map f (rows w n ws)) i (f (set (segment (w * i) w ws) k v))
+  record-put-word k v c = rw (row-put w n ws i k v b c, map-set, row-segment w n ws i b)
 
 -- Word f of a part.
-pub part-word : (a w : ℕ) (ws : List ℕ) (f : ℕ) → f < w → getD (part a w ws) f 0 ≡ getD ws (a + f) 0
-part-word a w ws f c = rw (getD-take w (drop a ws) f 0 c, getD-drop)
+pub segment-word : (a w : ℕ) (ws : List ℕ) (f : ℕ) → f < w → getD (segment a w ws) f 0 ≡ getD ws (a + f) 0
+segment-word a w ws f c = rw (getD-take w (drop a ws) f 0 c, getD-drop)

@@ -7,15 +7,15 @@ use mathlib.Core.List.{List, [], _∷_}
 use lib.ListN.{length, getD, set, drop, replicate, length-take, List·getD-eq-default}
 use lib.Seq.{getD-set-same, getD-set-other}
 use Rattle.arith.proofs.Cases.{by-le, by-eq}
-use Rattle.rows.specs.Parts.{part}
-use Rattle.rows.proofs.RowLaws.{part-word}
+use Rattle.rows.specs.Segments.{segment}
+use Rattle.rows.proofs.RowLaws.{segment-word}
 
 -- A part of words that are all 0 is all 0: its own words are 0, and past its end 0 is read.
-pub zeros-part : (a n : ℕ) (ws : List ℕ) → ((i : ℕ) → getD ws i 0 ≡ 0) → (i : ℕ) → getD (part a n ws) i 0 ≡ 0
-zeros-part a n ws zeros i =
+pub zeros-segment : (a n : ℕ) (ws : List ℕ) → ((i : ℕ) → getD ws i 0 ≡ 0) → (i : ℕ) → getD (segment a n ws) i 0 ≡ 0
+zeros-segment a n ws zeros i =
     by-le n i
-    (λ past. List·getD-eq-default (part a n ws) 0 (omega (arith, length-take n (drop a ws))))
-    (λ inside. part-word a n ws i inside ∙ zeros (a + i))
+    (λ past. List·getD-eq-default (segment a n ws) 0 (omega (arith, length-take n (drop a ws))))
+    (λ inside. segment-word a n ws i inside ∙ zeros (a + i))
 
 -- The words before place i are 0, and 0 is stored there: the words before the next place are 0.
 pub next-word-zero : (ws : List ℕ) (i : ℕ) → i < length ws → ((j : ℕ) → j < i → getD ws j 0 ≡ 0) → (j : ℕ) → j < i + 1 → getD (set ws i 0) j 0 ≡ 0

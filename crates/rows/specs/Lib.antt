@@ -1,4 +1,4 @@
-pub mod Parts
+pub mod Segments
 pub mod Rows
 pub mod Held
 pub mod Layout

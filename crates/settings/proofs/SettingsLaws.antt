@@ -11,7 +11,7 @@ use Rattle.arith.proofs.Cases.{by-le, by-eq}
 use Rattle.arith.proofs.DivisionLaws.{ceilDiv-least}
 use Rattle.settings.specs.declared.Settings.{Settings}
 use Rattle.settings.specs.declared.Shape.{Shape}
-use Rattle.settings.specs.Settings.{mostKeys, mostShards, limitRefusal, sizeRefusal, firstOf, settingsRefusal, shardCount, capOf, shardWords, wordsOf}
+use Rattle.settings.specs.Settings.{mostKeys, mostShards, limitRefusal, sizeRefusal, firstRefusal, settingsRefusal, shardCount, capOf, shardWords, wordsOf}
 use Rattle.settings.specs.Settings.{wordsIn, shapeOf, shardOf, ShapeOfAccepted, idleLimitMillis}
 use Rattle.settings.proofs.ShardLaws.{PowerOfTwo, doubled-is-power}
 
@@ -35,17 +35,17 @@ module _ (s : Settings) where
       by-le (s .eviction .«max_keys») mostKeys (λ few. few) (λ more. absurd (omega (arith, sym (too-many-keys-is-refused-4 more) ∙ accepted)))
 
 -- Of two refusals the first stands where there is one.
-pub first-refusal-stands : (first second : ℕ) → (first ≡ 0 → ⊥) → firstOf first second ≡ first
-unfolding firstOf
+pub first-refusal-stands : (first second : ℕ) → (first ≡ 0 → ⊥) → firstRefusal first second ≡ first
+unfolding firstRefusal
 first-refusal-stands first second refused = rw (ne-eqb _ _ refused)
 
 -- Where it is none, the second decides.
-pub no-refusal-hands-on : (first second : ℕ) → first ≡ 0 → firstOf first second ≡ second
-unfolding firstOf
+pub no-refusal-hands-on : (first second : ℕ) → first ≡ 0 → firstRefusal first second ≡ second
+unfolding firstRefusal
 no-refusal-hands-on first second none = rw (eq-eqb _ _ none)
 
 -- Where the outcome is none, both are none.
-pub neither-refuses : (first second : ℕ) → firstOf first second ≡ 0 → (first ≡ 0) × (second ≡ 0)
+pub neither-refuses : (first second : ℕ) → firstRefusal first second ≡ 0 → (first ≡ 0) × (second ≡ 0)
 neither-refuses first second none =
     by-eq first 0
     (λ zero. (zero, sym (no-refusal-hands-on first second zero) ∙ none))

@@ -12,7 +12,7 @@ use Rattle.settings.specs.declared.Limit.the-variants.{Closed, Open}
 use Rattle.settings.specs.declared.Settings.{Settings}
 use Rattle.settings.specs.Eviction.{bounds}
 use Rattle.settings.specs.Rate.{unlessWithin, rateRefusal}
-use Rattle.settings.specs.Settings.{sizeRefusal, firstOf, settingsRefusal, doubledUpTo, shardCount, capOf, wordsOf, idleLimit}
+use Rattle.settings.specs.Settings.{sizeRefusal, firstRefusal, settingsRefusal, doubledUpTo, shardCount, capOf, wordsOf, idleLimit}
 
 -- Two tokens a second, up to four.
 abbrev twoASecond : Rate
@@ -44,14 +44,14 @@ idle-longer-than-full = refl
 
 -- The largest sizes are accepted, and one more is refused.
 pub most-keys : (settingsRefusal (sized (Open twoASecond) 4096 1) ≡ 0) × (settingsRefusal (sized (Open twoASecond) 4097 1) ≡ 4)
-unfolding firstOf sizeRefusal rateRefusal unlessWithin
+unfolding firstRefusal sizeRefusal rateRefusal unlessWithin
 most-keys = (refl, refl)
 
 pub most-shards : (settingsRefusal (sized (Open twoASecond) 1 64) ≡ 0) × (settingsRefusal (sized (Open twoASecond) 1 65) ≡ 4)
-unfolding firstOf sizeRefusal rateRefusal unlessWithin
+unfolding firstRefusal sizeRefusal rateRefusal unlessWithin
 most-shards = (refl, refl)
 
 -- A closed limiter has no amount, period or burst that could be refused.
 pub closed-is-accepted : settingsRefusal (sized Closed 4 1) ≡ 0
-unfolding firstOf sizeRefusal
+unfolding firstRefusal sizeRefusal
 closed-is-accepted = refl

@@ -35,12 +35,12 @@ unfoldable pub sizeRefusal : Settings → ℕ
 sizeRefusal s = cond (ltb mostKeys (s .eviction .«max_keys»)) 4 (cond (ltb mostShards (s .shards)) 4 0)
 
 -- The first refusal of the two, 0 if there is none.
-unfoldable pub firstOf : ℕ → ℕ → ℕ
-firstOf first second = cond (eqb first 0) second first
+unfoldable pub firstRefusal : ℕ → ℕ → ℕ
+firstRefusal first second = cond (eqb first 0) second first
 
 -- The number by which settings are refused: 1 to 3 for the rate, else 4 for the size; 0 if they are accepted.
 abbrev pub settingsRefusal : Settings → ℕ
-settingsRefusal s = firstOf (limitRefusal (s .limit)) (sizeRefusal s)
+settingsRefusal s = firstRefusal (limitRefusal (s .limit)) (sizeRefusal s)
 
 -- A count is doubled until it is at least n, but no more than so many times.
 unfoldable pub doubledUpTo : ℕ → ℕ → ℕ → ℕ

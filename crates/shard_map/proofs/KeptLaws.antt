@@ -1,5 +1,5 @@
 -- Two sums over all that a shard has of one hash. `count` is how many items there are, where a slot of another key with the same hash counts as two: while
--- it is at most 1, the key's slot or its debt is all that there is. `held` is what they lack at a moment. A step that grants the key nothing never raises the
+-- it is at most 1, the key's slot or its debt is all that there is. `shortage` is what they lack at a moment. A step that grants the key nothing never raises the
 -- first and, while that is at most 1, never lowers the second: this is how no debt is lost. Layers above add up these laws and look at no place.
 use Prim.Native.Nat.{ℕ, _+_, _*_, _-_, _≤_, _<_, min}
 use mathlib.Core.Path.{_≡_, _∙_, ap}
@@ -31,8 +31,8 @@ use Rattle.shard_map.proofs.StepLaws.{Holding, nowhere-holds-none, remo
 unfoldable pub weight : ℕ → ℕ → Slot → ℕ
 weight h k slot = cond (eqb (slot .hash) h) (cond (eqb (slot .key) k) 1 2) 0
 
-unfoldable pub hold : BucketConfig → ℕ → Nanos → Slot → ℕ
-hold c h at slot = cond (eqb (slot .hash) h) (shortfallAt c (slot .bucket) at) 0
+unfoldable pub short : BucketConfig → ℕ → Nanos → Slot → ℕ
+short c h at slot = cond (eqb (slot .hash) h) (shortfallAt c (slot .bucket) at) 0
 
 -- What a debt lacks at a moment, by when it settles: what comes back until then, but no more than a bucket can lack.
 abbrev pub unpaid : BucketConfig → Nanos → ℕ → ℕ
@@ -48,8 +48,8 @@ overAll h slotValue debtValue s = overSlots slotValue s + owed h debtValue (s .l
 abbrev pub count : ℕ → ℕ → Shard → ℕ
 count h k s = overAll h (weight h k) one s
 
-abbrev pub held : BucketConfig → ℕ → Nanos → Shard → ℕ
-held c h at s = overAll h (hold c h at) (unpaid c at) s
+abbrev pub shortage : BucketConfig → ℕ → Nanos → Shard → ℕ
+shortage c h at s = overAll h (short c h at) (unpaid c at) s
 
 -- The cases of a slot's weight and of what it holds.
 module _ (h k : ℕ) (slot : Slot) where
@@ -70,23 +70,23 @@ module _ (h k : ℕ) (slot : Slot) where
   weight-of-hash own = by-eq (slot .key) k (λ key. omega (arith, weight-own own key)) (λ foreign. omega (arith, weight-shared own foreign))
 
 module _ (c : BucketConfig) (h : ℕ) (at : Nanos) (slot : Slot) where
-  pub hold-own : slot .hash ≡ h → hold c h at slot ≡ shortfallAt c (slot .bucket) at
-  unfolding hold
-  hold-own own = rw (eq-eqb _ _ own)
+  pub short-own : slot .hash ≡ h → short c h at slot ≡ shortfallAt c (slot .bucket) at
+  unfolding short
+  short-own own = rw (eq-eqb _ _ own)
 
-  pub hold-other : (slot .hash ≡ h → ⊥) → hold c h at slot ≡ 0
-  unfolding hold
-  hold-other other = rw (ne-eqb _ _ other)
+  pub short-other : (slot .hash ≡ h → ⊥) → short c h at slot ≡ 0
+  unfolding short
+  short-other other = rw (ne-eqb _ _ other)
 
-  pub hold-full : shortfallAt c (slot .bucket) at ≡ 0 → hold c h at slot ≡ 0
-  hold-full full = by-eq (slot .hash) h (λ own. hold-own own ∙ full) (λ other. hold-other other)
+  pub short-full : shortfallAt c (slot .bucket) at ≡ 0 → short c h at slot ≡ 0
+  short-full full = by-eq (slot .hash) h (λ own. short-own own ∙ full) (λ other. short-other other)
 
 -- The steps: a slot that leaves takes its value away, one that comes adds its own, one that is changed changes its own.
 module _ (h : ℕ) (slotValue : Slot → ℕ) (debtValue : ℕ → ℕ) where
   all-removed : (s : Shard) (p : ℕ) → Sound s → p < s .slots .count
       → overAll h slotValue debtValue (removeAt s p) + slotValue (slotAt s p) ≡ overAll h slotValue debtValue s
   unfolding removeAt
-  all-removed s p u below = omega (arith, total-removed noSlot slotValue (s .slots) p (record { held = u .held }) below)
+  all-removed s p u below = omega (arith, total-removed noSlot slotValue (s .slots) p (record { count-fits = u .count-fits }) below)
 
   all-inserted : (s : Shard) (slot : Slot) → s .slots .count < capOf s → overAll h slotValue debtValue (insert s slot) ≡ overAll h slotValue debtValue s + slotValue slot
   unfolding insert
@@ -94,7 +94,7 @@ module _ (h : ℕ) (slotValue : Slot → ℕ) (debtValue : ℕ → ℕ) where
 
   all-stored : (s : Shard) (p : ℕ) (slot : Slot) → Sound s → p < s .slots .count
       → overAll h slotValue debtValue (withSlot s p slot) + slotValue (slotAt s p) ≡ overAll h slotValue debtValue s + slotValue slot
-  all-stored s p slot u below = omega (arith, total-stored noSlot slotValue (s .slots) p slot (record { held = u .held }) below)
+  all-stored s p slot u below = omega (arith, total-stored noSlot slotValue (s .slots) p slot (record { count-fits = u .count-fits }) below)
 
 -- A shard without a slot and without a debt has nothing of any hash.
 pub empty-has-nothing : (h : ℕ) (slotValue : Slot → ℕ) (debtValue : ℕ → ℕ) (s : Shard) → s .slots .count ≡ 0 → s .ledger .debts .count ≡ 0
@@ -111,28 +111,28 @@ empty-has-nothing h slotValue debtValue s no-slot no-debt =
 pub count-removed : (h k : ℕ) (s : Shard) (p : ℕ) → Sound s → p < s .slots .count → count h k (removeAt s p) + weight h k (slotAt s p) ≡ count h k s
 count-removed h k = all-removed h (weight h k) one
 
-pub held-removed : (c : BucketConfig) (h : ℕ) (at : Nanos) (s : Shard) (p : ℕ) → Sound s → p < s .slots .count
-    → held c h at (removeAt s p) + hold c h at (slotAt s p) ≡ held c h at s
-held-removed c h at = all-removed h (hold c h at) (unpaid c at)
+pub shortage-removed : (c : BucketConfig) (h : ℕ) (at : Nanos) (s : Shard) (p : ℕ) → Sound s → p < s .slots .count
+    → shortage c h at (removeAt s p) + short c h at (slotAt s p) ≡ shortage c h at s
+shortage-removed c h at = all-removed h (short c h at) (unpaid c at)
 
 pub count-inserted : (h k : ℕ) (s : Shard) (slot : Slot) → s .slots .count < capOf s → count h k (insert s slot) ≡ count h k s + weight h k slot
 count-inserted h k = all-inserted h (weight h k) one
 
-pub held-inserted : (c : BucketConfig) (h : ℕ) (at : Nanos) (s : Shard) (slot : Slot) → s .slots .count < capOf s → held c h at (insert s slot) ≡ held c h at s + hold c h at slot
-held-inserted c h at = all-inserted h (hold c h at) (unpaid c at)
+pub shortage-inserted : (c : BucketConfig) (h : ℕ) (at : Nanos) (s : Shard) (slot : Slot) → s .slots .count < capOf s → shortage c h at (insert s slot) ≡ shortage c h at s + short c h at slot
+shortage-inserted c h at = all-inserted h (short c h at) (unpaid c at)
 
 pub count-stored : (h k : ℕ) (s : Shard) (p : ℕ) (slot : Slot) → Sound s → p < s .slots .count
     → count h k (withSlot s p slot) + weight h k (slotAt s p) ≡ count h k s + weight h k slot
 count-stored h k = all-stored h (weight h k) one
 
-pub held-stored : (c : BucketConfig) (h : ℕ) (at : Nanos) (s : Shard) (p : ℕ) (slot : Slot) → Sound s → p < s .slots .count
-    → held c h at (withSlot s p slot) + hold c h at (slotAt s p) ≡ held c h at s + hold c h at slot
-held-stored c h at = all-stored h (hold c h at) (unpaid c at)
+pub shortage-stored : (c : BucketConfig) (h : ℕ) (at : Nanos) (s : Shard) (p : ℕ) (slot : Slot) → Sound s → p < s .slots .count
+    → shortage c h at (withSlot s p slot) + short c h at (slotAt s p) ≡ shortage c h at s + short c h at slot
+shortage-stored c h at = all-stored h (short c h at) (unpaid c at)
 
 -- A step at a moment that grants the key nothing.
 pub record Keeps (c : BucketConfig) (h k : ℕ) (at : Nanos) (s t : Shard) : Type 0 where
   pub fewer : count h k t ≤ count h k s
-  pub more : count h k s ≤ 1 → held c h at s ≤ held c h at t
+  pub more : count h k s ≤ 1 → shortage c h at s ≤ shortage c h at t
 
 -- A fresh bucket put back into a debt lacks at least what the debt lacks.
 pub restored-lacks-the-debt : (c : BucketConfig) (at settles : Nanos) → Accepted c → unpaid c at (settles .0) ≤ shortfallAt c (restored c (fresh c at) at settles) at
@@ -163,12 +163,12 @@ module _ (c : BucketConfig) (h k : ℕ) where
   pub full-slot-loses-nothing : (at : Nanos) (s : Shard) (p : ℕ) → Sound s → p < s .slots .count → shortfallAt c (slotAt s p .bucket) at ≡ 0 → Keeps c h k at s (removeAt s p)
   full-slot-loses-nothing at s p u below full = record {
     fewer = omega (arith, count-removed h k s p u below);
-    more = λ single. omega (arith, held-removed c h at s p u below, hold-full c h at (slotAt s p) full);
+    more = λ single. omega (arith, shortage-removed c h at s p u below, short-full c h at (slotAt s p) full);
   }
 
   -- The sweeps.
-  pub sweep-idle-keeps-held : (at : Nanos) (limit : Millis) (n : ℕ) (s : Shard) → Sound s → Keeps c h k at s (sweepIdle c at limit n s)
-  sweep-idle-keeps-held at limit n s u =
+  pub sweep-idle-keeps-shortage : (at : Nanos) (limit : Millis) (n : ℕ) (s : Shard) → Sound s → Keeps c h k at s (sweepIdle c at limit n s)
+  sweep-idle-keeps-shortage at limit n s u =
       sweep-idle-keeps c at limit (Keeps c h k at s)
       (record {
         moves = λ t p kept. record { fewer = kept .fewer; more = kept .more };
@@ -176,27 +176,27 @@ module _ (c : BucketConfig) (h k : ℕ) where
       })
       n s u (keeps-refl at s)
 
-  pub ledger-sweep-keeps-held : (at : Nanos) (n : ℕ) (s : Shard) → Sound s → Keeps c h k at s (withLedger s (Ledger.sweep at n (s .ledger)))
-  ledger-sweep-keeps-held at n s u = record {
+  pub ledger-sweep-keeps-shortage : (at : Nanos) (n : ℕ) (s : Shard) → Sound s → Keeps c h k at s (withLedger s (Ledger.sweep at n (s .ledger)))
+  ledger-sweep-keeps-shortage at n s u = record {
     fewer = omega (arith, sweep-never-adds h one at n (s .ledger) (u .ledger));
     more = λ single. omega (arith, sweep-keeps-unsettled h (unpaid c at) at n (s .ledger) (u .ledger) (unpaid-settled c at));
   }
 
   -- Time passes: what a single item lacks falls by no more than the amount for each nanosecond.
-  hold-falls-slowly : (n m : Nanos) → n .0 ≤ m .0 → (slot : Slot) → hold c h n slot ≤ hold c h m slot + (m .0 - n .0) * c .amount * weight h k slot
-  hold-falls-slowly n m le slot =
+  short-falls-slowly : (n m : Nanos) → n .0 ≤ m .0 → (slot : Slot) → short c h n slot ≤ short c h m slot + (m .0 - n .0) * c .amount * weight h k slot
+  short-falls-slowly n m le slot =
       let fall : ℕ = (m .0 - n .0) * c .amount in
       by-eq (slot .hash) h
       (λ own.
-      omega (arith, hold-own c h n slot own, hold-own c h m slot own, amount-between c n m le, shortfall-falls-slowly c (slot .bucket) n m le, mul-le-mul-left fall (weight-of-hash h k slot own)))
-      (λ other. omega (arith, hold-other c h n slot other))
+      omega (arith, short-own c h n slot own, short-own c h m slot own, amount-between c n m le, shortfall-falls-slowly c (slot .bucket) n m le, mul-le-mul-left fall (weight-of-hash h k slot own)))
+      (λ other. omega (arith, short-other c h n slot other))
 
-  pub later-keeps-line : (n m : Nanos) (s : Shard) → n .0 ≤ m .0 → count h k s ≤ 1 → n .0 * c .amount + held c h n s ≤ m .0 * c .amount + held c h m s
+  pub later-keeps-line : (n m : Nanos) (s : Shard) → n .0 ≤ m .0 → count h k s ≤ 1 → n .0 * c .amount + shortage c h n s ≤ m .0 * c .amount + shortage c h m s
   later-keeps-line n m s le single =
       let fall : ℕ = (m .0 - n .0) * c .amount in
       omega (
         arith,
-        sum-le (s .slots .count) (λ i. hold c h n (slotAt s i)) (λ i. hold c h m (slotAt s i)) (λ i. weight h k (slotAt s i)) fall (λ i below. hold-falls-slowly n m le (slotAt s i)),
+        sum-le (s .slots .count) (λ i. short c h n (slotAt s i)) (λ i. short c h m (slotAt s i)) (λ i. weight h k (slotAt s i)) fall (λ i below. short-falls-slowly n m le (slotAt s i)),
         owed-by-another-value h (unpaid c n) (unpaid c m) fall (unpaid-falls-slowly c n m le) (s .ledger),
         mul-le-mul-left fall single,
         amount-between c n m le,
@@ -206,9 +206,9 @@ module _ (c : BucketConfig) (h k : ℕ) where
   pub weightless-has-no-slot : (s : Shard) → overSlots (weight h k) s ≡ 0 → (i : ℕ) → i < s .slots .count → slotAt s i .hash ≡ h → ⊥
   weightless-has-no-slot s none i below own = omega (arith, weight-of-hash h k (slotAt s i) own, term-le-sum (s .slots .count) (λ j. weight h k (slotAt s j)) i below)
 
-  pub weightless-holds-nothing : (at : Nanos) (s : Shard) → overSlots (weight h k) s ≡ 0 → overSlots (hold c h at) s ≡ 0
+  pub weightless-holds-nothing : (at : Nanos) (s : Shard) → overSlots (weight h k) s ≡ 0 → overSlots (short c h at) s ≡ 0
   weightless-holds-nothing at s none =
-      sum-of-zeros (s .slots .count) (λ i. hold c h at (slotAt s i)) (λ i below. hold-other c h at (slotAt s i) (weightless-has-no-slot s none i below))
+      sum-of-zeros (s .slots .count) (λ i. short c h at (slotAt s i)) (λ i below. short-other c h at (slotAt s i) (weightless-has-no-slot s none i below))
 
   -- Where no slot of the key is found and the count is at most 1, no slot has its hash: what is held is the debt's.
   pub nowhere-weighs-nothing : (s : Shard) → placeOf s h k ≡ Nowhere → count h k s ≤ 1 → overSlots (weight h k) s ≡ 0
@@ -217,14 +217,14 @@ module _ (c : BucketConfig) (h k : ℕ) where
       (λ i below. weight-other h k (slotAt s i) (λ own.
       omega (arith, weight-shared h k (slotAt s i) own (nowhere-holds-none s h k e i below own), term-le-sum (s .slots .count) (λ j. weight h k (slotAt s j)) i below)))
 
-  pub nowhere-holds-the-debt : (at : Nanos) (s : Shard) → placeOf s h k ≡ Nowhere → count h k s ≤ 1 → held c h at s ≡ owed h (unpaid c at) (s .ledger)
+  pub nowhere-holds-the-debt : (at : Nanos) (s : Shard) → placeOf s h k ≡ Nowhere → count h k s ≤ 1 → shortage c h at s ≡ owed h (unpaid c at) (s .ledger)
   nowhere-holds-the-debt at s e single = omega (arith, weightless-holds-nothing at s (nowhere-weighs-nothing s e single))
 
   -- A slot of the key with a count of at most 1 is all that there is of the hash: the ledger owes it nothing, and what is held is the slot's shortfall.
   pub record OneSlot (at : Nanos) (s : Shard) (p : ℕ) : Type 0 where
     pub single : count h k s ≡ 1
     pub no-debt : owed h one (s .ledger) ≡ 0
-    pub all : held c h at s ≡ shortfallAt c (slotAt s p .bucket) at
+    pub all : shortage c h at s ≡ shortfallAt c (slotAt s p .bucket) at
 
   pub one-slot-is-all : (at : Nanos) (s : Shard) (p : ℕ) → Sound s → Holding s h k p → count h k s ≤ 1 → OneSlot at s p
   one-slot-is-all at s p u f single =
@@ -237,8 +237,8 @@ module _ (c : BucketConfig) (h k : ℕ) where
         no-debt = rw (← removal-ledger s p) no-debt;
         all = omega (
           arith,
-          held-removed c h at s p u (f .below),
-          hold-own c h at (slotAt s p) (f .hash),
+          shortage-removed c h at s p u (f .below),
+          short-own c h at (slotAt s p) (f .hash),
           weightless-holds-nothing at (removeAt s p) no-other,
           none-owed-nothing-owed h (unpaid c at) (removeAt s p .ledger) no-debt,
         );

@@ -10,12 +10,12 @@ use mathlib.Core.Path.{_≡_, refl, ap, sym, _∙_}
 use mathlib.Core.List.{List, [], _∷_}
 use lib.ListN.{length, getD, set, drop, length-drop}
 use lib.Seq.{sets, getD-set-same, getD-set-other, take-all}
-use Rattle.rows.specs.Parts.{part}
+use Rattle.rows.specs.Segments.{segment}
 use Rattle.rows.specs.Held.{itemAt, stored}
 use Rattle.rows.specs.Layout.{heldIn}
 use Rattle.rows.specs.Outcome.{Outcome, outcome}
-use Rattle.rows.proofs.PartLaws.{part-set-below, part-sets-below, part-length, part-back, part-join, word-kept}
-use Rattle.rows.proofs.RowLaws.{part-word, row-end, by-listed, getD-sets-lt}
+use Rattle.rows.proofs.SegmentLaws.{segment-set-below, segment-sets-below, segment-length, segment-back, segment-join, word-kept}
+use Rattle.rows.proofs.RowLaws.{segment-word, row-end, by-listed, getD-sets-lt}
 use Rattle.rows.proofs.LayoutLaws.{held-count, held-length, held-item, held-round, held-count-put, held-put, held-put-word, held-set-before, held-lent-after}
 use Rattle.settings.specs.Settings.{shardWords}
 use Rattle.slot.specs.declared.Slot.{Slot}
@@ -55,8 +55,8 @@ module _ (cap : ℕ) (ws : List ℕ) where
   sweep-read-past past = rw (held-count slotOf 6 cap 0 3 ws, le-ltb _ _ past)
 
   -- Word f of the slot at i.
-  slot-word : (i f : ℕ) → f < 6 → getD (part (3 + 6 * i) 6 ws) f 0 ≡ getD ws (3 + 6 * i + f) 0
-  slot-word i f below = part-word (3 + 6 * i) 6 ws f below
+  slot-word : (i f : ℕ) → f < 6 → getD (segment (3 + 6 * i) 6 ws) f 0 ≡ getD ws (3 + 6 * i + f) 0
+  slot-word i f below = segment-word (3 + 6 * i) 6 ws f below
 
   pub slot-read : (i : ℕ) → i < cap
       → slotOf (getD ws (3 + 6 * i) 0 ∷ getD ws (3 + 6 * i + 1) 0 ∷ getD ws (3 + 6 * i + 2) 0 ∷ getD ws (3 + 6 * i + 3) 0 ∷ getD ws (3 + 6 * i + 4) 0 ∷ getD ws (3 + 6 * i + 5) 0 ∷ [])
@@ -75,8 +75,8 @@ module _ (cap : ℕ) (ws : List ℕ) where
 -- Stores: each changes one field of the shard, and nothing else.
 module _ (cap : ℕ) (ws : List ℕ) (size : length ws ≡ shardWords cap) where
   -- The ledger lies past the words of the slots, so a store before it leaves it.
-  ledger-kept : (i n : ℕ) → i < ledgerStart cap → part (ledgerStart cap) (Ledger.ledgerWords cap) (set ws i n) ≡ part (ledgerStart cap) (Ledger.ledgerWords cap) ws
-  ledger-kept i n below = part-set-below (ledgerStart cap) (Ledger.ledgerWords cap) ws i n below
+  ledger-kept : (i n : ℕ) → i < ledgerStart cap → segment (ledgerStart cap) (Ledger.ledgerWords cap) (set ws i n) ≡ segment (ledgerStart cap) (Ledger.ledgerWords cap) ws
+  ledger-kept i n below = segment-set-below (ledgerStart cap) (Ledger.ledgerWords cap) ws i n below
 
   pub count-put : (n : ℕ) → shard cap (set ws 0 n) ≡ withCount (shard cap ws) n
   unfolding shard
@@ -112,7 +112,7 @@ module _ (cap : ℕ) (ws : List ℕ) (size : length ws ≡ shardWords cap) where
       let slots-put = held-put slotOf 6 cap 0 3 ws (lit< tt) (omega arith) i (slotWords slot) below refl in
       let hand-kept = getD-sets-lt ws (3 + 6 * i) 1 (slotWords slot) (omega arith) in
       let sweep-kept = getD-sets-lt ws (3 + 6 * i) 2 (slotWords slot) (omega arith) in
-      let part-kept = part-sets-below (ledgerStart cap) (Ledger.ledgerWords cap) ws (3 + 6 * i) (slotWords slot) (omega arith) in
+      let part-kept = segment-sets-below (ledgerStart cap) (Ledger.ledgerWords cap) ws (3 + 6 * i) (slotWords slot) (omega arith) in
       λ j. record { slots = slots-put j; hand = hand-kept j; sweep = sweep-kept j; ledger = Ledger.ledger cap (part-kept j) }
 
   pub slot-put : (i : ℕ) (slot : Slot) → i < cap
@@ -132,9 +132,9 @@ module _ (cap : ℕ) (ws : List ℕ) (size : length ws ≡ shardWords cap) where
   unfolding shard
   mark-put i mark below =
       let index : 3 + 6 * i + 4 ≡ 3 + (6 * i + 4) = omega arith in
-      let long = part-length (3 + 6 * i) 6 ws (omega (arith, row-end 6 cap i below)) in
-      let marked : slotOf (set (part (3 + 6 * i) 6 ws) 4 mark) ≡ withMark (itemAt noSlot (heldIn slotOf 6 cap 0 3 ws) i) mark =
-      by-listed 6 (λ row. slotOf (set row 4 mark) ≡ withMark (slotOf row) mark) (λ f. refl) (part (3 + 6 * i) 6 ws) long
+      let long = segment-length (3 + 6 * i) 6 ws (omega (arith, row-end 6 cap i below)) in
+      let marked : slotOf (set (segment (3 + 6 * i) 6 ws) 4 mark) ≡ withMark (itemAt noSlot (heldIn slotOf 6 cap 0 3 ws) i) mark =
+      by-listed 6 (λ row. slotOf (set row 4 mark) ≡ withMark (slotOf row) mark) (λ f. refl) (segment (3 + 6 * i) 6 ws) long
       ∙ ap (λ (slot : Slot). withMark slot mark) (sym (held-item slotOf 6 cap 0 3 ws i below)) in
       let slots-put = held-put-word slotOf 6 cap 0 3 ws (lit< tt) (omega arith) i 4 mark below (lit< tt) ∙ ap (λ (slot : Slot). stored (heldIn slotOf 6 cap 0 3 ws) i slot) marked in
       let hand-kept = getD-set-other ws (3 + (6 * i + 4)) 1 mark 0 (λ e. omega arith) in
@@ -144,31 +144,31 @@ module _ (cap : ℕ) (ws : List ℕ) (size : length ws ≡ shardWords cap) where
 
 -- The ledger's part of the words, in the form in which it is lent, and come back as other words.
 module _ (cap : ℕ) (ws : List ℕ) where
-  pub ledger-lent : length ws ≡ shardWords cap → Ledger.ledger cap (part (3 + 6 * cap) (length ws - (3 + 6 * cap)) ws) ≡ shard cap ws .ledger
+  pub ledger-lent : length ws ≡ shardWords cap → Ledger.ledger cap (segment (3 + 6 * cap) (length ws - (3 + 6 * cap)) ws) ≡ shard cap ws .ledger
   unfolding shard
   ledger-lent size = let e : length ws - (3 + 6 * cap) ≡ 2 + 2 * cap = omega arith in rw e
 
-  pub ledger-long : length ws ≡ shardWords cap → length (part (3 + 6 * cap) (length ws - (3 + 6 * cap)) ws) ≡ Ledger.ledgerWords cap
+  pub ledger-long : length ws ≡ shardWords cap → length (segment (3 + 6 * cap) (length ws - (3 + 6 * cap)) ws) ≡ Ledger.ledgerWords cap
   ledger-long size =
       let n : length ws - (3 + 6 * cap) ≡ 2 + 2 * cap = omega arith in
-      part-length (3 + 6 * cap) (length ws - (3 + 6 * cap)) ws (omega arith) ∙ n
+      segment-length (3 + 6 * cap) (length ws - (3 + 6 * cap)) ws (omega arith) ∙ n
 
-  pub ledger-back : (ys : List ℕ) → length ws ≡ shardWords cap → length ys ≡ length (part (3 + 6 * cap) (length ws - (3 + 6 * cap)) ws)
+  pub ledger-back : (ys : List ℕ) → length ws ≡ shardWords cap → length ys ≡ length (segment (3 + 6 * cap) (length ws - (3 + 6 * cap)) ws)
       → shard cap (putMid (3 + 6 * cap) (length ws - (3 + 6 * cap)) ws ys) ≡ withLedger (shard cap ws) (Ledger.ledger cap ys)
   unfolding shard
   ledger-back ys size same =
       let n : length ws - (3 + 6 * cap) ≡ 2 + 2 * cap = omega arith in
       let room : 3 + 6 * cap + (2 + 2 * cap) ≤ length ws = omega arith in
-      let long : length ys ≡ 2 + 2 * cap = (rw n at same) ∙ part-length (3 + 6 * cap) (2 + 2 * cap) ws room in
+      let long : length ys ≡ 2 + 2 * cap = (rw n at same) ∙ segment-length (3 + 6 * cap) (2 + 2 * cap) ws room in
       let slots-kept = held-lent-after slotOf 6 cap 0 3 ws (lit< tt) (omega arith) (3 + 6 * cap) (2 + 2 * cap) ys room long (omega arith) in
       let hand-kept = word-kept (3 + 6 * cap) (2 + 2 * cap) ws ys room long 1 (omega arith) in
       let sweep-kept = word-kept (3 + 6 * cap) (2 + 2 * cap) ws ys room long 2 (omega arith) in
-      let part-put = part-back (3 + 6 * cap) (2 + 2 * cap) ws ys room long in
+      let part-put = segment-back (3 + 6 * cap) (2 + 2 * cap) ws ys room long in
       rw n (λ j. record { slots = slots-kept j; hand = hand-kept j; sweep = sweep-kept j; ledger = Ledger.ledger cap (part-put j) })
 
   -- An answer that came with the ledger's words comes with the shard's.
   pub ledger-answered : {A : Type 0} {a : A} {o : Outcome A Debts.Ledger} (ys : List ℕ) → length ws ≡ shardWords cap
-      → length ys ≡ length (part (3 + 6 * cap) (length ws - (3 + 6 * cap)) ws) → outcome a (Ledger.ledger cap ys) ≡ o
+      → length ys ≡ length (segment (3 + 6 * cap) (length ws - (3 + 6 * cap)) ws) → outcome a (Ledger.ledger cap ys) ≡ o
       → outcome a (shard cap (putMid (3 + 6 * cap) (length ws - (3 + 6 * cap)) ws ys)) ≡ inLedger (shard cap ws) o
   ledger-answered ys size same gave = rw (ledger-back ys size same) (ap (λ o. inLedger (shard cap ws) o) gave)
 
@@ -182,13 +182,13 @@ head-words (a ∷ b ∷ c ∷ ws) h = refl
 pub words-shard : (cap : ℕ) (ws : List ℕ) → length ws ≡ shardWords cap → wordsOf (shard cap ws) ≡ ws
 unfolding shard wordsOf
 words-shard cap ws size =
-    let ledger-long = part-length (3 + 6 * cap) (2 + 2 * cap) ws (omega arith) in
+    let ledger-long = segment-length (3 + 6 * cap) (2 + 2 * cap) ws (omega arith) in
     let rest-long = length-drop 3 ws in
     rw (
       held-count slotOf 6 cap 0 3 ws,
       held-round slotOf 6 cap 0 3 slotWords ws (by-listed 6 (λ r. slotWords (slotOf r) ≡ r) (λ f. refl)) (omega arith),
-      words-ledger cap (part (3 + 6 * cap) (2 + 2 * cap) ws) ledger-long,
-      part-join 3 (6 * cap) (2 + 2 * cap) ws,
+      words-ledger cap (segment (3 + 6 * cap) (2 + 2 * cap) ws) ledger-long,
+      segment-join 3 (6 * cap) (2 + 2 * cap) ws,
       take-all (6 * cap + (2 + 2 * cap)) (drop 3 ws) (omega arith),
     )
     (head-words ws (omega arith))

@@ -14,7 +14,7 @@ use Rattle.bucket.specs.declared.BucketConfig.{BucketConfig}
 use Rattle.rows.specs.declared.Place.{Place}
 use Rattle.rows.specs.declared.Place.the-variants.{At, Nowhere}
 use Rattle.rows.specs.Held.{lowestFrom, removed}
-use Rattle.rows.specs.Parts.{part}
+use Rattle.rows.specs.Segments.{segment}
 use Rattle.rows.specs.Outcome.{Outcome, outcome}
 use Rattle.rows.proofs.LowestLaws.{lowest-hit, lowest-miss, lowest-end}
 use Rattle.rows.proofs.OutcomeLaws.{after-is}
@@ -23,34 +23,34 @@ use Rattle.slot.specs.Slot.{isKey}
 use Rattle.ledger.specs.Layout as LedgerLayout
 use Rattle.shard_map.specs.Model.{Shard, Sound, noSlot, capOf, slotAt, withCount, withSlot, withSweep, handOf, sweepOf, placeOf, removeAt, insert}
 use Rattle.shard_map.specs.Model.{reclaimable, idleLookAt, idleLook, sweepIdle}
-use Rattle.shard_map.specs.Layout.{shard, Lent}
+use Rattle.shard_map.specs.Layout.{shard, Intact}
 use Rattle.shard_map.proofs.LayoutLaws.{cap-is, ledger-lent, ledger-long}
 use Rattle.shard_map.proofs.StepLaws.{hand-below, sweep-below, sweep-sound, sweep-idle-sound}
 
 -- Words that are lent have room for cap slots; a slot that is held, and the hand and the sweep where one is, stand below the cap.
-pub lent-cap : {cap : ℕ} {ws : List ℕ} → Lent cap ws → capOf (shard cap ws) ≡ cap
-lent-cap {cap} {ws} lent = cap-is cap ws
+pub intact-cap : {cap : ℕ} {ws : List ℕ} → Intact cap ws → capOf (shard cap ws) ≡ cap
+intact-cap {cap} {ws} intact = cap-is cap ws
 
-pub lent-below : {cap : ℕ} {ws : List ℕ} {i : ℕ} → Lent cap ws → i < shard cap ws .slots .count → i < cap
-lent-below lent held = omega (arith, lent .sound .held, lent-cap lent)
+pub intact-below : {cap : ℕ} {ws : List ℕ} {i : ℕ} → Intact cap ws → i < shard cap ws .slots .count → i < cap
+intact-below intact below = omega (arith, intact .sound .count-fits, intact-cap intact)
 
-pub lent-hand : {cap : ℕ} {ws : List ℕ} → Lent cap ws → 0 < shard cap ws .slots .count → handOf (shard cap ws) < cap
-lent-hand {cap} {ws} lent some = lent-below lent (hand-below (shard cap ws) some)
+pub intact-hand : {cap : ℕ} {ws : List ℕ} → Intact cap ws → 0 < shard cap ws .slots .count → handOf (shard cap ws) < cap
+intact-hand {cap} {ws} intact some = intact-below intact (hand-below (shard cap ws) some)
 
-pub lent-sweep : {cap : ℕ} {ws : List ℕ} → Lent cap ws → 0 < shard cap ws .slots .count → (sweepOf (shard cap ws) < shard cap ws .slots .count) × (sweepOf (shard cap ws) < cap)
-lent-sweep {cap} {ws} lent some = let held = sweep-below (shard cap ws) some in (held, lent-below lent held)
+pub intact-sweep : {cap : ℕ} {ws : List ℕ} → Intact cap ws → 0 < shard cap ws .slots .count → (sweepOf (shard cap ws) < shard cap ws .slots .count) × (sweepOf (shard cap ws) < cap)
+intact-sweep {cap} {ws} intact some = let below = sweep-below (shard cap ws) some in (below, intact-below intact below)
 
 -- The ledger's part of words that are lent is lent, in the form in which the code lends it.
-pub lent-ledger : {cap : ℕ} {ws : List ℕ} → Lent cap ws → LedgerLayout.Lent cap (part (3 + 6 * cap) (length ws - (3 + 6 * cap)) ws)
-lent-ledger {cap} {ws} lent = record { size = ledger-long cap ws (lent .size); sound = rw (ledger-lent cap ws (lent .size)) (lent .sound .ledger) }
+pub intact-ledger : {cap : ℕ} {ws : List ℕ} → Intact cap ws → LedgerLayout.Intact cap (segment (3 + 6 * cap) (length ws - (3 + 6 * cap)) ws)
+intact-ledger {cap} {ws} intact = record { size = ledger-long cap ws (intact .size); sound = rw (ledger-lent cap ws (intact .size)) (intact .sound .ledger) }
 
 -- Words stay lent after a call that keeps their length and gives a sound shard: the shard alone, or an answer with it.
-module _ {cap : ℕ} {ws ws′ : List ℕ} (lent : Lent cap ws) (same : length ws′ ≡ length ws) where
-  pub lent-after : {s : Shard} → shard cap ws′ ≡ s → Sound s → Lent cap ws′
-  lent-after gave t = record { size = same ∙ lent .size; sound = rw gave t }
+module _ {cap : ℕ} {ws ws′ : List ℕ} (intact : Intact cap ws) (same : length ws′ ≡ length ws) where
+  pub intact-after : {s : Shard} → shard cap ws′ ≡ s → Sound s → Intact cap ws′
+  intact-after gave t = record { size = same ∙ intact .size; sound = rw gave t }
 
-  pub lent-after-answer : {A : Type 0} {a : A} {o : Outcome A Shard} → outcome a (shard cap ws′) ≡ o → Sound (o .after) → Lent cap ws′
-  lent-after-answer gave t = lent-after (after-is gave) t
+  pub intact-after-answer : {A : Type 0} {a : A} {o : Outcome A Shard} → outcome a (shard cap ws′) ≡ o → Sound (o .after) → Intact cap ws′
+  intact-after-answer gave t = intact-after (after-is gave) t
 
 -- Insertion and removal, store by store, as the code makes them.
 pub insert-by-stores : (s : Shard) (slot : Slot) → withCount (withSlot s (s .slots .count) slot) (s .slots .count + 1) ≡ insert s slot
@@ -121,11 +121,11 @@ module _ (c : BucketConfig) (at : Nanos) (limit : Millis) where
 
 -- Words that are still lent, and hold as many slots as before: so they are after the sweep has moved.
 pub record StillLent (cap : ℕ) (ws ws′ : List ℕ) : Type 0 where
-  pub lent : Lent cap ws′
+  pub intact : Intact cap ws′
   pub count : shard cap ws′ .slots .count ≡ shard cap ws .slots .count
 
-pub after-sweep : {cap : ℕ} {ws ws′ : List ℕ} → Lent cap ws → length ws′ ≡ length ws → (n : ℕ) → shard cap ws′ ≡ withSweep (shard cap ws) n → StillLent cap ws ws′
-after-sweep {cap} {ws} lent same n gave = record {
-  lent = lent-after lent same gave (sweep-sound (shard cap ws) n (lent .sound));
+pub after-sweep : {cap : ℕ} {ws ws′ : List ℕ} → Intact cap ws → length ws′ ≡ length ws → (n : ℕ) → shard cap ws′ ≡ withSweep (shard cap ws) n → StillLent cap ws ws′
+after-sweep {cap} {ws} intact same n gave = record {
+  intact = intact-after intact same gave (sweep-sound (shard cap ws) n (intact .sound));
   count = ap (λ s. s .slots .count) gave;
 }

@@ -5,11 +5,11 @@ use mathlib.Core.Path.{_≡_, refl, ap, _∙_}
 use mathlib.Core.List.{List, _∷_, map}
 use lib.ListN.{length, getD, length-append}
 use lib.Seq.{take-at, take-all, drop-at}
-use Rattle.rows.specs.Parts.{part}
+use Rattle.rows.specs.Segments.{segment}
 use Rattle.rows.specs.Rows.{unrow}
 use Rattle.rows.proofs.LayoutLaws.{held-count}
 use Rattle.rows.proofs.ReadBack.{written-length, held-of-written}
-use Rattle.rows.proofs.ZeroLaws.{zeros-part}
+use Rattle.rows.proofs.ZeroLaws.{zeros-segment}
 use Rattle.settings.specs.Settings.{shardWords}
 use Rattle.ledger.specs.Model as Debts
 use Rattle.ledger.specs.Layout as Ledger
@@ -30,11 +30,11 @@ module _ (cap : ℕ) (s : Shard) (room : capOf s ≡ cap) (debt-room : Debts.cap
   words-length = rw length-append (omega (arith, slots-length, LedgerBack.words-length cap (s .ledger) debt-room))
 
   -- The part for the slots has the words of the slots, and the part for the ledger those of the ledger.
-  slots-back : part 3 (6 * cap) (wordsOf s) ≡ unrow (map slotWords (s .slots .places))
+  slots-back : segment 3 (6 * cap) (wordsOf s) ≡ unrow (map slotWords (s .slots .places))
   unfolding wordsOf
   slots-back = take-at (unrow (map slotWords (s .slots .places))) (Ledger.wordsOf (s .ledger)) (6 * cap) slots-length
 
-  ledger-words-back : part (ledgerStart cap) (Ledger.ledgerWords cap) (wordsOf s) ≡ Ledger.wordsOf (s .ledger)
+  ledger-words-back : segment (ledgerStart cap) (Ledger.ledgerWords cap) (wordsOf s) ≡ Ledger.wordsOf (s .ledger)
   unfolding wordsOf
   ledger-words-back =
       let front : List ℕ = s .slots .count ∷ s .hand ∷ s .sweep ∷ unrow (map slotWords (s .slots .places)) in
@@ -52,7 +52,7 @@ module _ (cap : ℕ) (s : Shard) (room : capOf s ≡ cap) (debt-room : Debts.cap
 -- Whatever the words, the ledger of the shard in them has room for cap debts.
 pub debt-cap-is : (cap : ℕ) (ws : List ℕ) → Debts.capOf (shard cap ws .ledger) ≡ cap
 unfolding shard
-debt-cap-is cap ws = LedgerLaws.cap-is cap (part (ledgerStart cap) (Ledger.ledgerWords cap) ws)
+debt-cap-is cap ws = LedgerLaws.cap-is cap (segment (ledgerStart cap) (Ledger.ledgerWords cap) ws)
 
 -- A shard that holds no slot and no debt, and whose hand, sweep and cursor stand at the first place.
 pub record Empty (s : Shard) : Type 0 where
@@ -66,7 +66,7 @@ pub record Empty (s : Shard) : Type 0 where
 pub zeros-empty : (cap : ℕ) (ws : List ℕ) → ((i : ℕ) → getD ws i 0 ≡ 0) → Empty (shard cap ws)
 unfolding shard
 zeros-empty cap ws zeros =
-    let ledger-zeros = zeros-part (ledgerStart cap) (Ledger.ledgerWords cap) ws zeros in
+    let ledger-zeros = zeros-segment (ledgerStart cap) (Ledger.ledgerWords cap) ws zeros in
     record {
       slots = held-count slotOf 6 cap 0 3 ws ∙ zeros 0;
       hand = zeros 1;

@@ -66,7 +66,7 @@ removal-ledger s p = refl
 pub removal-sound : (s : Shard) (p : ℕ) → Sound s → Sound (removeAt s p)
 removal-sound s p t = record {
   room = omega (arith, removal-cap s p, t .room);
-  held = omega (arith, removal-cap s p, removal-count s p, t .held);
+  count-fits = omega (arith, removal-cap s p, removal-count s p, t .count-fits);
   ledger = rw (removal-ledger s p) (t .ledger);
 }
 
@@ -86,7 +86,7 @@ insert-ledger s slot = refl
 pub insert-sound : (s : Shard) (slot : Slot) → Sound s → s .slots .count < capOf s → Sound (insert s slot)
 insert-sound s slot t room = record {
   room = omega (arith, insert-cap s slot, t .room);
-  held = omega (arith, insert-cap s slot, insert-count s slot);
+  count-fits = omega (arith, insert-cap s slot, insert-count s slot);
   ledger = rw (insert-ledger s slot) (t .ledger);
 }
 
@@ -95,13 +95,13 @@ pub change-cap : (s : Shard) (p : ℕ) (slot : Slot) → capOf (withSlot s p slo
 change-cap s p slot = simp length-set
 
 pub change-sound : (s : Shard) (p : ℕ) (slot : Slot) → Sound s → Sound (withSlot s p slot)
-change-sound s p slot t = record { room = simp length-set (t .room); held = simp length-set (t .held); ledger = t .ledger }
+change-sound s p slot t = record { room = simp length-set (t .room); count-fits = simp length-set (t .count-fits); ledger = t .ledger }
 
 pub sweep-sound : (s : Shard) (sweep : ℕ) → Sound s → Sound (withSweep s sweep)
-sweep-sound s sweep t = record { room = t .room; held = t .held; ledger = t .ledger }
+sweep-sound s sweep t = record { room = t .room; count-fits = t .count-fits; ledger = t .ledger }
 
 pub ledger-sound : (s : Shard) (l : Ledger.Ledger) → Sound s → Ledger.Sound l → Sound (withLedger s l)
-ledger-sound s l t u = record { room = t .room; held = t .held; ledger = u }
+ledger-sound s l t u = record { room = t .room; count-fits = t .count-fits; ledger = u }
 
 -- A slot that may be reclaimed has a full bucket.
 pub reclaimable-is-full : (c : BucketConfig) (at : Nanos) (limit : Millis) (slot : Slot) → reclaimable c at limit slot ≡ true → shortfallAt c (slot .bucket) at ≡ 0

@@ -3,7 +3,7 @@ use Prim.Native.Nat.{ℕ, _+_, _*_}
 use mathlib.Core.Path.{_≡_}
 use mathlib.Core.List.{List, [], _∷_, _++_, map}
 use lib.ListN.{length, getD}
-use Rattle.rows.specs.Parts.{part}
+use Rattle.rows.specs.Segments.{segment}
 use Rattle.rows.specs.Rows.{unrow}
 use Rattle.rows.specs.Layout.{heldIn}
 use Rattle.settings.specs.Settings.{shardWords}
@@ -34,13 +34,13 @@ shard cap ws = record {
   slots = heldIn slotOf 6 cap 0 3 ws;
   hand = getD ws 1 0;
   sweep = getD ws 2 0;
-  ledger = Ledger.ledger cap (part (ledgerStart cap) (Ledger.ledgerWords cap) ws);
+  ledger = Ledger.ledger cap (segment (ledgerStart cap) (Ledger.ledgerWords cap) ws);
 }
 
 unfoldable pub wordsOf : Shard → List ℕ
 wordsOf s = s .slots .count ∷ s .hand ∷ s .sweep ∷ (unrow (map slotWords (s .slots .places)) ++ Ledger.wordsOf (s .ledger))
 
 -- The words that a function of the shard is lent: just those of a shard that is sound.
-pub record Lent (cap : ℕ) (ws : List ℕ) : Type 0 where
+pub record Intact (cap : ℕ) (ws : List ℕ) : Type 0 where
   pub size : length ws ≡ shardWords cap
   pub sound : Sound (shard cap ws)

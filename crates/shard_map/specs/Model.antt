@@ -31,7 +31,7 @@ capOf s = length (s .slots .places)
 -- There is room for a slot and for a debt, and no more of either are held than there is room for.
 pub record Sound (s : Shard) : Type 0 where
   pub room : 0 < capOf s
-  pub held : s .slots .count ≤ capOf s
+  pub count-fits : s .slots .count ≤ capOf s
   pub ledger : Ledger.Sound (s .ledger)
 
 abbrev pub slotAt : Shard → ℕ → Slot

@@ -6,7 +6,7 @@ ghost use Rattle.bucket.specs.Bucket.{Accepted};
 ghost use Rattle.settings.specs.Settings.{shardWords};
 ghost use Rattle.ledger.specs.Model as Ledger;
 ghost use Rattle.shard_map.specs.Model as Model;
-ghost use Rattle.shard_map.specs.Layout.{shard, Lent};
+ghost use Rattle.shard_map.specs.Layout.{shard, Intact};
 use bucket::BucketConfig;
 use ledger::Debt;
 use ledger::Recorded;
@@ -24,7 +24,7 @@ pub fn len(ws: &[u64], cap: usize) -> usize
 
 // When the debt of the hash settles, if there is one.
 pub fn owed_by(ws: &[u64], cap: usize, hash: u64) -> OptionNanos
-    requires { ⌜ Lent cap (now ws) ⌝ }
+    requires { ⌜ Intact cap (now ws) ⌝ }
     ensures { λ r. ⌜ r ≡ Ledger.owedBy (shard cap (now (ws .entry)) .ledger) hash ⌝ }
 {
     let start = 3 + 6 * cap;
@@ -33,7 +33,7 @@ pub fn owed_by(ws: &[u64], cap: usize, hash: u64) -> OptionNanos
 
 // Takes out the debt of the hash, if there is one.
 pub fn take(ws: &mut [u64], cap: usize, hash: u64) -> OptionNanos
-    requires { ⌜ Lent cap (now ws) ⌝ }
+    requires { ⌜ Intact cap (now ws) ⌝ }
     ensures { λ r. ⌜ outcome r (shard cap (now (ws .exit))) ≡ Model.inLedger (shard cap (now (ws .entry))) (Ledger.taken (shard cap (now (ws .entry)) .ledger) hash) ⌝ }
 {
     let start = 3 + 6 * cap;
@@ -42,7 +42,7 @@ pub fn take(ws: &mut [u64], cap: usize, hash: u64) -> OptionNanos
 
 // Records a debt.
 pub fn record(ws: &mut [u64], cap: usize, debt: Debt, at: Nanos, forget: bool) -> Recorded
-    requires { ⌜ Lent cap (now ws) ⌝ }
+    requires { ⌜ Intact cap (now ws) ⌝ }
     ensures { λ r. ⌜ outcome r (shard cap (now (ws .exit))) ≡ Model.inLedger (shard cap (now (ws .entry))) (Ledger.recorded (shard cap (now (ws .entry)) .ledger) debt at forget) ⌝ }
 {
     let start = 3 + 6 * cap;
@@ -51,7 +51,7 @@ pub fn record(ws: &mut [u64], cap: usize, debt: Debt, at: Nanos, forget: bool) -
 
 // Drops settled debts among the next `budget` looks.
 pub fn sweep(ws: &mut [u64], cap: usize, at: Nanos, budget: usize)
-    requires { ⌜ Lent cap (now ws) ⌝ }
+    requires { ⌜ Intact cap (now ws) ⌝ }
     ensures { λ _. ⌜ shard cap (now (ws .exit)) ≡ Model.withLedger (shard cap (now (ws .entry))) (Ledger.sweep at budget (shard cap (now (ws .entry)) .ledger)) ⌝ }
 {
     let start = 3 + 6 * cap;
@@ -60,7 +60,7 @@ pub fn sweep(ws: &mut [u64], cap: usize, at: Nanos, budget: usize)
 
 // Pays tokens off the debt of the hash, if there is one.
 pub fn pay_down(ws: &mut [u64], cap: usize, hash: u64, cost: u32, config: BucketConfig) -> bool
-    requires { ⌜ Lent cap (now ws) × Accepted config ⌝ }
+    requires { ⌜ Intact cap (now ws) × Accepted config ⌝ }
     ensures { λ r. ⌜ outcome r (shard cap (now (ws .exit))) ≡ Model.inLedger (shard cap (now (ws .entry))) (Ledger.paidDown (shard cap (now (ws .entry)) .ledger) hash cost config) ⌝ }
 {
     let start = 3 + 6 * cap;

@@ -6,7 +6,7 @@ ghost use Rattle.bucket.specs.Bucket.{Accepted};
 ghost use Rattle.settings.specs.Settings.{shardWords};
 ghost use Rattle.slot.specs.Slot.{isKey};
 ghost use Rattle.shard_map.specs.Model as Model;
-ghost use Rattle.shard_map.specs.Layout.{shard, Lent};
+ghost use Rattle.shard_map.specs.Layout.{shard, Intact};
 use bucket::BucketConfig;
 use rows::Place;
 use slot::Slot;
@@ -18,7 +18,7 @@ pub mod words;
 
 // The lowest place that has the hash and the key.
 pub fn position(ws: &[u64], cap: usize, hash: u64, key: u64) -> Place
-    requires { ⌜ Lent cap (now ws) ⌝ }
+    requires { ⌜ Intact cap (now ws) ⌝ }
     ensures { λ r. ⌜ r ≡ Model.placeOf (shard cap (now (ws .entry))) hash key ⌝ }
 {
     let count = words::count(ws, cap);
@@ -34,7 +34,7 @@ pub fn position(ws: &[u64], cap: usize, hash: u64, key: u64) -> Place
 
 // Whether the slot at a place has the hash and the key.
 fn is_key_at(ws: &[u64], cap: usize, pos: usize, hash: u64, key: u64) -> bool
-    requires { ⌜ Lent cap (now ws) × (pos < cap) ⌝ }
+    requires { ⌜ Intact cap (now ws) × (pos < cap) ⌝ }
     ensures { λ r. ⌜ r ≡ isKey hash key (Model.slotAt (shard cap (now (ws .entry))) pos) ⌝ }
 {
     if words::hash_at(ws, cap, pos) == hash {
@@ -46,7 +46,7 @@ fn is_key_at(ws: &[u64], cap: usize, pos: usize, hash: u64, key: u64) -> bool
 
 // The slot at a place.
 pub fn get(ws: &[u64], cap: usize, pos: usize) -> Slot
-    requires { ⌜ Lent cap (now ws) × (pos < cap) ⌝ }
+    requires { ⌜ Intact cap (now ws) × (pos < cap) ⌝ }
     ensures { λ r. ⌜ r ≡ Model.slotAt (shard cap (now (ws .entry))) pos ⌝ }
 {
     words::load(ws, cap, pos)
@@ -54,7 +54,7 @@ pub fn get(ws: &[u64], cap: usize, pos: usize) -> Slot
 
 // Puts a slot at a place.
 pub fn set(ws: &mut [u64], cap: usize, pos: usize, slot: Slot)
-    requires { ⌜ Lent cap (now ws) × (pos < cap) ⌝ }
+    requires { ⌜ Intact cap (now ws) × (pos < cap) ⌝ }
     ensures { λ _. ⌜ shard cap (now (ws .exit)) ≡ Model.withSlot (shard cap (now (ws .entry))) pos slot ⌝ }
 {
     words::put(ws, cap, pos, slot);
@@ -70,7 +70,7 @@ pub fn len(ws: &[u64], cap: usize) -> usize
 
 // Appends a slot. The caller has made room.
 pub fn insert(ws: &mut [u64], cap: usize, slot: Slot)
-    requires { ⌜ Lent cap (now ws) × (shard cap (now ws) .slots .count < cap) ⌝ }
+    requires { ⌜ Intact cap (now ws) × (shard cap (now ws) .slots .count < cap) ⌝ }
     ensures { λ _. ⌜ shard cap (now (ws .exit)) ≡ Model.insert (shard cap (now (ws .entry))) slot ⌝ }
 {
     let count = words::count(ws, cap);
@@ -80,7 +80,7 @@ pub fn insert(ws: &mut [u64], cap: usize, slot: Slot)
 
 // Removes the slot at a place: the last slot moves into the gap.
 pub fn remove_at(ws: &mut [u64], cap: usize, pos: usize)
-    requires { ⌜ Lent cap (now ws) × (pos < shard cap (now ws) .slots .count) ⌝ }
+    requires { ⌜ Intact cap (now ws) × (pos < shard cap (now ws) .slots .count) ⌝ }
     ensures { λ _. ⌜ shard cap (now (ws .exit)) ≡ Model.removeAt (shard cap (now (ws .entry))) pos ⌝ }
 {
     let last = words::count(ws, cap) - 1;
@@ -110,7 +110,7 @@ fn free_slot() -> Slot
 
 // Marks the slot at a place as used: it is read into a record, lent to `touch`, and written back.
 pub fn touch_at(ws: &mut [u64], cap: usize, pos: usize, now_ms: Millis, track_idle: bool)
-    requires { ⌜ Lent cap (now ws) × (pos < cap) ⌝ }
+    requires { ⌜ Intact cap (now ws) × (pos < cap) ⌝ }
     ensures { λ _. ⌜ shard cap (now (ws .exit)) ≡ Model.touchAt (shard cap (now (ws .entry))) pos «now_ms» «track_idle» ⌝ }
 {
     let slot = words::load(ws, cap, pos);
@@ -131,7 +131,7 @@ fn is_reclaimable(slot: Slot, config: BucketConfig, at: Nanos, ttl_ms: Millis) -
 
 // One look of the idle sweep, at a shard that holds a slot.
 fn idle_look(ws: &mut [u64], cap: usize, config: BucketConfig, at: Nanos, ttl_ms: Millis)
-    requires { ⌜ Lent cap (now ws) × Accepted config × (0 < shard cap (now ws) .slots .count) ⌝ }
+    requires { ⌜ Intact cap (now ws) × Accepted config × (0 < shard cap (now ws) .slots .count) ⌝ }
     ensures { λ _. ⌜ shard cap (now (ws .exit)) ≡ Model.idleLook config at «ttl_ms» (shard cap (now (ws .entry))) ⌝ }
 {
     let sweep = words::sweep(ws, cap);
@@ -152,7 +152,7 @@ pub fn sweep_idle(
     ttl_ms: Millis,
     budget: usize,
 )
-    requires { ⌜ Lent cap (now ws) × Accepted config ⌝ }
+    requires { ⌜ Intact cap (now ws) × Accepted config ⌝ }
     ensures { λ _. ⌜ shard cap (now (ws .exit)) ≡ Model.sweepIdle config at «ttl_ms» budget (shard cap (now (ws .entry))) ⌝ }
 {
     let mut left = budget;

@@ -1,4 +1,3 @@
-pub mod RoomLaws
-pub mod StoreLaws
-pub mod OwnBucketLaws
-pub mod ModelLaws
+pub mod MemoryLaws
+pub mod RefusalLaws
+pub mod LendingLaws

@@ -1,243 +1,167 @@
-// The operations of the store on the one shard that a key belongs to.
+// The shards of a store, side by side in the lent words. An operation on a key is lent the part of its key's shard alone.
 ghost use mathlib.Core.Path.{_≡_};
 ghost use Prim.Native.Nat.{_≤_, _<_, _^_};
+ghost use lib.ListN.{length, replicate};
+ghost use Rattle.rows.specs.Held.{sum};
 ghost use Rattle.rows.specs.Outcome.{outcome};
 ghost use Rattle.bucket.specs.Bucket.{Accepted};
-ghost use Rattle.slot.specs.Slot.{withBucket};
-ghost use Rattle.shard_map.specs.Layout.{shard, Lent};
-ghost use Rattle.store.specs.Model as Model;
+ghost use Rattle.settings.specs.Settings.{ShapeOfAccepted, capOf, shardCount};
+ghost use Rattle.shard_map.specs.Model.{Sound, placeOf};
+ghost use Rattle.shard.specs.Model as OneShard;
+ghost use Rattle.store.specs.Memory.{Placed, shardIn, partIn, inPart, shardEnd, slotCount};
+ghost use Rattle.store.specs.Refusals.{lenRefusal};
 use bucket::BucketConfig;
 use bucket::BucketCore;
-use bucket::BucketDecision;
 use bucket::Request;
-use evict::Room;
 use rows::Place;
-use settings::eviction::Eviction;
-use shard_map::debts;
-use slot::Slot;
+use settings::Settings;
+use settings::Shape;
+use shard::Answer;
+use shard::Identity;
+use shard::Policy;
 use units::Nanos;
-use units::OptionNanos;
 
-// A key: its hash and the key itself, together.
-pub struct Identity {
-    pub hash: u64,
-    pub key: u64,
+pub mod lending;
+pub mod refusals;
+
+// Where the shard of a key lies in the lent words, and how many places it has.
+pub struct Part {
+    pub start: usize,
+    pub end: usize,
+    pub cap: usize,
 }
 
-// The settings that the store on one shard needs.
-pub struct Policy {
-    pub config: BucketConfig,
-    pub idle_ttl: OptionNanos,
-    pub forget_debt: bool,
-}
-
-// The answer to a request: the bucket's, or a wait for space.
-pub enum Answer {
-    Decided(BucketDecision),
-    NoSpace(Nanos),
-}
-
-impl Policy {
-    // Whether last-seen is kept up to date.
-    pub fn tracks_idle(self) -> bool
-        ensures { λ r. ⌜ r ≡ Model.tracks (self .«idle_ttl») ⌝ }
-    {
-        let idle_ttl = self.idle_ttl;
-        match idle_ttl {
-            OptionNanos::None => false,
-            OptionNanos::Some(_) => true,
-        }
+// The part of the shard of a hash.
+pub(crate) fn part_of(shape: Shape, hash: u64) -> Part
+    requires { ⌜ ShapeOfAccepted shape ⌝ }
+    ensures { λ r. ⌜ r ≡ partIn shape hash ⌝ }
+{
+    let words = 5 + 8 * shape.cap;
+    let start = shape.shard_index(hash) * words;
+    Part {
+        start,
+        end: start + words,
+        cap: shape.cap,
     }
 }
 
-// A request of a known key, by its place: its slot is touched, and its bucket is asked.
-pub fn known(
+// The place of a key's slot.
+pub fn position(ws: &[u64], part: Part, id: Identity) -> Place
+    requires { ⌜ Placed part (now ws) × Sound (shardIn part (now ws)) ⌝ }
+    ensures { λ r. ⌜ r ≡ placeOf (shardIn part (now (ws .entry))) (id .hash) (id .key) ⌝ }
+{
+    let start = part.start;
+    let end = part.end;
+    shard_map::position(&ws[start..end], part.cap, id.hash, id.key)
+}
+
+// Runs a request on the bucket of a known key, by its place.
+pub fn with_existing(
     ws: &mut [u64],
-    cap: usize,
+    part: Part,
     policy: Policy,
     pos: usize,
     request: Request,
     cost: u32,
     at: Nanos,
 ) -> Answer
-    requires { ⌜ Lent cap (now ws) × Accepted (policy .config) × (cost ≤ policy .config .capacity) × (pos < cap) ⌝ }
-    ensures { λ r. ⌜ outcome r (shard cap (now (ws .exit))) ≡ Model.known policy request cost at (shard cap (now (ws .entry))) pos ⌝ }
+    requires { ⌜ Placed part (now ws) × Sound (shardIn part (now ws)) × Accepted (policy .config) × (cost ≤ policy .config .capacity) × (pos < part .cap) ⌝ }
+    ensures { λ r. ⌜ outcome r (now (ws .exit)) ≡ inPart part (now (ws .entry)) (OneShard.withExisting policy request cost at (shardIn part (now (ws .entry))) pos) ⌝ }
 {
-    shard_map::touch_at(ws, cap, pos, at.millis(), policy.tracks_idle());
-    let slot = shard_map::get(ws, cap, pos);
-    let bucket = slot.bucket;
-    let config = policy.config;
-    let asked = bucket.ask_at(config, request, cost, at);
-    let decision = asked.decision;
-    let after = asked.bucket;
-    shard_map::set(ws, cap, pos, with_bucket(slot, after));
-    Answer::Decided(decision)
+    let start = part.start;
+    let end = part.end;
+    shard::with_existing(
+        &mut ws[start..end],
+        part.cap,
+        policy,
+        pos,
+        request,
+        cost,
+        at,
+    )
 }
 
-// The slot with another bucket.
-fn with_bucket(slot: Slot, bucket: BucketCore) -> Slot
-    ensures { λ r. ⌜ r ≡ withBucket slot bucket ⌝ }
-{
-    let seen = slot.seen;
-    Slot {
-        hash: slot.hash,
-        key: slot.key,
-        bucket,
-        mark: slot.mark,
-        seen,
-    }
-}
-
-// A request of a new key. The key's own debt is taken out first: its place in the ledger is then free for the debt of a slot that has to go. So a key that
-// left a debt is never turned away for space, and no debt has to be put back.
-pub fn new(
+// Runs a request on the bucket that a new key gets.
+pub fn admit(
     ws: &mut [u64],
-    cap: usize,
+    part: Part,
     policy: Policy,
     id: Identity,
     request: Request,
     cost: u32,
     at: Nanos,
 ) -> Answer
-    requires { ⌜ Lent cap (now ws) × Accepted (policy .config) × (cost ≤ policy .config .capacity) × (at .0 ≤ 2 ^ 62) ⌝ }
-    ensures { λ r. ⌜ outcome r (shard cap (now (ws .exit))) ≡ Model.new policy id request cost at (shard cap (now (ws .entry))) ⌝ }
+    requires { ⌜ Placed part (now ws) × Sound (shardIn part (now ws)) × Accepted (policy .config) × (cost ≤ policy .config .capacity) × (at .0 ≤ 2 ^ 62) ⌝ }
+    ensures { λ r. ⌜ outcome r (now (ws .exit)) ≡ inPart part (now (ws .entry)) (OneShard.admit policy id request cost at (shardIn part (now (ws .entry)))) ⌝ }
 {
-    let owed = debts::take(ws, cap, id.hash);
-    match make_room(ws, cap, policy, at) {
-        Room::Made => join(ws, cap, policy, id, request, cost, at, owed),
-        Room::Refused(wait) => Answer::NoSpace(wait),
+    let start = part.start;
+    let end = part.end;
+    shard::admit(&mut ws[start..end], part.cap, policy, id, request, cost, at)
+}
+
+// The bucket that a key has, or would have if it came in now.
+pub fn view(ws: &[u64], part: Part, config: BucketConfig, id: Identity, at: Nanos) -> BucketCore
+    requires { ⌜ Placed part (now ws) × Sound (shardIn part (now ws)) × Accepted config ⌝ }
+    ensures { λ r. ⌜ r ≡ OneShard.viewed config id at (shardIn part (now (ws .entry))) ⌝ }
+{
+    let start = part.start;
+    let end = part.end;
+    shard::view(&ws[start..end], part.cap, config, id, at)
+}
+
+// Gives tokens back to a key. Tells whether it had a slot or a debt.
+pub fn refund(ws: &mut [u64], part: Part, config: BucketConfig, id: Identity, cost: u32) -> bool
+    requires { ⌜ Placed part (now ws) × Sound (shardIn part (now ws)) × Accepted config ⌝ }
+    ensures { λ r. ⌜ outcome r (now (ws .exit)) ≡ inPart part (now (ws .entry)) (OneShard.refunded config id cost (shardIn part (now (ws .entry)))) ⌝ }
+{
+    let start = part.start;
+    let end = part.end;
+    shard::refund(&mut ws[start..end], part.cap, config, id, cost)
+}
+
+// Forgets a key. Tells whether it had a slot or a debt.
+pub fn remove(ws: &mut [u64], part: Part, id: Identity) -> bool
+    requires { ⌜ Placed part (now ws) × Sound (shardIn part (now ws)) ⌝ }
+    ensures { λ r. ⌜ outcome r (now (ws .exit)) ≡ inPart part (now (ws .entry)) (OneShard.removed id (shardIn part (now (ws .entry)))) ⌝ }
+{
+    let start = part.start;
+    let end = part.end;
+    shard::remove(&mut ws[start..end], part.cap, id)
+}
+
+// The slot count of one shard, by its number.
+pub(crate) fn slot_count(ws: &[u64], cap: usize, shard: usize) -> usize
+    requires { ⌜ shardEnd cap shard ≤ length (now ws) ⌝ }
+    ensures { λ r. ⌜ r ≡ slotCount cap shard (now (ws .entry)) ⌝ }
+{
+    let words = 5 + 8 * cap;
+    let start = shard * words;
+    let end = start + words;
+    shard_map::len(&ws[start..end], cap)
+}
+
+// The slots of all shards.
+pub fn len(ws: &[u64], settings: Settings) -> usize
+    requires { ⌜ lenRefusal settings (now ws) ≡ 0 ⌝ }
+    ensures { λ r. ⌜ r ≡ sum (shardCount settings) (λ i. slotCount (capOf settings) i (now (ws .entry))) ⌝ }
+{
+    let shape = settings.shape();
+    let mut total: usize = 0;
+    let mut i: usize = 0;
+    while i < shape.shards {
+        total += slot_count(ws, shape.cap, i);
+        i += 1;
     }
+    total
 }
 
-// Room is there: the key's bucket is asked, and its slot comes last, whatever the bucket answered.
-fn join(
-    ws: &mut [u64],
-    cap: usize,
-    policy: Policy,
-    id: Identity,
-    request: Request,
-    cost: u32,
-    at: Nanos,
-    owed: OptionNanos,
-) -> Answer
-    requires { ⌜ Lent cap (now ws) × Accepted (policy .config) × (cost ≤ policy .config .capacity) × (shard cap (now ws) .slots .count < cap) ⌝ }
-    ensures { λ r. ⌜ outcome r (shard cap (now (ws .exit))) ≡ Model.joined policy id request cost at owed (shard cap (now (ws .entry))) ⌝ }
+// Forgets every key: all words become 0.
+pub fn clear(ws: &mut [u64])
+    ensures { λ _. ⌜ now (ws .exit) ≡ replicate (length (now (ws .entry))) 0 ⌝ }
 {
-    let config = policy.config;
-    let bucket = returning(config, at, owed);
-    let asked = bucket.ask_at(config, request, cost, at);
-    let decision = asked.decision;
-    let after = asked.bucket;
-    shard_map::insert(ws, cap, Slot::new(id.hash, id.key, after, at.millis()));
-    Answer::Decided(decision)
-}
-
-// The bucket of a key without a slot: a fresh one, in its debt if it left one.
-fn returning(config: BucketConfig, at: Nanos, owed: OptionNanos) -> BucketCore
-    requires { ⌜ Accepted config ⌝ }
-    ensures { λ r. ⌜ r ≡ Model.returning config at owed ⌝ }
-{
-    match owed {
-        OptionNanos::None => BucketCore::new(config, at),
-        OptionNanos::Some(settles) => bucket::restore_debt(
-            BucketCore::new(config, at),
-            config,
-            at,
-            settles,
-        ),
-    }
-}
-
-// Makes room in a shard that is about to receive a new key: the idle sweep, the ledger's sweep, and one eviction if the shard is full all the same.
-fn make_room(ws: &mut [u64], cap: usize, policy: Policy, at: Nanos) -> Room
-    requires { ⌜ Lent cap (now ws) × Accepted (policy .config) × (at .0 ≤ 2 ^ 62) ⌝ }
-    ensures { λ r. ⌜ outcome r (shard cap (now (ws .exit))) ≡ Model.makeRoom policy at (shard cap (now (ws .entry))) ⌝ }
-{
-    sweep(ws, cap, policy, at);
-    if shard_map::len(ws, cap) < cap {
-        return Room::Made;
-    }
-    let config = policy.config;
-    evict::evict_one(ws, cap, config, at, policy.forget_debt)
-}
-
-// The two sweeps.
-fn sweep(ws: &mut [u64], cap: usize, policy: Policy, at: Nanos)
-    requires { ⌜ Lent cap (now ws) × Accepted (policy .config) ⌝ }
-    ensures { λ _. ⌜ shard cap (now (ws .exit)) ≡ Model.swept policy at (shard cap (now (ws .entry))) ⌝ }
-{
-    sweep_idle(ws, cap, policy, at);
-    debts::sweep(ws, cap, at, Eviction::ledger_looks());
-}
-
-// The idle sweep, where an idle time is set. The limit is worked out here, since only a new key needs it.
-fn sweep_idle(ws: &mut [u64], cap: usize, policy: Policy, at: Nanos)
-    requires { ⌜ Lent cap (now ws) × Accepted (policy .config) ⌝ }
-    ensures { λ _. ⌜ shard cap (now (ws .exit)) ≡ Model.sweptIdle policy at (shard cap (now (ws .entry))) (Model.idleLimitIn policy) ⌝ }
-{
-    let config = policy.config;
-    let idle_ttl = policy.idle_ttl;
-    match idle_ttl {
-        OptionNanos::None => {}
-        OptionNanos::Some(ttl) => {
-            let limit = settings::idle_limit(ttl, config);
-            shard_map::sweep_idle(ws, cap, config, at, limit, Eviction::idle_looks());
-        }
-    }
-}
-
-// The bucket that a key has, or would have if it came in now. Creates nothing and touches nothing.
-pub fn view(ws: &[u64], cap: usize, config: BucketConfig, id: Identity, at: Nanos) -> BucketCore
-    requires { ⌜ Lent cap (now ws) × Accepted config ⌝ }
-    ensures { λ r. ⌜ r ≡ Model.viewed config id at (shard cap (now (ws .entry))) ⌝ }
-{
-    match shard_map::position(ws, cap, id.hash, id.key) {
-        Place::At(pos) => {
-            let slot = shard_map::get(ws, cap, pos);
-            slot.bucket
-        }
-        Place::Nowhere => returning(config, at, debts::owed_by(ws, cap, id.hash)),
-    }
-}
-
-// Gives tokens back to a key: to its slot, or off the debt that it left. Tells whether it had either.
-pub fn refund(ws: &mut [u64], cap: usize, config: BucketConfig, id: Identity, cost: u32) -> bool
-    requires { ⌜ Lent cap (now ws) × Accepted config ⌝ }
-    ensures { λ r. ⌜ outcome r (shard cap (now (ws .exit))) ≡ Model.refunded config id cost (shard cap (now (ws .entry))) ⌝ }
-{
-    match shard_map::position(ws, cap, id.hash, id.key) {
-        Place::At(pos) => {
-            let slot = shard_map::get(ws, cap, pos);
-            let bucket = slot.bucket;
-            shard_map::set(ws, cap, pos, with_bucket(slot, bucket.refund(config, cost)));
-            true
-        }
-        Place::Nowhere => debts::pay_down(ws, cap, id.hash, cost, config),
-    }
-}
-
-// Forgets a key: its slot, and the debt of its hash. Tells whether it had either.
-pub fn remove(ws: &mut [u64], cap: usize, id: Identity) -> bool
-    requires { ⌜ Lent cap (now ws) ⌝ }
-    ensures { λ r. ⌜ outcome r (shard cap (now (ws .exit))) ≡ Model.removed id (shard cap (now (ws .entry))) ⌝ }
-{
-    let place = shard_map::position(ws, cap, id.hash, id.key);
-    let debt = debts::take(ws, cap, id.hash);
-    match place {
-        Place::At(pos) => {
-            shard_map::remove_at(ws, cap, pos);
-            true
-        }
-        Place::Nowhere => had(debt),
-    }
-}
-
-// Whether there was a debt.
-fn had(debt: OptionNanos) -> bool
-    ensures { λ r. ⌜ r ≡ Model.hasDebt debt ⌝ }
-{
-    match debt {
-        OptionNanos::None => false,
-        OptionNanos::Some(_) => true,
+    let mut i: usize = 0;
+    while i < ws.len() {
+        ws[i] = 0;
+        i += 1;
     }
 }

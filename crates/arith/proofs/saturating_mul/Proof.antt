@@ -1,4 +1,4 @@
-use Rattle.arith.proofs.ProductLaws.{half-product-fits, product-too-wide, product-held}
+use Rattle.arith.proofs.ProductLaws.{half-product-fits, product-too-wide, product-saturated}
 use mathlib.Core.Path.{_∙_}
 use native.Mathlib.Omega.{arith}
 use borrow.Author.Needs.{needs}
@@ -21,7 +21,7 @@ saturating-add-requires : tie.Need-saturating-add-requires
 saturating-add-requires c κs = search needs
 
 returns-2 : tie.Need-returns-2
-returns-2 c = c .saturating-add .ensures ∙ product-held _ _
+returns-2 c = c .saturating-add .ensures ∙ product-saturated _ _
 
 pub saturating-mul-spec : {M : Type 1} → statement M
 saturating-mul-spec =

@@ -1,5 +1,5 @@
 -- `restore_debt` meets its contract: its cut and its charge are those of the definition, and missing tokens held to 64 bits make the same debt as all of them.
-use Rattle.bucket.proofs.DebtLaws.{restore-held, lacking-by-taking-out, restored-settled, restored-unsettled}
+use Rattle.bucket.proofs.DebtLaws.{restore-saturated, lacking-by-taking-out, restored-settled, restored-unsettled}
 use mathlib.Core.Path.{sym, _∙_}
 use borrow.Author.Needs.{needs}
 use Rattle.bucket.proofs.restore_debt.Statement.{statement}
@@ -51,7 +51,7 @@ returns-2 c =
       kept .before .before .missing-tokens .ensures,
       remaining,
     )
-    (lacking-by-taking-out _ _ _ _ ∙ restore-held _ _ _ (owing .before .before .pre) ∙ restored-unsettled _ _ _ _ (rw remaining at (owing .if1 .left)))
+    (lacking-by-taking-out _ _ _ _ ∙ restore-saturated _ _ _ (owing .before .before .pre) ∙ restored-unsettled _ _ _ _ (rw remaining at (owing .if1 .left)))
 
 pub restore-debt-spec : {M : Type 1} → statement M
 restore-debt-spec =

@@ -1,4 +1,4 @@
--- `last_line` answers nothing where nothing is held, else the bytes that are held.
+-- `last_line` answers nothing where nothing is pending, else the bytes that are pending.
 use native.Mathlib.Omega.{arith}
 use mathlib.Core.Path.{refl}
 use Rattle.desk_turns.proofs.FeedingLaws.{no-last-line, last-is-answered}
@@ -17,7 +17,7 @@ returns : tie.Need-returns
 returns c =
     let u = c .before in
     let a = start u .args in
-    let none = no-last-line (a .feed) (a .held) (a .input .now) (a .memory .now) (a .output .now) (omega (arith, c .if1 .taken)) in
+    let none = no-last-line (a .feed) (a .pending) (a .input .now) (a .memory .now) (a .output .now) (omega (arith, c .if1 .taken)) in
     record {
       answers = rw (u .unprinted .ensures) none;
       fits = rw (u .unprinted .ensures) (search needs);
@@ -53,7 +53,7 @@ returns-2 c =
     let a = s .args in
     let answered = l .answer-line .ensures in
     let is-answered = rw (u .unprinted .ensures) at (answered .answers) in
-    let last = last-is-answered (a .feed) (a .held) (a .input .now) (a .memory .now) (a .output .now) in
+    let last = last-is-answered (a .feed) (a .pending) (a .input .now) (a .memory .now) (a .output .now) in
     record {
       answers = last (λ none. omega (arith, none, some .if1 .left)) (s .pre .0) (s .pre .2) is-answered;
       fits = omega (arith, rw (u .unprinted .ensures) at (answered .fits), s .pre .1);

@@ -62,7 +62,7 @@ returns c =
       few = omega (arith, kept .0);
       fits = answered .fits;
       beyond-printed = answered .beyond;
-      beyond-held = turn-leaves-beyond (a .end) (a .input .now) at (ends-inside w) (s .pre .0) (kept .0) (kept .1);
+      beyond-pending = turn-leaves-beyond (a .end) (a .input .now) at (ends-inside w) (s .pre .0) (kept .0) (kept .1);
     }
 
 pub turn-spec : {M : Type 1} → statement M

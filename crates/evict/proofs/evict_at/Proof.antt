@@ -1,6 +1,6 @@
 -- `evict_at` removes the slot and stores the hand, as the definition does.
 use native.Mathlib.Omega.{arith}
-use Rattle.shard_map.proofs.ModelLaws.{lent-below}
+use Rattle.shard_map.proofs.ModelLaws.{intact-below}
 use borrow.Author.Needs.{needs}
 use Rattle.evict.proofs.evict_at.Statement.{statement}
 use Rattle.evict.proofs.evict_at.Tie as tie
@@ -11,7 +11,7 @@ remove-at-requires c κs = search needs
 add-set-hand : tie.Need-add-set-hand
 add-set-hand c =
     let pre′ = c .before .before .before .before .before .before .pre in
-    omega (arith, lent-below (pre′ .0) (pre′ .1))
+    omega (arith, intact-below (pre′ .0) (pre′ .1))
 
 set-hand-requires : tie.Need-set-hand-requires
 set-hand-requires c κs = search needs

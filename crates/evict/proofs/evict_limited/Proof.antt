@@ -4,7 +4,7 @@ use mathlib.Core.Path.{_≡_}
 use Rattle.rows.specs.Outcome.{outcome}
 use Rattle.shard_map.specs.Model.{inLedger}
 use Rattle.shard_map.specs.Layout.{shard}
-use Rattle.shard_map.proofs.ModelLaws.{lent-below}
+use Rattle.shard_map.proofs.ModelLaws.{intact-below}
 use Rattle.evict.proofs.WalkLaws.{debtRecorded}
 use Rattle.evict.proofs.ModelLaws.{after-record, debt-fits, debt-recorded, limited-made, limited-refused}
 use borrow.Author.Needs.{needs}
@@ -26,7 +26,7 @@ gave r = debt-recorded _ _ _ _ _ (recovery r .before .get .ensures) (recovery r 
 get-requires : tie.Need-get-requires
 get-requires c κs =
     let pre′ = c .before .before .pre in
-    (pre′ .0, lent-below (pre′ .0) (pre′ .3))
+    (pre′ .0, intact-below (pre′ .0) (pre′ .3))
 
 recovers-in-requires : tie.Need-recovers-in-requires
 recovers-in-requires c κs = search needs
@@ -47,7 +47,7 @@ evict-at-requires c κs =
     let told = c .before .before .before .before .before in
     let pre′ = start (recovery told) .pre in
     let k = after-record (pre′ .0) (told .«record» .kept .0) _ _ _ (told .«record» .ensures) in
-    (k .lent, rw (k .count) (pre′ .3))
+    (k .intact, rw (k .count) (pre′ .3))
 
 enum-known-wait : tie.Need-enum-known-wait
 enum-known-wait c = search needs
@@ -65,8 +65,8 @@ returns : tie.Need-returns
 returns c =
     let told = c .before .before .before .before .before .before .before .before in
     let a = start (recovery told) .args in
-    let lent = start (recovery told) .pre .0 in
-    let made = limited-made (a .config) (a .at) (a .forget) (a .pos) (a .soonest) lent (gave told) (c .before .before .before .before .enum-told .given .1) in
+    let intact = start (recovery told) .pre .0 in
+    let made = limited-made (a .config) (a .at) (a .forget) (a .pos) (a .soonest) intact (gave told) (c .before .before .before .before .enum-told .given .1) in
     rw (c .before .before .evict-at .ensures) made
 
 same-length-2 : tie.Need-same-length-2
@@ -76,8 +76,8 @@ returns-2 : tie.Need-returns-2
 returns-2 c =
     let told = c .before .before .before .before .before .before .before in
     let a = start (recovery told) .args in
-    let lent = start (recovery told) .pre .0 in
-    let refused = limited-refused (a .config) (a .at) (a .forget) (a .pos) (a .soonest) lent (gave told) (c .before .before .before .wait .given .1) in
+    let intact = start (recovery told) .pre .0 in
+    let refused = limited-refused (a .config) (a .at) (a .forget) (a .pos) (a .soonest) intact (gave told) (c .before .before .before .wait .given .1) in
     rw (c .larger .ensures, c .before .smaller .ensures) refused
 
 pub evict-limited-spec : {M : Type 1} → statement M

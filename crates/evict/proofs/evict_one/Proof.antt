@@ -9,9 +9,9 @@ use lib.ListN.{length}
 use Rattle.units.specs.declared.Nanos.{Nanos}
 use Rattle.bucket.specs.declared.BucketConfig.{BucketConfig}
 use Rattle.rows.specs.declared.Place.{Place}
-use Rattle.shard_map.specs.Layout.{shard, Lent}
+use Rattle.shard_map.specs.Layout.{shard, Intact}
 use Rattle.shard_map.specs.Model.{handOf}
-use Rattle.shard_map.proofs.ModelLaws.{lent-hand}
+use Rattle.shard_map.proofs.ModelLaws.{intact-hand}
 use Rattle.evict.specs.declared.Walk.{Walk}
 use Rattle.evict.specs.Evict.{walkFrom, walked}
 use Rattle.evict.proofs.ModelLaws.{walk-start, walk-end, walk-turn, walk-ends-at-once}
@@ -22,7 +22,7 @@ use Rattle.evict.proofs.evict_one.Tie as tie
 
 -- The walk from here, with the looks that are left, is the walk from the start.
 record Walking (ws₀ : List ℕ) (cap : ℕ) (c : BucketConfig) (at : Nanos) (ws : List ℕ) (left : ℕ) (walk : Walk) : Type 0 where
-  lent : Lent cap ws
+  intact : Intact cap ws
   some : 0 < shard cap ws .slots .count
   long : length ws ≡ length ws₀
   same : walkFrom c at left (shard cap ws) walk ≡ walked c at (shard cap ws₀)
@@ -40,7 +40,7 @@ start read = read .before .before .before
 abbrev opening : tie.At-loop Inv-loop μ-loop → tie.After-hand Inv-loop μ-loop
 opening head = head .before .before .before .before .before .before
 
-abbrev turn : tie.After-look Inv-loop μ-loop → tie.At-loop Inv-loop μ-loop
+abbrev turn : tie.After-hand-look Inv-loop μ-loop → tie.At-loop Inv-loop μ-loop
 turn looked = looked .before .before .before .before .before
 
 hand-requires : tie.Need-hand-requires Inv-loop μ-loop
@@ -63,7 +63,7 @@ loop-holds c =
     let pre′ = start (c .before .before .before .before .before) .pre in
     let looks = c .before .before .before .before in
     record {
-      lent = pre′ .0;
+      intact = pre′ .0;
       some = pre′ .2;
       long = refl;
       same = rw (c .new .ensures, c .before .fewer .ensures, c .before .before .len .ensures, looks .hand-looks .ensures) (walk-start _ _ _);
@@ -72,10 +72,10 @@ loop-holds c =
 hand-requires-2 : tie.Need-hand-requires-2 Inv-loop μ-loop
 hand-requires-2 c κs = search needs
 
-look-requires : tie.Need-look-requires Inv-loop μ-loop
-look-requires c κs =
+hand-look-requires : tie.Need-hand-look-requires Inv-loop μ-loop
+hand-look-requires c κs =
     let inv = c .before .before .before .before .loop .inv in
-    (inv .lent, rw (c .before .hand2 .ensures) (lent-hand (inv .lent) (inv .some)))
+    (inv .intact, rw (c .before .hand2 .ensures) (intact-hand (inv .intact) (inv .some)))
 
 goes-at-once-requires : tie.Need-goes-at-once-requires Inv-loop μ-loop
 goes-at-once-requires c κs = start (opening (turn (c .before .before))) .pre .1
@@ -93,15 +93,15 @@ loop-again : tie.Need-loop-again Inv-loop μ-loop
 loop-again c =
     let looked = c .before .before .before .before .before in
     let once = c .before .before .goes-at-once .ensures in
-    let saw = looked .look .ensures in
+    let saw = looked .hand-look .ensures in
     let inv = turn looked .loop .inv in
-    let after = after-look (inv .lent) (looked .look .kept .0) _ saw in
+    let after = after-look (inv .intact) (looked .hand-look .kept .0) _ saw in
     let more : 0 < turn looked .loop .left = omega (arith, looked .before .before .before .before .if1 .left) in
     let goes-on = walk-turn _ _ _ _ _ more (looked .before .before .hand2 .ensures) saw once (c .before .if2 .left) (c .noted .ensures) in
     record {
-      lent = after .lent;
+      intact = after .intact;
       some = rw (after .count) (inv .some);
-      long = looked .look .kept .0 ∙ inv .long;
+      long = looked .hand-look .kept .0 ∙ inv .long;
       same = sym goes-on ∙ inv .same;
     }
 
@@ -146,7 +146,7 @@ enum-known-victim c = search needs
 evict-at-requires : tie.Need-evict-at-requires Inv-loop μ-loop
 evict-at-requires c κs =
     let after = walk-left (c .before .before .before .before) in
-    (after .lent, rw (c .before .before .victim .given .1) at (after .held))
+    (after .intact, rw (c .before .before .victim .given .1) at (after .victim-in-use))
 
 enum-told : tie.Need-enum-told Inv-loop μ-loop
 enum-told c = search needs
@@ -155,7 +155,7 @@ evict-noted-requires : tie.Need-evict-noted-requires Inv-loop μ-loop
 evict-noted-requires c κs =
     let met = c .before .before .before in
     let pre′ = start (began met) .pre in
-    (walk-left met .lent, pre′ .1, pre′ .3, rw (began met .hand .ensures) (walk-left met .within))
+    (walk-left met .intact, pre′ .1, pre′ .3, rw (began met .hand .ensures) (walk-left met .within))
 
 same-length : tie.Need-same-length Inv-loop μ-loop
 same-length c = let gone = c .before .before in gone .evict-at .kept .0 ∙ walk-ended (went gone) .long
@@ -187,7 +187,7 @@ evict-one-spec =
     new-requires
     loop-holds
     hand-requires-2
-    look-requires
+    hand-look-requires
     goes-at-once-requires
     noted-requires
     sub-left

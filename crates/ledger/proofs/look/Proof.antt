@@ -3,7 +3,7 @@ use Prim.Native.Nat.{_<_}
 use native.Mathlib.Omega.{arith}
 use Rattle.ledger.specs.Layout.{ledger}
 use Rattle.ledger.proofs.StepLaws.{cursor-sound}
-use Rattle.ledger.proofs.ModelLaws.{look-settled, look-unsettled, lent-below, lent-cursor, lent-after}
+use Rattle.ledger.proofs.ModelLaws.{look-settled, look-unsettled, intact-below, intact-cursor, intact-after}
 use borrow.Author.Needs.{needs}
 use Rattle.ledger.proofs.look.Statement.{statement}
 use Rattle.ledger.proofs.look.Tie as tie
@@ -17,7 +17,7 @@ looked s = s .before .before .before .before .before .before .before
 
 -- The cursor stands at a debt.
 cursor-held : (k : tie.After-cursor) → let a = start k .args in k .cursor .result < ledger (a .cap) (a .ws .now) .debts .count
-cursor-held k = lent-cursor (start k .pre .0) (start k .pre .1) (k .cursor .ensures)
+cursor-held k = intact-cursor (start k .pre .0) (start k .pre .1) (k .cursor .ensures)
 
 cursor-requires : tie.Need-cursor-requires
 cursor-requires c κs = search needs
@@ -25,8 +25,8 @@ cursor-requires c κs = search needs
 settles-at-requires : tie.Need-settles-at-requires
 settles-at-requires c κs =
     let k = c .before in
-    let lent = start k .pre .0 in
-    (lent .size, lent-below lent (cursor-held k))
+    let intact = start k .pre .0 in
+    (intact .size, intact-below intact (cursor-held k))
 
 set-cursor-requires : tie.Need-set-cursor-requires
 set-cursor-requires c κs = search needs
@@ -34,14 +34,14 @@ set-cursor-requires c κs = search needs
 remove-at-requires : tie.Need-remove-at-requires
 remove-at-requires c κs =
     let stored = c .before .before .before in
-    let lent = start (looked stored) .pre .0 in
-    let still-lent = lent-after lent (stored .set-cursor .kept .0) (stored .set-cursor .ensures) (cursor-sound _ _ (lent .sound)) in
-    (still-lent, rw (stored .set-cursor .ensures) (cursor-held (looked stored)))
+    let intact = start (looked stored) .pre .0 in
+    let still-intact = intact-after intact (stored .set-cursor .kept .0) (stored .set-cursor .ensures) (cursor-sound _ _ (intact .sound)) in
+    (still-intact, rw (stored .set-cursor .ensures) (cursor-held (looked stored)))
 
 add-set-cursor : tie.Need-add-set-cursor
 add-set-cursor c =
     let k = c .before .before .before .before .before .before in
-    omega (arith, lent-below (start k .pre .0) (cursor-held k))
+    omega (arith, intact-below (start k .pre .0) (cursor-held k))
 
 set-cursor-requires-2 : tie.Need-set-cursor-requires-2
 set-cursor-requires-2 c κs = search needs

@@ -1,7 +1,7 @@
 -- `make_room` goes by what `scan` chose, as its definition does; the place that was chosen holds a debt, so it can be removed.
 use Prim.Native.Nat.{_<_}
 use Rattle.ledger.specs.Layout.{ledger}
-use Rattle.ledger.proofs.ModelLaws.{AfterScan, after-scan, choice-held, settled-dropped, soonest-dropped, soonest-kept, lent-below}
+use Rattle.ledger.proofs.ModelLaws.{AfterScan, after-scan, choice-held, settled-dropped, soonest-dropped, soonest-kept, intact-below}
 use borrow.Author.Needs.{needs}
 use Rattle.ledger.proofs.make_room.Statement.{statement}
 use Rattle.ledger.proofs.make_room.Tie as tie
@@ -33,19 +33,19 @@ remove-at-requires : tie.Need-remove-at-requires
 remove-at-requires c κs =
     let p = c .before .before in
     let after = scanned (chose p) in
-    (after .lent, choice-held after (p .pos .given .1))
+    (after .intact, choice-held after (p .pos .given .1))
 
 enum-known-pos-2 : tie.Need-enum-known-pos-2
 enum-known-pos-2 c = search needs
 
 remove-at-requires-2 : tie.Need-remove-at-requires-2
-remove-at-requires-2 c κs = let p = c .before .before .before in (scanned (chose-soonest p) .lent, soonest-held p)
+remove-at-requires-2 c κs = let p = c .before .before .before in (scanned (chose-soonest p) .intact, soonest-held p)
 
 settles-at-requires : tie.Need-settles-at-requires
 settles-at-requires c κs =
     let p = c .before .before .before in
-    let lent = scanned (chose-soonest p) .lent in
-    (lent .size, lent-below lent (soonest-held p))
+    let intact = scanned (chose-soonest p) .intact in
+    (intact .size, intact-below intact (soonest-held p))
 
 saturating-sub-requires : tie.Need-saturating-sub-requires
 saturating-sub-requires c κs = search needs

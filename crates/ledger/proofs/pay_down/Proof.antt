@@ -20,7 +20,7 @@ place l = l .before .before .before .before .before .before
 
 -- The words are as long as a ledger's, and the place found stands below the cap.
 held : (p : tie.After-pos) → let a = start (looked-up p) .args in (length (a .ws .now) ≡ ledgerWords (a .cap)) × (p .pos .given .0 .0 < a .cap)
-held p = let lent = start (looked-up p) .pre .0 in (lent .size, found-below _ lent (looked-up p .position .ensures) (p .pos .given .1))
+held p = let intact = start (looked-up p) .pre .0 in (intact .size, found-below _ intact (looked-up p .position .ensures) (p .pos .given .1))
 
 position-requires : tie.Need-position-requires
 position-requires c κs = search needs

@@ -3,7 +3,7 @@ use native.Mathlib.Omega.{arith}
 use mathlib.Core.Path.{_≡_, sym, _∙_}
 use mathlib.Core.List.{List}
 use Prim.Native.Nat.{ℕ, _-_}
-use Rattle.ledger.proofs.ModelLaws.{placeFrom, place-hit, place-miss, place-end, place-start, lent-cap}
+use Rattle.ledger.proofs.ModelLaws.{placeFrom, place-hit, place-miss, place-end, place-start, intact-cap}
 use Rattle.ledger.specs.Layout.{ledger}
 use Rattle.ledger.specs.Model.{placeOf}
 use borrow.Author.Needs.{needs}
@@ -32,7 +32,7 @@ loop-holds c =
 hash-at-requires : tie.Need-hash-at-requires Inv-loop μ-loop
 hash-at-requires c κs =
     let pre′ = c .before .before .before .before .pre in
-    (pre′ .size, omega (arith, lent-cap pre′))
+    (pre′ .size, omega (arith, intact-cap pre′))
 
 returns : tie.Need-returns Inv-loop μ-loop
 returns c =

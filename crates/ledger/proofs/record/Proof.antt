@@ -21,8 +21,8 @@ enum-known-pos c = search needs
 keep-later-requires : tie.Need-keep-later-requires
 keep-later-requires c κs =
     let p = c .before .before in
-    let lent = start (looked-up p) .pre in
-    (lent, found-below _ lent (looked-up p .position .ensures) (p .pos .given .1))
+    let intact = start (looked-up p) .pre in
+    (intact, found-below _ intact (looked-up p .position .ensures) (p .pos .given .1))
 
 enum-told : tie.Need-enum-told
 enum-told c = search needs

@@ -3,7 +3,7 @@ use Prim.Native.Nat.{_≤_, _<_}
 use native.Mathlib.Omega.{arith}
 use Rattle.ledger.specs.Layout.{ledger}
 use Rattle.ledger.specs.Model.{capOf}
-use Rattle.ledger.proofs.ModelLaws.{after-make-room, recorded-free, recorded-full, lent-cap}
+use Rattle.ledger.proofs.ModelLaws.{after-make-room, recorded-free, recorded-full, intact-cap}
 use borrow.Author.Needs.{needs}
 use Rattle.ledger.proofs.record_new.Statement.{statement}
 use Rattle.ledger.proofs.record_new.Tie as tie
@@ -17,7 +17,7 @@ at-cap m = m .before .before
 
 -- Past the test the ledger is full, so it holds a debt.
 full : (e : tie.Else1) → let l = ledger (start (e .before) .args .cap) (start (e .before) .args .ws .now) in capOf l ≤ l .debts .count
-full e = let n = e .before in omega (arith, lent-cap (start n .pre), n .count .ensures)
+full e = let n = e .before in omega (arith, intact-cap (start n .pre), n .count .ensures)
 
 some : (e : tie.Else1) → let a = start (e .before) .args in 0 < ledger (a .cap) (a .ws .now) .debts .count
 some e = omega (arith, full e, start (e .before) .pre .sound .room)
@@ -35,7 +35,7 @@ returns : tie.Need-returns
 returns c =
     let appended = c .before .before in
     let counted = appended .before .before .before in
-    rw (appended .append .ensures) (recorded-free _ _ _ _ (omega (arith, lent-cap (start counted .pre), counted .count .ensures)))
+    rw (appended .append .ensures) (recorded-free _ _ _ _ (omega (arith, intact-cap (start counted .pre), counted .count .ensures)))
 
 make-room-requires : tie.Need-make-room-requires
 make-room-requires c κs = let test = c .before in (start (test .before) .pre, some test)

@@ -1,7 +1,7 @@
 -- `remove_at` is the model's removal: its calls make the same stores, in the same order, and each call says what it stores.
 use Prim.Native.Nat.{_-_, _<_}
 use native.Mathlib.Omega.{arith}
-use Rattle.ledger.proofs.ModelLaws.{lent-cap, lent-below, remove-by-stores}
+use Rattle.ledger.proofs.ModelLaws.{intact-cap, intact-below, remove-by-stores}
 use borrow.Author.Needs.{needs}
 use Rattle.ledger.proofs.remove_at.Statement.{statement}
 use Rattle.ledger.proofs.remove_at.Tie as tie
@@ -11,7 +11,7 @@ abbrev start : tie.After-count → tie.Start
 start n = n .before .before .before
 
 last-below : (n : tie.After-count) → n .count .result - 1 < start n .args .cap
-last-below n = let pre′ = start n .pre in omega (arith, lent-below (pre′ .0) (pre′ .1), lent-cap (pre′ .0), pre′ .0 .sound .held, n .count .ensures)
+last-below n = let pre′ = start n .pre in omega (arith, intact-below (pre′ .0) (pre′ .1), intact-cap (pre′ .0), pre′ .0 .sound .count-fits, n .count .ensures)
 
 count-requires : tie.Need-count-requires
 count-requires c κs = search needs
@@ -23,7 +23,7 @@ load-requires : tie.Need-load-requires
 load-requires c κs = let n = c .before in (start n .pre .0 .size, last-below n)
 
 put-requires : tie.Need-put-requires
-put-requires c κs = let lent = start (c .before .before .before) .pre .0 in (lent .size, lent-below lent (start (c .before .before .before) .pre .1))
+put-requires c κs = let intact = start (c .before .before .before) .pre .0 in (intact .size, intact-below intact (start (c .before .before .before) .pre .1))
 
 put-requires-2 : tie.Need-put-requires-2
 put-requires-2 c κs = (search needs, last-below (c .before .before .before .before .before .before .before))

@@ -5,8 +5,8 @@ use Prim.Native.Nat.{ℕ, _<_}
 use native.Mathlib.Omega.{arith}
 use Rattle.units.specs.declared.Nanos.{Nanos}
 use Rattle.ledger.proofs.StepLaws.{cursor-sound}
-use Rattle.ledger.proofs.ModelLaws.{scan-start, scan-end, scan-settled, scan-turn, lent-below, lent-cursor, lent-sooner, lent-after}
-use Rattle.ledger.specs.Layout.{ledger, Lent}
+use Rattle.ledger.proofs.ModelLaws.{scan-start, scan-end, scan-settled, scan-turn, intact-below, intact-cursor, intact-sooner, intact-after}
+use Rattle.ledger.specs.Layout.{ledger, Intact}
 use Rattle.ledger.specs.Model.{scan, scanFrom}
 use borrow.Author.Needs.{needs}
 use Rattle.ledger.proofs.scan.Statement.{statement}
@@ -14,7 +14,7 @@ use Rattle.ledger.proofs.scan.Tie as tie
 
 -- The scan from here, with the looks that are left, is the scan from the start; the soonest so far is a debt that is held.
 record Scanning (ws₀ : List ℕ) (cap : ℕ) (at : Nanos) (ws : List ℕ) (left best : ℕ) : Type 0 where
-  lent : Lent cap ws
+  intact : Intact cap ws
   some : 0 < ledger cap ws .debts .count
   below : best < ledger cap ws .debts .count
   same : scanFrom at left (ledger cap ws) best ≡ scan at (ledger cap ws₀)
@@ -37,7 +37,7 @@ looked e = e .before .before .before .before .before
 
 -- The cursor stands at a debt.
 cursor-held : (k : tie.After-cursor2 Inv-loop μ-loop) → k .cursor2 .result < ledger (start (turn k) .args .cap) (turn k .loop .ws) .debts .count
-cursor-held k = let inv = turn k .loop .inv in lent-cursor (inv .lent) (inv .some) (k .cursor2 .ensures)
+cursor-held k = let inv = turn k .loop .inv in intact-cursor (inv .intact) (inv .some) (k .cursor2 .ensures)
 
 ledger-looks-requires : tie.Need-ledger-looks-requires Inv-loop μ-loop
 ledger-looks-requires c κs = search needs
@@ -58,9 +58,9 @@ loop-holds c =
     let looks = count′ .before .before in
     let pre′ = looks .before .before .pre in
     record {
-      lent = pre′ .0;
+      intact = pre′ .0;
       some = pre′ .1;
-      below = lent-cursor (pre′ .0) (pre′ .1) (c .cursor .ensures);
+      below = intact-cursor (pre′ .0) (pre′ .1) (c .cursor .ensures);
       same = rw (c .cursor .ensures, fewer′ .fewer .ensures, count′ .count .ensures, looks .ledger-looks .ensures) (scan-start _ _);
     }
 
@@ -71,7 +71,7 @@ settles-at-requires : tie.Need-settles-at-requires Inv-loop μ-loop
 settles-at-requires c κs =
     let k = c .before in
     let inv = turn k .loop .inv in
-    (inv .lent .size, lent-below (inv .lent) (cursor-held k))
+    (inv .intact .size, intact-below (inv .intact) (cursor-held k))
 
 set-cursor-requires : tie.Need-set-cursor-requires Inv-loop μ-loop
 set-cursor-requires c κs = search needs
@@ -93,12 +93,12 @@ sooner-requires : tie.Need-sooner-requires Inv-loop μ-loop
 sooner-requires c κs =
     let k = looked (c .before) in
     let inv = turn k .loop .inv in
-    (inv .lent, lent-below (inv .lent) (inv .below), lent-below (inv .lent) (cursor-held k))
+    (inv .intact, intact-below (inv .intact) (inv .below), intact-below (inv .intact) (cursor-held k))
 
 add-set-cursor : tie.Need-add-set-cursor Inv-loop μ-loop
 add-set-cursor c =
     let k = looked (c .before .before .before) in
-    omega (arith, lent-below (turn k .loop .inv .lent) (cursor-held k))
+    omega (arith, intact-below (turn k .loop .inv .intact) (cursor-held k))
 
 set-cursor-requires-2 : tie.Need-set-cursor-requires-2 Inv-loop μ-loop
 set-cursor-requires-2 c κs = search needs
@@ -119,9 +119,9 @@ loop-again c =
     let unsettled = rw (test .before .before .before .settles-at .ensures, k .cursor2 .ensures) at (test .if1 .left) in
     let goes-on = scan-turn _ _ _ _ (k .before .before .loop-test .taken) unsettled in
     record {
-      lent = lent-after (inv .lent) (stored .set-cursor2 .kept .0) (stored .set-cursor2 .ensures) (cursor-sound _ _ (inv .lent .sound));
+      intact = intact-after (inv .intact) (stored .set-cursor2 .kept .0) (stored .set-cursor2 .ensures) (cursor-sound _ _ (inv .intact .sound));
       some = rw (stored .set-cursor2 .ensures) (inv .some);
-      below = rw (stored .set-cursor2 .ensures, chosen .sooner .ensures) (lent-sooner (inv .lent) (inv .below) (cursor-held k));
+      below = rw (stored .set-cursor2 .ensures, chosen .sooner .ensures) (intact-sooner (inv .intact) (inv .below) (cursor-held k));
       same = rw (stored .set-cursor2 .ensures, chosen .sooner .ensures, k .cursor2 .ensures) (sym goes-on ∙ inv .same);
     }
 

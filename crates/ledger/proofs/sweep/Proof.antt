@@ -5,8 +5,8 @@ use Prim.Native.Nat.{ℕ, _<_}
 use native.Mathlib.Omega.{arith}
 use Rattle.units.specs.declared.Nanos.{Nanos}
 use Rattle.ledger.proofs.StepLaws.{look-sound}
-use Rattle.ledger.proofs.ModelLaws.{sweep-turn, sweep-none, sweep-end, lent-after}
-use Rattle.ledger.specs.Layout.{ledger, Lent}
+use Rattle.ledger.proofs.ModelLaws.{sweep-turn, sweep-none, sweep-end, intact-after}
+use Rattle.ledger.specs.Layout.{ledger, Intact}
 use Rattle.ledger.specs.Model.{sweep}
 use borrow.Author.Needs.{needs}
 use Rattle.ledger.proofs.sweep.Statement.{statement}
@@ -14,7 +14,7 @@ use Rattle.ledger.proofs.sweep.Tie as tie
 
 -- The sweep from here, with the looks that are left, is the sweep from the start.
 record Sweeping (ws₀ : List ℕ) (cap : ℕ) (at : Nanos) (budget : ℕ) (ws : List ℕ) (left : ℕ) : Type 0 where
-  lent : Lent cap ws
+  intact : Intact cap ws
   same : sweep at left (ledger cap ws) ≡ sweep at budget (ledger cap ws₀)
 
 abbrev Inv-loop : tie.InvT-loop
@@ -28,13 +28,13 @@ abbrev head : tie.After-count Inv-loop μ-loop → tie.At-loop Inv-loop μ-loop
 head n = n .before .before .before
 
 loop-holds : tie.Need-loop-holds Inv-loop μ-loop
-loop-holds c = record { lent = c .before .pre; same = refl }
+loop-holds c = record { intact = c .before .pre; same = refl }
 
 count-requires : tie.Need-count-requires Inv-loop μ-loop
 count-requires c κs = search needs
 
 look-requires : tie.Need-look-requires Inv-loop μ-loop
-look-requires c κs = (head (c .before .before) .loop .inv .lent, search needs)
+look-requires c κs = (head (c .before .before) .loop .inv .intact, search needs)
 
 sub-left : tie.Need-sub-left Inv-loop μ-loop
 sub-left c = search needs
@@ -49,7 +49,7 @@ loop-again c =
     let inv = h .loop .inv in
     let more : 0 < h .loop .left = omega arith in
     record {
-      lent = lent-after (inv .lent) (l .look .kept .0) (l .look .ensures) (look-sound _ _ (inv .lent .sound));
+      intact = intact-after (inv .intact) (l .look .kept .0) (l .look .ensures) (look-sound _ _ (inv .intact .sound));
       same = rw (l .look .ensures) (sym (sweep-turn _ _ _ more) ∙ inv .same);
     }
 

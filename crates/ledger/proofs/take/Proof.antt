@@ -20,14 +20,14 @@ enum-known-pos c = search needs
 settles-at-requires : tie.Need-settles-at-requires
 settles-at-requires c κs =
     let p = c .before .before in
-    let lent = start (looked-up p) .pre in
-    (lent .size, found-below _ lent (looked-up p .position .ensures) (p .pos .given .1))
+    let intact = start (looked-up p) .pre in
+    (intact .size, found-below _ intact (looked-up p .position .ensures) (p .pos .given .1))
 
 remove-at-requires : tie.Need-remove-at-requires
 remove-at-requires c κs =
     let p = c .before .before .before .before in
-    let lent = start (looked-up p) .pre in
-    (lent, found-held _ lent (looked-up p .position .ensures) (p .pos .given .1))
+    let intact = start (looked-up p) .pre in
+    (intact, found-held _ intact (looked-up p .position .ensures) (p .pos .given .1))
 
 enum-told : tie.Need-enum-told
 enum-told c = search needs

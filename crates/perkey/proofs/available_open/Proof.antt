@@ -1,11 +1,11 @@
 -- `available_open` tells the refusal, else what `tokens` tells.
 use mathlib.Core.Path.{_≡_, sym, _∙_}
 use Rattle.settings.specs.Settings.{settingsRefusal}
-use Rattle.shards.specs.Lending.{lentUnless}
-use Rattle.shards.specs.Memory.{partOf}
-use Rattle.shards.specs.Refusals.{timedRefusal}
-use Rattle.shards.proofs.RefusalLaws.{settings-refuse-timed}
-use Rattle.shards.proofs.LendingLaws.{accepted-shape, lent-part, timed-lending}
+use Rattle.store.specs.Lending.{lentUnless}
+use Rattle.store.specs.Memory.{partOf}
+use Rattle.store.specs.Refusals.{timedRefusal}
+use Rattle.store.proofs.RefusalLaws.{settings-refuse-timed}
+use Rattle.store.proofs.LendingLaws.{accepted-shape, lent-part, timed-lending}
 use Rattle.perkey.specs.Calls.{Call, available}
 use Rattle.perkey.proofs.CallLaws.{refusal-is-told, unlent-is-told, lent-is-ruled}
 use borrow.Author.Needs.{needs}

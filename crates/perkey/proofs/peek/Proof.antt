@@ -1,7 +1,7 @@
 -- `peek` tells a closed limiter's answer, unless the call is refused, and what `peek_open` tells where there is a rate.
 use mathlib.Core.Path.{refl, sym, _∙_}
-use Rattle.shards.specs.Refusals.{momentRefusal}
-use Rattle.shards.proofs.LendingLaws.{accepted-shape}
+use Rattle.store.specs.Refusals.{momentRefusal}
+use Rattle.store.proofs.LendingLaws.{accepted-shape}
 use Rattle.perkey.specs.Calls.{peek}
 use Rattle.perkey.proofs.CallLaws.{closed-is-told, closed-peek}
 use borrow.Author.Needs.{needs}

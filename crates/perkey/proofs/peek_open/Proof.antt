@@ -1,11 +1,11 @@
 -- `peek_open` tells the refusal, else what `look` tells.
 use mathlib.Core.Path.{_≡_, sym, _∙_}
 use Rattle.settings.specs.Settings.{settingsRefusal}
-use Rattle.shards.specs.Lending.{lentUnless}
-use Rattle.shards.specs.Memory.{partOf}
-use Rattle.shards.specs.Refusals.{timedRefusal}
-use Rattle.shards.proofs.RefusalLaws.{settings-refuse-timed}
-use Rattle.shards.proofs.LendingLaws.{accepted-shape, lent-part, timed-lending}
+use Rattle.store.specs.Lending.{lentUnless}
+use Rattle.store.specs.Memory.{partOf}
+use Rattle.store.specs.Refusals.{timedRefusal}
+use Rattle.store.proofs.RefusalLaws.{settings-refuse-timed}
+use Rattle.store.proofs.LendingLaws.{accepted-shape, lent-part, timed-lending}
 use Rattle.perkey.specs.Calls.{Call, peek}
 use Rattle.perkey.proofs.CallLaws.{refusal-is-told, unlent-is-told, lent-is-ruled}
 use borrow.Author.Needs.{needs}
@@ -55,8 +55,8 @@ enum-known-refusal c = search needs
 enum-known-part : tie.Need-enum-known-part
 enum-known-part c = search needs
 
-look-requires : tie.Need-look-requires
-look-requires c κs =
+peek-bucket-requires : tie.Need-peek-bucket-requires
+peek-bucket-requires c κs =
     let l = c .before .before .before in
     let lent = lent-part _ _ (lending l) (c .before .part .given .1) in
     (lent .0, lent .1, start l .pre)
@@ -69,7 +69,7 @@ returns-2 c =
 returns-3 : tie.Need-returns-3
 returns-3 c =
     let l = c .before .before .before .before in
-    lent-is-ruled (call (start l)) (start l .args .ws .now) _ (lending l) (c .before .before .part .given .1) (rw (c .look .ensures))
+    lent-is-ruled (call (start l)) (start l .args .ws .now) _ (lending l) (c .before .before .part .given .1) (rw (c .peek-bucket .ensures))
 
 pub peek-open-spec : {M : Type 1} → statement M
 peek-open-spec =
@@ -82,6 +82,6 @@ peek-open-spec =
     lend-requires
     enum-known-refusal
     enum-known-part
-    look-requires
+    peek-bucket-requires
     returns-2
     returns-3)

@@ -1,8 +1,8 @@
 -- `refund` tells a closed limiter's answer, unless the call is refused, and what `refund_open` tells where there is a rate.
 use mathlib.Core.Path.{refl, sym, _∙_}
-use Rattle.shards.specs.Refusals.{keyedRefusal}
-use Rattle.shards.proofs.RefusalLaws.{no-further-refusal}
-use Rattle.shards.proofs.LendingLaws.{accepted-shape}
+use Rattle.store.specs.Refusals.{keyedRefusal}
+use Rattle.store.proofs.RefusalLaws.{no-further-refusal}
+use Rattle.store.proofs.LendingLaws.{accepted-shape}
 use Rattle.perkey.specs.Calls.{refund}
 use Rattle.perkey.proofs.CallLaws.{closed-is-told, closed-refund}
 use borrow.Author.Needs.{needs}

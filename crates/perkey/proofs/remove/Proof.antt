@@ -1,11 +1,11 @@
 -- `remove` tells the refusal, else what the store tells of the key's shard.
 use mathlib.Core.Path.{_≡_, refl, sym, _∙_}
 use Rattle.settings.specs.Settings.{settingsRefusal}
-use Rattle.shards.specs.Lending.{lentUnless}
-use Rattle.shards.specs.Memory.{partOf}
-use Rattle.shards.specs.Refusals.{keyedRefusal}
-use Rattle.shards.proofs.RefusalLaws.{settings-refuse-keyed}
-use Rattle.shards.proofs.LendingLaws.{accepted-shape, lent-part, keyed-lending}
+use Rattle.store.specs.Lending.{lentUnless}
+use Rattle.store.specs.Memory.{partOf}
+use Rattle.store.specs.Refusals.{keyedRefusal}
+use Rattle.store.proofs.RefusalLaws.{settings-refuse-keyed}
+use Rattle.store.proofs.LendingLaws.{accepted-shape, lent-part, keyed-lending}
 use Rattle.perkey.specs.Calls.{Call, remove}
 use Rattle.perkey.proofs.CallLaws.{refusal-is-told, unlent-is-told, lent-is-ruled}
 use Rattle.perkey.proofs.RuleLaws.{removal-may-be-asked, key-is-told}

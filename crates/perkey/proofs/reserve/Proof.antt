@@ -1,7 +1,7 @@
 -- `reserve` tells nothing on a closed limiter, unless the call is refused, and what `reserve_open` tells where there is a rate.
 use mathlib.Core.Path.{refl, sym, _∙_}
 use Rattle.bucket.specs.declared.Request.the-variants.{Reserve}
-use Rattle.shards.proofs.LendingLaws.{accepted-shape}
+use Rattle.store.proofs.LendingLaws.{accepted-shape}
 use Rattle.perkey.proofs.CallLaws.{closed-request-is-told}
 use borrow.Author.Needs.{needs}
 use Rattle.perkey.proofs.reserve.Statement.{statement}

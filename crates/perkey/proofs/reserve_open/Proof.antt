@@ -1,10 +1,10 @@
 -- `reserve_open` tells the refusal, else what `reserve_within` tells.
 use mathlib.Core.Path.{_≡_, refl, sym, _∙_}
-use Rattle.shards.specs.Lending.{lentUnless}
-use Rattle.shards.specs.Memory.{partOf}
-use Rattle.shards.specs.Refusals.{reserveRefusal}
-use Rattle.shards.proofs.RefusalLaws.{settings-refuse-reserve}
-use Rattle.shards.proofs.LendingLaws.{accepted-shape, lent-part, reserve-lending}
+use Rattle.store.specs.Lending.{lentUnless}
+use Rattle.store.specs.Memory.{partOf}
+use Rattle.store.specs.Refusals.{reserveRefusal}
+use Rattle.store.proofs.RefusalLaws.{settings-refuse-reserve}
+use Rattle.store.proofs.LendingLaws.{accepted-shape, lent-part, reserve-lending}
 use Rattle.settings.specs.Settings.{settingsRefusal}
 use Rattle.perkey.specs.Calls.{Call, reserve}
 use Rattle.perkey.proofs.CallLaws.{refusal-is-told, unlent-is-told, lent-is-ruled}

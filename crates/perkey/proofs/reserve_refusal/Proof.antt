@@ -9,11 +9,11 @@ moment-refusal-requires c κs = search needs
 wait-refusal-requires : tie.Need-wait-refusal-requires
 wait-refusal-requires c κs = search needs
 
-first-of-requires : tie.Need-first-of-requires
-first-of-requires c κs = search needs
+first-refusal-requires : tie.Need-first-refusal-requires
+first-refusal-requires c κs = search needs
 
 returns : tie.Need-returns
-returns c = rw (c .before .before .moment-refusal .ensures, c .before .wait-refusal .ensures) at (c .first-of .ensures)
+returns c = rw (c .before .before .moment-refusal .ensures, c .before .wait-refusal .ensures) at (c .first-refusal .ensures)
 
 pub reserve-refusal-spec : {M : Type 1} → statement M
-reserve-refusal-spec = tie.close (tie.spec moment-refusal-requires wait-refusal-requires first-of-requires returns)
+reserve-refusal-spec = tie.close (tie.spec moment-refusal-requires wait-refusal-requires first-refusal-requires returns)

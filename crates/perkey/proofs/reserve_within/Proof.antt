@@ -53,8 +53,8 @@ enum-known-pos c = search needs
 policy-requires : tie.Need-policy-requires
 policy-requires c κs = search needs
 
-known-requires : tie.Need-known-requires
-known-requires c κs =
+with-existing-requires : tie.Need-with-existing-requires
+with-existing-requires c κs =
     let p = found c in
     known-may-be-asked (asks (p .before .before)) (c .policy .ensures) (p .position .ensures) _ (c .before .before .before .pos .given .1)
 
@@ -67,8 +67,8 @@ enum-told c = search needs
 policy-requires-2 : tie.Need-policy-requires-2
 policy-requires-2 c κs = search needs
 
-new-requires : tie.Need-new-requires
-new-requires c κs = new-may-be-asked (asks (missed c .before .before)) (c .policy2 .ensures)
+admit-requires : tie.Need-admit-requires
+admit-requires c κs = new-may-be-asked (asks (missed c .before .before)) (c .policy2 .ensures)
 
 reserve-reply-requires-2 : tie.Need-reserve-reply-requires-2
 reserve-reply-requires-2 c κs = search needs
@@ -82,7 +82,7 @@ returns-3 c =
     let p = found k in
     let e = p .before .before in
     let known = known-is-told (asks e) (k .policy .ensures) (p .position .ensures) (request (start e)) (c .reserve-reply .ensures) in
-    known _ (k .before .before .before .pos .given .1) (c .before .before .before .known .ensures)
+    known _ (k .before .before .before .pos .given .1) (c .before .before .before .with-existing .ensures)
 
 same-length-2 : tie.Need-same-length-2
 same-length-2 c = search needs
@@ -93,7 +93,7 @@ returns-4 c =
     let p = missed k in
     let e = p .before .before in
     let new = new-is-told (asks e) (k .policy2 .ensures) (p .position .ensures) (request (start e)) (c .reserve-reply2 .ensures) in
-    new (k .before .before .enum-told .given .1) (c .before .before .before .new .ensures)
+    new (k .before .before .enum-told .given .1) (c .before .before .before .admit .ensures)
 
 pub reserve-within-spec : {M : Type 1} → statement M
 reserve-within-spec =
@@ -105,11 +105,11 @@ reserve-within-spec =
     position-requires
     enum-known-pos
     policy-requires
-    known-requires
+    with-existing-requires
     reserve-reply-requires
     enum-told
     policy-requires-2
-    new-requires
+    admit-requires
     reserve-reply-requires-2
     same-length
     returns-3

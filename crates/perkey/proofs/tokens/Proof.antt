@@ -1,7 +1,7 @@
 -- `tokens` counts the bucket that it views.
 use Rattle.bucket.specs.Bucket.{Accepted}
 use Rattle.shard_map.specs.Model.{Sound}
-use Rattle.shards.specs.Memory.{Placed, shardIn}
+use Rattle.store.specs.Memory.{Placed, shardIn}
 use Rattle.perkey.proofs.RuleLaws.{bucket-may-be-viewed, viewed-tokens-are-told}
 use borrow.Author.Needs.{needs}
 use Rattle.perkey.proofs.tokens.Statement.{statement}

@@ -1,7 +1,7 @@
 -- `try_acquire_with_cost` tells a closed limiter's answer, unless the call is refused, and what `try_open` tells where there is a rate.
 use mathlib.Core.Path.{sym, ap, _∙_}
 use Rattle.bucket.specs.declared.Request.the-variants.{Acquire}
-use Rattle.shards.proofs.LendingLaws.{accepted-shape}
+use Rattle.store.proofs.LendingLaws.{accepted-shape}
 use Rattle.settings.specs.declared.decision.Decision.{Decision}
 use Rattle.perkey.specs.declared.Reply.the-variants.{Tried}
 use Rattle.perkey.proofs.CallLaws.{closed-request-is-told}

@@ -1,5 +1,5 @@
 -- `unless_refused` tells the first number that there is, else what it is given to tell.
-use Rattle.shards.proofs.LendingLaws.{lent-part, refused-number}
+use Rattle.store.proofs.LendingLaws.{lent-part, refused-number}
 use Rattle.perkey.proofs.RefusedLaws.{first-number-is-told, second-number-is-told, neither-refuses-is-told}
 use borrow.Author.Needs.{needs}
 use Rattle.perkey.proofs.unless_refused.Statement.{statement}

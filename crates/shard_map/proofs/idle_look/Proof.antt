@@ -4,7 +4,7 @@ use mathlib.Core.Path.{_≡_, sym, _∙_}
 use native.Mathlib.Omega.{arith}
 use Rattle.shard_map.specs.Layout.{shard}
 use Rattle.shard_map.specs.Model.{slotAt, sweepOf, reclaimable}
-use Rattle.shard_map.proofs.ModelLaws.{lent-sweep, after-sweep, idle-look-goes, idle-look-stays}
+use Rattle.shard_map.proofs.ModelLaws.{intact-sweep, after-sweep, idle-look-goes, idle-look-stays}
 use borrow.Author.Needs.{needs}
 use Rattle.shard_map.proofs.idle_look.Statement.{statement}
 use Rattle.shard_map.proofs.idle_look.Tie as tie
@@ -15,7 +15,7 @@ start s = s .before .before .before
 
 held : (s : tie.After-sweep) → let a = start s .args in
     (s .sweep .result < shard (a .cap) (a .ws .now) .slots .count) × (s .sweep .result < a .cap)
-held s = let below = lent-sweep (start s .pre .0) (start s .pre .2) in (omega arith, omega arith)
+held s = let below = intact-sweep (start s .pre .0) (start s .pre .2) in (omega arith, omega arith)
 
 -- Once the slot there is tested: the reading before, and that the test is the definition's.
 abbrev place : tie.After-is-reclaimable → tie.After-sweep
@@ -46,7 +46,7 @@ remove-at-requires c κs =
     let m = c .before .before .before in
     let s = place (test m) in
     let after = after-sweep (start s .pre .0) (m .set-sweep .kept .0) _ (m .set-sweep .ensures) in
-    (after .lent, rw (after .count) (held s .0))
+    (after .intact, rw (after .count) (held s .0))
 
 add-set-sweep : tie.Need-add-set-sweep
 add-set-sweep c = omega (arith, held (place (c .before .before)) .1)

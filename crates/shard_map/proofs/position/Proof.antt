@@ -3,7 +3,7 @@ use native.Mathlib.Omega.{arith}
 use mathlib.Core.Path.{_≡_, sym, _∙_}
 use mathlib.Core.List.{List}
 use Prim.Native.Nat.{ℕ, _-_}
-use Rattle.shard_map.proofs.ModelLaws.{placeFrom, place-hit, place-miss, place-end, place-start, lent-cap}
+use Rattle.shard_map.proofs.ModelLaws.{placeFrom, place-hit, place-miss, place-end, place-start, intact-cap}
 use Rattle.shard_map.specs.Layout.{shard}
 use Rattle.shard_map.specs.Model.{placeOf}
 use borrow.Author.Needs.{needs}
@@ -32,7 +32,7 @@ loop-holds c =
 is-key-at-requires : tie.Need-is-key-at-requires Inv-loop μ-loop
 is-key-at-requires c κs =
     let pre′ = c .before .before .before .before .pre in
-    (pre′, omega (arith, lent-cap pre′))
+    (pre′, omega (arith, intact-cap pre′))
 
 returns : tie.Need-returns Inv-loop μ-loop
 returns c =

@@ -1,7 +1,7 @@
 -- `remove_at` is the model's removal: its calls make the same stores, in the same order, and each call says what it stores.
 use Prim.Native.Nat.{_-_, _<_}
 use native.Mathlib.Omega.{arith}
-use Rattle.shard_map.proofs.ModelLaws.{lent-cap, remove-by-stores}
+use Rattle.shard_map.proofs.ModelLaws.{intact-cap, remove-by-stores}
 use borrow.Author.Needs.{needs}
 use Rattle.shard_map.proofs.remove_at.Statement.{statement}
 use Rattle.shard_map.proofs.remove_at.Tie as tie
@@ -11,7 +11,7 @@ abbrev start : tie.After-count → tie.Start
 start k = k .before .before .before
 
 below-cap : (k : tie.After-count) → let a = start k .args in (a .pos < a .cap) × (k .count .result - 1 < a .cap)
-below-cap k = let cap = lent-cap (start k .pre .0) in (omega arith, omega arith)
+below-cap k = let cap = intact-cap (start k .pre .0) in (omega arith, omega arith)
 
 -- The count, as seen once the last slot is in the gap.
 abbrev counting : tie.After-put → tie.After-count

@@ -1,20 +1,20 @@
 -- `sweep_idle` makes its looks one by one. The loop holds that the looks left, made from here, give what all of them give from the start.
 use Rattle.shard_map.specs.Model.{sweepIdle}
-use Rattle.shard_map.specs.Layout.{shard, Lent}
+use Rattle.shard_map.specs.Layout.{shard, Intact}
 use Rattle.bucket.specs.declared.BucketConfig.{BucketConfig}
 use Rattle.units.specs.declared.Millis.{Millis}
 use Rattle.units.specs.declared.Nanos.{Nanos}
 use Prim.Native.Nat.{ℕ, _<_}
 use mathlib.Core.List.{List}
 use mathlib.Core.Path.{_≡_, refl, sym, _∙_}
-use Rattle.shard_map.proofs.ModelLaws.{idle-look-sound, sweep-idle-turn, sweep-idle-end, sweep-idle-none, lent-after}
+use Rattle.shard_map.proofs.ModelLaws.{idle-look-sound, sweep-idle-turn, sweep-idle-end, sweep-idle-none, intact-after}
 use borrow.Author.Needs.{needs}
 use Rattle.shard_map.proofs.sweep_idle.Statement.{statement}
 use Rattle.shard_map.proofs.sweep_idle.Tie as tie
 
 -- The sweep from here, with the looks that are left, is the sweep from the start.
 record Sweeping (ws₀ : List ℕ) (cap : ℕ) (c : BucketConfig) (at : Nanos) (limit : Millis) (budget : ℕ) (ws : List ℕ) (left : ℕ) : Type 0 where
-  lent : Lent cap ws
+  intact : Intact cap ws
   same : sweepIdle c at limit left (shard cap ws) ≡ sweepIdle c at limit budget (shard cap ws₀)
 
 abbrev Inv-loop : tie.InvT-loop
@@ -31,7 +31,7 @@ look-left : (k : tie.After-count Inv-loop μ-loop) → 0 < place k .loop .left
 look-left k = k .before .before .loop-test .taken
 
 loop-holds : tie.Need-loop-holds Inv-loop μ-loop
-loop-holds c = record { lent = c .before .pre .0; same = refl }
+loop-holds c = record { intact = c .before .pre .0; same = refl }
 
 count-requires : tie.Need-count-requires Inv-loop μ-loop
 count-requires c κs = search needs
@@ -39,7 +39,7 @@ count-requires c κs = search needs
 idle-look-requires : tie.Need-idle-look-requires Inv-loop μ-loop
 idle-look-requires c κs =
     let l = place (c .before .before) in
-    (l .loop .inv .lent, l .before .before .pre .1, search needs)
+    (l .loop .inv .intact, l .before .before .pre .1, search needs)
 
 sub-left : tie.Need-sub-left Inv-loop μ-loop
 sub-left c = search needs
@@ -53,7 +53,7 @@ loop-again c =
     let k = look .before .before .before in
     let inv = place k .loop .inv in
     record {
-      lent = lent-after (inv .lent) (look .idle-look .kept .0) (look .idle-look .ensures) (idle-look-sound _ _ _ _ (inv .lent .sound));
+      intact = intact-after (inv .intact) (look .idle-look .kept .0) (look .idle-look .ensures) (idle-look-sound _ _ _ _ (inv .intact .sound));
       same = rw (look .idle-look .ensures) (sym (sweep-idle-turn _ _ _ _ _ (look-left k)) ∙ inv .same);
     }
 

@@ -1,84 +1,46 @@
--- `refund` goes by the key's place, as its definition does. A place that lookup found stands below the cap.
-use Prim.Native.Nat.{_<_}
-use mathlib.Core.Path.{_≡_, sym, _∙_}
-use Rattle.rows.specs.declared.Place.the-variants.{At}
-use Rattle.shard_map.specs.Layout.{shard, Lent}
-use Rattle.shard_map.specs.Model.{placeOf}
-use Rattle.store.proofs.ModelLaws.{found-below-cap, refund-with-slot, refund-without-slot}
+-- `refund` lends its part to the store, which gives the outcome on the shard in it.
+use Rattle.store.proofs.LendingLaws.{lent-starts, intact-of-sound, lent-answered}
+use Rattle.shard.specs.Model as OneShard
+use native.Mathlib.Omega.{arith}
 use borrow.Author.Needs.{needs}
 use Rattle.store.proofs.refund.Statement.{statement}
 use Rattle.store.proofs.refund.Tie as tie
 
--- Once a place is found: where the call began, that the key's slot stands there, and that the slots may be read and stored there.
-abbrev start : tie.After-pos → tie.Start
-start p = p .before .before .before .before .before
+mul-refund : tie.Need-mul-refund
+mul-refund c =
+    let start′ = c .before in
+    record { fits = omega (arith, start′ .pre .0 .within, lent-starts (start′ .pre .0)) }
 
-found : (p : tie.After-pos) → let a = start p .args in placeOf (shard (a .cap) (a .ws .now)) (a .id .hash) (a .id .key) ≡ At (p .pos .given .0 .0)
-found p = sym (p .before .before .position .ensures) ∙ p .pos .given .1
+sub-refund : tie.Need-sub-refund
+sub-refund c = lent-starts (c .before .pre .0)
 
-may-be-read : (p : tie.After-pos) → let a = start p .args in Lent (a .cap) (a .ws .now) × (p .pos .given .0 .0 < a .cap)
-may-be-read p = let lent = start p .pre .0 in (lent, found-below-cap _ _ _ lent (found p))
+part-refund-start : tie.Need-part-refund-start
+part-refund-start c = lent-starts (c .before .pre .0)
 
--- The finding, as seen once the bucket is put into the slot.
-abbrev finding : tie.After-with-bucket → tie.After-pos
-finding w = w .before .before .before .before .before .before .before
-
-position-requires : tie.Need-position-requires
-position-requires c κs = search needs
-
-enum-known-pos : tie.Need-enum-known-pos
-enum-known-pos c = search needs
-
-get-requires : tie.Need-get-requires
-get-requires c κs = may-be-read (c .before .before)
+part-refund-end : tie.Need-part-refund-end
+part-refund-end c = c .before .pre .0 .within
 
 refund-requires : tie.Need-refund-requires
-refund-requires c κs = search needs
-
-with-bucket-requires : tie.Need-with-bucket-requires
-with-bucket-requires c κs = search needs
-
-set-requires : tie.Need-set-requires
-set-requires c κs = may-be-read (finding c)
-
-enum-told : tie.Need-enum-told
-enum-told c = search needs
-
-pay-down-requires : tie.Need-pay-down-requires
-pay-down-requires c κs = search needs
+refund-requires c κs =
+    let start′ = c .before .before in
+    (intact-of-sound (start′ .pre .0) (start′ .pre .1), start′ .pre .2)
 
 same-length : tie.Need-same-length
 same-length c = search needs
 
 returns : tie.Need-returns
 returns c =
-    let s = c .before .before in
-    let w = s .before in
-    let read = w .before .before .before .before .get .ensures in
-    rw (s .set .ensures, w .with-bucket .ensures, w .before .refund .ensures) (refund-with-slot _ _ _ _ _ (found (finding w)) read)
-
-same-length-2 : tie.Need-same-length-2
-same-length-2 c = search needs
-
-returns-2 : tie.Need-returns-2
-returns-2 c =
-    let told = c .before .before .before .before in
-    let missed = sym (told .before .before .position .ensures) ∙ told .enum-told .given .1 in
-    c .before .before .pay-down .ensures ∙ refund-without-slot _ _ _ _ missed
+    let refund′ = c .before .before .refund in
+    lent-answered (c .before .before .before .before .before .pre .0) (OneShard.refunded _ _ _) _ (refund′ .kept .0) (refund′ .ensures)
 
 pub refund-spec : {M : Type 1} → statement M
 refund-spec =
     tie.close
     (tie.spec
-    position-requires
-    enum-known-pos
-    get-requires
+    mul-refund
+    sub-refund
+    part-refund-start
+    part-refund-end
     refund-requires
-    with-bucket-requires
-    set-requires
-    enum-told
-    pay-down-requires
     same-length
-    returns
-    same-length-2
-    returns-2)
+    returns)

@@ -1,79 +1,46 @@
--- `remove` goes by the key's place, which is looked up before the debt is taken out. Taking a debt out leaves the slots as they are.
-use mathlib.Core.Path.{_≡_, sym, _∙_}
-use Rattle.rows.specs.declared.Place.the-variants.{At}
-use Rattle.shard_map.specs.Layout.{shard}
-use Rattle.shard_map.specs.Model.{placeOf}
-use Rattle.store.proofs.ModelLaws.{lent-after-taking, taking-keeps-held, remove-with-slot, remove-without-slot}
+-- `remove` lends its part to the store, which gives the outcome on the shard in it.
+use Rattle.store.proofs.LendingLaws.{lent-starts, intact-of-sound, lent-answered}
+use Rattle.shard.specs.Model as OneShard
+use native.Mathlib.Omega.{arith}
 use borrow.Author.Needs.{needs}
 use Rattle.store.proofs.remove.Statement.{statement}
 use Rattle.store.proofs.remove.Tie as tie
 
--- Once the debt is taken out: where the call began, and the lookup before it.
-abbrev lookup : tie.After-take → tie.After-position
-lookup t = t .before .before
+mul-remove : tie.Need-mul-remove
+mul-remove c =
+    let start′ = c .before in
+    record { fits = omega (arith, start′ .pre .0 .within, lent-starts (start′ .pre .0)) }
 
-abbrev start : tie.After-take → tie.Start
-start t = lookup t .before .before .before
+sub-remove : tie.Need-sub-remove
+sub-remove c = lent-starts (c .before .pre .0)
 
--- Where a place was found: the taking out before, and that the key's slot stands there.
-abbrev taking : tie.After-place → tie.After-take
-taking p = p .before .before .before .before
+part-remove-start : tie.Need-part-remove-start
+part-remove-start c = lent-starts (c .before .pre .0)
 
-found : (p : tie.After-place) → let a = start (taking p) .args in
-    placeOf (shard (a .cap) (a .ws .now)) (a .id .hash) (a .id .key) ≡ At (p .place .given .0 .0)
-found p = sym (lookup (taking p) .position .ensures) ∙ p .place .given .1
+part-remove-end : tie.Need-part-remove-end
+part-remove-end c = c .before .pre .0 .within
 
-position-requires : tie.Need-position-requires
-position-requires c κs = search needs
-
-take-requires : tie.Need-take-requires
-take-requires c κs = search needs
-
-enum-known-place : tie.Need-enum-known-place
-enum-known-place c = search needs
-
-remove-at-requires : tie.Need-remove-at-requires
-remove-at-requires c κs =
-    let p = c .before .before in
-    let t = taking p in
-    let id = start t .args .id in
-    (lent-after-taking (start t .pre) (t .take .kept .0) id (t .take .ensures), taking-keeps-held id _ (t .take .ensures) _ (found p))
-
-enum-told : tie.Need-enum-told
-enum-told c = search needs
-
-had-requires : tie.Need-had-requires
-had-requires c κs = search needs
+remove-requires : tie.Need-remove-requires
+remove-requires c κs =
+    let start′ = c .before .before in
+    intact-of-sound (start′ .pre .0) (start′ .pre .1)
 
 same-length : tie.Need-same-length
 same-length c = search needs
 
 returns : tie.Need-returns
 returns c =
-    let r = c .before .before in
-    let p = r .before .before .before in
-    rw (r .remove-at .ensures) (remove-with-slot _ _ (taking p .take .ensures) _ (found p))
-
-same-length-2 : tie.Need-same-length-2
-same-length-2 c = search needs
-
-returns-2 : tie.Need-returns-2
-returns-2 c =
-    let t = c .before .before .before .before .before in
-    let missed = sym (lookup t .position .ensures) ∙ c .before .enum-told .given .1 in
-    rw (c .had .ensures) (remove-without-slot _ _ (t .take .ensures) missed)
+    let remove′ = c .before .before .remove in
+    lent-answered (c .before .before .before .before .before .pre .0) (OneShard.removed _) _ (remove′ .kept .0) (remove′ .ensures)
 
 pub remove-spec : {M : Type 1} → statement M
 remove-spec =
     tie.close
     (tie.spec
-    position-requires
-    take-requires
-    enum-known-place
-    remove-at-requires
-    enum-told
-    had-requires
+    mul-remove
+    sub-remove
+    part-remove-start
+    part-remove-end
+    remove-requires
     same-length
-    returns
-    same-length-2
-    returns-2)
+    returns)

@@ -1,51 +1,31 @@
--- `view` goes by the key's place, as its definition does. A place that lookup found stands below the cap.
-use mathlib.Core.Path.{sym, _∙_}
-use Rattle.store.proofs.OwnBucketLaws.{view-of-slot, view-without-slot}
-use Rattle.store.proofs.ModelLaws.{found-below-cap}
-use borrow.Author.Needs.{needs}
+-- `view` lends its part to the store, to read only.
+use Rattle.store.proofs.LendingLaws.{lent-starts, lent-shard, intact-of-sound}
+use native.Mathlib.Omega.{arith}
 use Rattle.store.proofs.view.Statement.{statement}
 use Rattle.store.proofs.view.Tie as tie
 
-position-requires : tie.Need-position-requires
-position-requires c κs = search needs
+mul-view : tie.Need-mul-view
+mul-view c =
+    let start′ = c .before in
+    record { fits = omega (arith, start′ .pre .0 .within, lent-starts (start′ .pre .0)) }
 
-enum-known-pos : tie.Need-enum-known-pos
-enum-known-pos c = search needs
+sub-view : tie.Need-sub-view
+sub-view c = lent-starts (c .before .pre .0)
 
-get-requires : tie.Need-get-requires
-get-requires c κs =
-    let pre′ = c .before .before .before .before .before .pre in
-    let found = sym (c .before .before .before .position .ensures) ∙ c .before .pos .given .1 in
-    (pre′ .0, found-below-cap _ _ _ (pre′ .0) found)
+part-view-start : tie.Need-part-view-start
+part-view-start c = lent-starts (c .before .pre .0)
 
-enum-told : tie.Need-enum-told
-enum-told c = search needs
+part-view-end : tie.Need-part-view-end
+part-view-end c = c .before .pre .0 .within
 
-owed-by-requires : tie.Need-owed-by-requires
-owed-by-requires c κs = search needs
-
-returning-requires : tie.Need-returning-requires
-returning-requires c κs = search needs
+view-requires : tie.Need-view-requires
+view-requires c κs =
+    let start′ = c .before .before in
+    (intact-of-sound (start′ .pre .0) (start′ .pre .1), start′ .pre .2)
 
 returns : tie.Need-returns
-returns c =
-    let found = sym (c .before .before .before .before .before .position .ensures) ∙ c .before .before .before .pos .given .1 in
-    rw (c .before .get .ensures) (sym (view-of-slot _ _ _ _ _ found))
-
-returns-2 : tie.Need-returns-2
-returns-2 c =
-    let missed = sym (c .before .before .before .before .position .ensures) ∙ c .before .before .enum-told .given .1 in
-    rw (c .returning .ensures, c .before .owed-by .ensures) (sym (view-without-slot _ _ _ _ missed))
+returns c = rw (lent-shard (c .before .before .before .pre .0)) at (c .view .ensures)
 
 pub view-spec : {M : Type 1} → statement M
 view-spec =
-    tie.close
-    (tie.spec
-    position-requires
-    enum-known-pos
-    get-requires
-    enum-told
-    owed-by-requires
-    returning-requires
-    returns
-    returns-2)
+    tie.close (tie.spec mul-view sub-view part-view-start part-view-end view-requires returns)

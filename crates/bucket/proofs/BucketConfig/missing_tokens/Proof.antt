@@ -1,5 +1,5 @@
 -- `missing_tokens` meets its contract: whole periods come out of the round-up exactly, and the rest of a period times the amount fits.
-use Rattle.bucket.proofs.DebtLaws.{missing-held, rest-product-fits}
+use Rattle.bucket.proofs.DebtLaws.{missing-saturated, rest-product-fits}
 use borrow.Author.Needs.{needs}
 use Rattle.bucket.proofs.BucketConfig.missing_tokens.Statement.{statement}
 use Rattle.bucket.proofs.BucketConfig.missing_tokens.Tie as tie
@@ -28,7 +28,7 @@ saturating-add-requires c κs = search needs
 returns : tie.Need-returns
 returns c =
     rw (c .saturating-add .ensures, c .before .div-ceil .ensures, c .before .before .before .before .saturating-mul .ensures)
-    (missing-held _ (c .before .before .before .before .before .before .pre))
+    (missing-saturated _ (c .before .before .before .before .before .before .pre))
 
 pub missing-tokens-spec : {M : Type 1} → statement M
 missing-tokens-spec =

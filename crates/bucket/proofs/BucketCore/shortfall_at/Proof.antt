@@ -1,5 +1,5 @@
 -- `shortfall_at` meets its contract: a fall held to 64 bits lowers a shortfall below 2^64 as the whole fall does.
-use Rattle.bucket.proofs.BucketLaws.{shortfall-by-held}
+use Rattle.bucket.proofs.BucketLaws.{shortfall-by-saturated}
 use borrow.Author.Needs.{needs}
 use Rattle.bucket.proofs.BucketCore.shortfall_at.Statement.{statement}
 use Rattle.bucket.proofs.BucketCore.shortfall_at.Tie as tie
@@ -20,7 +20,7 @@ returns : tie.Need-returns
 returns c =
     let read = c .before .before .before in
     rw (c .saturating-sub2 .ensures, c .before .saturating-mul .ensures, c .before .before .saturating-sub .ensures, read .read-shortfall .ensures)
-    (shortfall-by-held _ _ (read .before .pre))
+    (shortfall-by-saturated _ _ (read .before .pre))
 
 pub shortfall-at-spec : {M : Type 1} → statement M
 shortfall-at-spec =

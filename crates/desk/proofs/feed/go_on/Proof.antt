@@ -10,10 +10,10 @@ use Rattle.desk.proofs.feed.go_on.Statement.{statement}
 use Rattle.desk.proofs.feed.go_on.Tie as tie
 
 abbrev Inv-loop : tie.InvT-loop
-Inv-loop input₀ held₀ output₀ memory₀ feed₀ turns₀ input held output memory feed turns = GoingOn input₀ held₀ output₀ memory₀ feed₀ input held output memory feed turns
+Inv-loop input₀ pending₀ output₀ memory₀ feed₀ turns₀ input pending output memory feed turns = GoingOn input₀ pending₀ output₀ memory₀ feed₀ input pending output memory feed turns
 
 abbrev μ-loop : tie.MeasureT-loop
-μ-loop input₀ held₀ output₀ memory₀ feed₀ turns₀ input held output memory feed turns = 2 ^ 64 - turns
+μ-loop input₀ pending₀ output₀ memory₀ feed₀ turns₀ input pending output memory feed turns = 2 ^ 64 - turns
 
 -- Where the call began, from the loop's head; the loop's head, once more was read; that read, once it is known to have brought bytes; where that is known,
 -- once they are turned; and the turn, once what it printed is to be written.
@@ -32,9 +32,9 @@ known t = t .before .before .before .before .before
 abbrev turned : tie.After-flush-arg Inv-loop μ-loop → tie.After-turn Inv-loop μ-loop
 turned w = w .before .before .before .before .before .before .before .before
 
--- The bytes that the read brought come after those that were held, and lie within the input.
+-- The bytes that the read brought come after those that were pending, and lie within the input.
 grown : (g : tie.After-got Inv-loop μ-loop) → let end = g .got .given .0 .0 in let loop′ = turn-head (read g) .loop in
-    (loop′ .held ≤ end) × (end ≤ length (loop′ .input))
+    (loop′ .pending ≤ end) × (end ≤ length (loop′ .input))
 grown g = let r = g .before .before .before .before in rw (g .got .given .1) at (r .read-more .ensures .0)
 
 loop-holds : tie.Need-loop-holds Inv-loop μ-loop
@@ -79,7 +79,7 @@ returns c =
     let end = c .before .before .before .before in
     let r = end .before .before .before .before .before .before .before .before in
     let loop′ = turn-head r .loop in
-    over-at-end (loop′ .held) (loop′ .input) (loop′ .feed) (loop′ .inv .far) _ (r .read-more .ensures .1) (end .finish .ensures)
+    over-at-end (loop′ .pending) (loop′ .input) (loop′ .feed) (loop′ .inv .far) _ (r .read-more .ensures .1) (end .finish .ensures)
 
 enum-told-2 : tie.Need-enum-told-2 Inv-loop μ-loop
 enum-told-2 c = search needs
@@ -96,7 +96,7 @@ same-length-6 c = search needs
 returns-2 : tie.Need-returns-2 Inv-loop μ-loop
 returns-2 c =
     let loop′ = c .before .before .before .before .before .before .before .loop in
-    over-by-read (loop′ .held) (loop′ .input) (loop′ .feed) (loop′ .inv .far) (loop′ .inv .more)
+    over-by-read (loop′ .pending) (loop′ .input) (loop′ .feed) (loop′ .inv .far) (loop′ .inv .more)
 
 flush-requires : tie.Need-flush-requires Inv-loop μ-loop
 flush-requires c κs = omega (arith, turned c .turn .ensures .fits)
@@ -167,7 +167,7 @@ same-length-15 c = search needs
 returns-5 : tie.Need-returns-5 Inv-loop μ-loop
 returns-5 c =
     let loop′ = c .before .loop in
-    over-by-turns (loop′ .held) (loop′ .input) (loop′ .feed) (loop′ .inv .far) (loop′ .inv .more)
+    over-by-turns (loop′ .pending) (loop′ .input) (loop′ .feed) (loop′ .inv .far) (loop′ .inv .more)
 
 pub go-on-spec : {M : Type 1} → statement M
 go-on-spec =

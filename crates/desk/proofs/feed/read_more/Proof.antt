@@ -1,4 +1,4 @@
--- `read_more` changes the input after the bytes that are held alone, and tells of no more bytes than there is room for.
+-- `read_more` changes the input after the bytes that are pending alone, and tells of no more bytes than there is room for.
 use Rattle.desk.proofs.ReadLaws.{grows}
 use borrow.Rule.Slice.PartMut.{take-put}
 use lib.ListN.{length}
@@ -48,7 +48,7 @@ same-length c = search needs
 returns : tie.Need-returns
 returns c =
     let a = start (c .before .before .before .before .before .before .before) .args in
-    let inside : a .held ≤ length (a .input .now) = omega arith in
+    let inside : a .pending ≤ length (a .input .now) = omega arith in
     (rw (c .brought .ensures) (grows _ _ _ _ _ (omega arith)), rw take-put)
 
 pub read-more-spec : {M : Type 1} → statement M

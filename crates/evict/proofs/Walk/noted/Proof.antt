@@ -14,11 +14,11 @@ owing e = sym (e .before .is-lossless .ensures) ∙ e .if1 .left
 is-lossless-requires : tie.Need-is-lossless-requires
 is-lossless-requires c κs = search needs
 
-first-of-requires : tie.Need-first-of-requires
-first-of-requires c κs = search needs
+first-noted-requires : tie.Need-first-noted-requires
+first-noted-requires c κs = search needs
 
 returns : tie.Need-returns
-returns c = let t = c .before in rw (c .first-of .ensures) (noted-full _ _ _ _ _ (sym (t .before .is-lossless .ensures) ∙ t .if1 .taken))
+returns c = let t = c .before in rw (c .first-noted .ensures) (noted-full _ _ _ _ _ (sym (t .before .is-lossless .ensures) ∙ t .if1 .taken))
 
 recovers-in-requires : tie.Need-recovers-in-requires
 recovers-in-requires c κs = search needs
@@ -26,14 +26,14 @@ recovers-in-requires c κs = search needs
 smaller-requires : tie.Need-smaller-requires
 smaller-requires c κs = search needs
 
-first-of-requires-2 : tie.Need-first-of-requires-2
-first-of-requires-2 c κs = search needs
+first-noted-requires-2 : tie.Need-first-noted-requires-2
+first-noted-requires-2 c κs = search needs
 
 returns-2 : tie.Need-returns-2
 returns-2 c =
     let t = c .before in
     let s = t .before .before in
-    rw (c .first-of2 .ensures, s .smaller .ensures, s .before .recovers-in .ensures) (noted-unmarked _ _ _ _ _ (owing (s .before .before)) (t .if2 .taken))
+    rw (c .first-noted2 .ensures, s .smaller .ensures, s .before .recovers-in .ensures) (noted-unmarked _ _ _ _ _ (owing (s .before .before)) (t .if2 .taken))
 
 returns-3 : tie.Need-returns-3
 returns-3 c =
@@ -45,10 +45,10 @@ noted-spec =
     tie.close
     (tie.spec
     is-lossless-requires
-    first-of-requires
+    first-noted-requires
     returns
     recovers-in-requires
     smaller-requires
-    first-of-requires-2
+    first-noted-requires-2
     returns-2
     returns-3)

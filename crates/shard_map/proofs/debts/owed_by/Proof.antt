@@ -1,5 +1,5 @@
 -- `debts::owed_by` gives what the ledger's own function gives for its part of the words.
-use Rattle.shard_map.proofs.ModelLaws.{lent-ledger}
+use Rattle.shard_map.proofs.ModelLaws.{intact-ledger}
 use Rattle.shard_map.proofs.LayoutLaws.{ledger-lent}
 use borrow.Author.Needs.{needs}
 use Rattle.shard_map.proofs.debts.owed_by.Statement.{statement}
@@ -24,7 +24,7 @@ part-owed-by-end : tie.Need-part-owed-by-end
 part-owed-by-end c = search needs
 
 owed-by-requires : tie.Need-owed-by-requires
-owed-by-requires c κs = lent-ledger (c .before .before .pre)
+owed-by-requires c κs = intact-ledger (c .before .before .pre)
 
 returns : tie.Need-returns
 returns c = rw (ledger-lent _ _ (c .before .before .before .pre .size)) at (c .owed-by .ensures)

@@ -1,5 +1,5 @@
 -- `debts::pay_down` does to the ledger's part of the words what the ledger's own function does, and nothing to the rest.
-use Rattle.shard_map.proofs.ModelLaws.{lent-ledger}
+use Rattle.shard_map.proofs.ModelLaws.{intact-ledger}
 use Rattle.shard_map.proofs.LayoutLaws.{ledger-lent, ledger-answered}
 use borrow.Author.Needs.{needs}
 use Rattle.shard_map.proofs.debts.pay_down.Statement.{statement}
@@ -26,7 +26,7 @@ part-pay-down-end c = search needs
 pay-down-requires : tie.Need-pay-down-requires
 pay-down-requires c κs =
     let pre′ = c .before .before .pre in
-    (lent-ledger (pre′ .0), pre′ .1)
+    (intact-ledger (pre′ .0), pre′ .1)
 
 same-length : tie.Need-same-length
 same-length c = search needs

@@ -1,5 +1,5 @@
 -- `debts::record` does to the ledger's part of the words what the ledger's own function does, and nothing to the rest.
-use Rattle.shard_map.proofs.ModelLaws.{lent-ledger}
+use Rattle.shard_map.proofs.ModelLaws.{intact-ledger}
 use Rattle.shard_map.proofs.LayoutLaws.{ledger-lent, ledger-answered}
 use borrow.Author.Needs.{needs}
 use Rattle.shard_map.proofs.debts.record.Statement.{statement}
@@ -24,7 +24,7 @@ part-record-end : tie.Need-part-record-end
 part-record-end c = search needs
 
 record-requires : tie.Need-record-requires
-record-requires c κs = lent-ledger (c .before .before .pre)
+record-requires c κs = intact-ledger (c .before .before .pre)
 
 same-length : tie.Need-same-length
 same-length c = search needs

@@ -1,5 +1,5 @@
 -- `debts::sweep` does to the ledger's part of the words what the ledger's own function does, and nothing to the rest.
-use Rattle.shard_map.proofs.ModelLaws.{lent-ledger}
+use Rattle.shard_map.proofs.ModelLaws.{intact-ledger}
 use Rattle.shard_map.proofs.LayoutLaws.{ledger-lent, ledger-back}
 use borrow.Author.Needs.{needs}
 use Rattle.shard_map.proofs.debts.sweep.Statement.{statement}
@@ -24,7 +24,7 @@ part-sweep-end : tie.Need-part-sweep-end
 part-sweep-end c = search needs
 
 sweep-requires : tie.Need-sweep-requires
-sweep-requires c κs = lent-ledger (c .before .before .pre)
+sweep-requires c κs = intact-ledger (c .before .before .pre)
 
 same-length : tie.Need-same-length
 same-length c = search needs

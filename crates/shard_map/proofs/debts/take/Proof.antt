@@ -1,5 +1,5 @@
 -- `debts::take` does to the ledger's part of the words what the ledger's own function does, and nothing to the rest.
-use Rattle.shard_map.proofs.ModelLaws.{lent-ledger}
+use Rattle.shard_map.proofs.ModelLaws.{intact-ledger}
 use Rattle.shard_map.proofs.LayoutLaws.{ledger-lent, ledger-answered}
 use borrow.Author.Needs.{needs}
 use Rattle.shard_map.proofs.debts.take.Statement.{statement}
@@ -24,7 +24,7 @@ part-take-end : tie.Need-part-take-end
 part-take-end c = search needs
 
 take-requires : tie.Need-take-requires
-take-requires c κs = lent-ledger (c .before .before .pre)
+take-requires c κs = intact-ledger (c .before .before .pre)
 
 same-length : tie.Need-same-length
 same-length c = search needs

@@ -1,0 +1,61 @@
+-- What an eviction leaves of a shard that fits 64 bits fits, at an accepted rate and at a moment that is not too late.
+use Prim.Native.Nat.{ℕ, zero, suc, _<_, _≤_, _^_}
+use mathlib.Core.Path.{refl}
+use mathlib.Core.Bool.{Bool}
+use native.Mathlib.Omega.{arith}
+use Rattle.units.specs.declared.Nanos.{Nanos}
+use Rattle.bucket.specs.declared.BucketConfig.{BucketConfig}
+use Rattle.bucket.specs.Bucket.{Accepted}
+use Rattle.rows.specs.Outcome.{Outcome}
+use Rattle.slot.specs.declared.Slot.{Slot}
+use Rattle.slot.specs.Slot.{withMark}
+use Rattle.shard_map.specs.Model.{Shard, Sound, slotAt, withLedger, handOf}
+use Rattle.evict.specs.declared.Room.{Room}
+use Rattle.evict.specs.declared.Walk.{Walk}
+use Rattle.evict.specs.Evict.{nothingNoted, noted, looked, goesAtOnce, Walked, walkFrom, walked, evictAt, debtLeft, evicted}
+use Rattle.evict.proofs.ModelLaws.{debt-fits}
+use Rattle.evict.proofs.WalkLaws.{debtRecorded, Evicting, full-goes, owing-goes, none-goes, evict-cases}
+use Rattle.demands.proofs.EveryLaws.{of-either}
+use Rattle.demands.proofs.WordFits.{next-place-fits}
+use Rattle.demands.proofs.LedgerFits.{DebtFits, recorded-fits}
+use Rattle.demands.proofs.ShardFits.{SlotFits, ShardFits, slot-at-fits, changed-slot-fits, removed-slot-fits, moved-hand-fits, changed-ledger-fits}
+
+-- The walk of the hand.
+looked-fits : (s : Shard) → ShardFits s → ShardFits (looked s (handOf s))
+looked-fits s f =
+    let old : SlotFits (slotAt s (handOf s)) = slot-at-fits s f (handOf s) in
+    let unmarked : SlotFits (withMark (slotAt s (handOf s)) 0) =
+    record { hash = old .hash; key = old .key; bucket = old .bucket; mark = omega arith; seen = old .seen } in
+    moved-hand-fits _ (changed-slot-fits s f (handOf s) _ unmarked) _ (next-place-fits (s .hand) (s .slots .count) (f .slots .count))
+
+walk-from-fits : (c : BucketConfig) (at : Nanos) (left : ℕ) (s : Shard) (w : Walk) → ShardFits s → ShardFits (walkFrom c at left s w .after)
+unfolding walkFrom
+walk-from-fits c at zero s w f = f
+walk-from-fits c at (suc left) s w f =
+    of-either (λ (o : Walked). ShardFits (o .after)) (goesAtOnce c at (slotAt s (handOf s))) _
+    (walkFrom c at left (looked s (handOf s)) (noted c at w (handOf s) (slotAt s (handOf s))))
+    (looked-fits s f) (walk-from-fits c at left _ _ (looked-fits s f))
+
+walked-fits : (c : BucketConfig) (at : Nanos) (s : Shard) → ShardFits s → ShardFits (walked c at s .after)
+unfolding walked
+walked-fits c at s f = walk-from-fits c at _ s nothingNoted f
+
+-- The slot at p goes, and the hand steps past it.
+evicted-at-fits : (s : Shard) (p : ℕ) → p < s .slots .count → ShardFits s → ShardFits (evictAt s p)
+evicted-at-fits s p below f = moved-hand-fits _ (removed-slot-fits s f p) _ (omega (arith, f .slots .count))
+
+-- An eviction: the debt that a slot leaves fits too.
+module _ (c : BucketConfig) (at : Nanos) (forget : Bool) (a : Accepted c) (early : at .0 ≤ 2 ^ 62) where
+  debt-left-fits : (slot : Slot) → SlotFits slot → DebtFits (debtLeft c at slot)
+  debt-left-fits slot f = record { hash = f .hash; settles = debt-fits (slot .bucket) at a early refl }
+
+  debt-recorded-fits : (s : Shard) (p : ℕ) → ShardFits s → ShardFits (withLedger s (debtRecorded c at forget s p .after))
+  debt-recorded-fits s p f = changed-ledger-fits s f _ (recorded-fits (s .ledger) _ at forget (debt-left-fits _ (slot-at-fits s f p)) (f .ledger))
+
+  ended-fits : {s : Shard} {o : Outcome Room Shard} → ShardFits s → Evicting c at forget s o → ShardFits (o .after)
+  ended-fits {s} f (full-goes p full) = evicted-at-fits s p (full .below) f
+  ended-fits {s} f (owing-goes p below done) = evicted-at-fits _ p below (debt-recorded-fits s p f)
+  ended-fits {s} f (none-goes p wait ledger-wait below told least) = debt-recorded-fits s p f
+
+  pub evicted-fits : (s : Shard) → Sound s → 0 < s .slots .count → ShardFits s → ShardFits (evicted c at forget s .after)
+  evicted-fits s u some f = ended-fits (walked-fits c at s f) (evict-cases c at forget s u some)

@@ -1,0 +1,86 @@
+-- A shard that is read from words that fit 64 bits fits, and one that fits is written as words that fit.
+use Prim.Native.Nat.{ℕ, _*_}
+use mathlib.Core.List.{List, map}
+use native.Mathlib.Omega.{arith}
+use lib.ListN.{getD}
+use Rattle.rows.specs.Segments.{segment}
+use Rattle.rows.specs.Rows.{rows, unrow}
+use Rattle.rows.specs.Layout.{heldIn}
+use Rattle.rows.proofs.LayoutLaws.{held-length}
+use Rattle.slot.specs.declared.Slot.{Slot}
+use Rattle.ledger.specs.declared.Debt.{Debt}
+use Rattle.ledger.specs.Model.{Ledger}
+use Rattle.ledger.specs.Layout as Debts
+use Rattle.shard_map.specs.Model.{Shard}
+use Rattle.shard_map.specs.Layout.{slotOf, slotWords, ledgerStart, shard, wordsOf}
+use Rattle.perkey.specs.Calls.{Every}
+use Rattle.demands.proofs.EveryLaws.{of-item, every-joined, every-made, every-in-part, every-in-rows, every-of-rows}
+use Rattle.demands.proofs.WordFits.{Word, HeldFits}
+use Rattle.demands.proofs.LedgerFits.{DebtFits, LedgerFits}
+use Rattle.demands.proofs.ShardFits.{SlotFits, ShardFits}
+
+-- A word that is read from words that fit, also past their end.
+word-fits : (ws : List ℕ) (i : ℕ) → Every Word ws → Word (getD ws i 0)
+word-fits ws i every = of-item Word ws i 0 (omega arith) every
+
+-- Held items, a slot, a debt, a ledger and a shard, read from words that fit.
+held-read-fits : {A : Type 0} (Q : A → Type 0) (read : List ℕ → A) (width cap at first : ℕ) (ws : List ℕ)
+    → ((row : List ℕ) → Every Word row → Q (read row)) → Word cap → Every Word ws → HeldFits Q (heldIn read width cap at first ws)
+unfolding heldIn
+held-read-fits Q read width cap at first ws reads room every =
+    let own : List ℕ = segment first (width * cap) ws in
+    record {
+      count = word-fits ws at every;
+      room = rw (held-length read width cap at first ws) room;
+      items = every-made (Every Word) Q read reads (rows width cap own) (every-in-rows Word width cap own (every-in-part Word first (width * cap) ws every));
+    }
+
+slot-read-fits : (row : List ℕ) → Every Word row → SlotFits (slotOf row)
+slot-read-fits row every = record {
+  hash = word-fits row 0 every;
+  key = word-fits row 1 every;
+  bucket = record { shortfall = word-fits row 2 every; stamp = word-fits row 3 every };
+  mark = word-fits row 4 every;
+  seen = word-fits row 5 every;
+}
+
+debt-read-fits : (row : List ℕ) → Every Word row → DebtFits (Debts.debtOf row)
+debt-read-fits row every = record { hash = word-fits row 0 every; settles = word-fits row 1 every }
+
+ledger-read-fits : (cap : ℕ) (ws : List ℕ) → Word cap → Every Word ws → LedgerFits (Debts.ledger cap ws)
+unfolding Debts.ledger
+ledger-read-fits cap ws room every = record {
+  debts = held-read-fits DebtFits Debts.debtOf 2 cap 0 2 ws debt-read-fits room every;
+  cursor = word-fits ws 1 every;
+}
+
+pub shard-read-fits : (cap : ℕ) (ws : List ℕ) → Word cap → Every Word ws → ShardFits (shard cap ws)
+unfolding shard
+shard-read-fits cap ws room every = record {
+  slots = held-read-fits SlotFits slotOf 6 cap 0 3 ws slot-read-fits room every;
+  hand = word-fits ws 1 every;
+  sweep = word-fits ws 2 every;
+  ledger = ledger-read-fits cap _ room (every-in-part Word (ledgerStart cap) (Debts.ledgerWords cap) ws every);
+}
+
+-- The words of each, where it fits.
+slot-words-fit : (slot : Slot) → SlotFits slot → Every Word (slotWords slot)
+slot-words-fit slot f = (f .hash, (f .key, (f .bucket .shortfall, (f .bucket .stamp, (f .mark, (f .seen, tt))))))
+
+debt-words-fit : (d : Debt) → DebtFits d → Every Word (Debts.debtWords d)
+debt-words-fit d f = (f .hash, (f .settles, tt))
+
+items-written-fit : {A : Type 0} (Q : A → Type 0) (write : A → List ℕ) → ((x : A) → Q x → Every Word (write x)) → (items : List A) → Every Q items
+    → Every Word (unrow (map write items))
+items-written-fit Q write writes items every = every-of-rows Word (map write items) (every-made Q (Every Word) write writes items every)
+
+ledger-words-fit : (l : Ledger) → LedgerFits l → Every Word (Debts.wordsOf l)
+unfolding Debts.wordsOf
+ledger-words-fit l f = (f .debts .count, (f .cursor, items-written-fit DebtFits Debts.debtWords debt-words-fit (l .debts .places) (f .debts .items)))
+
+pub shard-words-fit : (s : Shard) → ShardFits s → Every Word (wordsOf s)
+unfolding wordsOf
+shard-words-fit s f =
+    let slots = items-written-fit SlotFits slotWords slot-words-fit (s .slots .places) (f .slots .items) in
+    let both = every-joined Word (unrow (map slotWords (s .slots .places))) (Debts.wordsOf (s .ledger)) slots (ledger-words-fit (s .ledger) (f .ledger)) in
+    (f .slots .count, (f .hand, (f .sweep, both)))

@@ -1,0 +1,217 @@
+-- What one call does to what is held against one key (h, k). The key's own request keeps the invariant: the shard has at most one slot or debt of hash h,
+-- and what that lacks bounds the grants so far. A request, a refund or a removal for another hash loses nothing that is held.
+use Prim.Native.Nat.{ℕ, _≤_, _<_, _^_}
+use mathlib.Core.Path.{_≡_, refl, sym, _∙_}
+use mathlib.Core.Bool.{Bool, false}
+use mathlib.Core.List.{List, []}
+use native.Mathlib.Omega.{arith}
+use Rattle.units.specs.declared.Nanos.{Nanos}
+use Rattle.units.specs.declared.OptionNanos.{OptionNanos}
+use Rattle.bucket.specs.declared.BucketConfig.{BucketConfig}
+use Rattle.bucket.specs.declared.BucketCore.{BucketCore}
+use Rattle.bucket.specs.declared.Request.{Request}
+use Rattle.bucket.specs.Bucket.{Accepted, shortfallAt, longestWait, asked}
+use Rattle.rows.specs.declared.Place.the-variants.{Nowhere}
+use Rattle.rows.specs.Outcome.{Outcome}
+use Rattle.slot.specs.declared.Slot.{Slot}
+use Rattle.ledger.specs.Model as Ledger
+use Rattle.ledger.proofs.KeptLaws as Debts
+use Rattle.shard_map.specs.Model.{Shard, Sound, capOf, slotAt, withSlot, withLedger, placeOf, removeAt, insert}
+use Rattle.shard_map.proofs.StepLaws.{Holding}
+use Rattle.shard_map.proofs.KeptLaws.{weight, unpaid, count, shortage, weight-own, weight-other, short-own, short-other, empty-has-nothing, count-removed}
+use Rattle.shard_map.proofs.KeptLaws.{shortage-removed, count-inserted, shortage-inserted, count-stored, shortage-stored, Keeps, keeps-trans, later-keeps-line}
+use Rattle.shard_map.proofs.KeptLaws.{nowhere-weighs-nothing, nowhere-holds-the-debt, OneSlot, one-slot-is-all}
+use Rattle.evict.specs.declared.Room.the-variants.{Made}
+use Rattle.shard.specs.declared.Answer.{Answer}
+use Rattle.shard.specs.declared.Identity.{Identity}
+use Rattle.shard.specs.declared.Policy.{Policy}
+use Rattle.shard.specs.Model.{returning, withOrInsert, refunded, removed}
+use Rattle.shard.proofs.OwnBucketLaws.{returning-lacks-the-debt}
+use Rattle.shard.proofs.RoomLaws.{room-keeps-shortage, room-made-leaves-room}
+use Rattle.shard.proofs.ShardLaws.{Rebucketed, debtTaken, roomFor, debt-taken-sound, Asking, slot-asked, key-joins, no-space, ask-cases, Refunding}
+use Rattle.shard.proofs.ShardLaws.{slot-refunded, debt-paid, refund-cases, Removing, slot-removed, no-slot, remove-cases}
+use Rattle.demands.proofs.GrantLaws.{Grant, bounded-none, bounded-up}
+use Rattle.demands.proofs.BucketKept.{grantsOf, grantsOfAnswer, BoundedBy, bounded-by-more, asked-keeps-bound}
+
+-- The invariant, after calls up to a moment that granted gs to the key.
+pub record Invariant (c : BucketConfig) (h k : ℕ) (at : Nanos) (s : Shard) (gs : List Grant) : Type 0 where
+  pub one : count h k s ≤ 1
+  pub bound : BoundedBy c at (shortage c h at s) gs
+
+module _ (c : BucketConfig) (h k : ℕ) where
+  -- A shard that holds nothing, before any grant.
+  pub invariant-empty : (at : Nanos) (s : Shard) → s .slots .count ≡ 0 → s .ledger .debts .count ≡ 0 → Invariant c h k at s []
+  invariant-empty at s slotless debtless = record {
+    one = omega (arith, empty-has-nothing h (weight h k) Debts.one s slotless debtless);
+    bound = bounded-none (c .amount) (c .period .0) (c .capacity) _;
+  }
+
+  -- Time passes.
+  pub invariant-later : (n m : Nanos) (s : Shard) {gs : List Grant} → n .0 ≤ m .0 → Invariant c h k n s gs → Invariant c h k m s gs
+  invariant-later n m s le v = record { one = v .one; bound = bounded-up (c .amount) (c .period .0) (c .capacity) (later-keeps-line c h k n m s le (v .one)) (v .bound) }
+
+  -- A step that grants the key nothing.
+  pub invariant-keeps : (at : Nanos) (s t : Shard) {gs : List Grant} → Keeps c h k at s t → Invariant c h k at s gs → Invariant c h k at t gs
+  invariant-keeps at s t kept v = record { one = omega (arith, kept .fewer, v .one); bound = bounded-by-more c at (kept .more (v .one)) (v .bound) }
+
+-- A slot that comes in where there is room: another hash's takes nothing away; the key's own, where the shard had nothing of the hash, is all there is.
+module _ (c : BucketConfig) (h k : ℕ) (at : Nanos) (s : Shard) (slot : Slot) (room : s .slots .count < capOf s) where
+  other-slot-inserted : (slot .hash ≡ h → ⊥) → Keeps c h k at s (insert s slot)
+  other-slot-inserted other = record {
+    fewer = omega (arith, count-inserted h k s slot room, weight-other h k slot other);
+    more = λ single. omega (arith, shortage-inserted c h at s slot room);
+  }
+
+  own-slot-inserted : {gs : List Grant} → slot .hash ≡ h → slot .key ≡ k → count h k s ≤ 0 → BoundedBy c at (shortfallAt c (slot .bucket) at) gs
+      → Invariant c h k at (insert s slot) gs
+  own-slot-inserted hash key none bound = record {
+    one = omega (arith, count-inserted h k s slot room, weight-own h k slot hash key);
+    bound = bounded-by-more c at (omega (arith, shortage-inserted c h at s slot room, short-own c h at slot hash)) bound;
+  }
+
+-- A slot that gets another bucket, likewise.
+module _ (c : BucketConfig) (h k : ℕ) (at : Nanos) (s : Shard) (u : Sound s) {i : ℕ} {b : BucketCore} {slot : Slot} (r : Rebucketed (slotAt s i) b slot) where
+  other-slot-changed : {hash key : ℕ} → Holding s hash key i → (hash ≡ h → ⊥) → Keeps c h k at s (withSlot s i slot)
+  other-slot-changed f other =
+      let before : slotAt s i .hash ≡ h → ⊥ = λ own. other (sym (f .hash) ∙ own) in
+      let after : slot .hash ≡ h → ⊥ = λ own. before (sym (r .hash) ∙ own) in
+      record {
+        fewer = omega (arith, count-stored h k s i slot u (f .below), weight-other h k slot after);
+        more = λ single. omega (arith, shortage-stored c h at s i slot u (f .below), short-other c h at (slotAt s i) before);
+      }
+
+  own-slot-changed : {gs : List Grant} → Holding s h k i → count h k s ≤ 1 → BoundedBy c at (shortfallAt c b at) gs → Invariant c h k at (withSlot s i slot) gs
+  own-slot-changed {gs} f single bound =
+      let all : OneSlot c h k at s i = one-slot-is-all c h k at s i u f single in
+      let lacks : BoundedBy c at (shortfallAt c (slot .bucket) at) gs = rw (r .bucket) bound in
+      let hash : slot .hash ≡ h = r .hash ∙ f .hash in
+      record {
+        one = omega (arith, all .single, count-stored h k s i slot u (f .below), weight-own h k (slotAt s i) (f .hash) (f .key), weight-own h k slot hash (r .key ∙ f .key));
+        bound = bounded-by-more c at (omega (arith, all .all, shortage-stored c h at s i slot u (f .below), short-own c h at (slotAt s i) (f .hash), short-own c h at slot hash)) lacks;
+      }
+
+module _ (c : BucketConfig) (h k : ℕ) (at : Nanos) (s : Shard) (u : Sound s) where
+  -- Slots and debts of other hashes that go or change.
+  other-slot-removed : (i : ℕ) → i < s .slots .count → (slotAt s i .hash ≡ h → ⊥) → Keeps c h k at s (removeAt s i)
+  other-slot-removed i below other = record {
+    fewer = omega (arith, count-removed h k s i u below);
+    more = λ single. omega (arith, shortage-removed c h at s i u below, short-other c h at (slotAt s i) other);
+  }
+
+  other-debt-taken : (hash : ℕ) → (hash ≡ h → ⊥) → Keeps c h k at s (withLedger s (Ledger.taken (s .ledger) hash .after))
+  other-debt-taken hash other = record {
+    fewer = omega (arith, Debts.taking-another-keeps h Debts.one (s .ledger) (u .ledger) hash other);
+    more = λ single. omega (arith, Debts.taking-another-keeps h (unpaid c at) (s .ledger) (u .ledger) hash other);
+  }
+
+  other-debt-paid : (hash cost : ℕ) → (hash ≡ h → ⊥) → Keeps c h k at s (withLedger s (Ledger.paidDown (s .ledger) hash cost c .after))
+  other-debt-paid hash cost other = record {
+    fewer = omega (arith, Debts.paying-another-keeps h Debts.one (s .ledger) (u .ledger) hash cost c other);
+    more = λ single. omega (arith, Debts.paying-another-keeps h (unpaid c at) (s .ledger) (u .ledger) hash cost c other);
+  }
+
+  -- The key without a slot takes its own debt out: nothing of the hash is left in the shard, and what was held is what that debt lacks.
+  record OwnDebtTaken (debt : Outcome OptionNanos Ledger.Ledger) : Type 0 where
+    none : count h k (withLedger s (debt .after)) ≡ 0
+    all : shortage c h at s ≡ Debts.worth (unpaid c at) (debt .answer)
+
+  own-debt-taken : placeOf s h k ≡ Nowhere → count h k s ≤ 1 → OwnDebtTaken (Ledger.taken (s .ledger) h)
+  own-debt-taken new single =
+      let l : Ledger.Ledger = s .ledger in
+      let empty : Debts.owed h Debts.one (Ledger.taken l h .after) ≡ 0 = Debts.taking-leaves-none l h (u .ledger) (omega (arith, single)) in
+      record {
+        none = omega (arith, nowhere-weighs-nothing c h k s new single);
+        all = omega (
+          arith,
+          nowhere-holds-the-debt c h k at s new single,
+          Debts.taking-lowers-by-what-it-tells h (unpaid c at) l (u .ledger),
+          Debts.none-owed-nothing-owed h (unpaid c at) (Ledger.taken l h .after) empty,
+        );
+      }
+
+-- Requests, under a policy that forgets no debt.
+module _ (p : Policy) (id : Identity) (request : Request) (cost : ℕ) (at : Nanos) (s : Shard) (a : Accepted (p .config)) (never : p .«forget_debt» ≡ false)
+    (u : Sound s) where
+  -- Room that was made for a new key: there is place for its slot, and no debt was lost for it.
+  room-for-slot : roomFor p id at s .answer ≡ Made → roomFor p id at s .after .slots .count < capOf (roomFor p id at s .after)
+  room-for-slot = room-made-leaves-room p at (debtTaken id s) (debt-taken-sound id s u)
+
+  room-loses-nothing : (h k : ℕ) → Keeps (p .config) h k at (debtTaken id s) (roomFor p id at s .after)
+  room-loses-nothing = room-keeps-shortage p at (debtTaken id s) (debt-taken-sound id s u) a never
+
+  -- A request for a key of another hash loses nothing, whatever it is answered.
+  pub other-request : (h k : ℕ) → (id .hash ≡ h → ⊥) → Keeps (p .config) h k at s (withOrInsert p id request cost at s .after)
+  other-request h k other = go (ask-cases p id request cost at s u)
+    where
+      c : BucketConfig
+      c = p .config
+
+      kept : Keeps c h k at s (roomFor p id at s .after)
+      kept = keeps-trans c h k at s (debtTaken id s) (roomFor p id at s .after) (other-debt-taken c h k at s u (id .hash) other) (room-loses-nothing h k)
+
+      go : {o : Outcome Answer Shard} → Asking p id request cost at s o → Keeps c h k at s (o .after)
+      go (slot-asked i slot e f r) = other-slot-changed c h k at s u r f other
+      go (key-joins e made) = keeps-trans c h k at s (roomFor p id at s .after) _ kept (other-slot-inserted c h k at (roomFor p id at s .after) _ (room-for-slot made) other)
+      go (no-space wait e no-debt told) = room-keeps-shortage p at s u a never h k
+
+  -- The key's own request: its slot is asked, or it comes in with the bucket that its debt left it; then that slot is all there is of the hash, and what it
+  -- lacks bounds the grants.
+  own-request-of-identity : {gs : List Grant} → 1 ≤ cost → cost ≤ p .config .capacity → longestWait request ≤ 2 ^ 46
+      → Invariant (p .config) (id .hash) (id .key) at s gs
+      → Invariant (p .config) (id .hash) (id .key) at (withOrInsert p id request cost at s .after) (grantsOfAnswer at cost (withOrInsert p id request cost at s .answer) gs)
+  own-request-of-identity {gs} some within-burst longest v = go (ask-cases p id request cost at s u)
+    where
+      c : BucketConfig
+      c = p .config
+
+      h : ℕ
+      h = id .hash
+
+      k : ℕ
+      k = id .key
+
+      debt : Outcome OptionNanos Ledger.Ledger
+      debt = Ledger.taken (s .ledger) h
+
+      asked-bounds : (b : BucketCore) → shortage c h at s ≤ shortfallAt c b at
+          → BoundedBy c at (shortfallAt c (asked c request b cost at .bucket) at) (grantsOf at cost (asked c request b cost at .decision) gs)
+      asked-bounds b lacks = asked-keeps-bound c request b cost at a some within-burst longest (bounded-by-more c at lacks (v .bound))
+
+      go : {o : Outcome Answer Shard} → Asking p id request cost at s o → Invariant c h k at (o .after) (grantsOfAnswer at cost (o .answer) gs)
+      go (slot-asked i slot e f r) =
+          let all : OneSlot c h k at s i = one-slot-is-all c h k at s i u f (v .one) in
+          own-slot-changed c h k at s u r f (v .one) (asked-bounds (slotAt s i .bucket) (omega (arith, all .all)))
+      go (key-joins e made) =
+          let gone : OwnDebtTaken c h k at s u debt = own-debt-taken c h k at s u e (v .one) in
+          own-slot-inserted c h k at (roomFor p id at s .after) _ (room-for-slot made) refl refl (omega (arith, room-loses-nothing h k .fewer, gone .none))
+          (asked-bounds (returning c at (debt .answer)) (omega (arith, gone .all, returning-lacks-the-debt c at a (debt .answer))))
+      go (no-space wait e no-debt told) = invariant-keeps c h k at s _ (room-keeps-shortage p at s u a never h k) v
+
+-- The same, for a key whose hash and key are known by an equation.
+pub own-request : (p : Policy) (id : Identity) (request : Request) (cost : ℕ) (at : Nanos) (s : Shard) → Accepted (p .config) → p .«forget_debt» ≡ false → Sound s
+    → (h k : ℕ) → id .hash ≡ h → id .key ≡ k → 1 ≤ cost → cost ≤ p .config .capacity → longestWait request ≤ 2 ^ 46 → {gs : List Grant}
+    → Invariant (p .config) h k at s gs
+    → Invariant (p .config) h k at (withOrInsert p id request cost at s .after) (grantsOfAnswer at cost (withOrInsert p id request cost at s .answer) gs)
+own-request p id request cost at s a never u h k hash key some within-burst longest {gs} v =
+    rw (← hash, ← key) (own-request-of-identity p id request cost at s a never u some within-burst longest (rw (← hash, ← key) at v))
+
+-- Refunds and removals for other hashes lose nothing, at any moment.
+module _ (c : BucketConfig) (h k : ℕ) (at : Nanos) (s : Shard) (u : Sound s) (id : Identity) (other : id .hash ≡ h → ⊥) where
+  pub other-refund : (cost : ℕ) → Keeps c h k at s (refunded c id cost s .after)
+  other-refund cost = go (refund-cases c id cost s)
+    where
+      go : {o : Outcome Bool Shard} → Refunding c id cost s o → Keeps c h k at s (o .after)
+      go (slot-refunded i slot e f r) = other-slot-changed c h k at s u r f other
+      go (debt-paid e) = other-debt-paid c h k at s u (id .hash) cost other
+
+  pub other-removal : Keeps c h k at s (removed id s .after)
+  other-removal = go (remove-cases id s)
+    where
+      kept : Keeps c h k at s (debtTaken id s)
+      kept = other-debt-taken c h k at s u (id .hash) other
+
+      go : {o : Outcome Bool Shard} → Removing id s o → Keeps c h k at s (o .after)
+      go (slot-removed i e f) =
+          keeps-trans c h k at s (debtTaken id s) _ kept
+          (other-slot-removed c h k at (debtTaken id s) (debt-taken-sound id s u) i (f .below) (λ own. other (sym (f .hash) ∙ own)))
+      go (no-slot e) = kept

@@ -1,0 +1,83 @@
+-- A shard whose words fit 64 bits, free places too, and what every step on it and the idle sweep leave.
+use Prim.Native.Nat.{ℕ, zero, suc, _+_}
+use native.Mathlib.Omega.{arith}
+use lib.Dec.{eqb}
+use Rattle.units.specs.declared.Nanos.{Nanos}
+use Rattle.units.specs.declared.Millis.{Millis}
+use Rattle.bucket.specs.declared.BucketConfig.{BucketConfig}
+use Rattle.rows.specs.Held.{Held}
+use Rattle.slot.specs.declared.Slot.{Slot}
+use Rattle.ledger.specs.Model.{Ledger}
+use Rattle.shard_map.specs.Model.{Shard, noSlot, slotAt, withSlots, withSlot, withHand, withSweep, withLedger, sweepOf, removeAt, insert}
+use Rattle.shard_map.specs.Model.{reclaimable, idleLookAt, idleLook, sweepIdle}
+use Rattle.demands.proofs.EveryLaws.{of-either}
+use Rattle.demands.proofs.WordFits.{Word, next-place-fits, HeldFits, item-fits, stored-fits, appended-fits, removed-fits}
+use Rattle.demands.proofs.BucketFits.{BucketFits}
+use Rattle.demands.proofs.LedgerFits.{LedgerFits}
+
+-- A slot and a shard whose words fit.
+pub record SlotFits (slot : Slot) : Type 0 where
+  pub hash : Word (slot .hash)
+  pub key : Word (slot .key)
+  pub bucket : BucketFits (slot .bucket)
+  pub mark : Word (slot .mark)
+  pub seen : Word (slot .seen .0)
+
+pub record ShardFits (s : Shard) : Type 0 where
+  pub slots : HeldFits SlotFits (s .slots)
+  pub hand : Word (s .hand)
+  pub sweep : Word (s .sweep)
+  pub ledger : LedgerFits (s .ledger)
+
+no-slot-fits : SlotFits noSlot
+no-slot-fits = record {
+  hash = omega arith;
+  key = omega arith;
+  bucket = record { shortfall = omega arith; stamp = omega arith };
+  mark = omega arith;
+  seen = omega arith;
+}
+
+-- The single steps.
+module _ (s : Shard) (f : ShardFits s) where
+  pub slot-at-fits : (i : ℕ) → SlotFits (slotAt s i)
+  slot-at-fits i = item-fits SlotFits (s .slots) (f .slots) noSlot no-slot-fits i
+
+  other-slots-fit : (slots : Held Slot) → HeldFits SlotFits slots → ShardFits (withSlots s slots)
+  other-slots-fit slots fit = record { slots = fit; hand = f .hand; sweep = f .sweep; ledger = f .ledger }
+
+  pub changed-slot-fits : (i : ℕ) (slot : Slot) → SlotFits slot → ShardFits (withSlot s i slot)
+  changed-slot-fits i slot fits = other-slots-fit _ (stored-fits SlotFits (s .slots) (f .slots) i slot fits)
+
+  pub removed-slot-fits : (p : ℕ) → ShardFits (removeAt s p)
+  unfolding removeAt
+  removed-slot-fits p = other-slots-fit _ (removed-fits SlotFits (s .slots) (f .slots) noSlot no-slot-fits p)
+
+  pub inserted-slot-fits : (slot : Slot) → SlotFits slot → Word (s .slots .count + 1) → ShardFits (insert s slot)
+  unfolding insert
+  inserted-slot-fits slot fits next = other-slots-fit _ (appended-fits SlotFits (s .slots) (f .slots) slot fits next)
+
+  pub moved-hand-fits : (hand : ℕ) → Word hand → ShardFits (withHand s hand)
+  moved-hand-fits hand fits = record { slots = f .slots; hand = fits; sweep = f .sweep; ledger = f .ledger }
+
+  moved-sweep-fits : (sweep : ℕ) → Word sweep → ShardFits (withSweep s sweep)
+  moved-sweep-fits sweep fits = record { slots = f .slots; hand = f .hand; sweep = fits; ledger = f .ledger }
+
+  pub changed-ledger-fits : (l : Ledger) → LedgerFits l → ShardFits (withLedger s l)
+  changed-ledger-fits l fits = record { slots = f .slots; hand = f .hand; sweep = f .sweep; ledger = fits }
+
+-- The idle sweep.
+module _ (c : BucketConfig) (at : Nanos) (limit : Millis) where
+  idle-look-fits : (s : Shard) → ShardFits s → ShardFits (idleLook c at limit s)
+  unfolding idleLook idleLookAt
+  idle-look-fits s f =
+      let next : Word (sweepOf s + 1) = next-place-fits (s .sweep) (s .slots .count) (f .slots .count) in
+      of-either ShardFits (eqb (s .slots .count) 0) s (idleLookAt c at limit s (sweepOf s)) f
+      (of-either ShardFits (reclaimable c at limit (slotAt s (sweepOf s))) _ _
+      (removed-slot-fits _ (moved-sweep-fits s f (sweepOf s) (omega (arith, next))) (sweepOf s))
+      (moved-sweep-fits s f _ next))
+
+  pub sweep-idle-fits : (n : ℕ) (s : Shard) → ShardFits s → ShardFits (sweepIdle c at limit n s)
+  unfolding sweepIdle
+  sweep-idle-fits zero s f = f
+  sweep-idle-fits (suc n) s f = sweep-idle-fits n (idleLook c at limit s) (idle-look-fits s f)

@@ -1,0 +1,68 @@
+-- Numbers that fit a word, lists of them, and held items that fit: what a store, an addition and a removal leave fits.
+use Prim.Native.Nat.{ℕ, _+_, _-_, _<_, _^_}
+use mathlib.Core.Path.{_≡_, refl}
+use mathlib.Core.Bool.{Bool, true, _&&_}
+use mathlib.Core.List.{List, [], _∷_}
+use native.Mathlib.Omega.{arith}
+use lib.Dec.{ltb}
+use lib.ListN.{length, set, length-set}
+use borrow.Author.Tests.{ltb-true, lt-ltb}
+use Rattle.arith.proofs.Cases.{by-test}
+use Rattle.rows.specs.Held.{Held, wrapped, itemAt, removed, appended, stored}
+use Rattle.perkey.specs.Calls.{Every}
+use Rattle.demands.specs.Widths.{lendable}
+use Rattle.demands.proofs.WidthLaws.{both-true}
+use Rattle.demands.proofs.EveryLaws.{of-item, every-set}
+
+-- A number fits a word of 64 bits.
+abbrev pub Word : ℕ → Type 0
+Word n = n < 2 ^ 64
+
+-- Words can be lent just where each of them, and their number, fits a word.
+are-both-true : (a b : Bool) → a ≡ true → b ≡ true → (a && b) ≡ true
+are-both-true a b first second = rw (first, second)
+
+pub lendable-length : (ws : List ℕ) → lendable ws ≡ true → Word (length ws)
+lendable-length ws lent = ltb-true _ _ (both-true (ltb (length ws) (2 ^ 64)) _ lent .0)
+
+pub lendable-words : (ws : List ℕ) → lendable ws ≡ true → Every Word ws
+lendable-words [] lent = tt
+lendable-words (w ∷ ws) lent =
+    let size : Word (length (w ∷ ws)) = lendable-length (w ∷ ws) lent in
+    let parts = both-true (ltb w (2 ^ 64)) _ (both-true (ltb (length (w ∷ ws)) (2 ^ 64)) _ lent .1) in
+    (ltb-true _ _ (parts .0), lendable-words ws (are-both-true _ _ (lt-ltb (length ws) (2 ^ 64) (omega arith)) (parts .1)))
+
+pub words-are-lendable : (ws : List ℕ) → Word (length ws) → Every Word ws → lendable ws ≡ true
+words-are-lendable [] size every = refl
+words-are-lendable (w ∷ ws) size every =
+    let rest = both-true (ltb (length ws) (2 ^ 64)) _ (words-are-lendable ws (omega arith) (every .1)) in
+    are-both-true _ _ (lt-ltb (length (w ∷ ws)) (2 ^ 64) size) (are-both-true _ _ (lt-ltb w (2 ^ 64) (every .0)) (rest .1))
+
+-- The place after the one at which a hand, sweep or cursor is read.
+pub next-place-fits : (i count : ℕ) → Word count → Word (wrapped i count + 1)
+next-place-fits i count fits = by-test (ltb i count) (λ below. rw below (omega (arith, ltb-true i count below))) (λ past. rw past (omega arith))
+
+-- Held items that fit: their count, the room for them, and what stands in every place, also in a free one.
+pub record HeldFits {A : Type 0} (Q : A → Type 0) (h : Held A) : Type 0 where
+  pub count : Word (h .count)
+  pub room : Word (length (h .places))
+  pub items : Every Q (h .places)
+
+module _ {A : Type 0} (Q : A → Type 0) (h : Held A) (f : HeldFits Q h) where
+  pub item-fits : (free : A) → Q free → (i : ℕ) → Q (itemAt free h i)
+  item-fits free q i = of-item Q (h .places) i free q (f .items)
+
+  pub stored-fits : (i : ℕ) (x : A) → Q x → HeldFits Q (stored h i x)
+  stored-fits i x q = record { count = f .count; room = rw length-set (f .room); items = every-set Q (h .places) i x q (f .items) }
+
+  pub appended-fits : (x : A) → Q x → Word (h .count + 1) → HeldFits Q (appended h x)
+  appended-fits x q next = record { count = next; room = rw length-set (f .room); items = every-set Q (h .places) (h .count) x q (f .items) }
+
+  pub removed-fits : (free : A) → Q free → (p : ℕ) → HeldFits Q (removed free h p)
+  unfolding removed
+  removed-fits free q p = record {
+    count = omega (arith, f .count);
+    room = rw (length-set, length-set) (f .room);
+    items = every-set Q (set (h .places) p (itemAt free h (h .count - 1))) (h .count - 1) free q
+        (every-set Q (h .places) p (itemAt free h (h .count - 1)) (item-fits free q (h .count - 1)) (f .items));
+  }

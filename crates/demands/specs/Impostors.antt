@@ -1,0 +1,112 @@
+-- Implementations of the calls that look as if they kept the promises: the six of document 01, and three more. Each of them fails demand 2, and all but two
+-- of them fail demand 3 (proofs/ImpostorLaws.antt); those two meet it (proofs/TellingLaws.antt).
+use Prim.Native.Nat.{ℕ, _+_, min}
+use mathlib.Core.Bool.{Bool, cond}
+use mathlib.Core.List.{List}
+use Rattle.rows.specs.Outcome.{outcome}
+use Rattle.bucket.specs.declared.BucketDecision.the-variants.{Allowed}
+use Rattle.ledger.specs.Model as Ledger
+use Rattle.shard_map.specs.Model.{Shard, withLedger, placeOf}
+use Rattle.evict.specs.Evict.{minRefusalWait}
+use Rattle.shard.specs.declared.Answer.{Answer}
+use Rattle.shard.specs.declared.Answer.the-variants.{Decided, NoSpace}
+use Rattle.shard.specs.declared.Identity.{Identity}
+use Rattle.shard.specs.Model.{hasSlot, holds}
+use Rattle.perkey.specs.declared.Reply.{Reply}
+use Rattle.settings.specs.declared.decision.Decision.the-variants.{Impossible}
+use Rattle.perkey.specs.declared.Reply.the-variants.{Tried, Count}
+use Rattle.store.specs.Memory.{shardAt, inShard}
+use Rattle.perkey.specs.Rules.{numberOf, noWait, replyTo}
+use Rattle.perkey.specs.Calls.{Call, request, look, undo, len, Implementation, rules, settingsOf, numbered}
+
+-- By the kind of a call: a value for a request, given how its answer is told; for a length; and for any other call.
+abbrev byKind : {A : Type 0} → ((Answer → Reply) → A) → A → A → Call → A
+byKind requested length other (request s at id r cost) = requested (replyTo r)
+byKind requested length other (look s at id l) = other
+byKind requested length other (undo s id r) = other
+byKind requested length other (len s) = length
+
+-- The key that a call names. A length names none, and has the hash 0 here, whose shard is the first.
+abbrev identityOf : Call → Identity
+identityOf (request s at id r cost) = id
+identityOf (look s at id l) = id
+identityOf (undo s id r) = id
+identityOf (len s) = record { hash = 0; key = 0 }
+
+-- The shard of that key.
+abbrev ownShard : Call → List ℕ → Shard
+ownShard c ws = shardAt (settingsOf c) (identityOf c .hash) ws
+
+-- The answer to a request that is turned away for want of space, and to one that is granted at once.
+abbrev noSpace : Answer
+noSpace = NoSpace (record { 0 = minRefusalWait })
+
+abbrev grantedAtOnce : Answer
+grantedAtOnce = Decided (Allowed noWait)
+
+-- The first: everything is impossible, and no word changes.
+abbrev pub impossibleToAll : Implementation
+impossibleToAll c ws = outcome (Tried Impossible) ws
+
+-- The next three answer a request in their own way and change no word by it; they leave the other calls to the rules.
+abbrev withRequests : ((Answer → Reply) → Call → List ℕ → Reply) → Implementation
+withRequests reply c ws = byKind (λ told. outcome (reply told c ws) ws) (rules c ws) (rules c ws) c
+
+-- The second: a request is turned away for want of space, without a look whether there is any.
+abbrev pub retryBeforeALook : Implementation
+retryBeforeALook = withRequests (λ told c ws. told noSpace)
+
+-- The third: a request is granted, whatever the bucket holds.
+abbrev pub alwaysAcquired : Implementation
+alwaysAcquired = withRequests (λ told c ws. told grantedAtOnce)
+
+-- The fourth: a request is answered as the rules answer it, and nothing is stored.
+abbrev pub grantsWithoutStoring : Implementation
+grantsWithoutStoring = withRequests (λ told c ws. rules c ws .answer)
+
+-- The fifth: the rules, on a shard whose ledger knows its first debt only.
+abbrev withFirstDebt : Shard → Shard
+withFirstDebt s = withLedger s (Ledger.withCount (s .ledger) (min 1 (s .ledger .debts .count)))
+
+abbrev pub firstDebtOnly : Implementation
+firstDebtOnly c ws = rules c (inShard (settingsOf c) (identityOf c .hash) ws (outcome (tt {0}) (withFirstDebt (ownShard c ws))) .after)
+
+-- The next three leave the words that the rules leave, and tell something else.
+abbrev pub telling : (Call → List ℕ → Reply) → Implementation
+telling told c ws = outcome (told c ws) (rules c ws .after)
+
+-- The sixth: one key too many is counted.
+abbrev oneMore : Reply → Reply
+oneMore reply = cond (numbered reply) reply (Count (numberOf reply + 1))
+
+abbrev pub invented : Call → List ℕ → Reply
+invented c ws = byKind (λ told. rules c ws .answer) (oneMore (rules c ws .answer)) (rules c ws .answer) c
+
+abbrev pub inventedLength : Implementation
+inventedLength = telling invented
+
+-- A request is turned away for want of space, unless its key is found in its shard.
+abbrev pub turnedAwayUnless : (Identity → Shard → Bool) → Call → List ℕ → Reply
+turnedAwayUnless found c ws =
+    byKind (λ told. cond (found (identityOf c) (ownShard c ws)) (rules c ws .answer) (told noSpace)) (rules c ws .answer) (rules c ws .answer) c
+
+-- The second, finer: a key without a slot is turned away, and so is one with a debt.
+abbrev pub turnsSlotlessAway : Implementation
+turnsSlotlessAway = telling (turnedAwayUnless (λ id s. hasSlot (placeOf s (id .hash) (id .key))))
+
+-- Finer still: a key with neither a slot nor a debt is turned away. The words are as if it had been let in, so that it is known when it asks again.
+abbrev pub turnsNewcomersAway : Implementation
+turnsNewcomersAway = telling (turnedAwayUnless holds)
+
+-- The rules, blind to the key: a call's key is taken for the one whose number is its hash.
+abbrev blind : Identity → Identity
+blind id = record { hash = id .hash; key = id .hash }
+
+abbrev blindly : Call → Call
+blindly (request s at id r cost) = request s at (blind id) r cost
+blindly (look s at id l) = look s at (blind id) l
+blindly (undo s id r) = undo s (blind id) r
+blindly (len s) = len s
+
+abbrev pub blindToKeys : Implementation
+blindToKeys c ws = rules (blindly c) ws

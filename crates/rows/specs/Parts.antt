@@ -1,8 +1,0 @@
--- A part of a list, in the form in which a part of a slice is lent.
-use Prim.Native.Nat.{ℕ}
-use mathlib.Core.List.{List}
-use lib.ListN.{take, drop}
-
--- The n words from a on.
-abbrev pub part : ℕ → ℕ → List ℕ → List ℕ
-part a n ws = take n (drop a ws)

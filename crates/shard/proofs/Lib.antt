@@ -1,0 +1,4 @@
+pub mod RoomLaws
+pub mod ShardLaws
+pub mod OwnBucketLaws
+pub mod ModelLaws

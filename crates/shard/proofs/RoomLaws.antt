@@ -1,0 +1,158 @@
+-- Making room for a new key: an idle sweep where an idle time is set, the ledger's sweep, and an eviction if the shard is full all the same. What these
+-- three steps keep, making room keeps; and it is refused only where the ledger is full and nothing may be forgotten. Laws above go by this and open none
+-- of the steps.
+use Prim.Native.Nat.{ℕ, _≤_, _<_}
+use mathlib.Core.Path.{_≡_, refl, sym, _∙_}
+use mathlib.Core.Bool.{true, false, true≢false}
+use native.Mathlib.Omega.{arith}
+use lib.Dec.{ltb}
+use borrow.Author.Tests.{ltb-true, ltb-false}
+use Rattle.arith.proofs.Cases.{by-test}
+use Rattle.units.specs.declared.Nanos.{Nanos}
+use Rattle.units.specs.declared.Millis.{Millis}
+use Rattle.units.specs.declared.OptionMillis.{OptionMillis}
+use Rattle.units.specs.declared.OptionMillis.the-variants as millis
+use Rattle.bucket.specs.declared.BucketConfig.{BucketConfig}
+use Rattle.bucket.specs.Bucket.{Accepted}
+use Rattle.rows.specs.Outcome.{Outcome, outcome}
+use Rattle.settings.specs.Eviction.{ttlSweep, ledgerScan}
+use Rattle.ledger.specs.Model as Ledger
+use Rattle.ledger.proofs.StepLaws as LedgerSteps
+use Rattle.shard_map.specs.Model.{Shard, Sound, capOf, withLedger, sweepIdle}
+use Rattle.shard_map.proofs.StepLaws.{ledger-sound, sweep-idle-sound, sweep-idle-cap, sweep-idle-ledger}
+use Rattle.shard_map.proofs.KeptLaws.{Keeps, keeps-refl, keeps-trans, sweep-idle-keeps-shortage, ledger-sweep-keeps-shortage}
+use Rattle.evict.specs.declared.Room.{Room}
+use Rattle.evict.specs.declared.Room.the-variants.{Made, Refused}
+use Rattle.evict.specs.Evict.{minRefusalWait, evicted}
+use Rattle.evict.proofs.WalkLaws.{made-is-no-refusal, never-refused-is-made, evict-cap, evict-ledger-cap, evict-sound, evict-made-leaves-room, evict-refusal}
+use Rattle.evict.proofs.KeptLaws.{evict-keeps-shortage}
+use Rattle.shard.specs.declared.Policy.{Policy}
+use Rattle.shard.specs.Model.{idleLimitIn, sweptIdle, swept, makeRoom}
+
+-- The ledger's sweep, in its shard.
+abbrev pub sweptLedger : Nanos → Shard → Shard
+sweptLedger at s = withLedger s (Ledger.sweep at ledgerScan (s .ledger))
+
+-- Q is kept by the two sweeps.
+pub record KeptBySweeps (p : Policy) (at : Nanos) (Q : Shard → Type 0) : Type 0 where
+  pub idle : (s : Shard) (limit : Millis) → Sound s → Q s → Q (sweepIdle (p .config) at limit ttlSweep s)
+  pub ledger : (s : Shard) → Sound s → Q s → Q (sweptLedger at s)
+
+-- Q is kept by an eviction.
+abbrev pub KeptByEviction : Policy → Nanos → (Shard → Type 0) → Type 0
+KeptByEviction p at Q = (s : Shard) → Sound s → 0 < s .slots .count → Q s → Q (evicted (p .config) at (p .«forget_debt») s .after)
+
+-- Soundness and the ledger's room are kept by both sweeps.
+module _ (p : Policy) (at : Nanos) where
+  sound-by-sweeps : KeptBySweeps p at Sound
+  sound-by-sweeps = record {
+    idle = λ s limit u q. sweep-idle-sound (p .config) at limit ttlSweep s u;
+    ledger = λ s u q. ledger-sound s _ u (LedgerSteps.sweep-sound at ledgerScan (s .ledger) (u .ledger));
+  }
+
+  ledger-cap-by-sweeps : (cap : ℕ) → KeptBySweeps p at (λ s. Ledger.capOf (s .ledger) ≡ cap)
+  ledger-cap-by-sweeps cap = record {
+    idle = λ s limit u same. rw (sweep-idle-ledger (p .config) at limit ttlSweep s u) same;
+    ledger = λ s u same. LedgerSteps.sweep-cap at ledgerScan (s .ledger) (u .ledger) ∙ same;
+  }
+
+-- What a refusal says: the ledger is full, nothing may be forgotten, and the wait is at least a millisecond.
+pub record RoomRefusal (p : Policy) (s : Shard) (wait : Nanos) : Type 0 where
+  pub full : Ledger.capOf (s .ledger) ≤ s .ledger .debts .count
+  pub never : p .«forget_debt» ≡ false
+  pub least : minRefusalWait ≤ wait .0
+
+module _ (p : Policy) (at : Nanos) (s : Shard) (u : Sound s) where
+  -- The idle sweep, which runs only where an idle time is set.
+  swept-idle-keeps : (Q : Shard → Type 0) → KeptBySweeps p at Q → Q s → (limit : OptionMillis) → Q (sweptIdle p at s limit)
+  swept-idle-keeps Q k q millis.None = q
+  swept-idle-keeps Q k q (millis.Some limit) = k .idle s limit u q
+
+  pub swept-idle-sound : (limit : OptionMillis) → Sound (sweptIdle p at s limit)
+  swept-idle-sound limit = swept-idle-keeps Sound (sound-by-sweeps p at) u limit
+
+  -- What the sweeps keep holds after both.
+  swept-keeps : (Q : Shard → Type 0) → KeptBySweeps p at Q → Q s → Q (swept p at s)
+  swept-keeps Q k q =
+      let limit : OptionMillis = idleLimitIn p in
+      k .ledger (sweptIdle p at s limit) (swept-idle-sound limit) (swept-idle-keeps Q k q limit)
+
+  pub swept-sound : Sound (swept p at s)
+  swept-sound = swept-keeps Sound (sound-by-sweeps p at) u
+
+  -- They leave the ledger the room that it had, and no more debts than there were.
+  swept-ledger-cap : Ledger.capOf (swept p at s .ledger) ≡ Ledger.capOf (s .ledger)
+  swept-ledger-cap = swept-keeps (λ t. Ledger.capOf (t .ledger) ≡ Ledger.capOf (s .ledger)) (ledger-cap-by-sweeps p at _) refl
+
+  swept-ledger-count : swept p at s .ledger .debts .count ≤ s .ledger .debts .count
+  swept-ledger-count =
+      swept-keeps (λ t. t .ledger .debts .count ≤ s .ledger .debts .count)
+      (record {
+        idle = λ t limit v fewer. rw (sweep-idle-ledger (p .config) at limit ttlSweep t v) fewer;
+        ledger = λ t v fewer. omega (arith, LedgerSteps.sweep-count at ledgerScan (t .ledger) (v .ledger));
+      })
+      (omega arith)
+
+  -- How making room ends: the sweeps left room, or the shard is full and an eviction decides.
+  room-cases : (Q : Outcome Room Shard → Type 0) → (swept p at s .slots .count < capOf (swept p at s) → Q (outcome Made (swept p at s)))
+      → (0 < swept p at s .slots .count → Q (evicted (p .config) at (p .«forget_debt») (swept p at s))) → Q (makeRoom p at s)
+  unfolding makeRoom
+  room-cases Q free full =
+      by-test (ltb (swept p at s .slots .count) (capOf (swept p at s)))
+      (λ t. rw t (free (ltb-true _ _ t)))
+      (λ t. rw t (full (omega (arith, ltb-false (swept p at s .slots .count) (capOf (swept p at s)) t, swept-sound .room))))
+
+  -- What the sweeps and an eviction keep, making room keeps, whether there is room in the end or not.
+  pub room-keeps : (Q : Shard → Type 0) → KeptBySweeps p at Q → KeptByEviction p at Q → Q s → Q (makeRoom p at s .after)
+  room-keeps Q k evicts q = room-cases (λ o. Q (o .after)) (λ free. swept-keeps Q k q) (λ some. evicts (swept p at s) swept-sound some (swept-keeps Q k q))
+
+  -- It leaves a sound shard with the same room for slots and for debts.
+  pub room-sound : Sound (makeRoom p at s .after)
+  room-sound = room-keeps Sound (sound-by-sweeps p at) (λ t v some q. evict-sound (p .config) at (p .«forget_debt») t v some) u
+
+  pub room-cap : capOf (makeRoom p at s .after) ≡ capOf s
+  room-cap =
+      room-keeps (λ t. capOf t ≡ capOf s)
+      (record { idle = λ t limit v same. sweep-idle-cap (p .config) at limit ttlSweep t v ∙ same; ledger = λ t v same. same })
+      (λ t v some same. evict-cap (p .config) at (p .«forget_debt») t v some ∙ same) refl
+
+  pub room-ledger-cap : Ledger.capOf (makeRoom p at s .after .ledger) ≡ Ledger.capOf (s .ledger)
+  room-ledger-cap =
+      room-keeps (λ t. Ledger.capOf (t .ledger) ≡ Ledger.capOf (s .ledger)) (ledger-cap-by-sweeps p at _)
+      (λ t v some same. evict-ledger-cap (p .config) at (p .«forget_debt») t v some ∙ same) refl
+
+  -- Where debts may not be forgotten, nothing that a key lacks is lost.
+  pub room-keeps-shortage : Accepted (p .config) → p .«forget_debt» ≡ false → (h k : ℕ) → Keeps (p .config) h k at s (makeRoom p at s .after)
+  room-keeps-shortage a never h k =
+      room-keeps (Keeps c h k at s)
+      (record {
+        idle = λ t limit v kept. keeps-trans c h k at s t (sweepIdle c at limit ttlSweep t) kept (sweep-idle-keeps-shortage c h k at limit ttlSweep t v);
+        ledger = λ t v kept. keeps-trans c h k at s t (sweptLedger at t) kept (ledger-sweep-keeps-shortage c h k at ledgerScan t v);
+      })
+      (λ t v some kept. keeps-trans c h k at s t (evicted c at (p .«forget_debt») t .after) kept (evict-keeps-shortage c h k at (p .«forget_debt») t a v some never))
+      (keeps-refl c h k at s)
+    where
+      c : BucketConfig
+      c = p .config
+
+  -- Where room was made there is room for a slot.
+  pub room-made-leaves-room : makeRoom p at s .answer ≡ Made → makeRoom p at s .after .slots .count < capOf (makeRoom p at s .after)
+  room-made-leaves-room =
+      room-cases (λ o. o .answer ≡ Made → o .after .slots .count < capOf (o .after))
+      (λ free made. free)
+      (λ some made. evict-made-leaves-room (p .config) at (p .«forget_debt») (swept p at s) swept-sound some made)
+
+  pub room-refusal : (wait : Nanos) → makeRoom p at s .answer ≡ Refused wait → RoomRefusal p s wait
+  room-refusal wait =
+      room-cases (λ o. o .answer ≡ Refused wait → RoomRefusal p s wait)
+      (λ free e. made-is-no-refusal e)
+      (λ some e.
+      let r = evict-refusal (p .config) at (p .«forget_debt») (swept p at s) swept-sound some wait e in
+      record { full = omega (arith, r .full, swept-ledger-cap, swept-ledger-count); never = r .never; least = r .least })
+
+  -- So room is made while the ledger is below its cap, and wherever debts may be forgotten.
+  pub room-below-ledger-cap-never-refuses : s .ledger .debts .count < Ledger.capOf (s .ledger) → makeRoom p at s .answer ≡ Made
+  room-below-ledger-cap-never-refuses below = never-refused-is-made _ (λ wait e. omega (arith, room-refusal wait e .full))
+
+  pub room-forgetting-never-refuses : p .«forget_debt» ≡ true → makeRoom p at s .answer ≡ Made
+  room-forgetting-never-refuses forgets = never-refused-is-made _ (λ wait e. true≢false (sym forgets ∙ room-refusal wait e .never))

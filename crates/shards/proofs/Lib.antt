@@ -1,3 +1,0 @@
-pub mod MemoryLaws
-pub mod RefusalLaws
-pub mod LendingLaws

@@ -1,0 +1,160 @@
+-- A part as it is lent, from its start to its end: it lies in the memory, and what comes back in its place is an operation on the shard. And what a
+-- call on a key is lent.
+use Prim.Native.Nat.{ℕ, _-_, _≤_, _<_}
+use native.Mathlib.Omega.{arith}
+use native.Mathlib.Nat.{le-add-right, le-trans}
+use mathlib.Core.Path.{_≡_, refl, sym, ap, _∙_}
+use mathlib.Core.Bool.{Bool, true, false, true≢false}
+use mathlib.Core.List.{List}
+use lib.ListN.{length}
+use borrow.Author.Tests.{eq-eqb, ne-eqb}
+use borrow.Rule.Slice.PartMut.{putMid}
+use Rattle.arith.proofs.Cases.{by-eq}
+use Rattle.rows.specs.Segments.{segment}
+use Rattle.rows.specs.Outcome.{Outcome, outcome}
+use Rattle.rows.proofs.SegmentLaws.{segment-length}
+use Rattle.units.specs.declared.Nanos.{Nanos}
+use Rattle.settings.specs.declared.Settings.{Settings}
+use Rattle.settings.specs.declared.Shape.{Shape}
+use Rattle.settings.specs.Settings.{settingsRefusal, firstRefusal, ShapeOfAccepted, mostKeys, mostShards, capOf, shardWords, shapeOf, wordsIn}
+use Rattle.settings.proofs.SettingsLaws.{accepted-parts, shape-of-accepted, cap-most, shards-most, no-refusal-hands-on}
+use Rattle.rows.specs.declared.Place.the-variants.{At}
+use Rattle.shard_map.specs.Model as Shard
+use Rattle.shard_map.specs.Layout as Layout
+use Rattle.shard_map.proofs.LayoutLaws.{words-shard}
+use Rattle.shard.proofs.ModelLaws.{found-below-cap}
+use Rattle.store.specs.declared.Part.{Part}
+use Rattle.store.specs.declared.lending.Lending.{Lending}
+use Rattle.store.specs.declared.lending.Lending.the-variants.{Refused, Lent}
+use Rattle.store.specs.Memory.{Placed, partIn, partOf, shardIn, shardAt, inPart, shardEnd, slotCount}
+use Rattle.store.specs.Refusals.{memoryRefusal, shapeRefusal, countRefusal, keyedRefusal, momentRefusal, timedRefusal, waitRefusal, reserveRefusal}
+use Rattle.store.specs.Refusals.{lenRefusal}
+use Rattle.store.specs.Lending.{lentUnless}
+use Rattle.store.proofs.MemoryLaws.{part-placed, shard-ends}
+use Rattle.store.proofs.RefusalLaws.{SetUp, Accepted, length-is-accepted, len-not-refused, refusals-in-a-row, no-further-refusal}
+
+-- A part that lies in the memory: its words are those of the shard in it.
+module _ {p : Part} {ws : List ℕ} (placed : Placed p ws) where
+  abbrev lentWords : List ℕ
+  lentWords = segment (p .start) (p .end - p .start) ws
+
+  pub lent-starts : p .start ≤ p .end
+  lent-starts = rw (placed .ends) (le-add-right _ _)
+
+  lent-is-part : lentWords ≡ segment (p .start) (shardWords (p .cap)) ws
+  lent-is-part = let long : p .end - p .start ≡ shardWords (p .cap) = rw (placed .ends) (omega arith) in rw long
+
+  pub lent-length : length lentWords ≡ shardWords (p .cap)
+  lent-length = rw lent-is-part (segment-length (p .start) (shardWords (p .cap)) ws (rw (placed .ends) at (placed .within)))
+
+  pub lent-shard : Layout.shard (p .cap) lentWords ≡ shardIn p ws
+  lent-shard = rw lent-is-part
+
+  pub intact-of-sound : Shard.Sound (shardIn p ws) → Layout.Intact (p .cap) lentWords
+  intact-of-sound sound = record { size = lent-length; sound = rw lent-shard sound }
+
+  -- A place that lookup found in it stands below the cap.
+  pub found-place-below : (h k i : ℕ) → Shard.Sound (shardIn p ws) → Shard.placeOf (shardIn p ws) h k ≡ At i → i < p .cap
+  found-place-below h k i sound found = found-below-cap h k i (intact-of-sound sound) (rw lent-shard found)
+
+  -- Other words have come back in its place, with an answer: that is the operation on the shard.
+  pub lent-answered : {A : Type 0} {a : A} (f : Shard.Shard → Outcome A Shard.Shard) (ys : List ℕ) → length ys ≡ length lentWords
+      → outcome a (Layout.shard (p .cap) ys) ≡ f (Layout.shard (p .cap) lentWords)
+      → outcome a (putMid (p .start) (p .end - p .start) ws ys) ≡ inPart p ws (f (shardIn p ws))
+  lent-answered f ys same gave =
+      let long : p .end - p .start ≡ shardWords (p .cap) = rw (placed .ends) (omega arith) in
+      let words = words-shard (p .cap) ys (same ∙ lent-length) in
+      rw long (rw words at (ap (inPart p ws) (rw lent-shard at gave)))
+
+-- Settings that are accepted come to a shape of an accepted size, and leave the refusal to the memory.
+module _ (s : Settings) (none : settingsRefusal s ≡ 0) where
+  pub accepted-shape : {shape : Shape} → shape ≡ shapeOf s → ShapeOfAccepted shape
+  accepted-shape is = shape-of-accepted s (accepted-parts s none .1) is
+
+  pub memory-refuses : (hash : ℕ) (ws : List ℕ) → keyedRefusal s hash ws ≡ shapeRefusal (shapeOf s) hash ws
+  memory-refuses hash ws = ap (λ (n : ℕ). firstRefusal n (countRefusal (capOf s) (shardAt s hash ws))) (no-refusal-hands-on (settingsRefusal s) _ none)
+
+-- In memory of the length that a shape asks for, the part of a hash's shard lies in it.
+module _ {shape : Shape} (hash : ℕ) (ws : List ℕ) (shaped : ShapeOfAccepted shape) (size : length ws ≡ wordsIn shape)
+    {part′ : Part} (is : part′ ≡ partIn shape hash) where
+  pub part-is-placed : Placed part′ ws
+  part-is-placed = rw (is, shaped .is) (part-placed (shaped .settings) hash ws (rw (shaped .is) at size))
+
+  -- What the counts of the shard and a further refusal come to is then the refusal.
+  pub counts-refuse : (further : ℕ) {counted told : ℕ} → counted ≡ countRefusal (part′ .cap) (Layout.shard (part′ .cap) (lentWords part-is-placed))
+      → told ≡ firstRefusal counted further
+      → told ≡ firstRefusal (shapeRefusal shape hash ws) further
+  counts-refuse further {counted} counts gave =
+      let refused : counted ≡ countRefusal (shape .cap) (shardIn (partIn shape hash) ws) = rw is at (rw (lent-shard part-is-placed) at counts) in
+      gave ∙ ap (λ (n : ℕ). firstRefusal n further) (refused ∙ sym (no-refusal-hands-on _ _ (length-is-accepted (wordsIn shape) ws size)))
+
+-- A call that is refused is lent nothing, one that is not is lent the part; here as the code comes to it.
+module _ {told refusal : ℕ} (part′ : Part) (is : told ≡ refusal) where
+  pub refused-lends-nothing : (told ≡ 0 → ⊥) → Refused told ≡ lentUnless refusal part′
+  unfolding lentUnless
+  refused-lends-nothing some = rw (is, ne-eqb refusal 0 (λ none. some (is ∙ none)))
+
+  pub not-refused-lends : told ≡ 0 → Lent part′ ≡ lentUnless refusal part′
+  unfolding lentUnless
+  not-refused-lends none = rw (eq-eqb refusal 0 (sym is ∙ none))
+
+-- And back: what was lent tells whether the call is refused.
+abbrev isLent : Lending → Bool
+isLent (Refused n) = false
+isLent (Lent p) = true
+
+abbrev refusalOf : Lending → ℕ
+refusalOf (Refused n) = n
+refusalOf (Lent p) = 0
+
+abbrev partOr : Part → Lending → Part
+partOr other (Refused n) = other
+partOr other (Lent p) = p
+
+module _ {lending : Lending} (refusal : ℕ) (part′ : Part) (is : lending ≡ lentUnless refusal part′) where
+  pub lent-part : {p : Part} → lending ≡ Lent p → (refusal ≡ 0) × (p ≡ part′)
+  lent-part {p} gave =
+      by-eq refusal 0
+      (λ none. (none, ap (partOr p) (sym gave ∙ is ∙ sym (not-refused-lends part′ refl none))))
+      (λ some. absurd (true≢false (ap isLent (sym gave ∙ is ∙ sym (refused-lends-nothing part′ refl some)))))
+
+  pub refused-number : {n : ℕ} → lending ≡ Refused n → (n ≡ refusal) × (n ≡ 0 → ⊥)
+  refused-number {n} gave =
+      by-eq refusal 0
+      (λ none. absurd (true≢false (ap isLent (not-refused-lends part′ refl none ∙ sym is ∙ gave))))
+      (λ some. let same : n ≡ refusal = ap refusalOf (sym gave ∙ is ∙ sym (refused-lends-nothing part′ refl some)) in (same, λ none. some (sym same ∙ none)))
+
+-- The same for the operations on a key, by what each is refused for, where the settings are accepted.
+module _ (s : Settings) (hash : ℕ) (ws : List ℕ) (none : settingsRefusal s ≡ 0) {shape : Shape} (shaped : shape ≡ shapeOf s) {lending : Lending} (further : ℕ)
+    (is : lending ≡ lentUnless (firstRefusal (shapeRefusal shape hash ws) further) (partIn shape hash)) where
+  lent-by-settings : lending ≡ lentUnless (firstRefusal (keyedRefusal s hash ws) further) (partOf s hash)
+  lent-by-settings = rw (memory-refuses s none hash ws) (rw shaped at is)
+
+  pub keyed-lending : further ≡ 0 → lending ≡ lentUnless (keyedRefusal s hash ws) (partOf s hash)
+  keyed-lending nothing =
+      lent-by-settings ∙ ap (λ (n : ℕ). lentUnless n (partOf s hash)) (ap (firstRefusal (keyedRefusal s hash ws)) nothing ∙ no-further-refusal (keyedRefusal s hash ws))
+
+  pub timed-lending : (at : Nanos) → further ≡ momentRefusal at → lending ≡ lentUnless (timedRefusal s hash at ws) (partOf s hash)
+  timed-lending at late = rw late at lent-by-settings
+
+  pub reserve-lending : (at longest : Nanos) {late long : ℕ} → late ≡ momentRefusal at → long ≡ waitRefusal longest → further ≡ firstRefusal late long
+      → lending ≡ lentUnless (reserveRefusal s hash at longest ws) (partOf s hash)
+  reserve-lending at longest late long both =
+      (rw (both, late, long) at lent-by-settings) ∙ ap (λ (n : ℕ). lentUnless n (partOf s hash)) (sym (refusals-in-a-row (keyedRefusal s hash ws) (momentRefusal at) (waitRefusal longest)))
+
+-- The part of an accepted call lies in the memory, and its shard is sound.
+pub accepted-part : (s : Settings) (hash : ℕ) (ws : List ℕ) {p : Part} → Accepted s hash ws → p ≡ partOf s hash → Placed p ws × Shard.Sound (shardIn p ws)
+accepted-part s hash ws call is = rw is (part-placed s hash ws (call .set-up .size), call .sound)
+
+-- Shard by shard: the part of a shard that there is lies in the memory, and its slots are no more than the keys that may be asked for.
+pub shards-are-few : (s : Settings) {shape : Shape} → shape ≡ shapeOf s → shape .shards ≤ mostShards
+shards-are-few s is = rw is (shards-most s)
+
+module _ (s : Settings) (ws : List ℕ) {shape : Shape} {i : ℕ} where
+  pub numbered-shard-ends : SetUp s ws → shape ≡ shapeOf s → i < shape .shards → shardEnd (shape .cap) i ≤ length ws
+  numbered-shard-ends set-up is below = rw is (shard-ends s i ws (set-up .size) (rw is at below))
+
+  pub counted-slots-few : lenRefusal s ws ≡ 0 → shape ≡ shapeOf s → i < shape .shards → slotCount (shape .cap) i ws ≤ mostKeys
+  counted-slots-few none is below =
+      let call = len-not-refused s ws none in
+      rw is (le-trans (call .1 i (rw is at below)) (cap-most s (accepted-parts s (call .0 .settings) .1)))

@@ -1,0 +1,129 @@
+-- The part of one shard in the words of a whole store: it fits, an operation's shard reads back from it, and the other shards stay as they are.
+use Prim.Native.Nat.{ℕ, _+_, _*_, _≤_, _<_}
+use native.Mathlib.Omega.{arith}
+use native.Mathlib.Nat.{mul-le-mul-right, le-trans}
+use mathlib.Core.Path.{_≡_, refl, ap, sym, _∙_}
+use mathlib.Core.List.{List}
+use lib.ListN.{length, getD, replicate, length-replicate, getD-replicate, List·getD-eq-default}
+use borrow.Rule.Slice.PartMut.{same-len-mid}
+use Rattle.arith.proofs.Cases.{by-le}
+use Rattle.rows.specs.Segments.{segment}
+use Rattle.rows.specs.Outcome.{Outcome}
+use Rattle.rows.proofs.SegmentLaws.{segment-length, segment-back, segment-kept-below, segment-kept-above}
+use Rattle.rows.proofs.ZeroLaws.{zeros-segment}
+use Rattle.settings.specs.declared.Settings.{Settings}
+use Rattle.settings.specs.declared.Shape.{Shape}
+use Rattle.settings.specs.Settings.{sizeRefusal, mostKeys, mostShards, capOf, shardWords, wordsOf, shapeOf, ShapeOfAccepted, shardOf, shardCount}
+use Rattle.settings.proofs.SettingsLaws.{shard-below, cap-least, words-most}
+use Rattle.ledger.specs.Model as Ledger
+use Rattle.shard_map.specs.Model as Shard
+use Rattle.shard_map.specs.Layout as Layout
+use Rattle.shard_map.proofs.LayoutLaws.{cap-is}
+use Rattle.shard_map.proofs.ReadBack.{Empty, words-length, shard-of-words, debt-cap-is, zeros-empty}
+use Rattle.store.specs.Memory.{withSegment, partStart, partOf, Placed, shardEnd, shardAt, inShard}
+
+-- Parts of w words each, by number: a part ends before one of a higher number begins.
+part-ends : (i j w : ℕ) → i < j → i * w + w ≤ j * w
+part-ends i j w below = omega (arith, mul-le-mul-right w below)
+
+-- Part i replaced: every other part is as it was.
+other-part-kept : (w i j : ℕ) (ws new : List ℕ) → i * w + w ≤ length ws → length new ≡ w → (j ≡ i → ⊥)
+    → segment (j * w) w (withSegment (i * w) w ws new) ≡ segment (j * w) w ws
+other-part-kept w i j ws new fits same other =
+    by-le i j
+    (λ past. segment-kept-above (i * w) w ws new fits same (j * w) w (part-ends i j w (omega arith)))
+    (λ before. segment-kept-below (i * w) w ws new fits same (j * w) w (part-ends j i w before))
+
+-- The part of a hash's shard lies within memory of the length that the settings ask for.
+pub shard-fits : (s : Settings) (hash : ℕ) (ws : List ℕ) → length ws ≡ wordsOf s → partStart (shapeOf s) hash + shardWords (capOf s) ≤ length ws
+shard-fits s hash ws size = rw size (part-ends (shardOf s hash) (shardCount s) (shardWords (capOf s)) (shard-below s hash))
+
+pub part-placed : (s : Settings) (hash : ℕ) (ws : List ℕ) → length ws ≡ wordsOf s → Placed (partOf s hash) ws
+part-placed s hash ws size = record { ends = refl; within = shard-fits s hash ws size }
+
+-- It ends at a small number if the sizes are accepted.
+shard-start-most : (s : Settings) (hash : ℕ) → sizeRefusal s ≡ 0 → partStart (shapeOf s) hash + shardWords (capOf s) ≤ mostShards * shardWords mostKeys
+shard-start-most s hash accepted = le-trans (part-ends (shardOf s hash) (shardCount s) (shardWords (capOf s)) (shard-below s hash)) (words-most s accepted)
+
+pub part-ends-early : {shape : Shape} (hash : ℕ) → ShapeOfAccepted shape → partStart shape hash + shardWords (shape .cap) ≤ mostShards * shardWords mostKeys
+part-ends-early hash shaped = rw (shaped .is) (shard-start-most (shaped .settings) hash (shaped .accepted))
+
+-- So does the part of a shard by its number.
+pub shard-ends : (s : Settings) (i : ℕ) (ws : List ℕ) → length ws ≡ wordsOf s → i < shardCount s → shardEnd (capOf s) i ≤ length ws
+shard-ends s i ws size below = rw size (part-ends i (shardCount s) (shardWords (capOf s)) below)
+
+-- Hashes of one shard have the same shard.
+pub same-shard : (s : Settings) (hash other : ℕ) (ws : List ℕ) → shardOf s other ≡ shardOf s hash → shardAt s other ws ≡ shardAt s hash ws
+same-shard s hash other ws same = ap (λ (i : ℕ). Layout.shard (capOf s) (segment (i * shardWords (capOf s)) (shardWords (capOf s)) ws)) same
+
+-- An operation on the shard of a hash, in memory of the right length, whose outcome has room for as many slots and debts as before.
+module _ {A : Type 0} (s : Settings) (hash : ℕ) (ws : List ℕ) (o : Outcome A Shard.Shard)
+    (size : length ws ≡ wordsOf s) (room : Shard.capOf (o .after) ≡ capOf s) (debt-room : Ledger.capOf (o .after .ledger) ≡ capOf s) where
+  -- The new words are as many as those that they replace.
+  new-length : length (Layout.wordsOf (o .after)) ≡ shardWords (capOf s)
+  new-length = words-length (capOf s) (o .after) room debt-room
+
+  -- The memory keeps its length.
+  pub in-shard-length : length (inShard s hash ws o .after) ≡ wordsOf s
+  in-shard-length =
+      same-len-mid (partStart (shapeOf s) hash) (shardWords (capOf s)) ws (Layout.wordsOf (o .after))
+      (new-length ∙ sym (segment-length (partStart (shapeOf s) hash) (shardWords (capOf s)) ws (shard-fits s hash ws size)))
+      ∙ size
+
+  -- The shard of the hash is the one that the operation leaves.
+  pub in-shard-reads-back : shardAt s hash (inShard s hash ws o .after) ≡ o .after
+  in-shard-reads-back =
+      ap (Layout.shard (capOf s)) (segment-back (partStart (shapeOf s) hash) (shardWords (capOf s)) ws (Layout.wordsOf (o .after)) (shard-fits s hash ws size) new-length)
+      ∙ shard-of-words (capOf s) (o .after) room debt-room
+
+  -- So it is for every hash of that shard.
+  pub in-shard-reads-back-for : (other : ℕ) → shardOf s other ≡ shardOf s hash → shardAt s other (inShard s hash ws o .after) ≡ o .after
+  in-shard-reads-back-for other same = same-shard s hash other (inShard s hash ws o .after) same ∙ in-shard-reads-back
+
+  -- A hash of another shard: its words, and so its shard, stay as they are.
+  module _ (other : ℕ) (apart : shardOf s other ≡ shardOf s hash → ⊥) where
+    pub in-shard-leaves-other-words : segment (partStart (shapeOf s) other) (shardWords (capOf s)) (inShard s hash ws o .after) ≡ segment (partStart (shapeOf s) other) (shardWords (capOf s)) ws
+    in-shard-leaves-other-words =
+        other-part-kept (shardWords (capOf s)) (shardOf s hash) (shardOf s other) ws (Layout.wordsOf (o .after)) (shard-fits s hash ws size) new-length apart
+
+    pub in-shard-leaves-others : shardAt s other (inShard s hash ws o .after) ≡ shardAt s other ws
+    in-shard-leaves-others = ap (Layout.shard (capOf s)) in-shard-leaves-other-words
+
+-- Words that are all 0 read as 0 everywhere, also past their end.
+zeros-read : (n i : ℕ) → _≡_ {A = ℕ} (getD (replicate n 0) i 0) 0
+zeros-read n i =
+    by-le n i
+    (λ past. List·getD-eq-default (replicate n 0) 0 (rw (length-replicate {A = ℕ} n 0) past))
+    (λ inside. getD-replicate n i 0 0 inside)
+
+-- In memory as set-up leaves it every shard is empty.
+pub fresh-shards-are-empty : (s : Settings) (hash : ℕ) → Empty (shardAt s hash (replicate (wordsOf s) 0))
+fresh-shards-are-empty s hash =
+    zeros-empty (capOf s) _ (zeros-segment (partStart (shapeOf s) hash) (shardWords (capOf s)) (replicate (wordsOf s) 0) (zeros-read (wordsOf s)))
+
+module _ (s : Settings) (hash : ℕ) (ws : List ℕ) where
+  -- The shard of a hash has the cap's room for slots and debts.
+  pub shard-at-cap : Shard.capOf (shardAt s hash ws) ≡ capOf s
+  shard-at-cap = cap-is (capOf s) _
+
+  pub shard-at-debt-cap : Ledger.capOf (shardAt s hash ws .ledger) ≡ capOf s
+  shard-at-debt-cap = debt-cap-is (capOf s) _
+
+  -- So it is sound where its counts are at most the cap.
+  pub sound-shard : (shardAt s hash ws .slots .count ≤ capOf s) × (shardAt s hash ws .ledger .debts .count ≤ capOf s) → Shard.Sound (shardAt s hash ws)
+  sound-shard within = record {
+    room = rw shard-at-cap (cap-least s);
+    count-fits = rw shard-at-cap (within .0);
+    ledger = record { room = rw shard-at-debt-cap (cap-least s); count-fits = rw shard-at-debt-cap (within .1) };
+  }
+
+-- A fresh shard is sound.
+pub fresh-sound : (s : Settings) (hash : ℕ) → Shard.Sound (shardAt s hash (replicate (wordsOf s) 0))
+fresh-sound s hash =
+    let empty = fresh-shards-are-empty s hash in
+    let room : 0 < capOf s = cap-least s in
+    record {
+      room = rw (shard-at-cap s hash (replicate (wordsOf s) 0)) room;
+      count-fits = rw (empty .slots) (omega arith);
+      ledger = record { room = rw (shard-at-debt-cap s hash (replicate (wordsOf s) 0)) room; count-fits = rw (empty .debts) (omega arith) };
+    }

@@ -1,0 +1,53 @@
+-- The lent words of a whole store, and the part of one shard in them.
+use Prim.Native.Nat.{ℕ, _+_, _*_, _≤_}
+use mathlib.Core.Path.{_≡_}
+use mathlib.Core.List.{List, _++_}
+use lib.ListN.{take, drop, length}
+use Rattle.rows.specs.Segments.{segment}
+use Rattle.rows.specs.Outcome.{Outcome, outcome}
+use Rattle.settings.specs.declared.Settings.{Settings}
+use Rattle.settings.specs.declared.Shape.{Shape}
+use Rattle.settings.specs.Settings.{shardWords, shapeOf, indexIn}
+use Rattle.shard_map.specs.Model.{Shard}
+use Rattle.shard_map.specs.Layout.{shard, wordsOf}
+use Rattle.store.specs.declared.Part.{Part}
+
+-- The words with other words in the place of a part.
+abbrev pub withSegment : ℕ → ℕ → List ℕ → List ℕ → List ℕ
+withSegment a n ws new = take a ws ++ (new ++ drop n (drop a ws))
+
+-- The part of a hash's shard: where it begins, the word after it, and the places of the shard.
+abbrev pub partStart : Shape → ℕ → ℕ
+partStart shape hash = indexIn shape hash * shardWords (shape .cap)
+
+abbrev pub partIn : Shape → ℕ → Part
+partIn shape hash = record { start = partStart shape hash; end = partStart shape hash + shardWords (shape .cap); cap = shape .cap }
+
+abbrev pub partOf : Settings → ℕ → Part
+partOf s hash = partIn (shapeOf s) hash
+
+-- The shard that lies in a part; that of a hash.
+abbrev pub shardIn : Part → List ℕ → Shard
+shardIn p ws = shard (p .cap) (segment (p .start) (shardWords (p .cap)) ws)
+
+abbrev pub shardAt : Settings → ℕ → List ℕ → Shard
+shardAt s hash ws = shardIn (partOf s hash) ws
+
+-- What an operation on the shard in a part gives, and all words after it: the other shards stay as they are.
+abbrev pub inPart : {A : Type 0} → Part → List ℕ → Outcome A Shard → Outcome A (List ℕ)
+inPart p ws o = outcome (o .answer) (withSegment (p .start) (shardWords (p .cap)) ws (wordsOf (o .after)))
+
+abbrev pub inShard : {A : Type 0} → Settings → ℕ → List ℕ → Outcome A Shard → Outcome A (List ℕ)
+inShard s hash ws o = inPart (partOf s hash) ws o
+
+-- A part has the words of its shard and lies in the memory.
+pub record Placed (p : Part) (ws : List ℕ) : Type 0 where
+  pub ends : p .end ≡ p .start + shardWords (p .cap)
+  pub within : p .end ≤ length ws
+
+-- The word after a shard, by its number; its slot count.
+abbrev pub shardEnd : ℕ → ℕ → ℕ
+shardEnd cap i = i * shardWords cap + shardWords cap
+
+abbrev pub slotCount : ℕ → ℕ → List ℕ → ℕ
+slotCount cap i ws = shard cap (segment (i * shardWords cap) (shardWords cap) ws) .slots .count

@@ -1,0 +1,38 @@
+// What a call on a key is lent. The shape of its store is worked out once: it serves the refusals, and the part that is found in it serves the operation.
+ghost use mathlib.Core.Path.{_≡_};
+ghost use Rattle.settings.specs.Settings.{ShapeOfAccepted, firstRefusal};
+ghost use Rattle.store.specs.Memory.{partIn};
+ghost use Rattle.store.specs.Refusals.{shapeRefusal};
+ghost use Rattle.store.specs.Lending.{lentUnless};
+use crate::Part;
+use crate::refusals;
+use settings::Shape;
+
+// The part of the key's shard; or nothing, and the number by which the call is refused.
+pub enum Lending {
+    Refused(u32),
+    Lent(Part),
+}
+
+// Lends the part of a hash's shard in memory of a shape, unless the call is refused. It is refused for the memory's length, else for a count of the shard
+// over the cap, else by `further`, the number for its other arguments. The settings were checked before: they gave the shape.
+pub fn lend(shape: Shape, ws: &[u64], hash: u64, further: u32) -> Lending
+    requires { ⌜ ShapeOfAccepted shape ⌝ }
+    ensures { λ r. ⌜ r ≡ lentUnless (firstRefusal (shapeRefusal shape hash (now (ws .entry))) further) (partIn shape hash) ⌝ }
+{
+    let refusal = refusals::memory_refusal(shape.words(), ws);
+    if refusal != 0 {
+        return Lending::Refused(refusal);
+    }
+    let part = crate::part_of(shape, hash);
+    let start = part.start;
+    let end = part.end;
+    let refusal = refusals::first_refusal(
+        refusals::count_refusal(&ws[start..end], part.cap),
+        further,
+    );
+    if refusal != 0 {
+        return Lending::Refused(refusal);
+    }
+    Lending::Lent(part)
+}

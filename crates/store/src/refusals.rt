@@ -1,0 +1,96 @@
+// The refusals by number; 0 is none. Each check has a function, and so has the whole refusal of the operations that name no key: set-up, clear and length.
+// Of several checks the first that applies gives the number.
+ghost use mathlib.Core.Path.{_≡_};
+ghost use lib.ListN.{length};
+ghost use Rattle.settings.specs.Settings.{shardWords, firstRefusal};
+ghost use Rattle.shard_map.specs.Layout.{shard};
+ghost use Rattle.store.specs.Refusals.{memoryRefusal, setUpRefusal, countRefusal, momentRefusal, waitRefusal, slotsRefusal, lenRefusal};
+use settings::Settings;
+use shard_map::debts;
+use units::Nanos;
+
+// The latest moment that a call may name, in nanoseconds: 2^62.
+const LATEST_MOMENT: u64 = 0x4000_0000_0000_0000;
+
+// The longest wait that a reservation may ask for, in nanoseconds: 2^46.
+const LONGEST_MAX_WAIT: u64 = 0x4000_0000_0000;
+
+// The first refusal of the two, 0 if there is none.
+pub fn first_refusal(first: u32, second: u32) -> u32
+    ensures { λ r. ⌜ r ≡ firstRefusal first second ⌝ }
+{
+    if first == 0 { second } else { first }
+}
+
+// 5 where the memory has not the length that is asked for.
+pub(crate) fn memory_refusal(words: usize, ws: &[u64]) -> u32
+    ensures { λ r. ⌜ r ≡ memoryRefusal words (now (ws .entry)) ⌝ }
+{
+    if ws.len() == words { 0 } else { 5 }
+}
+
+// 5 where a count of a shard is over the cap.
+pub(crate) fn count_refusal(ws: &[u64], cap: usize) -> u32
+    requires { ⌜ length (now ws) ≡ shardWords cap ⌝ }
+    ensures { λ r. ⌜ r ≡ countRefusal cap (shard cap (now (ws .entry))) ⌝ }
+{
+    if cap < shard_map::len(ws, cap) {
+        return 5;
+    }
+    if cap < debts::len(ws, cap) {
+        return 5;
+    }
+    0
+}
+
+// 6 for a moment that is too late.
+pub fn moment_refusal(at: Nanos) -> u32
+    ensures { λ r. ⌜ r ≡ momentRefusal at ⌝ }
+{
+    if LATEST_MOMENT < at.0 { 6 } else { 0 }
+}
+
+// 7 for a longest wait that is too long.
+pub fn wait_refusal(max_wait: Nanos) -> u32
+    ensures { λ r. ⌜ r ≡ waitRefusal «max_wait» ⌝ }
+{
+    if LONGEST_MAX_WAIT < max_wait.0 { 7 } else { 0 }
+}
+
+// The refusal of set-up and of clear: the settings, then the length.
+pub fn set_up_refusal(settings: Settings, ws: &[u64]) -> u32
+    ensures { λ r. ⌜ r ≡ setUpRefusal settings (now (ws .entry)) ⌝ }
+{
+    let refusal = settings.refusal();
+    if refusal != 0 {
+        return refusal;
+    }
+    memory_refusal(settings.words(), ws)
+}
+
+// 5 where the slot count of any shard is over the cap.
+fn slots_refusal(settings: Settings, ws: &[u64]) -> u32
+    requires { ⌜ setUpRefusal settings (now ws) ≡ 0 ⌝ }
+    ensures { λ r. ⌜ r ≡ slotsRefusal settings (now (ws .entry)) ⌝ }
+{
+    let shape = settings.shape();
+    let mut i: usize = 0;
+    while i < shape.shards {
+        if shape.cap < crate::slot_count(ws, shape.cap, i) {
+            return 5;
+        }
+        i += 1;
+    }
+    0
+}
+
+// The refusal of length: as set-up, then the slot counts.
+pub fn len_refusal(settings: Settings, ws: &[u64]) -> u32
+    ensures { λ r. ⌜ r ≡ lenRefusal settings (now (ws .entry)) ⌝ }
+{
+    let refusal = set_up_refusal(settings, ws);
+    if refusal != 0 {
+        return refusal;
+    }
+    slots_refusal(settings, ws)
+}
