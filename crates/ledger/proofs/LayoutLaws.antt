@@ -13,56 +13,56 @@ use Rattle.rows.proofs.RowLaws.{segment-word, by-listed, getD-sets-lt}
 use Rattle.rows.proofs.LayoutLaws.{held-count, held-length, held-item, held-count-put, held-put, held-set-before, held-round}
 use Rattle.ledger.specs.declared.Debt.{Debt}
 use Rattle.ledger.specs.Model.{capOf, debtAt, cursorOf, withCount, withCursor, withDebt}
-use Rattle.ledger.specs.Layout.{ledgerWords, debtOf, debtWords, ledger, wordsOf}
+use Rattle.ledger.specs.Layout.{countAt, cursorAt, debtsAt, debtWidth, ledgerWords, debtOf, debtWords, ledger, wordsOf}
 
 -- Whatever the words, the ledger in them has room for cap debts.
 pub cap-is : (cap : ℕ) (ws : List ℕ) → capOf (ledger cap ws) ≡ cap
 unfolding ledger
-cap-is cap ws = held-length debtOf 2 cap 0 2 ws
+cap-is cap ws = held-length debtOf debtWidth cap countAt debtsAt ws
 
 -- Reads: the first word is the count; the second is the cursor, as it is read, where it is below the count, and 0 stands for it where it is not;
 -- two words from the third on are a debt.
 module _ (cap : ℕ) (ws : List ℕ) where
-  pub count-read : getD ws 0 0 ≡ ledger cap ws .debts .count
+  pub count-read : getD ws countAt 0 ≡ ledger cap ws .debts .count
   unfolding ledger
-  count-read = sym (held-count debtOf 2 cap 0 2 ws)
+  count-read = sym (held-count debtOf debtWidth cap countAt debtsAt ws)
 
-  pub cursor-read-below : getD ws 1 0 < getD ws 0 0 → getD ws 1 0 ≡ cursorOf (ledger cap ws)
+  pub cursor-read-below : getD ws cursorAt 0 < getD ws countAt 0 → getD ws cursorAt 0 ≡ cursorOf (ledger cap ws)
   unfolding ledger
-  cursor-read-below below = rw (held-count debtOf 2 cap 0 2 ws, lt-ltb _ _ below)
+  cursor-read-below below = rw (held-count debtOf debtWidth cap countAt debtsAt ws, lt-ltb _ _ below)
 
-  pub cursor-read-past : getD ws 0 0 ≤ getD ws 1 0 → 0 ≡ cursorOf (ledger cap ws)
+  pub cursor-read-past : getD ws countAt 0 ≤ getD ws cursorAt 0 → 0 ≡ cursorOf (ledger cap ws)
   unfolding ledger
-  cursor-read-past past = rw (held-count debtOf 2 cap 0 2 ws, le-ltb _ _ past)
+  cursor-read-past past = rw (held-count debtOf debtWidth cap countAt debtsAt ws, le-ltb _ _ past)
 
-  pub debt-read : (i : ℕ) → i < cap → debtOf (getD ws (2 + 2 * i) 0 ∷ getD ws (2 + 2 * i + 1) 0 ∷ []) ≡ debtAt (ledger cap ws) i
+  pub debt-read : (i : ℕ) → i < cap → debtOf (getD ws (debtsAt + debtWidth * i) 0 ∷ getD ws (debtsAt + debtWidth * i + 1) 0 ∷ []) ≡ debtAt (ledger cap ws) i
   unfolding ledger
   debt-read i below =
-      let hash-word = rw add-zero at (segment-word (2 + 2 * i) 2 ws 0 (lit< tt)) in
-      let settles-word = segment-word (2 + 2 * i) 2 ws 1 (lit< tt) in
-      sym (held-item debtOf 2 cap 0 2 ws i below ∙ (λ j. record { hash = hash-word j; settles = record { 0 = settles-word j } }))
+      let hash-word = rw add-zero at (segment-word (debtsAt + debtWidth * i) debtWidth ws 0 (lit< tt)) in
+      let settles-word = segment-word (debtsAt + debtWidth * i) debtWidth ws 1 (lit< tt) in
+      sym (held-item debtOf debtWidth cap countAt debtsAt ws i below ∙ (λ j. record { hash = hash-word j; settles = record { 0 = settles-word j } }))
 
 -- Stores: each changes one field of the ledger, and nothing else.
 module _ (cap : ℕ) (ws : List ℕ) (size : length ws ≡ ledgerWords cap) where
-  pub count-put : (n : ℕ) → ledger cap (set ws 0 n) ≡ withCount (ledger cap ws) n
+  pub count-put : (n : ℕ) → ledger cap (set ws countAt n) ≡ withCount (ledger cap ws) n
   unfolding ledger
   count-put n =
-      let debts-put = held-count-put debtOf 2 cap 0 2 ws (lit< tt) (omega arith) n in
-      let cursor-kept = getD-set-other ws 0 1 n 0 (omega arith) in
+      let debts-put = held-count-put debtOf debtWidth cap countAt debtsAt ws (lit< tt) (omega arith) n in
+      let cursor-kept = getD-set-other ws countAt cursorAt n 0 (omega arith) in
       λ j. record { debts = debts-put j; cursor = cursor-kept j }
 
-  pub cursor-put : (n : ℕ) → ledger cap (set ws 1 n) ≡ withCursor (ledger cap ws) n
+  pub cursor-put : (n : ℕ) → ledger cap (set ws cursorAt n) ≡ withCursor (ledger cap ws) n
   unfolding ledger
   cursor-put n =
-      let debts-kept = held-set-before debtOf 2 cap 0 2 ws (lit< tt) (omega arith) 1 n (lit< tt) (λ e. omega arith) in
-      let cursor-put = getD-set-same ws 1 n 0 (omega arith) in
+      let debts-kept = held-set-before debtOf debtWidth cap countAt debtsAt ws (lit< tt) (omega arith) cursorAt n (lit< tt) (λ e. omega arith) in
+      let cursor-put = getD-set-same ws cursorAt n 0 (omega arith) in
       λ j. record { debts = debts-kept j; cursor = cursor-put j }
 
-  pub debt-put : (i : ℕ) (d : Debt) → i < cap → ledger cap (sets ws (2 + 2 * i) (debtWords d)) ≡ withDebt (ledger cap ws) i d
+  pub debt-put : (i : ℕ) (d : Debt) → i < cap → ledger cap (sets ws (debtsAt + debtWidth * i) (debtWords d)) ≡ withDebt (ledger cap ws) i d
   unfolding ledger
   debt-put i d below =
-      let debts-put = held-put debtOf 2 cap 0 2 ws (lit< tt) (omega arith) i (debtWords d) below refl in
-      let cursor-kept = getD-sets-lt ws (2 + 2 * i) 1 (debtWords d) (omega arith) in
+      let debts-put = held-put debtOf debtWidth cap countAt debtsAt ws (lit< tt) (omega arith) i (debtWords d) below refl in
+      let cursor-kept = getD-sets-lt ws (debtsAt + debtWidth * i) cursorAt (debtWords d) (omega arith) in
       λ j. record { debts = debts-put j; cursor = cursor-kept j }
 
 -- The words of the ledger in words of the right length are those words.
@@ -72,8 +72,8 @@ words-ledger cap [] e = absurd (omega arith)
 words-ledger cap (n ∷ []) e = absurd (omega arith)
 words-ledger cap (n ∷ c ∷ ws) e =
     ap {B = List ℕ} (λ r. n ∷ c ∷ r)
-    (held-round debtOf 2 cap 0 2 debtWords (n ∷ c ∷ ws) (by-listed 2 (λ r. debtWords (debtOf r) ≡ r) (λ f. refl)) (omega arith)
-    ∙ take-all (2 * cap) ws (omega arith))
+    (held-round debtOf debtWidth cap countAt debtsAt debtWords (n ∷ c ∷ ws) (by-listed debtWidth (λ r. debtWords (debtOf r) ≡ r) (λ f. refl)) (omega arith)
+    ∙ take-all (debtWidth * cap) ws (omega arith))
 
 -- So words of that length with equal ledgers are equal: a contract that gives the ledger at exit gives every word at exit.
 pub same-words : (cap : ℕ) (xs ys : List ℕ) → length xs ≡ ledgerWords cap → length ys ≡ ledgerWords cap → ledger cap xs ≡ ledger cap ys → xs ≡ ys

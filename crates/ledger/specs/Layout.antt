@@ -1,4 +1,4 @@
--- How a ledger lies in its words: the count, the cursor, then two words a debt.
+-- How a ledger lies in its words: the count, the cursor, then the debts. Each offset and width stands here once, and once in src/words.rt.
 use Prim.Native.Nat.{ℕ, _+_, _*_}
 use mathlib.Core.Path.{_≡_}
 use mathlib.Core.List.{List, [], _∷_, map}
@@ -8,9 +8,22 @@ use Rattle.rows.specs.Layout.{heldIn}
 use Rattle.ledger.specs.declared.Debt.{Debt}
 use Rattle.ledger.specs.Model.{Ledger, Sound}
 
+-- The word of the count and that of the cursor, the word at which the debts begin, and the words of a debt.
+abbrev pub countAt : ℕ
+countAt = 0
+
+abbrev pub cursorAt : ℕ
+cursorAt = 1
+
+abbrev pub debtsAt : ℕ
+debtsAt = 2
+
+abbrev pub debtWidth : ℕ
+debtWidth = 2
+
 -- The words of a ledger with room for cap debts.
 abbrev pub ledgerWords : ℕ → ℕ
-ledgerWords cap = 2 + 2 * cap
+ledgerWords cap = debtsAt + debtWidth * cap
 
 -- The debt that two words are, its hash first; and the words of a debt.
 abbrev pub debtOf : List ℕ → Debt
@@ -21,7 +34,7 @@ debtWords d = d .hash ∷ d .settles .0 ∷ []
 
 -- The ledger that lies in some words, and the words of a ledger.
 unfoldable pub ledger : ℕ → List ℕ → Ledger
-ledger cap ws = record { debts = heldIn debtOf 2 cap 0 2 ws; cursor = getD ws 1 0 }
+ledger cap ws = record { debts = heldIn debtOf debtWidth cap countAt debtsAt ws; cursor = getD ws cursorAt 0 }
 
 unfoldable pub wordsOf : Ledger → List ℕ
 wordsOf l = l .debts .count ∷ l .cursor ∷ unrow (map debtWords (l .debts .places))

@@ -14,7 +14,7 @@ use settings::eviction::Eviction;
 use units::Nanos;
 use units::OptionNanos;
 
-mod words;
+pub mod words;
 
 // A forgotten key's debt: when its bucket would be full again.
 pub struct Debt {

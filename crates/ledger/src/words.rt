@@ -7,12 +7,19 @@ ghost use Rattle.ledger.specs.Layout.{ledger, ledgerWords};
 use crate::Debt;
 use units::Nanos;
 
+// Where a ledger's words lie, counted from its first: the count, the cursor, then the debts, each of its hash and the moment at which it settles.
+const COUNT: usize = 0;
+const CURSOR: usize = 1;
+pub const DEBTS: usize = 2;
+pub const DEBT_WIDTH: usize = 2;
+const SETTLES: usize = 1;
+
 // How many debts are held.
 pub(crate) fn count(ws: &[u64], cap: usize) -> usize
     requires { ⌜ length (now ws) ≡ ledgerWords cap ⌝ }
     ensures { λ r. ⌜ r ≡ ledger cap (now (ws .entry)) .debts .count ⌝ }
 {
-    ws[0] as usize
+    ws[COUNT] as usize
 }
 
 // The cursor, read as 0 where it stands at or past the count.
@@ -20,8 +27,8 @@ pub(crate) fn cursor(ws: &[u64], cap: usize) -> usize
     requires { ⌜ length (now ws) ≡ ledgerWords cap ⌝ }
     ensures { λ r. ⌜ r ≡ Model.cursorOf (ledger cap (now (ws .entry))) ⌝ }
 {
-    let cursor = ws[1];
-    if cursor < ws[0] { cursor as usize } else { 0 }
+    let cursor = ws[CURSOR];
+    if cursor < ws[COUNT] { cursor as usize } else { 0 }
 }
 
 // The hash of the debt at a place.
@@ -29,7 +36,7 @@ pub(crate) fn hash_at(ws: &[u64], cap: usize, i: usize) -> u64
     requires { ⌜ (length (now ws) ≡ ledgerWords cap) × (i < cap) ⌝ }
     ensures { λ r. ⌜ r ≡ Model.debtAt (ledger cap (now (ws .entry))) i .hash ⌝ }
 {
-    ws[2 + 2 * i]
+    ws[DEBTS + DEBT_WIDTH * i]
 }
 
 // The moment at which the debt at a place settles.
@@ -37,7 +44,7 @@ pub(crate) fn settles_at(ws: &[u64], cap: usize, i: usize) -> Nanos
     requires { ⌜ (length (now ws) ≡ ledgerWords cap) × (i < cap) ⌝ }
     ensures { λ r. ⌜ r ≡ Model.settlesAt (ledger cap (now (ws .entry))) i ⌝ }
 {
-    Nanos(ws[2 + 2 * i + 1])
+    Nanos(ws[DEBTS + DEBT_WIDTH * i + SETTLES])
 }
 
 // The debt at a place.
@@ -45,10 +52,10 @@ pub(crate) fn load(ws: &[u64], cap: usize, i: usize) -> Debt
     requires { ⌜ (length (now ws) ≡ ledgerWords cap) × (i < cap) ⌝ }
     ensures { λ r. ⌜ r ≡ Model.debtAt (ledger cap (now (ws .entry))) i ⌝ }
 {
-    let first = 2 + 2 * i;
+    let first = DEBTS + DEBT_WIDTH * i;
     Debt {
         hash: ws[first],
-        settles: Nanos(ws[first + 1]),
+        settles: Nanos(ws[first + SETTLES]),
     }
 }
 
@@ -57,7 +64,7 @@ pub(crate) fn set_count(ws: &mut [u64], cap: usize, count: usize)
     requires { ⌜ length (now ws) ≡ ledgerWords cap ⌝ }
     ensures { λ _. ⌜ ledger cap (now (ws .exit)) ≡ Model.withCount (ledger cap (now (ws .entry))) count ⌝ }
 {
-    ws[0] = count as u64;
+    ws[COUNT] = count as u64;
 }
 
 // The next look begins at this place.
@@ -65,7 +72,7 @@ pub(crate) fn set_cursor(ws: &mut [u64], cap: usize, cursor: usize)
     requires { ⌜ length (now ws) ≡ ledgerWords cap ⌝ }
     ensures { λ _. ⌜ ledger cap (now (ws .exit)) ≡ Model.withCursor (ledger cap (now (ws .entry))) cursor ⌝ }
 {
-    ws[1] = cursor as u64;
+    ws[CURSOR] = cursor as u64;
 }
 
 // A debt comes to stand at a place.
@@ -73,8 +80,8 @@ pub(crate) fn put(ws: &mut [u64], cap: usize, i: usize, debt: Debt)
     requires { ⌜ (length (now ws) ≡ ledgerWords cap) × (i < cap) ⌝ }
     ensures { λ _. ⌜ ledger cap (now (ws .exit)) ≡ Model.withDebt (ledger cap (now (ws .entry))) i debt ⌝ }
 {
-    let first = 2 + 2 * i;
+    let first = DEBTS + DEBT_WIDTH * i;
     let settles = debt.settles;
     ws[first] = debt.hash;
-    ws[first + 1] = settles.0;
+    ws[first + SETTLES] = settles.0;
 }

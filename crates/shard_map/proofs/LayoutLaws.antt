@@ -17,54 +17,54 @@ use Rattle.rows.specs.Outcome.{Outcome, outcome}
 use Rattle.rows.proofs.SegmentLaws.{segment-set-below, segment-sets-below, segment-length, segment-back, segment-join, word-kept}
 use Rattle.rows.proofs.RowLaws.{segment-word, row-end, by-listed, getD-sets-lt}
 use Rattle.rows.proofs.LayoutLaws.{held-count, held-length, held-item, held-round, held-count-put, held-put, held-put-word, held-set-before, held-lent-after}
-use Rattle.settings.specs.Settings.{shardWords}
 use Rattle.slot.specs.declared.Slot.{Slot}
 use Rattle.slot.specs.Slot.{withMark}
 use Rattle.ledger.specs.Model as Debts
 use Rattle.ledger.specs.Layout as Ledger
 use Rattle.ledger.proofs.LayoutLaws.{words-ledger}
 use Rattle.shard_map.specs.Model.{noSlot, capOf, slotAt, withCount, withSlot, withHand, withSweep, withLedger, inLedger, handOf, sweepOf}
-use Rattle.shard_map.specs.Layout.{slotOf, slotWords, ledgerStart, shard, wordsOf}
+use Rattle.shard_map.specs.Layout.{countAt, handAt, sweepAt, slotsAt, slotWidth, markIn}
+use Rattle.shard_map.specs.Layout.{slotOf, slotWords, ledgerStart, shardWords, shard, wordsOf}
 
 -- Whatever the words, the shard in them has room for cap slots.
 pub cap-is : (cap : ℕ) (ws : List ℕ) → capOf (shard cap ws) ≡ cap
 unfolding shard
-cap-is cap ws = held-length slotOf 6 cap 0 3 ws
+cap-is cap ws = held-length slotOf slotWidth cap countAt slotsAt ws
 
 -- Reads: the first word is the count; the second and the third are the hand and the sweep, as they are read, where they are below the count, and 0
 -- stands for them where they are not; six words from the fourth on are a slot.
 module _ (cap : ℕ) (ws : List ℕ) where
-  pub count-read : getD ws 0 0 ≡ shard cap ws .slots .count
+  pub count-read : getD ws countAt 0 ≡ shard cap ws .slots .count
   unfolding shard
-  count-read = sym (held-count slotOf 6 cap 0 3 ws)
+  count-read = sym (held-count slotOf slotWidth cap countAt slotsAt ws)
 
-  pub hand-read-below : getD ws 1 0 < getD ws 0 0 → getD ws 1 0 ≡ handOf (shard cap ws)
+  pub hand-read-below : getD ws handAt 0 < getD ws countAt 0 → getD ws handAt 0 ≡ handOf (shard cap ws)
   unfolding shard
-  hand-read-below below = rw (held-count slotOf 6 cap 0 3 ws, lt-ltb _ _ below)
+  hand-read-below below = rw (held-count slotOf slotWidth cap countAt slotsAt ws, lt-ltb _ _ below)
 
-  pub hand-read-past : getD ws 0 0 ≤ getD ws 1 0 → 0 ≡ handOf (shard cap ws)
+  pub hand-read-past : getD ws countAt 0 ≤ getD ws handAt 0 → 0 ≡ handOf (shard cap ws)
   unfolding shard
-  hand-read-past past = rw (held-count slotOf 6 cap 0 3 ws, le-ltb _ _ past)
+  hand-read-past past = rw (held-count slotOf slotWidth cap countAt slotsAt ws, le-ltb _ _ past)
 
-  pub sweep-read-below : getD ws 2 0 < getD ws 0 0 → getD ws 2 0 ≡ sweepOf (shard cap ws)
+  pub sweep-read-below : getD ws sweepAt 0 < getD ws countAt 0 → getD ws sweepAt 0 ≡ sweepOf (shard cap ws)
   unfolding shard
-  sweep-read-below below = rw (held-count slotOf 6 cap 0 3 ws, lt-ltb _ _ below)
+  sweep-read-below below = rw (held-count slotOf slotWidth cap countAt slotsAt ws, lt-ltb _ _ below)
 
-  pub sweep-read-past : getD ws 0 0 ≤ getD ws 2 0 → 0 ≡ sweepOf (shard cap ws)
+  pub sweep-read-past : getD ws countAt 0 ≤ getD ws sweepAt 0 → 0 ≡ sweepOf (shard cap ws)
   unfolding shard
-  sweep-read-past past = rw (held-count slotOf 6 cap 0 3 ws, le-ltb _ _ past)
+  sweep-read-past past = rw (held-count slotOf slotWidth cap countAt slotsAt ws, le-ltb _ _ past)
 
   -- Word f of the slot at i.
-  slot-word : (i f : ℕ) → f < 6 → getD (segment (3 + 6 * i) 6 ws) f 0 ≡ getD ws (3 + 6 * i + f) 0
-  slot-word i f below = segment-word (3 + 6 * i) 6 ws f below
+  slot-word : (i f : ℕ) → f < slotWidth → getD (segment (slotsAt + slotWidth * i) slotWidth ws) f 0 ≡ getD ws (slotsAt + slotWidth * i + f) 0
+  slot-word i f below = segment-word (slotsAt + slotWidth * i) slotWidth ws f below
 
   pub slot-read : (i : ℕ) → i < cap
-      → slotOf (getD ws (3 + 6 * i) 0 ∷ getD ws (3 + 6 * i + 1) 0 ∷ getD ws (3 + 6 * i + 2) 0 ∷ getD ws (3 + 6 * i + 3) 0 ∷ getD ws (3 + 6 * i + 4) 0 ∷ getD ws (3 + 6 * i + 5) 0 ∷ [])
+      → slotOf (getD ws (slotsAt + slotWidth * i) 0 ∷ getD ws (slotsAt + slotWidth * i + 1) 0 ∷ getD ws (slotsAt + slotWidth * i + 2) 0 ∷ getD ws (slotsAt + slotWidth * i + 3) 0 ∷ getD ws (slotsAt + slotWidth * i + 4) 0 ∷ getD ws (slotsAt + slotWidth * i + 5) 0 ∷ [])
       ≡ slotAt (shard cap ws) i
   unfolding shard
   slot-read i below =
       let hash-word = rw add-zero at (slot-word i 0 (lit< tt)) in
-      sym (held-item slotOf 6 cap 0 3 ws i below ∙ (λ j. record {
+      sym (held-item slotOf slotWidth cap countAt slotsAt ws i below ∙ (λ j. record {
         hash = hash-word j;
         key = slot-word i 1 (lit< tt) j;
         bucket = record { shortfall = slot-word i 2 (lit< tt) j; stamp = record { 0 = slot-word i 3 (lit< tt) j } };
@@ -78,102 +78,106 @@ module _ (cap : ℕ) (ws : List ℕ) (size : length ws ≡ shardWords cap) where
   ledger-kept : (i n : ℕ) → i < ledgerStart cap → segment (ledgerStart cap) (Ledger.ledgerWords cap) (set ws i n) ≡ segment (ledgerStart cap) (Ledger.ledgerWords cap) ws
   ledger-kept i n below = segment-set-below (ledgerStart cap) (Ledger.ledgerWords cap) ws i n below
 
-  pub count-put : (n : ℕ) → shard cap (set ws 0 n) ≡ withCount (shard cap ws) n
+  pub count-put : (n : ℕ) → shard cap (set ws countAt n) ≡ withCount (shard cap ws) n
   unfolding shard
   count-put n =
-      let slots-put = held-count-put slotOf 6 cap 0 3 ws (lit< tt) (omega arith) n in
-      let hand-kept = getD-set-other ws 0 1 n 0 (omega arith) in
-      let sweep-kept = getD-set-other ws 0 2 n 0 (omega arith) in
-      let part-kept = ledger-kept 0 n (omega arith) in
+      let slots-put = held-count-put slotOf slotWidth cap countAt slotsAt ws (lit< tt) (omega arith) n in
+      let hand-kept = getD-set-other ws countAt handAt n 0 (omega arith) in
+      let sweep-kept = getD-set-other ws countAt sweepAt n 0 (omega arith) in
+      let part-kept = ledger-kept countAt n (omega arith) in
       λ j. record { slots = slots-put j; hand = hand-kept j; sweep = sweep-kept j; ledger = Ledger.ledger cap (part-kept j) }
 
-  pub hand-put : (n : ℕ) → shard cap (set ws 1 n) ≡ withHand (shard cap ws) n
+  pub hand-put : (n : ℕ) → shard cap (set ws handAt n) ≡ withHand (shard cap ws) n
   unfolding shard
   hand-put n =
-      let slots-kept = held-set-before slotOf 6 cap 0 3 ws (lit< tt) (omega arith) 1 n (lit< tt) (λ e. omega arith) in
-      let hand-put = getD-set-same ws 1 n 0 (omega arith) in
-      let sweep-kept = getD-set-other ws 1 2 n 0 (omega arith) in
-      let part-kept = ledger-kept 1 n (omega arith) in
+      let slots-kept = held-set-before slotOf slotWidth cap countAt slotsAt ws (lit< tt) (omega arith) handAt n (lit< tt) (λ e. omega arith) in
+      let hand-put = getD-set-same ws handAt n 0 (omega arith) in
+      let sweep-kept = getD-set-other ws handAt sweepAt n 0 (omega arith) in
+      let part-kept = ledger-kept handAt n (omega arith) in
       λ j. record { slots = slots-kept j; hand = hand-put j; sweep = sweep-kept j; ledger = Ledger.ledger cap (part-kept j) }
 
-  pub sweep-put : (n : ℕ) → shard cap (set ws 2 n) ≡ withSweep (shard cap ws) n
+  pub sweep-put : (n : ℕ) → shard cap (set ws sweepAt n) ≡ withSweep (shard cap ws) n
   unfolding shard
   sweep-put n =
-      let slots-kept = held-set-before slotOf 6 cap 0 3 ws (lit< tt) (omega arith) 2 n (lit< tt) (λ e. omega arith) in
-      let hand-kept = getD-set-other ws 2 1 n 0 (omega arith) in
-      let sweep-put = getD-set-same ws 2 n 0 (omega arith) in
-      let part-kept = ledger-kept 2 n (omega arith) in
+      let slots-kept = held-set-before slotOf slotWidth cap countAt slotsAt ws (lit< tt) (omega arith) sweepAt n (lit< tt) (λ e. omega arith) in
+      let hand-kept = getD-set-other ws sweepAt handAt n 0 (omega arith) in
+      let sweep-put = getD-set-same ws sweepAt n 0 (omega arith) in
+      let part-kept = ledger-kept sweepAt n (omega arith) in
       λ j. record { slots = slots-kept j; hand = hand-kept j; sweep = sweep-put j; ledger = Ledger.ledger cap (part-kept j) }
 
   -- A whole slot, as a run of words, and as the code stores them one by one.
-  run-put : (i : ℕ) (slot : Slot) → i < cap → shard cap (sets ws (3 + 6 * i) (slotWords slot)) ≡ withSlot (shard cap ws) i slot
+  run-put : (i : ℕ) (slot : Slot) → i < cap → shard cap (sets ws (slotsAt + slotWidth * i) (slotWords slot)) ≡ withSlot (shard cap ws) i slot
   unfolding shard
   run-put i slot below =
-      let slots-put = held-put slotOf 6 cap 0 3 ws (lit< tt) (omega arith) i (slotWords slot) below refl in
-      let hand-kept = getD-sets-lt ws (3 + 6 * i) 1 (slotWords slot) (omega arith) in
-      let sweep-kept = getD-sets-lt ws (3 + 6 * i) 2 (slotWords slot) (omega arith) in
-      let part-kept = segment-sets-below (ledgerStart cap) (Ledger.ledgerWords cap) ws (3 + 6 * i) (slotWords slot) (omega arith) in
+      let slots-put = held-put slotOf slotWidth cap countAt slotsAt ws (lit< tt) (omega arith) i (slotWords slot) below refl in
+      let hand-kept = getD-sets-lt ws (slotsAt + slotWidth * i) handAt (slotWords slot) (omega arith) in
+      let sweep-kept = getD-sets-lt ws (slotsAt + slotWidth * i) sweepAt (slotWords slot) (omega arith) in
+      let part-kept = segment-sets-below (ledgerStart cap) (Ledger.ledgerWords cap) ws (slotsAt + slotWidth * i) (slotWords slot) (omega arith) in
       λ j. record { slots = slots-put j; hand = hand-kept j; sweep = sweep-kept j; ledger = Ledger.ledger cap (part-kept j) }
 
   pub slot-put : (i : ℕ) (slot : Slot) → i < cap
-      → shard cap (set (set (set (set (set (set ws (3 + 6 * i) (slot .hash)) (3 + 6 * i + 1) (slot .key)) (3 + 6 * i + 2) (slot .bucket .shortfall))
-      (3 + 6 * i + 3) (slot .bucket .stamp .0)) (3 + 6 * i + 4) (slot .mark)) (3 + 6 * i + 5) (slot .seen .0))
+      → shard cap (set (set (set (set (set (set ws (slotsAt + slotWidth * i) (slot .hash)) (slotsAt + slotWidth * i + 1) (slot .key)) (slotsAt + slotWidth * i + 2) (slot .bucket .shortfall))
+      (slotsAt + slotWidth * i + 3) (slot .bucket .stamp .0)) (slotsAt + slotWidth * i + 4) (slot .mark)) (slotsAt + slotWidth * i + 5) (slot .seen .0))
       ≡ withSlot (shard cap ws) i slot
   slot-put i slot below =
-      let second : 3 + 6 * i + 1 ≡ suc (3 + 6 * i) = omega arith in
-      let third : 3 + 6 * i + 2 ≡ suc (suc (3 + 6 * i)) = omega arith in
-      let fourth : 3 + 6 * i + 3 ≡ suc (suc (suc (3 + 6 * i))) = omega arith in
-      let fifth : 3 + 6 * i + 4 ≡ suc (suc (suc (suc (3 + 6 * i)))) = omega arith in
-      let sixth : 3 + 6 * i + 5 ≡ suc (suc (suc (suc (suc (3 + 6 * i))))) = omega arith in
+      let second : slotsAt + slotWidth * i + 1 ≡ suc (slotsAt + slotWidth * i) = omega arith in
+      let third : slotsAt + slotWidth * i + 2 ≡ suc (suc (slotsAt + slotWidth * i)) = omega arith in
+      let fourth : slotsAt + slotWidth * i + 3 ≡ suc (suc (suc (slotsAt + slotWidth * i))) = omega arith in
+      let fifth : slotsAt + slotWidth * i + 4 ≡ suc (suc (suc (suc (slotsAt + slotWidth * i)))) = omega arith in
+      let sixth : slotsAt + slotWidth * i + 5 ≡ suc (suc (suc (suc (suc (slotsAt + slotWidth * i))))) = omega arith in
       rw (second, third, fourth, fifth, sixth) (run-put i slot below)
 
   -- The mark of a slot alone.
-  pub mark-put : (i mark : ℕ) → i < cap → shard cap (set ws (3 + 6 * i + 4) mark) ≡ withSlot (shard cap ws) i (withMark (slotAt (shard cap ws) i) mark)
+  pub mark-put : (i mark : ℕ) → i < cap → shard cap (set ws (slotsAt + slotWidth * i + markIn) mark) ≡ withSlot (shard cap ws) i (withMark (slotAt (shard cap ws) i) mark)
   unfolding shard
   mark-put i mark below =
-      let index : 3 + 6 * i + 4 ≡ 3 + (6 * i + 4) = omega arith in
-      let long = segment-length (3 + 6 * i) 6 ws (omega (arith, row-end 6 cap i below)) in
-      let marked : slotOf (set (segment (3 + 6 * i) 6 ws) 4 mark) ≡ withMark (itemAt noSlot (heldIn slotOf 6 cap 0 3 ws) i) mark =
-      by-listed 6 (λ row. slotOf (set row 4 mark) ≡ withMark (slotOf row) mark) (λ f. refl) (segment (3 + 6 * i) 6 ws) long
-      ∙ ap (λ (slot : Slot). withMark slot mark) (sym (held-item slotOf 6 cap 0 3 ws i below)) in
-      let slots-put = held-put-word slotOf 6 cap 0 3 ws (lit< tt) (omega arith) i 4 mark below (lit< tt) ∙ ap (λ (slot : Slot). stored (heldIn slotOf 6 cap 0 3 ws) i slot) marked in
-      let hand-kept = getD-set-other ws (3 + (6 * i + 4)) 1 mark 0 (λ e. omega arith) in
-      let sweep-kept = getD-set-other ws (3 + (6 * i + 4)) 2 mark 0 (λ e. omega arith) in
-      let part-kept = ledger-kept (3 + (6 * i + 4)) mark (omega arith) in
+      let index : slotsAt + slotWidth * i + markIn ≡ slotsAt + (slotWidth * i + markIn) = omega arith in
+      let long = segment-length (slotsAt + slotWidth * i) slotWidth ws (omega (arith, row-end slotWidth cap i below)) in
+      let marked : slotOf (set (segment (slotsAt + slotWidth * i) slotWidth ws) markIn mark) ≡ withMark (itemAt noSlot (heldIn slotOf slotWidth cap countAt slotsAt ws) i) mark =
+      by-listed slotWidth (λ row. slotOf (set row markIn mark) ≡ withMark (slotOf row) mark) (λ f. refl) (segment (slotsAt + slotWidth * i) slotWidth ws) long
+      ∙ ap (λ (slot : Slot). withMark slot mark) (sym (held-item slotOf slotWidth cap countAt slotsAt ws i below)) in
+      let slots-put = held-put-word slotOf slotWidth cap countAt slotsAt ws (lit< tt) (omega arith) i markIn mark below (lit< tt) ∙ ap (λ (slot : Slot). stored (heldIn slotOf slotWidth cap countAt slotsAt ws) i slot) marked in
+      let hand-kept = getD-set-other ws (slotsAt + (slotWidth * i + markIn)) handAt mark 0 (λ e. omega arith) in
+      let sweep-kept = getD-set-other ws (slotsAt + (slotWidth * i + markIn)) sweepAt mark 0 (λ e. omega arith) in
+      let part-kept = ledger-kept (slotsAt + (slotWidth * i + markIn)) mark (omega arith) in
       rw index (λ j. record { slots = slots-put j; hand = hand-kept j; sweep = sweep-kept j; ledger = Ledger.ledger cap (part-kept j) })
 
--- The ledger's part of the words, in the form in which it is lent, and come back as other words.
-module _ (cap : ℕ) (ws : List ℕ) where
-  pub ledger-lent : length ws ≡ shardWords cap → Ledger.ledger cap (segment (3 + 6 * cap) (length ws - (3 + 6 * cap)) ws) ≡ shard cap ws .ledger
+-- The ledger's part of the words, in the form in which it is lent from its start on, and come back as other words.
+module _ (cap : ℕ) (ws : List ℕ) (size : length ws ≡ shardWords cap) {start : ℕ} (is : start ≡ ledgerStart cap) where
+  ledger-fits : start + (length ws - start) ≤ length ws
+  ledger-fits = omega arith
+
+  lent-words : length ws - start ≡ Ledger.ledgerWords cap
+  lent-words = omega arith
+
+  pub ledger-lent : Ledger.ledger cap (segment start (length ws - start) ws) ≡ shard cap ws .ledger
   unfolding shard
-  ledger-lent size = let e : length ws - (3 + 6 * cap) ≡ 2 + 2 * cap = omega arith in rw e
+  ledger-lent = rw (lent-words, is)
 
-  pub ledger-long : length ws ≡ shardWords cap → length (segment (3 + 6 * cap) (length ws - (3 + 6 * cap)) ws) ≡ Ledger.ledgerWords cap
-  ledger-long size =
-      let n : length ws - (3 + 6 * cap) ≡ 2 + 2 * cap = omega arith in
-      segment-length (3 + 6 * cap) (length ws - (3 + 6 * cap)) ws (omega arith) ∙ n
+  pub ledger-long : length (segment start (length ws - start) ws) ≡ Ledger.ledgerWords cap
+  ledger-long = segment-length start (length ws - start) ws ledger-fits ∙ lent-words
 
-  pub ledger-back : (ys : List ℕ) → length ws ≡ shardWords cap → length ys ≡ length (segment (3 + 6 * cap) (length ws - (3 + 6 * cap)) ws)
-      → shard cap (putMid (3 + 6 * cap) (length ws - (3 + 6 * cap)) ws ys) ≡ withLedger (shard cap ws) (Ledger.ledger cap ys)
-  unfolding shard
-  ledger-back ys size same =
-      let n : length ws - (3 + 6 * cap) ≡ 2 + 2 * cap = omega arith in
-      let room : 3 + 6 * cap + (2 + 2 * cap) ≤ length ws = omega arith in
-      let long : length ys ≡ 2 + 2 * cap = (rw n at same) ∙ segment-length (3 + 6 * cap) (2 + 2 * cap) ws room in
-      let slots-kept = held-lent-after slotOf 6 cap 0 3 ws (lit< tt) (omega arith) (3 + 6 * cap) (2 + 2 * cap) ys room long (omega arith) in
-      let hand-kept = word-kept (3 + 6 * cap) (2 + 2 * cap) ws ys room long 1 (omega arith) in
-      let sweep-kept = word-kept (3 + 6 * cap) (2 + 2 * cap) ws ys room long 2 (omega arith) in
-      let part-put = segment-back (3 + 6 * cap) (2 + 2 * cap) ws ys room long in
-      rw n (λ j. record { slots = slots-kept j; hand = hand-kept j; sweep = sweep-kept j; ledger = Ledger.ledger cap (part-put j) })
+  module _ (ys : List ℕ) (same : length ys ≡ length (segment start (length ws - start) ws)) where
+    long : length ys ≡ length ws - start
+    long = same ∙ segment-length start (length ws - start) ws ledger-fits
 
-  -- An answer that came with the ledger's words comes with the shard's.
-  pub ledger-answered : {A : Type 0} {a : A} {o : Outcome A Debts.Ledger} (ys : List ℕ) → length ws ≡ shardWords cap
-      → length ys ≡ length (segment (3 + 6 * cap) (length ws - (3 + 6 * cap)) ws) → outcome a (Ledger.ledger cap ys) ≡ o
-      → outcome a (shard cap (putMid (3 + 6 * cap) (length ws - (3 + 6 * cap)) ws ys)) ≡ inLedger (shard cap ws) o
-  ledger-answered ys size same gave = rw (ledger-back ys size same) (ap (λ o. inLedger (shard cap ws) o) gave)
+    pub ledger-back : shard cap (putMid start (length ws - start) ws ys) ≡ withLedger (shard cap ws) (Ledger.ledger cap ys)
+    unfolding shard
+    ledger-back =
+        let lent : ℕ = length ws - start in
+        let slots-kept = held-lent-after slotOf slotWidth cap countAt slotsAt ws (lit< tt) (omega arith) start lent ys ledger-fits long (omega arith) in
+        let hand-kept = word-kept start lent ws ys ledger-fits long handAt (omega arith) in
+        let sweep-kept = word-kept start lent ws ys ledger-fits long sweepAt (omega arith) in
+        let ledger-put : segment (ledgerStart cap) (Ledger.ledgerWords cap) (putMid start lent ws ys) ≡ ys = rw (← is, ← lent-words) (segment-back start lent ws ys ledger-fits long) in
+        λ j. record { slots = slots-kept j; hand = hand-kept j; sweep = sweep-kept j; ledger = Ledger.ledger cap (ledger-put j) }
+
+    -- An answer that came with the ledger's words comes with the shard's.
+    pub ledger-answered : {A : Type 0} {a : A} {o : Outcome A Debts.Ledger} → outcome a (Ledger.ledger cap ys) ≡ o
+        → outcome a (shard cap (putMid start (length ws - start) ws ys)) ≡ inLedger (shard cap ws) o
+    ledger-answered gave = rw ledger-back (ap (λ o. inLedger (shard cap ws) o) gave)
 
 -- The words of the shard in words of the right length are those words.
-head-words : (ws : List ℕ) → 3 ≤ length ws → getD ws 0 0 ∷ getD ws 1 0 ∷ getD ws 2 0 ∷ drop 3 ws ≡ ws
+head-words : (ws : List ℕ) → slotsAt ≤ length ws → getD ws countAt 0 ∷ getD ws handAt 0 ∷ getD ws sweepAt 0 ∷ drop slotsAt ws ≡ ws
 head-words [] h = absurd (omega arith)
 head-words (a ∷ []) h = absurd (omega arith)
 head-words (a ∷ b ∷ []) h = absurd (omega arith)
@@ -182,14 +186,14 @@ head-words (a ∷ b ∷ c ∷ ws) h = refl
 pub words-shard : (cap : ℕ) (ws : List ℕ) → length ws ≡ shardWords cap → wordsOf (shard cap ws) ≡ ws
 unfolding shard wordsOf
 words-shard cap ws size =
-    let ledger-long = segment-length (3 + 6 * cap) (2 + 2 * cap) ws (omega arith) in
-    let rest-long = length-drop 3 ws in
+    let ledger-long = segment-length (ledgerStart cap) (Ledger.ledgerWords cap) ws (omega arith) in
+    let rest-long = length-drop slotsAt ws in
     rw (
-      held-count slotOf 6 cap 0 3 ws,
-      held-round slotOf 6 cap 0 3 slotWords ws (by-listed 6 (λ r. slotWords (slotOf r) ≡ r) (λ f. refl)) (omega arith),
-      words-ledger cap (segment (3 + 6 * cap) (2 + 2 * cap) ws) ledger-long,
-      segment-join 3 (6 * cap) (2 + 2 * cap) ws,
-      take-all (6 * cap + (2 + 2 * cap)) (drop 3 ws) (omega arith),
+      held-count slotOf slotWidth cap countAt slotsAt ws,
+      held-round slotOf slotWidth cap countAt slotsAt slotWords ws (by-listed slotWidth (λ r. slotWords (slotOf r) ≡ r) (λ f. refl)) (omega arith),
+      words-ledger cap (segment (ledgerStart cap) (Ledger.ledgerWords cap) ws) ledger-long,
+      segment-join slotsAt (slotWidth * cap) (Ledger.ledgerWords cap) ws,
+      take-all (slotWidth * cap + Ledger.ledgerWords cap) (drop slotsAt ws) (omega arith),
     )
     (head-words ws (omega arith))
 

@@ -23,7 +23,7 @@ use Rattle.slot.specs.Slot.{isKey}
 use Rattle.ledger.specs.Layout as LedgerLayout
 use Rattle.shard_map.specs.Model.{Shard, Sound, noSlot, capOf, slotAt, withCount, withSlot, withSweep, handOf, sweepOf, placeOf, removeAt, insert}
 use Rattle.shard_map.specs.Model.{reclaimable, idleLookAt, idleLook, sweepIdle}
-use Rattle.shard_map.specs.Layout.{shard, Intact}
+use Rattle.shard_map.specs.Layout.{ledgerStart, shard, Intact}
 use Rattle.shard_map.proofs.LayoutLaws.{cap-is, ledger-lent, ledger-long}
 use Rattle.shard_map.proofs.StepLaws.{hand-below, sweep-below, sweep-sound, sweep-idle-sound}
 
@@ -41,8 +41,9 @@ pub intact-sweep : {cap : ℕ} {ws : List ℕ} → Intact cap ws → 0 < shard c
 intact-sweep {cap} {ws} intact some = let below = sweep-below (shard cap ws) some in (below, intact-below intact below)
 
 -- The ledger's part of words that are lent is lent, in the form in which the code lends it.
-pub intact-ledger : {cap : ℕ} {ws : List ℕ} → Intact cap ws → LedgerLayout.Intact cap (segment (3 + 6 * cap) (length ws - (3 + 6 * cap)) ws)
-intact-ledger {cap} {ws} intact = record { size = ledger-long cap ws (intact .size); sound = rw (ledger-lent cap ws (intact .size)) (intact .sound .ledger) }
+pub intact-ledger : {cap start : ℕ} {ws : List ℕ} → Intact cap ws → start ≡ ledgerStart cap → LedgerLayout.Intact cap (segment start (length ws - start) ws)
+intact-ledger {cap} {start} {ws} intact is =
+    record { size = ledger-long cap ws (intact .size) is; sound = rw (ledger-lent cap ws (intact .size) is) (intact .sound .ledger) }
 
 -- Words stay lent after a call that keeps their length and gives a sound shard: the shard alone, or an answer with it.
 module _ {cap : ℕ} {ws ws′ : List ℕ} (intact : Intact cap ws) (same : length ws′ ≡ length ws) where

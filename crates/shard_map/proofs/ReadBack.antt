@@ -10,19 +10,18 @@ use Rattle.rows.specs.Rows.{unrow}
 use Rattle.rows.proofs.LayoutLaws.{held-count}
 use Rattle.rows.proofs.ReadBack.{written-length, held-of-written}
 use Rattle.rows.proofs.ZeroLaws.{zeros-segment}
-use Rattle.settings.specs.Settings.{shardWords}
 use Rattle.ledger.specs.Model as Debts
 use Rattle.ledger.specs.Layout as Ledger
 use Rattle.ledger.proofs.LayoutLaws as LedgerLaws
 use Rattle.ledger.proofs.ReadBack as LedgerBack
 use Rattle.shard_map.specs.Model.{Shard, capOf}
-use Rattle.shard_map.specs.Layout.{slotOf, slotWords, ledgerStart, shard, wordsOf}
+use Rattle.shard_map.specs.Layout.{countAt, slotsAt, slotWidth, slotOf, slotWords, ledgerStart, shardWords, shard, wordsOf}
 
 -- A shard with room for cap slots and cap debts.
 module _ (cap : ℕ) (s : Shard) (room : capOf s ≡ cap) (debt-room : Debts.capOf (s .ledger) ≡ cap) where
-  -- Its slots take six words each.
-  slots-length : length (unrow (map slotWords (s .slots .places))) ≡ 6 * cap
-  slots-length = rw (written-length slotWords 6 (λ slot. refl) (s .slots .places), room)
+  -- What its slots take.
+  slots-length : length (unrow (map slotWords (s .slots .places))) ≡ slotWidth * cap
+  slots-length = rw (written-length slotWords slotWidth (λ slot. refl) (s .slots .places), room)
 
   -- With the slot count, the hand, the sweep and the words of the ledger these are all its words.
   pub words-length : length (wordsOf s) ≡ shardWords cap
@@ -30,9 +29,9 @@ module _ (cap : ℕ) (s : Shard) (room : capOf s ≡ cap) (debt-room : Debts.cap
   words-length = rw length-append (omega (arith, slots-length, LedgerBack.words-length cap (s .ledger) debt-room))
 
   -- The part for the slots has the words of the slots, and the part for the ledger those of the ledger.
-  slots-back : segment 3 (6 * cap) (wordsOf s) ≡ unrow (map slotWords (s .slots .places))
+  slots-back : segment slotsAt (slotWidth * cap) (wordsOf s) ≡ unrow (map slotWords (s .slots .places))
   unfolding wordsOf
-  slots-back = take-at (unrow (map slotWords (s .slots .places))) (Ledger.wordsOf (s .ledger)) (6 * cap) slots-length
+  slots-back = take-at (unrow (map slotWords (s .slots .places))) (Ledger.wordsOf (s .ledger)) (slotWidth * cap) slots-length
 
   ledger-words-back : segment (ledgerStart cap) (Ledger.ledgerWords cap) (wordsOf s) ≡ Ledger.wordsOf (s .ledger)
   unfolding wordsOf
@@ -45,7 +44,7 @@ module _ (cap : ℕ) (s : Shard) (room : capOf s ≡ cap) (debt-room : Debts.cap
   pub shard-of-words : shard cap (wordsOf s) ≡ s
   unfolding shard wordsOf
   shard-of-words =
-      let slots-read = held-of-written slotWords 6 (λ slot. refl) slotOf (λ slot. refl) (s .slots) cap 0 3 (wordsOf s) room refl slots-back in
+      let slots-read = held-of-written slotWords slotWidth (λ slot. refl) slotOf (λ slot. refl) (s .slots) cap countAt slotsAt (wordsOf s) room refl slots-back in
       let ledger-read = ap (Ledger.ledger cap) ledger-words-back ∙ LedgerBack.ledger-of-words cap (s .ledger) debt-room in
       λ j. record { slots = slots-read j; hand = s .hand; sweep = s .sweep; ledger = ledger-read j }
 
@@ -68,7 +67,7 @@ unfolding shard
 zeros-empty cap ws zeros =
     let ledger-zeros = zeros-segment (ledgerStart cap) (Ledger.ledgerWords cap) ws zeros in
     record {
-      slots = held-count slotOf 6 cap 0 3 ws ∙ zeros 0;
+      slots = held-count slotOf slotWidth cap countAt slotsAt ws ∙ zeros 0;
       hand = zeros 1;
       sweep = zeros 2;
       debts = LedgerBack.zeros-no-debts cap _ ledger-zeros;

@@ -1,4 +1,5 @@
--- How a shard lies in its words: the slot count, the hand, the sweep, six words a slot, then the words of the ledger.
+-- How a shard lies in its words: the slot count, the hand, the sweep, the slots, then the words of the ledger. Each offset and width stands here once, and
+-- once in src/words.rt.
 use Prim.Native.Nat.{ℕ, _+_, _*_}
 use mathlib.Core.Path.{_≡_}
 use mathlib.Core.List.{List, [], _∷_, _++_, map}
@@ -6,34 +7,56 @@ use lib.ListN.{length, getD}
 use Rattle.rows.specs.Segments.{segment}
 use Rattle.rows.specs.Rows.{unrow}
 use Rattle.rows.specs.Layout.{heldIn}
-use Rattle.settings.specs.Settings.{shardWords}
 use Rattle.slot.specs.declared.Slot.{Slot}
 use Rattle.ledger.specs.Layout as Ledger
 use Rattle.shard_map.specs.Model.{Shard, Sound}
 
--- The slot that six words are, its hash first; and the words of a slot.
+-- The words of the slot count, of the hand and of the sweep, the word at which the slots begin, and the words of a slot.
+abbrev pub countAt : ℕ
+countAt = 0
+
+abbrev pub handAt : ℕ
+handAt = 1
+
+abbrev pub sweepAt : ℕ
+sweepAt = 2
+
+abbrev pub slotsAt : ℕ
+slotsAt = 3
+
+abbrev pub slotWidth : ℕ
+slotWidth = 6
+
+-- The word of a slot that has the mark.
+abbrev pub markIn : ℕ
+markIn = 4
+
+-- The slot that its words are, its hash first; and the words of a slot.
 abbrev pub slotOf : List ℕ → Slot
 slotOf row = record {
   hash = getD row 0 0;
   key = getD row 1 0;
   bucket = record { shortfall = getD row 2 0; stamp = record { 0 = getD row 3 0 } };
-  mark = getD row 4 0;
+  mark = getD row markIn 0;
   seen = record { 0 = getD row 5 0 };
 }
 
 abbrev pub slotWords : Slot → List ℕ
 slotWords s = s .hash ∷ s .key ∷ s .bucket .shortfall ∷ s .bucket .stamp .0 ∷ s .mark ∷ s .seen .0 ∷ []
 
--- The word at which the ledger begins.
+-- The word at which the ledger begins, and the words of a shard with room for cap slots and cap debts.
 abbrev pub ledgerStart : ℕ → ℕ
-ledgerStart cap = 3 + 6 * cap
+ledgerStart cap = slotsAt + slotWidth * cap
+
+abbrev pub shardWords : ℕ → ℕ
+shardWords cap = ledgerStart cap + Ledger.ledgerWords cap
 
 -- The shard that lies in some words, and the words of a shard.
 unfoldable pub shard : ℕ → List ℕ → Shard
 shard cap ws = record {
-  slots = heldIn slotOf 6 cap 0 3 ws;
-  hand = getD ws 1 0;
-  sweep = getD ws 2 0;
+  slots = heldIn slotOf slotWidth cap countAt slotsAt ws;
+  hand = getD ws handAt 0;
+  sweep = getD ws sweepAt 0;
   ledger = Ledger.ledger cap (segment (ledgerStart cap) (Ledger.ledgerWords cap) ws);
 }
 

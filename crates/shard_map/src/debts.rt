@@ -3,10 +3,10 @@ ghost use mathlib.Core.Path.{_≡_};
 ghost use lib.ListN.{length};
 ghost use Rattle.rows.specs.Outcome.{outcome};
 ghost use Rattle.bucket.specs.Bucket.{Accepted};
-ghost use Rattle.settings.specs.Settings.{shardWords};
 ghost use Rattle.ledger.specs.Model as Ledger;
 ghost use Rattle.shard_map.specs.Model as Model;
-ghost use Rattle.shard_map.specs.Layout.{shard, Intact};
+ghost use Rattle.shard_map.specs.Layout.{shard, shardWords, Intact};
+use crate::words;
 use bucket::BucketConfig;
 use ledger::Debt;
 use ledger::Recorded;
@@ -18,7 +18,7 @@ pub fn len(ws: &[u64], cap: usize) -> usize
     requires { ⌜ length (now ws) ≡ shardWords cap ⌝ }
     ensures { λ r. ⌜ r ≡ shard cap (now (ws .entry)) .ledger .debts .count ⌝ }
 {
-    let start = 3 + 6 * cap;
+    let start = words::ledger_start(cap);
     ledger::len(&ws[start..], cap)
 }
 
@@ -27,7 +27,7 @@ pub fn owed_by(ws: &[u64], cap: usize, hash: u64) -> OptionNanos
     requires { ⌜ Intact cap (now ws) ⌝ }
     ensures { λ r. ⌜ r ≡ Ledger.owedBy (shard cap (now (ws .entry)) .ledger) hash ⌝ }
 {
-    let start = 3 + 6 * cap;
+    let start = words::ledger_start(cap);
     ledger::owed_by(&ws[start..], cap, hash)
 }
 
@@ -36,7 +36,7 @@ pub fn take(ws: &mut [u64], cap: usize, hash: u64) -> OptionNanos
     requires { ⌜ Intact cap (now ws) ⌝ }
     ensures { λ r. ⌜ outcome r (shard cap (now (ws .exit))) ≡ Model.inLedger (shard cap (now (ws .entry))) (Ledger.taken (shard cap (now (ws .entry)) .ledger) hash) ⌝ }
 {
-    let start = 3 + 6 * cap;
+    let start = words::ledger_start(cap);
     ledger::take(&mut ws[start..], cap, hash)
 }
 
@@ -45,7 +45,7 @@ pub fn record(ws: &mut [u64], cap: usize, debt: Debt, at: Nanos, forget: bool) -
     requires { ⌜ Intact cap (now ws) ⌝ }
     ensures { λ r. ⌜ outcome r (shard cap (now (ws .exit))) ≡ Model.inLedger (shard cap (now (ws .entry))) (Ledger.recorded (shard cap (now (ws .entry)) .ledger) debt at forget) ⌝ }
 {
-    let start = 3 + 6 * cap;
+    let start = words::ledger_start(cap);
     ledger::record(&mut ws[start..], cap, debt, at, forget)
 }
 
@@ -54,7 +54,7 @@ pub fn sweep(ws: &mut [u64], cap: usize, at: Nanos, budget: usize)
     requires { ⌜ Intact cap (now ws) ⌝ }
     ensures { λ _. ⌜ shard cap (now (ws .exit)) ≡ Model.withLedger (shard cap (now (ws .entry))) (Ledger.sweep at budget (shard cap (now (ws .entry)) .ledger)) ⌝ }
 {
-    let start = 3 + 6 * cap;
+    let start = words::ledger_start(cap);
     ledger::sweep(&mut ws[start..], cap, at, budget);
 }
 
@@ -63,6 +63,6 @@ pub fn pay_down(ws: &mut [u64], cap: usize, hash: u64, cost: u32, config: Bucket
     requires { ⌜ Intact cap (now ws) × Accepted config ⌝ }
     ensures { λ r. ⌜ outcome r (shard cap (now (ws .exit))) ≡ Model.inLedger (shard cap (now (ws .entry))) (Ledger.paidDown (shard cap (now (ws .entry)) .ledger) hash cost config) ⌝ }
 {
-    let start = 3 + 6 * cap;
+    let start = words::ledger_start(cap);
     ledger::pay_down(&mut ws[start..], cap, hash, cost, config)
 }

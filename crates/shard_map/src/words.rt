@@ -1,23 +1,56 @@
 // The words of a shard, read and stored. No other function of the crate knows where a word lies, except those of `debts`, which lend the ledger's part.
 // What is `pub` here is for `evict`, which does not know where a word lies either.
 ghost use mathlib.Core.Path.{_≡_};
-ghost use Prim.Native.Nat.{_<_};
+ghost use Prim.Native.Nat.{_<_, _^_};
 ghost use lib.ListN.{length};
-ghost use Rattle.settings.specs.Settings.{shardWords};
 ghost use Rattle.slot.specs.Slot.{withMark};
 ghost use Rattle.shard_map.specs.Model as Model;
-ghost use Rattle.shard_map.specs.Layout.{shard};
+ghost use Rattle.shard_map.specs.Layout.{shard, ledgerStart, shardWords};
 use bucket::BucketCore;
 use slot::Slot;
 use units::Millis;
 use units::Nanos;
+
+// Where a shard's words lie, counted from its first: the slot count, the hand, the sweep, then the slots; after the slots come the words of the ledger.
+const COUNT: usize = 0;
+const HAND: usize = 1;
+const SWEEP: usize = 2;
+const SLOTS: usize = 3;
+const SLOT_WIDTH: usize = 6;
+
+// Where a slot's words lie, counted from its first, which is its hash.
+const KEY: usize = 1;
+const SHORTFALL: usize = 2;
+const STAMP: usize = 3;
+const MARK: usize = 4;
+const SEEN: usize = 5;
+
+// The words of a shard that its places do not add to, and those that each place adds, with the ledger's.
+pub const HEAD_WORDS: usize = SLOTS + ledger::words::DEBTS;
+pub const PLACE_WORDS: usize = SLOT_WIDTH + ledger::words::DEBT_WIDTH;
+
+// The words of a shard of so many places.
+pub fn shard_words(cap: usize) -> usize
+    requires { ⌜ shardWords cap < 2 ^ 64 ⌝ }
+    ensures { λ r. ⌜ r ≡ shardWords cap ⌝ }
+{
+    HEAD_WORDS + PLACE_WORDS * cap
+}
+
+// The word at which the ledger begins.
+pub(crate) fn ledger_start(cap: usize) -> usize
+    requires { ⌜ shardWords cap < 2 ^ 64 ⌝ }
+    ensures { λ r. ⌜ r ≡ ledgerStart cap ⌝ }
+{
+    SLOTS + SLOT_WIDTH * cap
+}
 
 // How many slots are held.
 pub(crate) fn count(ws: &[u64], cap: usize) -> usize
     requires { ⌜ length (now ws) ≡ shardWords cap ⌝ }
     ensures { λ r. ⌜ r ≡ shard cap (now (ws .entry)) .slots .count ⌝ }
 {
-    ws[0] as usize
+    ws[COUNT] as usize
 }
 
 // The hand, read as 0 where it stands at or past the count.
@@ -25,8 +58,8 @@ pub fn hand(ws: &[u64], cap: usize) -> usize
     requires { ⌜ length (now ws) ≡ shardWords cap ⌝ }
     ensures { λ r. ⌜ r ≡ Model.handOf (shard cap (now (ws .entry))) ⌝ }
 {
-    let hand = ws[1];
-    if hand < ws[0] { hand as usize } else { 0 }
+    let hand = ws[HAND];
+    if hand < ws[COUNT] { hand as usize } else { 0 }
 }
 
 // The sweep, read as 0 where it stands at or past the count.
@@ -34,8 +67,8 @@ pub(crate) fn sweep(ws: &[u64], cap: usize) -> usize
     requires { ⌜ length (now ws) ≡ shardWords cap ⌝ }
     ensures { λ r. ⌜ r ≡ Model.sweepOf (shard cap (now (ws .entry))) ⌝ }
 {
-    let sweep = ws[2];
-    if sweep < ws[0] { sweep as usize } else { 0 }
+    let sweep = ws[SWEEP];
+    if sweep < ws[COUNT] { sweep as usize } else { 0 }
 }
 
 // The hash of the slot at a place.
@@ -43,7 +76,7 @@ pub(crate) fn hash_at(ws: &[u64], cap: usize, i: usize) -> u64
     requires { ⌜ (length (now ws) ≡ shardWords cap) × (i < cap) ⌝ }
     ensures { λ r. ⌜ r ≡ Model.slotAt (shard cap (now (ws .entry))) i .hash ⌝ }
 {
-    ws[3 + 6 * i]
+    ws[SLOTS + SLOT_WIDTH * i]
 }
 
 // The key of the slot at a place.
@@ -51,7 +84,7 @@ pub(crate) fn key_at(ws: &[u64], cap: usize, i: usize) -> u64
     requires { ⌜ (length (now ws) ≡ shardWords cap) × (i < cap) ⌝ }
     ensures { λ r. ⌜ r ≡ Model.slotAt (shard cap (now (ws .entry))) i .key ⌝ }
 {
-    ws[3 + 6 * i + 1]
+    ws[SLOTS + SLOT_WIDTH * i + KEY]
 }
 
 // The slot at a place.
@@ -59,17 +92,17 @@ pub(crate) fn load(ws: &[u64], cap: usize, i: usize) -> Slot
     requires { ⌜ (length (now ws) ≡ shardWords cap) × (i < cap) ⌝ }
     ensures { λ r. ⌜ r ≡ Model.slotAt (shard cap (now (ws .entry))) i ⌝ }
 {
-    let first = 3 + 6 * i;
+    let first = SLOTS + SLOT_WIDTH * i;
     let bucket = BucketCore {
-        shortfall: ws[first + 2],
-        stamp: Nanos(ws[first + 3]),
+        shortfall: ws[first + SHORTFALL],
+        stamp: Nanos(ws[first + STAMP]),
     };
     Slot {
         hash: ws[first],
-        key: ws[first + 1],
+        key: ws[first + KEY],
         bucket,
-        mark: ws[first + 4],
-        seen: Millis(ws[first + 5]),
+        mark: ws[first + MARK],
+        seen: Millis(ws[first + SEEN]),
     }
 }
 
@@ -78,7 +111,7 @@ pub(crate) fn set_count(ws: &mut [u64], cap: usize, count: usize)
     requires { ⌜ length (now ws) ≡ shardWords cap ⌝ }
     ensures { λ _. ⌜ shard cap (now (ws .exit)) ≡ Model.withCount (shard cap (now (ws .entry))) count ⌝ }
 {
-    ws[0] = count as u64;
+    ws[COUNT] = count as u64;
 }
 
 // The next look of the hand begins at this place.
@@ -86,7 +119,7 @@ pub fn set_hand(ws: &mut [u64], cap: usize, hand: usize)
     requires { ⌜ length (now ws) ≡ shardWords cap ⌝ }
     ensures { λ _. ⌜ shard cap (now (ws .exit)) ≡ Model.withHand (shard cap (now (ws .entry))) hand ⌝ }
 {
-    ws[1] = hand as u64;
+    ws[HAND] = hand as u64;
 }
 
 // The next look of the idle sweep begins at this place.
@@ -94,7 +127,7 @@ pub(crate) fn set_sweep(ws: &mut [u64], cap: usize, sweep: usize)
     requires { ⌜ length (now ws) ≡ shardWords cap ⌝ }
     ensures { λ _. ⌜ shard cap (now (ws .exit)) ≡ Model.withSweep (shard cap (now (ws .entry))) sweep ⌝ }
 {
-    ws[2] = sweep as u64;
+    ws[SWEEP] = sweep as u64;
 }
 
 // A slot comes to stand at a place.
@@ -102,16 +135,16 @@ pub(crate) fn put(ws: &mut [u64], cap: usize, i: usize, slot: Slot)
     requires { ⌜ (length (now ws) ≡ shardWords cap) × (i < cap) ⌝ }
     ensures { λ _. ⌜ shard cap (now (ws .exit)) ≡ Model.withSlot (shard cap (now (ws .entry))) i slot ⌝ }
 {
-    let first = 3 + 6 * i;
+    let first = SLOTS + SLOT_WIDTH * i;
     let bucket = slot.bucket;
     let stamp = bucket.stamp;
     let seen = slot.seen;
     ws[first] = slot.hash;
-    ws[first + 1] = slot.key;
-    ws[first + 2] = bucket.shortfall;
-    ws[first + 3] = stamp.0;
-    ws[first + 4] = slot.mark;
-    ws[first + 5] = seen.0;
+    ws[first + KEY] = slot.key;
+    ws[first + SHORTFALL] = bucket.shortfall;
+    ws[first + STAMP] = stamp.0;
+    ws[first + MARK] = slot.mark;
+    ws[first + SEEN] = seen.0;
 }
 
 // The slot at a place loses its mark, and keeps the rest.
@@ -119,5 +152,5 @@ pub fn clear_mark(ws: &mut [u64], cap: usize, i: usize)
     requires { ⌜ (length (now ws) ≡ shardWords cap) × (i < cap) ⌝ }
     ensures { λ _. ⌜ shard cap (now (ws .exit)) ≡ Model.withSlot (shard cap (now (ws .entry))) i (withMark (Model.slotAt (shard cap (now (ws .entry))) i) 0) ⌝ }
 {
-    ws[3 + 6 * i + 4] = 0;
+    ws[SLOTS + SLOT_WIDTH * i + MARK] = 0;
 }

@@ -4,11 +4,12 @@ use borrow.Author.Needs.{needs}
 use Rattle.shard_map.proofs.debts.len.Statement.{statement}
 use Rattle.shard_map.proofs.debts.len.Tie as tie
 
-mul-start : tie.Need-mul-start
-mul-start c = search needs
+-- Once the word is known at which the ledger begins: where the call began.
+abbrev start : tie.After-ledger-start → tie.Start
+start l = l .before .before
 
-add-start : tie.Need-add-start
-add-start c = search needs
+ledger-start-requires : tie.Need-ledger-start-requires
+ledger-start-requires c κs = search needs
 
 mul-len : tie.Need-mul-len
 mul-len c = search needs
@@ -23,17 +24,16 @@ part-len-end : tie.Need-part-len-end
 part-len-end c = search needs
 
 len-requires : tie.Need-len-requires
-len-requires c κs = ledger-long _ (c .before .before .args .ws .now) (c .before .before .pre)
+len-requires c κs = let l = c .before in ledger-long _ (start l .args .ws .now) (start l .pre) (l .ledger-start .ensures)
 
 returns : tie.Need-returns
-returns c = rw (ledger-lent _ _ (c .before .before .before .pre)) at (c .len .ensures)
+returns c = let l = c .before .before in rw (ledger-lent _ _ (start l .pre) (l .ledger-start .ensures)) at (c .len .ensures)
 
 pub len-spec : {M : Type 1} → statement M
 len-spec =
     tie.close
     (tie.spec
-    mul-start
-    add-start
+    ledger-start-requires
     mul-len
     sub-len
     part-len-start

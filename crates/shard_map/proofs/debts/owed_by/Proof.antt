@@ -5,11 +5,12 @@ use borrow.Author.Needs.{needs}
 use Rattle.shard_map.proofs.debts.owed_by.Statement.{statement}
 use Rattle.shard_map.proofs.debts.owed_by.Tie as tie
 
-mul-start : tie.Need-mul-start
-mul-start c = search needs
+-- Once the word is known at which the ledger begins: where the call began.
+abbrev start : tie.After-ledger-start → tie.Start
+start l = l .before .before
 
-add-start : tie.Need-add-start
-add-start c = search needs
+ledger-start-requires : tie.Need-ledger-start-requires
+ledger-start-requires c κs = search needs
 
 mul-owed-by : tie.Need-mul-owed-by
 mul-owed-by c = search needs
@@ -24,17 +25,16 @@ part-owed-by-end : tie.Need-part-owed-by-end
 part-owed-by-end c = search needs
 
 owed-by-requires : tie.Need-owed-by-requires
-owed-by-requires c κs = intact-ledger (c .before .before .pre)
+owed-by-requires c κs = let l = c .before in intact-ledger (start l .pre) (l .ledger-start .ensures)
 
 returns : tie.Need-returns
-returns c = rw (ledger-lent _ _ (c .before .before .before .pre .size)) at (c .owed-by .ensures)
+returns c = let l = c .before .before in rw (ledger-lent _ _ (start l .pre .size) (l .ledger-start .ensures)) at (c .owed-by .ensures)
 
 pub owed-by-spec : {M : Type 1} → statement M
 owed-by-spec =
     tie.close
     (tie.spec
-    mul-start
-    add-start
+    ledger-start-requires
     mul-owed-by
     sub-owed-by
     part-owed-by-start

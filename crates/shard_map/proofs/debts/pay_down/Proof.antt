@@ -5,11 +5,12 @@ use borrow.Author.Needs.{needs}
 use Rattle.shard_map.proofs.debts.pay_down.Statement.{statement}
 use Rattle.shard_map.proofs.debts.pay_down.Tie as tie
 
-mul-start : tie.Need-mul-start
-mul-start c = search needs
+-- Once the word is known at which the ledger begins: where the call began.
+abbrev start : tie.After-ledger-start → tie.Start
+start l = l .before .before
 
-add-start : tie.Need-add-start
-add-start c = search needs
+ledger-start-requires : tie.Need-ledger-start-requires
+ledger-start-requires c κs = search needs
 
 mul-pay-down : tie.Need-mul-pay-down
 mul-pay-down c = search needs
@@ -24,25 +25,24 @@ part-pay-down-end : tie.Need-part-pay-down-end
 part-pay-down-end c = search needs
 
 pay-down-requires : tie.Need-pay-down-requires
-pay-down-requires c κs =
-    let pre′ = c .before .before .pre in
-    (intact-ledger (pre′ .0), pre′ .1)
+pay-down-requires c κs = let l = c .before in (intact-ledger (start l .pre .0) (l .ledger-start .ensures), start l .pre .1)
 
 same-length : tie.Need-same-length
 same-length c = search needs
 
 returns : tie.Need-returns
 returns c =
-    let pay-down′ = c .before .before .pay-down in
-    let size = c .before .before .before .before .before .pre .0 .size in
-    ledger-answered _ _ _ size (pay-down′ .kept .0) (rw (ledger-lent _ _ size) at (pay-down′ .ensures))
+    let gave = c .before .before .pay-down in
+    let l = c .before .before .before .before in
+    let size = start l .pre .0 .size in
+    let is = l .ledger-start .ensures in
+    ledger-answered _ _ size is _ (gave .kept .0) (rw (ledger-lent _ _ size is) at (gave .ensures))
 
 pub pay-down-spec : {M : Type 1} → statement M
 pay-down-spec =
     tie.close
     (tie.spec
-    mul-start
-    add-start
+    ledger-start-requires
     mul-pay-down
     sub-pay-down
     part-pay-down-start

@@ -5,11 +5,12 @@ use borrow.Author.Needs.{needs}
 use Rattle.shard_map.proofs.debts.record.Statement.{statement}
 use Rattle.shard_map.proofs.debts.record.Tie as tie
 
-mul-start : tie.Need-mul-start
-mul-start c = search needs
+-- Once the word is known at which the ledger begins: where the call began.
+abbrev start : tie.After-ledger-start → tie.Start
+start l = l .before .before
 
-add-start : tie.Need-add-start
-add-start c = search needs
+ledger-start-requires : tie.Need-ledger-start-requires
+ledger-start-requires c κs = search needs
 
 mul-record : tie.Need-mul-record
 mul-record c = search needs
@@ -24,23 +25,24 @@ part-record-end : tie.Need-part-record-end
 part-record-end c = search needs
 
 record-requires : tie.Need-record-requires
-record-requires c κs = intact-ledger (c .before .before .pre)
+record-requires c κs = let l = c .before in intact-ledger (start l .pre) (l .ledger-start .ensures)
 
 same-length : tie.Need-same-length
 same-length c = search needs
 
 returns : tie.Need-returns
 returns c =
-    let record′ = c .before .before .«record» in
-    let size = c .before .before .before .before .before .pre .size in
-    ledger-answered _ _ _ size (record′ .kept .0) (rw (ledger-lent _ _ size) at (record′ .ensures))
+    let gave = c .before .before .«record» in
+    let l = c .before .before .before .before in
+    let size = start l .pre .size in
+    let is = l .ledger-start .ensures in
+    ledger-answered _ _ size is _ (gave .kept .0) (rw (ledger-lent _ _ size is) at (gave .ensures))
 
 pub record-spec : {M : Type 1} → statement M
 record-spec =
     tie.close
     (tie.spec
-    mul-start
-    add-start
+    ledger-start-requires
     mul-record
     sub-record
     part-record-start

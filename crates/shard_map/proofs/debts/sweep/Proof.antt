@@ -5,11 +5,12 @@ use borrow.Author.Needs.{needs}
 use Rattle.shard_map.proofs.debts.sweep.Statement.{statement}
 use Rattle.shard_map.proofs.debts.sweep.Tie as tie
 
-mul-start : tie.Need-mul-start
-mul-start c = search needs
+-- Once the word is known at which the ledger begins: where the call began.
+abbrev start : tie.After-ledger-start → tie.Start
+start l = l .before .before
 
-add-start : tie.Need-add-start
-add-start c = search needs
+ledger-start-requires : tie.Need-ledger-start-requires
+ledger-start-requires c κs = search needs
 
 mul-sweep : tie.Need-mul-sweep
 mul-sweep c = search needs
@@ -24,23 +25,24 @@ part-sweep-end : tie.Need-part-sweep-end
 part-sweep-end c = search needs
 
 sweep-requires : tie.Need-sweep-requires
-sweep-requires c κs = intact-ledger (c .before .before .pre)
+sweep-requires c κs = let l = c .before in intact-ledger (start l .pre) (l .ledger-start .ensures)
 
 same-length : tie.Need-same-length
 same-length c = search needs
 
 returns : tie.Need-returns
 returns c =
-    let sweep′ = c .before .before .sweep in
-    let size = c .before .before .before .before .before .pre .size in
-    rw (ledger-back _ _ _ size (sweep′ .kept .0), sweep′ .ensures, ledger-lent _ _ size)
+    let gave = c .before .before .sweep in
+    let l = c .before .before .before .before in
+    let size = start l .pre .size in
+    let is = l .ledger-start .ensures in
+    rw (ledger-back _ _ size is _ (gave .kept .0), gave .ensures, ledger-lent _ _ size is)
 
 pub sweep-spec : {M : Type 1} → statement M
 sweep-spec =
     tie.close
     (tie.spec
-    mul-start
-    add-start
+    ledger-start-requires
     mul-sweep
     sub-sweep
     part-sweep-start

@@ -5,11 +5,12 @@ use borrow.Author.Needs.{needs}
 use Rattle.shard_map.proofs.debts.take.Statement.{statement}
 use Rattle.shard_map.proofs.debts.take.Tie as tie
 
-mul-start : tie.Need-mul-start
-mul-start c = search needs
+-- Once the word is known at which the ledger begins: where the call began.
+abbrev start : tie.After-ledger-start → tie.Start
+start l = l .before .before
 
-add-start : tie.Need-add-start
-add-start c = search needs
+ledger-start-requires : tie.Need-ledger-start-requires
+ledger-start-requires c κs = search needs
 
 mul-take : tie.Need-mul-take
 mul-take c = search needs
@@ -24,23 +25,24 @@ part-take-end : tie.Need-part-take-end
 part-take-end c = search needs
 
 take-requires : tie.Need-take-requires
-take-requires c κs = intact-ledger (c .before .before .pre)
+take-requires c κs = let l = c .before in intact-ledger (start l .pre) (l .ledger-start .ensures)
 
 same-length : tie.Need-same-length
 same-length c = search needs
 
 returns : tie.Need-returns
 returns c =
-    let take′ = c .before .before .take in
-    let size = c .before .before .before .before .before .pre .size in
-    ledger-answered _ _ _ size (take′ .kept .0) (rw (ledger-lent _ _ size) at (take′ .ensures))
+    let gave = c .before .before .take in
+    let l = c .before .before .before .before in
+    let size = start l .pre .size in
+    let is = l .ledger-start .ensures in
+    ledger-answered _ _ size is _ (gave .kept .0) (rw (ledger-lent _ _ size is) at (gave .ensures))
 
 pub take-spec : {M : Type 1} → statement M
 take-spec =
     tie.close
     (tie.spec
-    mul-start
-    add-start
+    ledger-start-requires
     mul-take
     sub-take
     part-take-start
