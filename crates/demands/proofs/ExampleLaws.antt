@@ -13,7 +13,6 @@ use Rattle.settings.specs.declared.Settings.{Settings}
 use Rattle.settings.specs.declared.rate.Rate.{Rate}
 use Rattle.settings.specs.Eviction.{capacityOf}
 use Rattle.settings.specs.Rate.{burstOf}
-use Rattle.settings.specs.Settings.{wordsOf}
 use Rattle.shard.specs.declared.Identity.{Identity}
 use Rattle.shard.specs.Model.{holds}
 use Rattle.perkey.specs.declared.Reply.{Reply}
@@ -25,6 +24,7 @@ use Rattle.perkey.specs.Edges.{twoPerSecond, limited, keyOf}
 use Rattle.demands.specs.Widths.{settingsFit, fits, allFit, lendable}
 use Rattle.demands.specs.Demands.{SameSettings, TimesNeverFall, Agree, NoSharedHash, NeverRefundedOrRemoved, tokensUsable, ownAnswer}
 use Rattle.demands.specs.Demands.{answering, Demand2, WindowAdding, OwnBucket}
+use Rattle.store.specs.Memory.{memoryWords}
 
 -- A store of one shard, by its rate and by how many keys it has room for; in most examples two tokens a second, up to four.
 abbrev pub storeFor : Rate → ℕ → Settings
@@ -35,7 +35,7 @@ roomFor keys = storeFor twoPerSecond keys
 
 -- Memory for some settings, not yet zero, and the words that set-up leaves in it.
 abbrev pub memory : Settings → List ℕ
-memory s = replicate (wordsOf s) 1
+memory s = replicate (memoryWords s) 1
 
 abbrev pub fresh : Settings → List ℕ
 fresh s = setUp s (memory s) .after

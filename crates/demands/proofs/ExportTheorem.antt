@@ -13,7 +13,6 @@ use Rattle.rows.specs.Outcome.{Outcome, outcome}
 use Rattle.bucket.specs.declared.Request.the-variants.{Acquire, Reserve}
 use Rattle.settings.specs.declared.Settings.{Settings}
 use Rattle.settings.specs.declared.decision.Decision.the-variants.{Acquired, Retry, Impossible}
-use Rattle.settings.specs.Settings.{wordsOf}
 use Rattle.perkey.specs.declared.Reply.{Reply}
 use Rattle.perkey.specs.declared.Reply.the-variants.{Done, Refused}
 use Rattle.store.specs.Refusals.{setUpRefusal}
@@ -31,6 +30,7 @@ use Rattle.demands.specs.Demands.{Demand2, Demand3}
 use Rattle.demands.specs.Exports.{Exports, numbersFit, through, ExportDemand2, Writer, reading, readAs, called, ExportContracts}
 use Rattle.demands.proofs.WidthLaws.{settings-of-call-fit}
 use Rattle.demands.proofs.Theorem.{demand2-gives-demand3}
+use Rattle.store.specs.Memory.{memoryWords}
 
 -- A reply that is told as numbers is read, by its kind, as it was.
 in-kind-comes-back : {kind : Kind} {r : Reply} → OfKind kind r → reading kind (replyOf r) ≡ r
@@ -70,9 +70,9 @@ set-up-comes-back : (s : Settings) (ws : List ℕ) → readAs knows (told (setUp
 unfolding setUp
 set-up-comes-back s ws =
     by-eq (setUpRefusal s ws) 0
-    (λ none. rw (unless-refused-accepts (setUpRefusal s ws) ws (outcome Done (replicate (wordsOf s) 0)) none)
-    (ap (λ r. outcome r (replicate (wordsOf s) 0)) (in-kind-comes-back known)))
-    (λ some. rw (unless-refused-refuses (setUpRefusal s ws) ws (outcome Done (replicate (wordsOf s) 0)) some)
+    (λ none. rw (unless-refused-accepts (setUpRefusal s ws) ws (outcome Done (replicate (memoryWords s) 0)) none)
+    (ap (λ r. outcome r (replicate (memoryWords s) 0)) (in-kind-comes-back known)))
+    (λ some. rw (unless-refused-refuses (setUpRefusal s ws) ws (outcome Done (replicate (memoryWords s) 0)) some)
     (ap (λ r. outcome r ws) (refusal-comes-back knows (setUpRefusal s ws))))
 
 -- The rules, told as numbers, are as the contracts of the exports tell, so that what follows is said of something.

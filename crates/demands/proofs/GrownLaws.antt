@@ -14,7 +14,7 @@ use Rattle.settings.specs.declared.Limit.the-variants.{Closed, Open}
 use Rattle.settings.specs.declared.Settings.{Settings}
 use Rattle.settings.specs.declared.rate.Rate.{Rate}
 use Rattle.settings.specs.Rate.{configOf}
-use Rattle.settings.specs.Settings.{capOf, wordsOf, shardOf}
+use Rattle.settings.specs.Settings.{capOf, shardOf}
 use Rattle.ledger.specs.Model as Ledger
 use Rattle.shard_map.specs.Model as Shard
 use Rattle.shard.specs.declared.Identity.{Identity}
@@ -28,6 +28,7 @@ use Rattle.perkey.specs.Calls.{Call, request, look, undo, len, peeks, tokens, r
 use Rattle.perkey.proofs.CallLaws.{refusalOf, ruleOf, not-refused-is-ruled, refused-is-told}
 use Rattle.demands.specs.Grown.{Grown, set-up, cleared, called, KeptByCalls}
 use Rattle.demands.proofs.Theorem.{set-up-done}
+use Rattle.store.specs.Memory.{memoryWords}
 
 pub grown-keeps : {s : Settings} {ws : List ℕ} {P : List ℕ → Type 0} → KeptByCalls s P → Grown s ws → P ws
 grown-keeps kept (set-up ws done) = kept .fresh ws done
@@ -36,7 +37,7 @@ grown-keeps kept (called c ws grown same taken) = kept .call c ws same taken (gr
 
 -- A memory of the right size whose shards are sound.
 pub record SoundMemory (s : Settings) (ws : List ℕ) : Type 0 where
-  pub size : length ws ≡ wordsOf s
+  pub size : length ws ≡ memoryWords s
   pub sound : (hash : ℕ) → Shard.Sound (shardAt s hash ws)
 
 -- An operation in the shard of a hash that keeps its room and leaves it sound.
@@ -92,7 +93,7 @@ rule-keeps-sound (len s) ws memory = memory
 
 sound-kept-by-calls : (s : Settings) → KeptByCalls s (SoundMemory s)
 sound-kept-by-calls s = record {
-  fresh = λ ws done. rw (set-up-done s ws done .words) (record { size = length-replicate (wordsOf s) 0; sound = λ hash. fresh-sound s hash });
+  fresh = λ ws done. rw (set-up-done s ws done .words) (record { size = length-replicate (memoryWords s) 0; sound = λ hash. fresh-sound s hash });
   call = λ c ws same taken memory.
       let none = taken-not-refused c ws taken in
       rw (not-refused-is-ruled c ws none) (rw same at (rule-keeps-sound c ws (rw same memory)));

@@ -16,7 +16,7 @@ use Rattle.settings.specs.declared.Limit.the-variants.{Closed, Open}
 use Rattle.settings.specs.declared.Settings.{Settings}
 use Rattle.settings.specs.declared.rate.Rate.{Rate}
 use Rattle.settings.specs.Rate.{burstOf, configOf}
-use Rattle.settings.specs.Settings.{limitRefusal, capOf, shardWords, shapeOf, wordsOf}
+use Rattle.settings.specs.Settings.{limitRefusal, capOf, shapeOf}
 use Rattle.settings.proofs.RateLaws.{accepted-rate}
 use Rattle.settings.proofs.SettingsLaws.{accepted-parts, cap-most}
 use Rattle.shard_map.specs.Model.{Shard}
@@ -42,6 +42,8 @@ use Rattle.demands.proofs.WordFits.{Word, lendable-length, lendable-wor
 use Rattle.demands.proofs.ShardFits.{ShardFits}
 use Rattle.demands.proofs.LayoutFits.{shard-read-fits, shard-words-fit}
 use Rattle.demands.proofs.StoreFits.{ask-fits, refund-fits, removal-fits}
+use Rattle.shard_map.specs.Layout.{shardWords}
+use Rattle.store.specs.Memory.{memoryWords}
 
 -- Words that fit in the place of a part of words that fit.
 part-replaced-fits : (a n : ℕ) (ws new : List ℕ) → Every Word ws → Every Word new → Every Word (withSegment a n ws new)
@@ -59,7 +61,7 @@ module _ (s : Settings) (hash : ℕ) (ws : List ℕ) (lent : lendable ws ≡ tru
   operation-leaves-lendable : {A : Type 0} (o : Outcome A Shard) → SameRoom (shardAt s hash ws) (o .after) → ShardFits (o .after)
       → lendable (inShard s hash ws o .after) ≡ true
   operation-leaves-lendable o room f =
-      let same : length (inShard s hash ws o .after) ≡ wordsOf s =
+      let same : length (inShard s hash ws o .after) ≡ memoryWords s =
       in-shard-length s hash ws o (accepted .set-up .size) (room .cap ∙ shard-at-cap s hash ws) (room .ledger-cap ∙ shard-at-debt-cap s hash ws) in
       let new : Every Word (Layout.wordsOf (o .after)) = shard-words-fit (o .after) f in
       words-are-lendable (inShard s hash ws o .after)

@@ -10,7 +10,7 @@ use Rattle.units.specs.declared.Nanos.{Nanos}
 use Rattle.settings.specs.declared.Settings.{Settings}
 use Rattle.settings.specs.declared.rate.Rate.{Rate}
 use Rattle.settings.specs.Rate.{configOf}
-use Rattle.settings.specs.Settings.{capOf, wordsOf, shardOf}
+use Rattle.settings.specs.Settings.{capOf, shardOf}
 use Rattle.shard_map.specs.Model as Shard
 use Rattle.ledger.specs.Model as Ledger
 use Rattle.shard.specs.declared.Identity.{Identity}
@@ -19,6 +19,7 @@ use Rattle.store.specs.Memory.{shardAt, inShard}
 use Rattle.store.proofs.MemoryLaws.{same-shard, shard-at-cap, shard-at-debt-cap, in-shard-length, in-shard-reads-back-for, in-shard-leaves-others}
 use Rattle.demands.proofs.GrantLaws.{Grant}
 use Rattle.demands.proofs.RequestLaws.{Invariant, invariant-later}
+use Rattle.store.specs.Memory.{memoryWords}
 
 -- A moment, from its number.
 abbrev pub moment : ℕ → Nanos
@@ -33,7 +34,7 @@ module _ (s : Settings) (rate : Rate) (k : Identity) where
   Bounds n shard gs = Invariant (configOf rate) (k .hash) (k .key) (moment n) shard gs
 
   pub record Standing (n : ℕ) (ws : List ℕ) (gs : List Grant) : Type 0 where
-    pub size : length ws ≡ wordsOf s
+    pub size : length ws ≡ memoryWords s
     pub sound : Shard.Sound (own ws)
     pub bounds : Bounds n (own ws) gs
 

@@ -14,7 +14,7 @@ use Rattle.settings.specs.declared.Settings.{Settings}
 use Rattle.settings.specs.declared.eviction.WhenFull.the-variants.{RefuseNew}
 use Rattle.settings.specs.declared.rate.Rate.{Rate}
 use Rattle.settings.specs.Rate.{burstOf, configOf}
-use Rattle.settings.specs.Settings.{wordsOf, settingsRefusal}
+use Rattle.settings.specs.Settings.{settingsRefusal}
 use Rattle.settings.proofs.RateLaws.{accepted-rate}
 use Rattle.settings.proofs.SettingsLaws.{accepted-parts}
 use Rattle.shard.specs.declared.Identity.{Identity}
@@ -38,11 +38,12 @@ use Rattle.demands.proofs.StandingLaws.{moment, Standing}
 use Rattle.demands.proofs.GivenLaws.{given, given-within}
 use Rattle.demands.proofs.CallSteps.{ruled, Fair, call-stands}
 use Rattle.demands.proofs.AppearsLaws.{Alone, appears, appearing-is-alone, absent-is-granted-nothing}
+use Rattle.store.specs.Memory.{memoryWords}
 
 -- Set-up that is accepted leaves zeros, of the length that the settings ask for.
 pub record SetUp (s : Settings) (ws : List ℕ) : Type 0 where
   pub settings : settingsRefusal s ≡ 0
-  pub words : setUp s ws .after ≡ replicate (wordsOf s) 0
+  pub words : setUp s ws .after ≡ replicate (memoryWords s) 0
 
 pub set-up-done : (s : Settings) (ws : List ℕ) → setUp s ws .answer ≡ Done → SetUp s ws
 unfolding setUp
@@ -50,11 +51,11 @@ set-up-done s ws done′ =
     by-eq (setUpRefusal s ws) 0
     (λ none. record {
       settings = set-up-not-refused s ws none .settings;
-      words = ap (λ (o : Outcome Reply (List ℕ)). o .after) (unless-refused-accepts (setUpRefusal s ws) ws (outcome Done (replicate (wordsOf s) 0)) none);
+      words = ap (λ (o : Outcome Reply (List ℕ)). o .after) (unless-refused-accepts (setUpRefusal s ws) ws (outcome Done (replicate (memoryWords s) 0)) none);
     })
     (λ some.
     let told : Refused (setUpRefusal s ws) ≡ Done =
-    ap (λ (o : Outcome Reply (List ℕ)). o .answer) (sym (unless-refused-refuses (setUpRefusal s ws) ws (outcome Done (replicate (wordsOf s) 0)) some)) ∙ done′ in
+    ap (λ (o : Outcome Reply (List ℕ)). o .answer) (sym (unless-refused-refuses (setUpRefusal s ws) ws (outcome Done (replicate (memoryWords s) 0)) some)) ∙ done′ in
     let z : _≡_ {A = ℕ} 0 1 = cc in absurd (omega arith))
 
 module _ (s : Settings) (rate : Rate) (k : Identity) (a : Accepted (configOf rate)) (never : policyOf s rate .«forget_debt» ≡ false) (rated : s .limit ≡ Open rate) where
@@ -62,11 +63,11 @@ module _ (s : Settings) (rate : Rate) (k : Identity) (a : Accepted (configOf rat
   Stands n ws gs = Standing s rate k n ws gs
 
   -- A fresh memory, before any grant.
-  fresh-stands : Stands 0 (replicate (wordsOf s) 0) []
+  fresh-stands : Stands 0 (replicate (memoryWords s) 0) []
   fresh-stands =
       let empty = fresh-shards-are-empty s (k .hash) in
       record {
-        size = length-replicate (wordsOf s) 0;
+        size = length-replicate (memoryWords s) 0;
         sound = fresh-sound s (k .hash);
         bounds = invariant-empty (configOf rate) (k .hash) (k .key) (moment 0) _ (empty .slots) (empty .debts);
       }
@@ -91,17 +92,17 @@ module _ (s : Settings) (rate : Rate) (k : Identity) (a : Accepted (configOf rat
   -- From a fresh memory. A key that no accepted call names is granted nothing; of any other it holds that no accepted call names another key of its hash.
   module _ (cs : List Call) (t u : ℕ) (le : t ≤ u) where
     abbrev answered : List Answered
-    answered = replies rules cs (replicate (wordsOf s) 0) (replicate (wordsOf s) 0)
+    answered = replies rules cs (replicate (memoryWords s) 0) (replicate (memoryWords s) 0)
 
     appearing-window : SameSettings s answered → TimesNeverFall 0 answered → NoSharedHash answered → NeverRefundedOrRemoved k answered → appears k answered ≡ true
         → tokensUsable k t u answered * rate .period .0 + t * rate .amount ≤ burstOf rate * rate .period .0 + u * rate .amount + rate .amount
     unfolding within
     appearing-window same rising apart not-undone there =
-        omega (arith, run cs 0 (replicate (wordsOf s) 0) [] same rising (appearing-is-alone k answered there apart) not-undone fresh-stands t u le)
+        omega (arith, run cs 0 (replicate (memoryWords s) 0) [] same rising (appearing-is-alone k answered there apart) not-undone fresh-stands t u le)
 
     absent-window : appears k answered ≡ false
         → tokensUsable k t u answered * rate .period .0 + t * rate .amount ≤ burstOf rate * rate .period .0 + u * rate .amount + rate .amount
-    absent-window absent = rw (absent-is-granted-nothing k t u cs (replicate (wordsOf s) 0) absent) (omega (arith, mul-le-mul-right (rate .amount) le))
+    absent-window absent = rw (absent-is-granted-nothing k t u cs (replicate (memoryWords s) 0) absent) (omega (arith, mul-le-mul-right (rate .amount) le))
 
     fresh-window : SameSettings s answered → TimesNeverFall 0 answered → NoSharedHash answered → NeverRefundedOrRemoved k answered
         → tokensUsable k t u answered * rate .period .0 ≤ burstOf rate * rate .period .0 + (u - t + 1) * rate .amount

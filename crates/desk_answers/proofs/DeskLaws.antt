@@ -11,7 +11,7 @@ use borrow.Author.Tests.{eq-eqb, ne-eqb}
 use borrow.Rule.Slice.PartMut.{putMid}
 use Rattle.rows.specs.Outcome.{Outcome, outcome}
 use Rattle.settings.specs.declared.Settings.{Settings}
-use Rattle.settings.specs.Settings.{settingsRefusal, sizeRefusal, wordsOf}
+use Rattle.settings.specs.Settings.{settingsRefusal, sizeRefusal}
 use Rattle.settings.proofs.SettingsLaws.{no-refusal-hands-on}
 use Rattle.store.specs.Refusals.{setUpRefusal}
 use Rattle.store.proofs.RefusalLaws.{other-length-is-refused}
@@ -21,6 +21,7 @@ use Rattle.desk_answers.specs.declared.Told.{Told}
 use Rattle.desk_answers.specs.declared.Stage.{Stage}
 use Rattle.desk_answers.specs.declared.Stage.the-variants.{Open, Ended}
 use Rattle.desk_answers.specs.Desk.{toldOf, told, storeSize, stageAfter, inStore, setUp, servedFirst, servedNext}
+use Rattle.store.specs.Memory.{memoryWords}
 
 -- An outcome of the rules, and what its reply is told as.
 pub outcome-is-told : {r : Reply} {t : Told} {ws : List ℕ} {o : Outcome Reply (List ℕ)} → outcome r ws ≡ o → t ≡ toldOf r → outcome t ws ≡ told o
@@ -35,7 +36,7 @@ module _ (s : Settings) where
   unfolding storeSize
   no-size words refused = rw (ne-eqb _ _ refused)
 
-  pub size-is : (words : ℕ) → sizeRefusal s ≡ 0 → min (wordsOf s) words ≡ storeSize s words
+  pub size-is : (words : ℕ) → sizeRefusal s ≡ 0 → min (memoryWords s) words ≡ storeSize s words
   unfolding storeSize
   size-is words accepted = rw (eq-eqb _ _ accepted)
 
@@ -50,7 +51,7 @@ module _ (s : Settings) where
   -- The store is lent no more than there is.
   pub size-fits : (words : ℕ) → storeSize s words ≤ words
   unfolding storeSize
-  size-fits words = none-fits (eqb (sizeRefusal s) 0) (min-le-right (wordsOf s) words)
+  size-fits words = none-fits (eqb (sizeRefusal s) 0) (min-le-right (memoryWords s) words)
 
 -- Other words have come back in the place of the store's, with an answer: that is the call on the store.
 pub lent-answered : {A : Type 0} {a : A} {size : ℕ} (s : Settings) (memory ys : List ℕ) (call : List ℕ → Outcome A (List ℕ)) → size ≡ storeSize s (length memory)
@@ -69,12 +70,12 @@ pub next-served : (s : Settings) {t : Told} {memory : List ℕ} {o : Outcome Tol
 next-served s gave = ap (servedNext s) gave
 
 -- Settings that need more words than the memory has are refused as 5, and the run ends.
-pub too-large-is-refused-5 : (s : Settings) (memory : List ℕ) → settingsRefusal s ≡ 0 → length memory < wordsOf s
+pub too-large-is-refused-5 : (s : Settings) (memory : List ℕ) → settingsRefusal s ≡ 0 → length memory < memoryWords s
     → setUp s memory .answer ≡ record { told = record { code = 15; wait = 0 }; stage = Ended 15 }
 too-large-is-refused-5 s memory accepted more =
     let size = storeSize s (length memory) in
     let lent = take size memory in
-    let other : length lent ≡ wordsOf s → ⊥ = λ same. omega (arith, same, more, size-fits s (length memory), length-take size memory) in
-    let refusal : 5 ≡ setUpRefusal s lent = sym (no-refusal-hands-on _ _ accepted ∙ other-length-is-refused (wordsOf s) lent other) in
+    let other : length lent ≡ memoryWords s → ⊥ = λ same. omega (arith, same, more, size-fits s (length memory), length-take size memory) in
+    let refusal : 5 ≡ setUpRefusal s lent = sym (no-refusal-hands-on _ _ accepted ∙ other-length-is-refused (memoryWords s) lent other) in
     sym (rw (ends s 15 (λ none. omega (arith, none)))
     (ap (λ (o : Outcome Reply (List ℕ)). servedFirst s (told o) .answer) (set-up-refusal-is-told s lent refusal (λ none. omega (arith, none)))))

@@ -7,7 +7,7 @@ use lib.ListN.{length, take, drop}
 use Rattle.rows.specs.Outcome.{Outcome, outcome}
 use Rattle.units.specs.declared.Nanos.{Nanos}
 use Rattle.settings.specs.declared.Settings.{Settings}
-use Rattle.settings.specs.Settings.{sizeRefusal, wordsOf}
+use Rattle.settings.specs.Settings.{sizeRefusal}
 use Rattle.hash.specs.Fnv.{keyHash}
 use Rattle.shard.specs.declared.Identity.{Identity}
 use Rattle.perkey.specs.declared.Reply.{Reply}
@@ -19,6 +19,7 @@ use Rattle.desk_answers.specs.declared.Told.{Told}
 use Rattle.desk_answers.specs.declared.Served.{Served}
 use Rattle.desk_answers.specs.declared.Stage.{Stage}
 use Rattle.desk_answers.specs.declared.Stage.the-variants.{First, Open, Ended}
+use Rattle.store.specs.Memory.{memoryWords}
 
 -- A reply is told as its code and the number beside it. No line of the desk counts, so the number is a wait.
 abbrev pub toldOf : Reply → Told
@@ -56,7 +57,7 @@ answered s Malformed ws = outcome malformed ws
 -- The store is lent the words that it needs, or all of the memory where it needs more: set-up refuses that as 5. The words of settings that are
 -- refused as 4 are not counted, and none are lent.
 unfoldable pub storeSize : Settings → ℕ → ℕ
-storeSize s words = cond (eqb (sizeRefusal s) 0) (min (wordsOf s) words) 0
+storeSize s words = cond (eqb (sizeRefusal s) 0) (min (memoryWords s) words) 0
 
 -- What a call on the words of the store gives, and the whole memory after it.
 abbrev pub onFirstWords : {A : Type 0} → ℕ → (List ℕ → Outcome A (List ℕ)) → List ℕ → Outcome A (List ℕ)

@@ -102,7 +102,7 @@ fn store_size(settings: Settings, words: usize) -> usize
     if settings.size_refusal() != 0 {
         return 0;
     }
-    arith::fewer(settings.words(), words)
+    arith::fewer(store::words::memory_words(settings), words)
 }
 
 // Answers a line after the first in the store's part of the memory.

@@ -8,11 +8,12 @@ use Rattle.units.specs.declared.OptionNanos.the-variants as nanos
 use Rattle.settings.specs.declared.Limit.the-variants.{Closed, Open}
 use Rattle.settings.specs.declared.Settings.{Settings}
 use Rattle.settings.specs.declared.rate.OptionTokens.the-variants as tokens
-use Rattle.settings.specs.Settings.{sizeRefusal, wordsOf}
+use Rattle.settings.specs.Settings.{sizeRefusal}
 use Rattle.perkey.specs.declared.Reply.{Reply}
 use Rattle.limiter.specs.declared.LimiterSettings.{LimiterSettings}
 use Rattle.limiter.specs.declared.LimiterReply.{LimiterReply}
 use Rattle.limiter.specs.Exported.{tokensOf, idleOf, rateOf, limitOf, nanosOf, replyOf, told, wordsToLend}
+use Rattle.store.specs.Memory.{memoryWords}
 
 module _ (flag n : ℕ) where
   pub tokens-unset : flag ≡ 0 → tokens.None ≡ tokensOf flag n
@@ -50,6 +51,6 @@ module _ (s : Settings) where
   unfolding wordsToLend
   refused-sizes-have-no-words refused = rw (ne-eqb _ _ refused)
 
-  pub accepted-sizes-have-the-stores-words : sizeRefusal s ≡ 0 → wordsOf s ≡ wordsToLend s
+  pub accepted-sizes-have-the-stores-words : sizeRefusal s ≡ 0 → memoryWords s ≡ wordsToLend s
   unfolding wordsToLend
   accepted-sizes-have-the-stores-words accepted = rw (eq-eqb _ _ accepted)

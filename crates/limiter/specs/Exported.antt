@@ -17,13 +17,14 @@ use Rattle.settings.specs.declared.rate.OptionTokens.the-variants as tokens
 use Rattle.settings.specs.declared.rate.Rate.{Rate}
 use Rattle.settings.specs.declared.eviction.WhenFull.the-variants.{RefuseNew}
 use Rattle.settings.specs.Eviction.{bounds, whenFullOf, withWhenFull}
-use Rattle.settings.specs.Settings.{sizeRefusal, wordsOf}
+use Rattle.settings.specs.Settings.{sizeRefusal}
 use Rattle.hash.specs.Fnv.{fnv1a, lowestFirst}
 use Rattle.shard.specs.declared.Identity.{Identity}
 use Rattle.perkey.specs.declared.Reply.{Reply}
 use Rattle.perkey.specs.Rules.{codeOf, numberOf}
 use Rattle.limiter.specs.declared.LimiterSettings.{LimiterSettings}
 use Rattle.limiter.specs.declared.LimiterReply.{LimiterReply}
+use Rattle.store.specs.Memory.{memoryWords}
 
 -- A flag of 0 means unset, RefuseNew, or a rate; any other number means set, ForgetDebt, or no rate.
 unfoldable pub tokensOf : ℕ → ℕ → OptionTokens
@@ -70,7 +71,7 @@ told o = outcome (replyOf (o .answer)) (o .after)
 
 -- The words to lend: those of the whole store, and 0 for sizes that are refused.
 unfoldable pub wordsToLend : Settings → ℕ
-wordsToLend s = cond (eqb (sizeRefusal s) 0) (wordsOf s) 0
+wordsToLend s = cond (eqb (sizeRefusal s) 0) (memoryWords s) 0
 
 -- The hash of a key that is offered to callers: FNV-1a over its eight bytes, lowest first.
 abbrev pub hashOf : ℕ → ℕ

@@ -186,7 +186,7 @@ pub extern "C" fn limiter_words(settings: LimiterSettings) -> u64
     if settings.size_refusal() != 0 {
         return 0;
     }
-    settings.words() as u64
+    store::words::memory_words(settings) as u64
 }
 
 // A hash for a key, for callers who have no hash of their own: FNV-1a over its eight bytes, lowest first. It has no secret: where strangers choose

@@ -20,7 +20,7 @@ use Rattle.settings.specs.declared.decision.Decision.the-variants.{Acquired, Re
 use Rattle.settings.specs.declared.rate.Rate.{Rate}
 use Rattle.settings.specs.Rate.{configOf}
 use Rattle.settings.specs.declared.Shape.{Shape}
-use Rattle.settings.specs.Settings.{capOf, shardCount, shapeOf, wordsOf, firstRefusal, settingsRefusal}
+use Rattle.settings.specs.Settings.{capOf, shardCount, shapeOf, firstRefusal, settingsRefusal}
 use Rattle.shard.specs.declared.Answer.{Answer}
 use Rattle.shard.specs.declared.Answer.the-variants.{Decided, NoSpace}
 use Rattle.shard.specs.Model as OneShard
@@ -39,6 +39,7 @@ use Rattle.perkey.proofs.RefusedLaws.{unless-refused-accepts, unless-re
 use Rattle.rows.specs.Held.{sum}
 use Rattle.perkey.specs.Calls.{Look, Call, request, look, undo, len, peeks, tokens, refunds, removes, rules, Answered, numbered, accepted}
 use Rattle.perkey.specs.Calls.{Kind, decides, reserves, counts, knows, kindOf}
+use Rattle.store.specs.Memory.{memoryWords}
 
 -- The number by which a call is refused, 0 if it is not.
 abbrev pub refusalOf : Call → List ℕ → ℕ
@@ -93,7 +94,7 @@ keyed-number : (s : Settings) (hash : ℕ) (ws : List ℕ) (further : ℕ)
     → firstRefusal (settingsRefusal s) (firstRefusal (shapeRefusal (shapeOf s) hash ws) further) ≡ firstRefusal (keyedRefusal s hash ws) further
 keyed-number s hash ws further =
     let counts = countRefusal (capOf s) (shardAt s hash ws) in
-    let memory = memoryRefusal (wordsOf s) ws in
+    let memory = memoryRefusal (memoryWords s) ws in
     sym (refusals-in-a-row (settingsRefusal s) (firstRefusal memory counts) further)
     ∙ ap (λ (n : ℕ). firstRefusal n further) (sym (refusals-in-a-row (settingsRefusal s) memory counts))
 

@@ -14,12 +14,13 @@ use Rattle.settings.specs.declared.eviction.Eviction.{Eviction}
 use Rattle.settings.specs.declared.rate.OptionTokens.the-variants.{None, Some}
 use Rattle.settings.specs.declared.rate.Rate.{Rate}
 use Rattle.settings.specs.Eviction.{capacityOf, boundedBy}
-use Rattle.settings.specs.Settings.{shardCount, capOf, wordsOf, idleLimit}
+use Rattle.settings.specs.Settings.{shardCount, capOf, idleLimit}
 use Rattle.hash.specs.Fnv.{fnv1a}
 use Rattle.shard.specs.declared.Identity.{Identity}
 use Rattle.perkey.specs.declared.Reply.{Reply}
 use Rattle.perkey.specs.Rules.{codeOf, numberOf, setUp}
 use Rattle.perkey.specs.Calls.{Call, try, available, refund, rules}
+use Rattle.store.specs.Memory.{memoryWords}
 
 -- Rates by amount, period and burst, with the initial tokens unset. Two tokens a second, up to four, is the rate that document 01 calls R; the last has
 -- its burst unset.
@@ -72,7 +73,7 @@ ranFrom s (c ∷ cs) o = ranFrom s cs (rules (c s) (o .after))
 
 -- A run begins with set-up, on memory that is not yet zero.
 abbrev ran : Settings → List (Settings → Call) → Outcome Reply (List ℕ)
-ran s cs = ranFrom s cs (setUp s (replicate (wordsOf s) 1))
+ran s cs = ranFrom s cs (setUp s (replicate (memoryWords s) 1))
 
 -- A row of the table.
 pub data Edge : Type 0 where
@@ -100,7 +101,7 @@ abbrev endsIn : Outcome Reply (List ℕ) → ℕ → ℕ → List ℕ → Bool
 endsIn o code number words = eqb (codeOf (o .answer)) code && eqb (numberOf (o .answer)) number && sameWords (o .after) words
 
 abbrev passes : Edge → Bool
-passes (sized s shards cap words) = eqb (shardCount s) shards && eqb (capOf s) cap && eqb (wordsOf s) words
+passes (sized s shards cap words) = eqb (shardCount s) shards && eqb (capOf s) cap && eqb (memoryWords s) words
 passes (idles s limit) = limitIs (idleLimit s) limit
 passes (ends s cs code number words) = endsIn (ran s cs) code number words
 passes (hashes bytes hash) = eqb (fnv1a bytes) hash

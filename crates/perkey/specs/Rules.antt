@@ -22,7 +22,7 @@ use Rattle.settings.specs.declared.eviction.WhenFull.{WhenFull}
 use Rattle.settings.specs.declared.eviction.WhenFull.the-variants.{RefuseNew, ForgetDebt}
 use Rattle.settings.specs.declared.rate.Rate.{Rate}
 use Rattle.settings.specs.Rate.{configOf}
-use Rattle.settings.specs.Settings.{shardCount, capOf, wordsOf}
+use Rattle.settings.specs.Settings.{shardCount, capOf}
 use Rattle.shard.specs.declared.Identity.{Identity}
 use Rattle.shard.specs.declared.Policy.{Policy}
 use Rattle.shard.specs.declared.Answer.{Answer}
@@ -33,6 +33,7 @@ use Rattle.perkey.specs.declared.Reply.{Reply}
 use Rattle.perkey.specs.declared.Reply.the-variants.{Tried, Reserved, Nothing, Done, Count, Refused}
 use Rattle.store.specs.Memory.{shardAt, inShard, slotCount}
 use Rattle.store.specs.Refusals.{setUpRefusal, keyedRefusal, timedRefusal, reserveRefusal, lenRefusal}
+use Rattle.store.specs.Memory.{memoryWords}
 
 -- The desk's code of a reply: 0 granted, accepted, known or counted, 1 to be tried again, 2 impossible, 3 none or unknown, 10 + n refused as n.
 abbrev pub codeOf : Reply → ℕ
@@ -70,7 +71,7 @@ policyOf s rate = record { config = configOf rate; «idle_ttl» = s .eviction .�
 
 -- Set-up and clear zero all words.
 unfoldable pub setUp : Settings → List ℕ → Outcome Reply (List ℕ)
-setUp s ws = unlessRefused (setUpRefusal s ws) ws (outcome Done (replicate (wordsOf s) 0))
+setUp s ws = unlessRefused (setUpRefusal s ws) ws (outcome Done (replicate (memoryWords s) 0))
 
 -- What a bucket decided, as a try is told it: a try is granted without a wait.
 abbrev pub mapDecision : BucketDecision → Decision

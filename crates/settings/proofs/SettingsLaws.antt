@@ -4,15 +4,15 @@ use mathlib.Core.Path.{_≡_, refl, sym, _∙_}
 use lib.Bits.{and-mask, mask-lt}
 use lib.Pow.{pow-pos, pow-mono}
 use native.Mathlib.Omega.{arith}
-use native.Mathlib.Nat.{le-max-right, max-le, mul-le-mul, mul-le-mul-left}
+use native.Mathlib.Nat.{le-max-right, max-le, mul-le-mul-left}
 use borrow.Author.Tests.{lt-ltb, le-ltb, eq-eqb, ne-eqb}
 use Rattle.arith.specs.Arith.{ceilDiv}
 use Rattle.arith.proofs.Cases.{by-le, by-eq}
 use Rattle.arith.proofs.DivisionLaws.{ceilDiv-least}
 use Rattle.settings.specs.declared.Settings.{Settings}
 use Rattle.settings.specs.declared.Shape.{Shape}
-use Rattle.settings.specs.Settings.{mostKeys, mostShards, limitRefusal, sizeRefusal, firstRefusal, settingsRefusal, shardCount, capOf, shardWords, wordsOf}
-use Rattle.settings.specs.Settings.{wordsIn, shapeOf, shardOf, ShapeOfAccepted, idleLimitMillis}
+use Rattle.settings.specs.Settings.{mostKeys, mostShards, limitRefusal, sizeRefusal, firstRefusal, settingsRefusal, shardCount, capOf}
+use Rattle.settings.specs.Settings.{shapeOf, shardOf, ShapeOfAccepted, idleLimitMillis}
 use Rattle.settings.proofs.ShardLaws.{PowerOfTwo, doubled-is-power}
 
 -- The check of the size, outcome by outcome.
@@ -76,7 +76,7 @@ module _ (s : Settings) (hash : ℕ) where
   pub shard-below : shardOf s hash < shardCount s
   shard-below = rw (shards-power s .is) (mask-lt (hash / 2 ^ 40) (shards-power s .exponent))
 
--- The size of a shard and of the store.
+-- The size of a shard.
 module _ (s : Settings) where
   -- A shard holds at least one key.
   pub cap-least : 1 ≤ capOf s
@@ -89,10 +89,6 @@ module _ (s : Settings) where
       (ceilDiv-least _ _ mostKeys (shards-least s) (omega (arith, accepted-keys s accepted, mul-le-mul-left mostKeys (shards-least s))))
       (omega arith)
 
-  -- So the words of a store are few enough to be counted in 64 bits.
-  pub words-most : sizeRefusal s ≡ 0 → wordsOf s ≤ mostShards * shardWords mostKeys
-  words-most accepted = mul-le-mul {m₂ = shardWords mostKeys} (shards-most s) (omega (arith, cap-most accepted))
-
 -- The shape of settings of an accepted size.
 pub shape-of-accepted : (s : Settings) {shape : Shape} → sizeRefusal s ≡ 0 → shape ≡ shapeOf s → ShapeOfAccepted shape
 shape-of-accepted s accepted is = record { settings = s; accepted = accepted; is = is }
@@ -104,9 +100,6 @@ module _ {shape : Shape} (a : ShapeOfAccepted shape) where
 
   pub accepted-cap-most : shape .cap ≤ mostKeys
   accepted-cap-most = rw (a .is) (cap-most (a .settings) (a .accepted))
-
-  pub accepted-words-most : wordsIn shape ≤ mostShards * shardWords mostKeys
-  accepted-words-most = rw (a .is) (words-most (a .settings) (a .accepted))
 
 -- The idle limit of no span at all is 1.
 pub no-span-limit : idleLimitMillis 0 ≡ 1

@@ -12,7 +12,7 @@ use Rattle.settings.specs.declared.Limit.the-variants.{Closed, Open}
 use Rattle.settings.specs.declared.Settings.{Settings}
 use Rattle.settings.specs.Eviction.{bounds}
 use Rattle.settings.specs.Rate.{unlessWithin, rateRefusal}
-use Rattle.settings.specs.Settings.{sizeRefusal, firstRefusal, settingsRefusal, doubledUpTo, shardCount, capOf, wordsOf, idleLimit}
+use Rattle.settings.specs.Settings.{sizeRefusal, firstRefusal, settingsRefusal, doubledUpTo, shardCount, capOf, idleLimit}
 
 -- Two tokens a second, up to four.
 abbrev twoASecond : Rate
@@ -24,14 +24,14 @@ sized limit keys shards = record { limit = limit; eviction = bounds keys nanos.N
 abbrev idleFor : ℕ → Settings
 idleFor ttl = record { limit = Open twoASecond; eviction = bounds 4 (nanos.Some (record { 0 = ttl })) RefuseNew; shards = 1 }
 
--- Shards, places per shard and words.
-pub nothing-asked-for : (shardCount (sized Closed 0 0) ≡ 1) × (capOf (sized Closed 0 0) ≡ 1) × (wordsOf (sized Closed 0 0) ≡ 13)
+-- Shards and places per shard.
+pub nothing-asked-for : (shardCount (sized Closed 0 0) ≡ 1) × (capOf (sized Closed 0 0) ≡ 1)
 unfolding doubledUpTo ceilDiv
-nothing-asked-for = (refl, refl, refl)
+nothing-asked-for = (refl, refl)
 
-pub five-keys-three-shards : (shardCount (sized Closed 5 3) ≡ 4) × (capOf (sized Closed 5 3) ≡ 2) × (wordsOf (sized Closed 5 3) ≡ 84)
+pub five-keys-three-shards : (shardCount (sized Closed 5 3) ≡ 4) × (capOf (sized Closed 5 3) ≡ 2)
 unfolding doubledUpTo ceilDiv
-five-keys-three-shards = (refl, refl, refl)
+five-keys-three-shards = (refl, refl)
 
 -- The idle limit: the time to be full where the idle time is shorter, the idle time where it is longer.
 pub idle-shorter-than-full : idleLimit (idleFor 1) ≡ millis.Some (record { 0 = 2001 })

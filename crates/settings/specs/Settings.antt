@@ -55,20 +55,9 @@ shardCount s = doubledUpTo 6 1 (s .shards)
 abbrev pub capOf : Settings → ℕ
 capOf s = max (ceilDiv (s .eviction .«max_keys») (shardCount s)) 1
 
--- The words of a shard that holds so many keys: slot count, hand and sweep, six words a slot, debt count and cursor, two words a debt.
-abbrev pub shardWords : ℕ → ℕ
-shardWords cap = 5 + 8 * cap
-
--- The shards, and the keys that each holds: how the words are divided.
+-- The shards, and the keys that each holds.
 abbrev pub shapeOf : Settings → Shape
 shapeOf s = record { shards = shardCount s; cap = capOf s }
-
--- The words of the whole store.
-abbrev pub wordsIn : Shape → ℕ
-wordsIn shape = shape .shards * shardWords (shape .cap)
-
-abbrev pub wordsOf : Settings → ℕ
-wordsOf s = wordsIn (shapeOf s)
 
 -- The shard of a hash: as many of its bits, from bit 40 on (counted from 0), as the shard count needs.
 abbrev pub indexIn : Shape → ℕ → ℕ

@@ -1,9 +1,9 @@
 // What a limiter is set to: the rate, the bounds on its memory, and what follows from them for the store: how many shards it has, how many keys
-// each holds, how many words it is lent, and after how long an idle key may go. A settings record may hold anything; `refusal` says whether it is accepted.
+// each holds, and after how long an idle key may go. A settings record may hold anything; `refusal` says whether it is accepted.
 ghost use mathlib.Core.Path.{_≡_};
 ghost use Rattle.bucket.specs.Bucket.{Accepted};
 ghost use Rattle.settings.specs.Rate.{timeToFull};
-ghost use Rattle.settings.specs.Settings.{limitRefusal, sizeRefusal, settingsRefusal, shardCount, shapeOf, ShapeOfAccepted, wordsIn, wordsOf, indexIn, idleLimitFor, idleLimitMillis};
+ghost use Rattle.settings.specs.Settings.{limitRefusal, sizeRefusal, settingsRefusal, shardCount, shapeOf, ShapeOfAccepted, indexIn, idleLimitFor, idleLimitMillis};
 use crate::eviction::Eviction;
 use crate::rate::Rate;
 use bucket::BucketConfig;
@@ -98,25 +98,9 @@ impl Settings {
         let cap = arith::larger(share, 1) as usize;
         Shape { shards, cap }
     }
-
-    // The words that the store is lent.
-    pub fn words(self) -> usize
-        requires { ⌜ sizeRefusal self ≡ 0 ⌝ }
-        ensures { λ r. ⌜ r ≡ wordsOf self ⌝ }
-    {
-        self.shape().words()
-    }
 }
 
 impl Shape {
-    // The words of all shards.
-    pub fn words(self) -> usize
-        requires { ⌜ ShapeOfAccepted self ⌝ }
-        ensures { λ r. ⌜ r ≡ wordsIn self ⌝ }
-    {
-        self.shards * (5 + 8 * self.cap)
-    }
-
     // The shard that a hash belongs to.
     pub fn shard_index(self, hash: u64) -> usize
         requires { ⌜ ShapeOfAccepted self ⌝ }

@@ -16,7 +16,7 @@ use Rattle.rows.proofs.SegmentLaws.{segment-length}
 use Rattle.units.specs.declared.Nanos.{Nanos}
 use Rattle.settings.specs.declared.Settings.{Settings}
 use Rattle.settings.specs.declared.Shape.{Shape}
-use Rattle.settings.specs.Settings.{settingsRefusal, firstRefusal, ShapeOfAccepted, mostKeys, mostShards, capOf, shardWords, shapeOf, wordsIn}
+use Rattle.settings.specs.Settings.{settingsRefusal, firstRefusal, ShapeOfAccepted, mostKeys, mostShards, capOf, shapeOf}
 use Rattle.settings.proofs.SettingsLaws.{accepted-parts, shape-of-accepted, cap-most, shards-most, no-refusal-hands-on}
 use Rattle.rows.specs.declared.Place.the-variants.{At}
 use Rattle.shard_map.specs.Model as Shard
@@ -32,6 +32,8 @@ use Rattle.store.specs.Refusals.{lenRefusal}
 use Rattle.store.specs.Lending.{lentUnless}
 use Rattle.store.proofs.MemoryLaws.{part-placed, shard-ends}
 use Rattle.store.proofs.RefusalLaws.{SetUp, Accepted, length-is-accepted, len-not-refused, refusals-in-a-row, no-further-refusal}
+use Rattle.shard_map.specs.Layout.{shardWords}
+use Rattle.store.specs.Memory.{wordsIn}
 
 -- A part that lies in the memory: its words are those of the shard in it.
 module _ {p : Part} {ws : List ℕ} (placed : Placed p ws) where

@@ -1,7 +1,7 @@
 -- The part of one shard in the words of a whole store: it fits, an operation's shard reads back from it, and the other shards stay as they are.
-use Prim.Native.Nat.{ℕ, _+_, _*_, _≤_, _<_}
+use Prim.Native.Nat.{ℕ, _+_, _*_, _≤_, _<_, _^_}
 use native.Mathlib.Omega.{arith}
-use native.Mathlib.Nat.{mul-le-mul-right, le-trans}
+use native.Mathlib.Nat.{mul-le-mul, mul-le-mul-right, le-trans}
 use mathlib.Core.Path.{_≡_, refl, ap, sym, _∙_}
 use mathlib.Core.List.{List}
 use lib.ListN.{length, getD, replicate, length-replicate, getD-replicate, List·getD-eq-default}
@@ -13,58 +13,70 @@ use Rattle.rows.proofs.SegmentLaws.{segment-length, segment-back, segment-kept-
 use Rattle.rows.proofs.ZeroLaws.{zeros-segment}
 use Rattle.settings.specs.declared.Settings.{Settings}
 use Rattle.settings.specs.declared.Shape.{Shape}
-use Rattle.settings.specs.Settings.{sizeRefusal, mostKeys, mostShards, capOf, shardWords, wordsOf, shapeOf, ShapeOfAccepted, shardOf, shardCount}
-use Rattle.settings.proofs.SettingsLaws.{shard-below, cap-least, words-most}
+use Rattle.settings.specs.Settings.{sizeRefusal, mostKeys, mostShards, capOf, shapeOf, ShapeOfAccepted, shardOf, shardCount}
+use Rattle.settings.proofs.SettingsLaws.{shards-most, shard-below, cap-least, cap-most, accepted-cap-most}
 use Rattle.ledger.specs.Model as Ledger
 use Rattle.shard_map.specs.Model as Shard
 use Rattle.shard_map.specs.Layout as Layout
+use Rattle.shard_map.specs.Layout.{shardWords}
 use Rattle.shard_map.proofs.LayoutLaws.{cap-is}
 use Rattle.shard_map.proofs.ReadBack.{Empty, words-length, shard-of-words, debt-cap-is, zeros-empty}
-use Rattle.store.specs.Memory.{withSegment, partStart, partOf, Placed, shardEnd, shardAt, inShard}
+use Rattle.store.specs.Memory.{withSegment, shardStart, shardEnd, wordsIn, memoryWords, partStart, partOf, Placed, shardAt, inShard}
 
--- Parts of w words each, by number: a part ends before one of a higher number begins.
-part-ends : (i j w : ℕ) → i < j → i * w + w ≤ j * w
-part-ends i j w below = omega (arith, mul-le-mul-right w below)
+-- A shard ends before one of a higher number begins.
+shard-ends-before : (cap i j : ℕ) → i < j → shardEnd cap i ≤ shardStart cap j
+shard-ends-before cap i j below = omega (arith, mul-le-mul-right (shardWords cap) below)
 
--- Part i replaced: every other part is as it was.
-other-part-kept : (w i j : ℕ) (ws new : List ℕ) → i * w + w ≤ length ws → length new ≡ w → (j ≡ i → ⊥)
-    → segment (j * w) w (withSegment (i * w) w ws new) ≡ segment (j * w) w ws
-other-part-kept w i j ws new fits same other =
+-- The words of shard i replaced: those of every other shard are as they were.
+other-shard-kept : (cap i j : ℕ) (ws new : List ℕ) → shardEnd cap i ≤ length ws → length new ≡ shardWords cap → (j ≡ i → ⊥)
+    → segment (shardStart cap j) (shardWords cap) (withSegment (shardStart cap i) (shardWords cap) ws new) ≡ segment (shardStart cap j) (shardWords cap) ws
+other-shard-kept cap i j ws new fits same other =
+    let w : ℕ = shardWords cap in
     by-le i j
-    (λ past. segment-kept-above (i * w) w ws new fits same (j * w) w (part-ends i j w (omega arith)))
-    (λ before. segment-kept-below (i * w) w ws new fits same (j * w) w (part-ends j i w before))
+    (λ past. segment-kept-above (shardStart cap i) w ws new fits same (shardStart cap j) w (shard-ends-before cap i j (omega arith)))
+    (λ before. segment-kept-below (shardStart cap i) w ws new fits same (shardStart cap j) w (shard-ends-before cap j i before))
+
+-- The words of a memory are few enough to be counted in 64 bits, if the sizes are accepted.
+words-most : (s : Settings) → sizeRefusal s ≡ 0 → memoryWords s ≤ mostShards * shardWords mostKeys
+words-most s accepted = mul-le-mul {m₂ = shardWords mostKeys} (shards-most s) (omega (arith, cap-most s accepted))
+
+pub accepted-words-most : {shape : Shape} → ShapeOfAccepted shape → wordsIn shape ≤ mostShards * shardWords mostKeys
+accepted-words-most shaped = rw (shaped .is) (words-most (shaped .settings) (shaped .accepted))
+
+pub shard-words-few : {shape : Shape} → ShapeOfAccepted shape → shardWords (shape .cap) < 2 ^ 64
+shard-words-few shaped = omega (arith, accepted-cap-most shaped)
 
 -- The part of a hash's shard lies within memory of the length that the settings ask for.
-pub shard-fits : (s : Settings) (hash : ℕ) (ws : List ℕ) → length ws ≡ wordsOf s → partStart (shapeOf s) hash + shardWords (capOf s) ≤ length ws
-shard-fits s hash ws size = rw size (part-ends (shardOf s hash) (shardCount s) (shardWords (capOf s)) (shard-below s hash))
+pub shard-fits : (s : Settings) (hash : ℕ) (ws : List ℕ) → length ws ≡ memoryWords s → partStart (shapeOf s) hash + shardWords (capOf s) ≤ length ws
+shard-fits s hash ws size = rw size (shard-ends-before (capOf s) (shardOf s hash) (shardCount s) (shard-below s hash))
 
-pub part-placed : (s : Settings) (hash : ℕ) (ws : List ℕ) → length ws ≡ wordsOf s → Placed (partOf s hash) ws
+pub part-placed : (s : Settings) (hash : ℕ) (ws : List ℕ) → length ws ≡ memoryWords s → Placed (partOf s hash) ws
 part-placed s hash ws size = record { ends = refl; within = shard-fits s hash ws size }
 
 -- It ends at a small number if the sizes are accepted.
 shard-start-most : (s : Settings) (hash : ℕ) → sizeRefusal s ≡ 0 → partStart (shapeOf s) hash + shardWords (capOf s) ≤ mostShards * shardWords mostKeys
-shard-start-most s hash accepted = le-trans (part-ends (shardOf s hash) (shardCount s) (shardWords (capOf s)) (shard-below s hash)) (words-most s accepted)
+shard-start-most s hash accepted = le-trans (shard-ends-before (capOf s) (shardOf s hash) (shardCount s) (shard-below s hash)) (words-most s accepted)
 
 pub part-ends-early : {shape : Shape} (hash : ℕ) → ShapeOfAccepted shape → partStart shape hash + shardWords (shape .cap) ≤ mostShards * shardWords mostKeys
 part-ends-early hash shaped = rw (shaped .is) (shard-start-most (shaped .settings) hash (shaped .accepted))
 
 -- So does the part of a shard by its number.
-pub shard-ends : (s : Settings) (i : ℕ) (ws : List ℕ) → length ws ≡ wordsOf s → i < shardCount s → shardEnd (capOf s) i ≤ length ws
-shard-ends s i ws size below = rw size (part-ends i (shardCount s) (shardWords (capOf s)) below)
+pub shard-ends : (s : Settings) (i : ℕ) (ws : List ℕ) → length ws ≡ memoryWords s → i < shardCount s → shardEnd (capOf s) i ≤ length ws
+shard-ends s i ws size below = rw size (shard-ends-before (capOf s) i (shardCount s) below)
 
 -- Hashes of one shard have the same shard.
 pub same-shard : (s : Settings) (hash other : ℕ) (ws : List ℕ) → shardOf s other ≡ shardOf s hash → shardAt s other ws ≡ shardAt s hash ws
-same-shard s hash other ws same = ap (λ (i : ℕ). Layout.shard (capOf s) (segment (i * shardWords (capOf s)) (shardWords (capOf s)) ws)) same
+same-shard s hash other ws same = ap (λ (i : ℕ). Layout.shard (capOf s) (segment (shardStart (capOf s) i) (shardWords (capOf s)) ws)) same
 
 -- An operation on the shard of a hash, in memory of the right length, whose outcome has room for as many slots and debts as before.
 module _ {A : Type 0} (s : Settings) (hash : ℕ) (ws : List ℕ) (o : Outcome A Shard.Shard)
-    (size : length ws ≡ wordsOf s) (room : Shard.capOf (o .after) ≡ capOf s) (debt-room : Ledger.capOf (o .after .ledger) ≡ capOf s) where
+    (size : length ws ≡ memoryWords s) (room : Shard.capOf (o .after) ≡ capOf s) (debt-room : Ledger.capOf (o .after .ledger) ≡ capOf s) where
   -- The new words are as many as those that they replace.
   new-length : length (Layout.wordsOf (o .after)) ≡ shardWords (capOf s)
   new-length = words-length (capOf s) (o .after) room debt-room
 
   -- The memory keeps its length.
-  pub in-shard-length : length (inShard s hash ws o .after) ≡ wordsOf s
+  pub in-shard-length : length (inShard s hash ws o .after) ≡ memoryWords s
   in-shard-length =
       same-len-mid (partStart (shapeOf s) hash) (shardWords (capOf s)) ws (Layout.wordsOf (o .after))
       (new-length ∙ sym (segment-length (partStart (shapeOf s) hash) (shardWords (capOf s)) ws (shard-fits s hash ws size)))
@@ -84,7 +96,7 @@ module _ {A : Type 0} (s : Settings) (hash : ℕ) (ws : List ℕ) (o : Outcome A
   module _ (other : ℕ) (apart : shardOf s other ≡ shardOf s hash → ⊥) where
     pub in-shard-leaves-other-words : segment (partStart (shapeOf s) other) (shardWords (capOf s)) (inShard s hash ws o .after) ≡ segment (partStart (shapeOf s) other) (shardWords (capOf s)) ws
     in-shard-leaves-other-words =
-        other-part-kept (shardWords (capOf s)) (shardOf s hash) (shardOf s other) ws (Layout.wordsOf (o .after)) (shard-fits s hash ws size) new-length apart
+        other-shard-kept (capOf s) (shardOf s hash) (shardOf s other) ws (Layout.wordsOf (o .after)) (shard-fits s hash ws size) new-length apart
 
     pub in-shard-leaves-others : shardAt s other (inShard s hash ws o .after) ≡ shardAt s other ws
     in-shard-leaves-others = ap (Layout.shard (capOf s)) in-shard-leaves-other-words
@@ -97,9 +109,9 @@ zeros-read n i =
     (λ inside. getD-replicate n i 0 0 inside)
 
 -- In memory as set-up leaves it every shard is empty.
-pub fresh-shards-are-empty : (s : Settings) (hash : ℕ) → Empty (shardAt s hash (replicate (wordsOf s) 0))
+pub fresh-shards-are-empty : (s : Settings) (hash : ℕ) → Empty (shardAt s hash (replicate (memoryWords s) 0))
 fresh-shards-are-empty s hash =
-    zeros-empty (capOf s) _ (zeros-segment (partStart (shapeOf s) hash) (shardWords (capOf s)) (replicate (wordsOf s) 0) (zeros-read (wordsOf s)))
+    zeros-empty (capOf s) _ (zeros-segment (partStart (shapeOf s) hash) (shardWords (capOf s)) (replicate (memoryWords s) 0) (zeros-read (memoryWords s)))
 
 module _ (s : Settings) (hash : ℕ) (ws : List ℕ) where
   -- The shard of a hash has the cap's room for slots and debts.
@@ -118,12 +130,12 @@ module _ (s : Settings) (hash : ℕ) (ws : List ℕ) where
   }
 
 -- A fresh shard is sound.
-pub fresh-sound : (s : Settings) (hash : ℕ) → Shard.Sound (shardAt s hash (replicate (wordsOf s) 0))
+pub fresh-sound : (s : Settings) (hash : ℕ) → Shard.Sound (shardAt s hash (replicate (memoryWords s) 0))
 fresh-sound s hash =
     let empty = fresh-shards-are-empty s hash in
     let room : 0 < capOf s = cap-least s in
     record {
-      room = rw (shard-at-cap s hash (replicate (wordsOf s) 0)) room;
+      room = rw (shard-at-cap s hash (replicate (memoryWords s) 0)) room;
       count-fits = rw (empty .slots) (omega arith);
-      ledger = record { room = rw (shard-at-debt-cap s hash (replicate (wordsOf s) 0)) room; count-fits = rw (empty .debts) (omega arith) };
+      ledger = record { room = rw (shard-at-debt-cap s hash (replicate (memoryWords s) 0)) room; count-fits = rw (empty .debts) (omega arith) };
     }

@@ -10,13 +10,14 @@ use lib.ListN.{length}
 use Rattle.arith.proofs.Cases.{by-le, by-eq}
 use Rattle.units.specs.declared.Nanos.{Nanos}
 use Rattle.settings.specs.declared.Settings.{Settings}
-use Rattle.settings.specs.Settings.{firstRefusal, settingsRefusal, capOf, shardCount, wordsOf}
+use Rattle.settings.specs.Settings.{firstRefusal, settingsRefusal, capOf, shardCount}
 use Rattle.settings.proofs.SettingsLaws.{first-refusal-stands, no-refusal-hands-on, neither-refuses}
 use Rattle.shard_map.specs.Model as Shard
 use Rattle.store.specs.Memory.{shardAt, slotCount}
 use Rattle.store.specs.Refusals.{latestMoment, longestMaxWait, memoryRefusal, setUpRefusal, countRefusal, keyedRefusal, momentRefusal, timedRefusal}
 use Rattle.store.specs.Refusals.{waitRefusal, reserveRefusal, mostSlots, slotsRefusal, lenRefusal}
 use Rattle.store.proofs.MemoryLaws.{shard-at-cap, shard-at-debt-cap, sound-shard}
+use Rattle.store.specs.Memory.{memoryWords}
 use borrow.Author.Tests.{le-ltb, lt-ltb, eq-eqb, ne-eqb}
 
 -- A number over its bound is refused, so where nothing is refused it is within the bound, and the rest of the checks refuse nothing.
@@ -89,17 +90,17 @@ module _ (t : Nanos) where
 -- What every call may count on where it is not refused: accepted settings, and memory of the right length.
 pub record SetUp (s : Settings) (ws : List ℕ) : Type 0 where
   pub settings : settingsRefusal s ≡ 0
-  pub size : length ws ≡ wordsOf s
+  pub size : length ws ≡ memoryWords s
 
 -- A set-up is not refused just where that holds.
 module _ (s : Settings) (ws : List ℕ) where
   pub set-up-not-refused : setUpRefusal s ws ≡ 0 → SetUp s ws
   set-up-not-refused none =
-      let parts = neither-refuses (settingsRefusal s) (memoryRefusal (wordsOf s) ws) none in
-      record { settings = parts .0; size = length-not-refused (wordsOf s) ws (parts .1) }
+      let parts = neither-refuses (settingsRefusal s) (memoryRefusal (memoryWords s) ws) none in
+      record { settings = parts .0; size = length-not-refused (memoryWords s) ws (parts .1) }
 
   pub set-up-is-accepted : SetUp s ws → setUpRefusal s ws ≡ 0
-  set-up-is-accepted a = no-refusal-hands-on (settingsRefusal s) (memoryRefusal (wordsOf s) ws) (a .settings) ∙ length-is-accepted (wordsOf s) ws (a .size)
+  set-up-is-accepted a = no-refusal-hands-on (settingsRefusal s) (memoryRefusal (memoryWords s) ws) (a .settings) ∙ length-is-accepted (memoryWords s) ws (a .size)
 
 -- The slot counts of all shards: the largest bounds each, and is within the cap where each is.
 module _ (cap : ℕ) (ws : List ℕ) where

@@ -7,18 +7,32 @@ use Rattle.rows.specs.Segments.{segment}
 use Rattle.rows.specs.Outcome.{Outcome, outcome}
 use Rattle.settings.specs.declared.Settings.{Settings}
 use Rattle.settings.specs.declared.Shape.{Shape}
-use Rattle.settings.specs.Settings.{shardWords, shapeOf, indexIn}
+use Rattle.settings.specs.Settings.{shapeOf, indexIn}
 use Rattle.shard_map.specs.Model.{Shard}
-use Rattle.shard_map.specs.Layout.{shard, wordsOf}
+use Rattle.shard_map.specs.Layout.{shardWords, shard, wordsOf}
 use Rattle.store.specs.declared.Part.{Part}
 
 -- The words with other words in the place of a part.
 abbrev pub withSegment : ℕ → ℕ → List ℕ → List ℕ → List ℕ
 withSegment a n ws new = take a ws ++ (new ++ drop n (drop a ws))
 
+-- The shards lie side by side: the word at which one begins, by its number, and the word after it.
+abbrev pub shardStart : ℕ → ℕ → ℕ
+shardStart cap i = i * shardWords cap
+
+abbrev pub shardEnd : ℕ → ℕ → ℕ
+shardEnd cap i = shardStart cap i + shardWords cap
+
+-- The words of a memory of a shape, and those that settings ask for.
+abbrev pub wordsIn : Shape → ℕ
+wordsIn shape = shape .shards * shardWords (shape .cap)
+
+abbrev pub memoryWords : Settings → ℕ
+memoryWords s = wordsIn (shapeOf s)
+
 -- The part of a hash's shard: where it begins, the word after it, and the places of the shard.
 abbrev pub partStart : Shape → ℕ → ℕ
-partStart shape hash = indexIn shape hash * shardWords (shape .cap)
+partStart shape hash = shardStart (shape .cap) (indexIn shape hash)
 
 abbrev pub partIn : Shape → ℕ → Part
 partIn shape hash = record { start = partStart shape hash; end = partStart shape hash + shardWords (shape .cap); cap = shape .cap }
@@ -45,9 +59,6 @@ pub record Placed (p : Part) (ws : List ℕ) : Type 0 where
   pub ends : p .end ≡ p .start + shardWords (p .cap)
   pub within : p .end ≤ length ws
 
--- The word after a shard, by its number; its slot count.
-abbrev pub shardEnd : ℕ → ℕ → ℕ
-shardEnd cap i = i * shardWords cap + shardWords cap
-
+-- The slot count of a shard, by its number.
 abbrev pub slotCount : ℕ → ℕ → List ℕ → ℕ
-slotCount cap i ws = shard cap (segment (i * shardWords cap) (shardWords cap) ws) .slots .count
+slotCount cap i ws = shard cap (segment (shardStart cap i) (shardWords cap) ws) .slots .count

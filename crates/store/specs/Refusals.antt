@@ -7,9 +7,10 @@ use lib.ListN.{length}
 use Rattle.units.specs.declared.Nanos.{Nanos}
 use Rattle.settings.specs.declared.Settings.{Settings}
 use Rattle.settings.specs.declared.Shape.{Shape}
-use Rattle.settings.specs.Settings.{firstRefusal, settingsRefusal, shardCount, capOf, wordsIn, wordsOf}
+use Rattle.settings.specs.Settings.{firstRefusal, settingsRefusal, shardCount, capOf}
 use Rattle.shard_map.specs.Model.{Shard}
 use Rattle.store.specs.Memory.{partIn, shardIn, shardAt, slotCount}
+use Rattle.store.specs.Memory.{wordsIn, memoryWords}
 
 -- The latest moment, and the longest wait that a reservation may ask for, in nanoseconds.
 abbrev pub latestMoment : ℕ
@@ -24,7 +25,7 @@ memoryRefusal words ws = cond (eqb (length ws) words) 0 5
 
 -- Set-up and clear: the settings, then the length.
 abbrev pub setUpRefusal : Settings → List ℕ → ℕ
-setUpRefusal s ws = firstRefusal (settingsRefusal s) (memoryRefusal (wordsOf s) ws)
+setUpRefusal s ws = firstRefusal (settingsRefusal s) (memoryRefusal (memoryWords s) ws)
 
 -- 5 where a count of a shard is over the cap.
 unfoldable pub countRefusal : ℕ → Shard → ℕ

@@ -6,6 +6,7 @@ ghost use Rattle.store.specs.Refusals.{shapeRefusal};
 ghost use Rattle.store.specs.Lending.{lentUnless};
 use crate::Part;
 use crate::refusals;
+use crate::words;
 use settings::Shape;
 
 // The part of the key's shard; or nothing, and the number by which the call is refused.
@@ -20,7 +21,7 @@ pub fn lend(shape: Shape, ws: &[u64], hash: u64, further: u32) -> Lending
     requires { ⌜ ShapeOfAccepted shape ⌝ }
     ensures { λ r. ⌜ r ≡ lentUnless (firstRefusal (shapeRefusal shape hash (now (ws .entry))) further) (partIn shape hash) ⌝ }
 {
-    let refusal = refusals::memory_refusal(shape.words(), ws);
+    let refusal = refusals::memory_refusal(words::words_in(shape), ws);
     if refusal != 0 {
         return Lending::Refused(refusal);
     }

@@ -23,6 +23,7 @@ use units::Nanos;
 
 pub mod lending;
 pub mod refusals;
+pub mod words;
 
 // Where the shard of a key lies in the lent words, and how many places it has.
 pub struct Part {
@@ -36,11 +37,10 @@ pub(crate) fn part_of(shape: Shape, hash: u64) -> Part
     requires { ⌜ ShapeOfAccepted shape ⌝ }
     ensures { λ r. ⌜ r ≡ partIn shape hash ⌝ }
 {
-    let words = 5 + 8 * shape.cap;
-    let start = shape.shard_index(hash) * words;
+    let start = words::shard_start(shape.cap, shape.shard_index(hash));
     Part {
         start,
-        end: start + words,
+        end: start + shard_map::words::shard_words(shape.cap),
         cap: shape.cap,
     }
 }
@@ -134,9 +134,8 @@ pub(crate) fn slot_count(ws: &[u64], cap: usize, shard: usize) -> usize
     requires { ⌜ shardEnd cap shard ≤ length (now ws) ⌝ }
     ensures { λ r. ⌜ r ≡ slotCount cap shard (now (ws .entry)) ⌝ }
 {
-    let words = 5 + 8 * cap;
-    let start = shard * words;
-    let end = start + words;
+    let start = words::shard_start(cap, shard);
+    let end = start + shard_map::words::shard_words(cap);
     shard_map::len(&ws[start..end], cap)
 }
 

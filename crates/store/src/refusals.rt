@@ -2,9 +2,10 @@
 // Of several checks the first that applies gives the number.
 ghost use mathlib.Core.Path.{_≡_};
 ghost use lib.ListN.{length};
-ghost use Rattle.settings.specs.Settings.{shardWords, firstRefusal};
-ghost use Rattle.shard_map.specs.Layout.{shard};
+ghost use Rattle.settings.specs.Settings.{firstRefusal};
+ghost use Rattle.shard_map.specs.Layout.{shard, shardWords};
 ghost use Rattle.store.specs.Refusals.{memoryRefusal, setUpRefusal, countRefusal, momentRefusal, waitRefusal, slotsRefusal, lenRefusal};
+use crate::words;
 use settings::Settings;
 use shard_map::debts;
 use units::Nanos;
@@ -65,7 +66,7 @@ pub fn set_up_refusal(settings: Settings, ws: &[u64]) -> u32
     if refusal != 0 {
         return refusal;
     }
-    memory_refusal(settings.words(), ws)
+    memory_refusal(words::memory_words(settings), ws)
 }
 
 // 5 where the slot count of any shard is over the cap.

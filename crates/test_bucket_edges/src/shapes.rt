@@ -48,7 +48,7 @@ fn size(max_keys: usize, shards: usize) {
     line(b"shards", shape.shards as u64);
     line(b"cap", shape.cap as u64);
     if settings.size_refusal() == 0 {
-        line(b"words", settings.words() as u64);
+        line(b"words", store::words::memory_words(settings) as u64);
     }
 }
 

@@ -5,6 +5,7 @@
 use bucket::BucketConfig;
 use libc::STDIN_FILENO;
 use line::Line;
+use shard_map::words;
 use units::Nanos;
 
 mod line;
@@ -15,7 +16,7 @@ mod sound;
 // The most places of a shard that the cases have, and how many words it takes.
 const MOST_PLACES: usize = 9;
 
-const MOST_WORDS: usize = 5 + 8 * MOST_PLACES;
+const MOST_WORDS: usize = words::HEAD_WORDS + words::PLACE_WORDS * MOST_PLACES;
 
 // Where the reading stands, the places of the shard, and the configuration of its buckets.
 pub struct State {
@@ -100,7 +101,7 @@ fn load(text: &[u8], words: &mut [u64], state: State, line: Line) -> State {
 // Reads the words of a shard of so many places, and tells where the reading stands then.
 fn read_shard(text: &[u8], from: usize, words: &mut [u64], cap: usize) -> usize {
     if cap <= MOST_PLACES {
-        let size = 5 + 8 * cap;
+        let size = words::shard_words(cap);
         if size <= words.len() {
             return fill(text, from, &mut words[0..size]);
         }
@@ -126,7 +127,7 @@ fn on_shard(words: &mut [u64], state: State, line: Line) {
     let cap = state.cap;
     let config = state.config;
     if cap <= MOST_PLACES {
-        let size = 5 + 8 * cap;
+        let size = words::shard_words(cap);
         if size <= words.len() {
             checked(&mut words[0..size], cap, config, line);
             return;

@@ -4,6 +4,8 @@ ghost use mathlib.Core.Bool.{true};
 ghost use Rattle.bucket.specs.Bucket.{Accepted};
 ghost use Rattle.shard_map.specs.Layout.{Intact};
 use bucket::BucketConfig;
+use shard_map::debts;
+use shard_map::words;
 
 // Whether the words are those of a shard of so many places, and hold no more slots and no more debts than that.
 pub(crate) fn is_intact(ws: &[u64], cap: usize) -> bool
@@ -15,16 +17,13 @@ pub(crate) fn is_intact(ws: &[u64], cap: usize) -> bool
     if crate::MOST_PLACES < cap {
         return false;
     }
-    if ws.len() != 5 + 8 * cap {
+    if ws.len() != words::shard_words(cap) {
         return false;
     }
-    if (cap as u64) < ws[0] {
+    if cap < shard_map::len(ws, cap) {
         return false;
     }
-    if (cap as u64) < ws[3 + 6 * cap] {
-        return false;
-    }
-    true
+    debts::len(ws, cap) <= cap
 }
 
 // Whether the configuration is in the ranges that the settings accept.

@@ -8,13 +8,14 @@ use libc::STDOUT_FILENO;
 use limiter::LimiterReply;
 use line::Call;
 use line::Store;
+use shard_map::words;
 
 mod digest;
 mod line;
 mod operations;
 
 // The most words that a store can have, those of 4,096 keys in 64 shards. A call that is lent more is not run, and prints nothing.
-const MOST_WORDS: usize = 64 * (5 + 8 * 64);
+const MOST_WORDS: usize = 64 * (words::HEAD_WORDS + words::PLACE_WORDS * 64);
 
 fn main() {
     let mut text = io::large_buffer();

@@ -11,15 +11,15 @@ size-refusal-requires c κs = search needs
 returns : tie.Need-returns
 returns c = no-size _ _ (rw (sym (c .before .size-refusal .ensures)) (c .if1 .taken))
 
-words-requires : tie.Need-words-requires
-words-requires c κs = search needs
+memory-words-requires : tie.Need-memory-words-requires
+memory-words-requires c κs = search needs
 
 fewer-requires : tie.Need-fewer-requires
 fewer-requires c κs = search needs
 
 returns-2 : tie.Need-returns-2
-returns-2 c = rw (c .before .words .ensures) at (c .fewer .ensures) ∙ size-is _ _ (search needs)
+returns-2 c = rw (c .before .memory-words .ensures) at (c .fewer .ensures) ∙ size-is _ _ (search needs)
 
 pub store-size-spec : {M : Type 1} → statement M
 store-size-spec =
-    tie.close (tie.spec size-refusal-requires returns words-requires fewer-requires returns-2)
+    tie.close (tie.spec size-refusal-requires returns memory-words-requires fewer-requires returns-2)

@@ -4,14 +4,11 @@ use borrow.Author.Needs.{needs}
 use Rattle.store.proofs.slot_count.Statement.{statement}
 use Rattle.store.proofs.slot_count.Tie as tie
 
-mul-words : tie.Need-mul-words
-mul-words c = search needs
+shard-start-requires : tie.Need-shard-start-requires
+shard-start-requires c κs = search needs
 
-add-words : tie.Need-add-words
-add-words c = search needs
-
-mul-start : tie.Need-mul-start
-mul-start c = search needs
+shard-words-requires : tie.Need-shard-words-requires
+shard-words-requires c κs = search needs
 
 add-end : tie.Need-add-end
 add-end c = search needs
@@ -32,15 +29,16 @@ len-requires : tie.Need-len-requires
 len-requires c κs = search needs
 
 returns : tie.Need-returns
-returns c = rw add-sub-cancel-left at (c .len .ensures)
+returns c =
+    let w = c .before .before in
+    rw (w .shard-words .ensures, w .before .shard-start .ensures, add-sub-cancel-left) at (c .len .ensures)
 
 pub slot-count-spec : {M : Type 1} → statement M
 slot-count-spec =
     tie.close
     (tie.spec
-    mul-words
-    add-words
-    mul-start
+    shard-start-requires
+    shard-words-requires
     add-end
     mul-len
     sub-len

@@ -2,7 +2,7 @@
 use mathlib.Core.Path.{_≡_, sym, _∙_}
 use native.Mathlib.Omega.{arith}
 use lib.ListN.{length}
-use Rattle.settings.specs.Settings.{firstRefusal, wordsIn}
+use Rattle.settings.specs.Settings.{firstRefusal}
 use Rattle.store.specs.Memory.{Placed}
 use Rattle.store.specs.Refusals.{shapeRefusal}
 use Rattle.store.proofs.RefusalLaws.{first-is-told, length-not-refused}
@@ -10,6 +10,7 @@ use Rattle.store.proofs.LendingLaws.{part-is-placed, counts-refuse, len
 use borrow.Author.Needs.{needs}
 use Rattle.store.proofs.lending.lend.Statement.{statement}
 use Rattle.store.proofs.lending.lend.Tie as tie
+use Rattle.store.specs.Memory.{wordsIn}
 
 -- Once the part is known: where the call began, that the memory has the length that the shape asks for, and so that the part lies in it.
 abbrev start : tie.After-part-of → tie.Start
@@ -18,7 +19,7 @@ start p = p .before .before .before .before .before
 sized : (p : tie.After-part-of) → length (start p .args .ws .now) ≡ wordsIn (start p .args .shape)
 sized p =
     let checked = p .before .before in
-    length-not-refused _ _ (sym (checked .memory-refusal .ensures) ∙ p .before .if1 .left) ∙ checked .before .words .ensures
+    length-not-refused _ _ (sym (checked .memory-refusal .ensures) ∙ p .before .if1 .left) ∙ checked .before .words-in .ensures
 
 placed : (p : tie.After-part-of) → Placed (p .part-of .result) (start p .args .ws .now)
 placed p = part-is-placed (start p .args .hash) (start p .args .ws .now) (start p .pre) (sized p) (p .part-of .ensures)
@@ -35,8 +36,8 @@ refused f =
     let counted = f .before .count-refusal .ensures in
     counts-refuse (a .hash) (a .ws .now) (start p .pre) (sized p) (p .part-of .ensures) (a .further) counted (f .first-refusal .ensures)
 
-words-requires : tie.Need-words-requires
-words-requires c κs = search needs
+words-in-requires : tie.Need-words-in-requires
+words-in-requires c κs = search needs
 
 memory-refusal-requires : tie.Need-memory-refusal-requires
 memory-refusal-requires c κs = search needs
@@ -44,7 +45,7 @@ memory-refusal-requires c κs = search needs
 returns : tie.Need-returns
 returns c =
     let some = c .if1 .taken in
-    let long = rw (c .before .before .words .ensures) at (c .before .memory-refusal .ensures) in
+    let long = rw (c .before .before .words-in .ensures) at (c .before .memory-refusal .ensures) in
     refused-lends-nothing _ (first-is-told _ (first-is-told _ long some) some) some
 
 part-of-requires : tie.Need-part-of-requires
@@ -78,7 +79,7 @@ pub lend-spec : {M : Type 1} → statement M
 lend-spec =
     tie.close
     (tie.spec
-    words-requires
+    words-in-requires
     memory-refusal-requires
     returns
     part-of-requires

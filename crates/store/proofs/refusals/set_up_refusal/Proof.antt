@@ -12,14 +12,14 @@ refusal-requires c κs = search needs
 returns : tie.Need-returns
 returns c = first-is-told _ (c .before .refusal .ensures) (c .if1 .taken)
 
-words-requires : tie.Need-words-requires
-words-requires c κs = accepted-parts _ (sym (c .before .refusal .ensures) ∙ c .if1 .left) .1
+memory-words-requires : tie.Need-memory-words-requires
+memory-words-requires c κs = accepted-parts _ (sym (c .before .refusal .ensures) ∙ c .if1 .left) .1
 
 memory-refusal-requires : tie.Need-memory-refusal-requires
 memory-refusal-requires c κs = search needs
 
 returns-2 : tie.Need-returns-2
-returns-2 c = second-is-told (c .before .before .before .refusal .ensures) (c .before .before .if1 .left) (rw (c .before .words .ensures) at (c .memory-refusal .ensures))
+returns-2 c = second-is-told (c .before .before .before .refusal .ensures) (c .before .before .if1 .left) (rw (c .before .memory-words .ensures) at (c .memory-refusal .ensures))
 
 pub set-up-refusal-spec : {M : Type 1} → statement M
 set-up-refusal-spec =
@@ -27,6 +27,6 @@ set-up-refusal-spec =
     (tie.spec
     refusal-requires
     returns
-    words-requires
+    memory-words-requires
     memory-refusal-requires
     returns-2)

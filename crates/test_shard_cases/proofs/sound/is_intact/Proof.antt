@@ -1,5 +1,6 @@
--- `sound::is_lent` says yes only after the tests of cap, length and counts, which are what lent words are.
+-- `sound::is_intact` says yes only after the tests of cap, length and counts, which are what intact words are.
 use native.Mathlib.Omega.{arith}
+use borrow.Author.Tests.{leb-true}
 use Rattle.test_shard_cases.proofs.IntactLaws.{no-is-not-yes, counts-within-are-intact}
 use borrow.Author.Needs.{needs}
 use Rattle.test_shard_cases.proofs.sound.is_intact.Statement.{statement}
@@ -11,38 +12,23 @@ returns c = λ e. no-is-not-yes e
 returns-2 : tie.Need-returns-2
 returns-2 c = λ e. no-is-not-yes e
 
-mul-if3 : tie.Need-mul-if3
-mul-if3 c = search needs
-
-add-if3 : tie.Need-add-if3
-add-if3 c = search needs
+shard-words-requires : tie.Need-shard-words-requires
+shard-words-requires c κs = search needs
 
 returns-3 : tie.Need-returns-3
 returns-3 c = λ e. no-is-not-yes e
 
-shared-slice-read-if4 : tie.Need-shared-slice-read-if4
-shared-slice-read-if4 c = search needs
+len-requires : tie.Need-len-requires
+len-requires c κs = search needs
 
 returns-4 : tie.Need-returns-4
 returns-4 c = λ e. no-is-not-yes e
 
-mul-if5 : tie.Need-mul-if5
-mul-if5 c = search needs
-
-add-if5 : tie.Need-add-if5
-add-if5 c = search needs
-
-mul-if5-2 : tie.Need-mul-if5-2
-mul-if5-2 c = search needs
-
-shared-slice-read-if5 : tie.Need-shared-slice-read-if5
-shared-slice-read-if5 c = search needs
+len-requires-2 : tie.Need-len-requires-2
+len-requires-2 c κs = search needs
 
 returns-5 : tie.Need-returns-5
-returns-5 c = λ e. no-is-not-yes e
-
-returns-6 : tie.Need-returns-6
-returns-6 c = λ e. counts-within-are-intact _ _ (omega arith) (omega arith) (omega arith) (omega arith)
+returns-5 c = λ e. counts-within-are-intact _ _ (omega arith) (omega arith) (omega arith) (omega (arith, leb-true))
 
 pub is-intact-spec : {M : Type 1} → statement M
 is-intact-spec =
@@ -50,14 +36,9 @@ is-intact-spec =
     (tie.spec
     returns
     returns-2
-    mul-if3
-    add-if3
+    shard-words-requires
     returns-3
-    shared-slice-read-if4
+    len-requires
     returns-4
-    mul-if5
-    add-if5
-    mul-if5-2
-    shared-slice-read-if5
-    returns-5
-    returns-6)
+    len-requires-2
+    returns-5)
