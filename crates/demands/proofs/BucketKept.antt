@@ -1,6 +1,6 @@
 -- What one request to a bucket does to a bound by its line: a grant raises the line by its parts, a denial changes nothing. A refund lowers the line by no
 -- more than its parts.
-use Prim.Native.Nat.{ℕ, _+_, _*_, _-_, _≤_, _<_, _^_, max}
+use Prim.Native.Nat.{ℕ, _+_, _*_, _-_, _≤_, _^_, max}
 use mathlib.Core.Path.{_≡_}
 use native.Mathlib.Nat.{mul-le-mul, mul-le-mul-right}
 use native.Mathlib.Omega.{arith}

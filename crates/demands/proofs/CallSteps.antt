@@ -1,5 +1,5 @@
 -- One call of the list, under the rules: the state of the memory stands after it, with what it did to the key, for any bound by the line.
-use Prim.Native.Nat.{ℕ, _+_, _≤_, _<_, _^_}
+use Prim.Native.Nat.{ℕ, _≤_, _<_, _^_}
 use mathlib.Core.Path.{_≡_, refl, sym, ap, _∙_}
 use mathlib.Core.Bool.{true, false}
 use mathlib.Core.List.{List}
@@ -14,7 +14,6 @@ use Rattle.bucket.specs.Bucket.{Accepted, longestWait}
 use Rattle.settings.specs.declared.Limit.{Limit}
 use Rattle.settings.specs.declared.Limit.the-variants.{Open}
 use Rattle.settings.specs.declared.Settings.{Settings}
-use Rattle.settings.specs.declared.decision.Decision.the-variants.{Acquired, Impossible}
 use Rattle.settings.specs.declared.rate.Rate.{Rate}
 use Rattle.settings.specs.Rate.{burstOf, configOf}
 use Rattle.settings.specs.Settings.{shardOf}
@@ -26,7 +25,7 @@ use Rattle.shard.specs.Model as OneShard
 use Rattle.shard.proofs.ShardLaws.{SameRoom, ask-same-room, refund-same-room, remove-same-room}
 use Rattle.perkey.specs.declared.Reply.{Reply}
 use Rattle.store.specs.Memory.{shardAt, inShard}
-use Rattle.perkey.specs.Rules.{unlessTrivial, noWait, askedBy, tooMuch, atOnce, requested, policyOf, replyTo, knownReply, keyed, refundedBy}
+use Rattle.perkey.specs.Rules.{unlessTrivial, askedBy, tooMuch, atOnce, requested, policyOf, replyTo, knownReply, keyed, refundedBy}
 use Rattle.store.proofs.RefusalLaws.{keyed-not-refused}
 use Rattle.perkey.specs.Calls.{Undo, Call, request, look, undo, len, refunds, removes, refund, remove, rules, Answered, settingsOf, momentOf, ofKey, ofUndone}
 use Rattle.perkey.specs.Calls.{accepted}
@@ -94,15 +93,12 @@ module _ (s : Settings) (rate : Rate) (k : Identity) (B : BoundOf (configOf rate
       (operation-stands s rate k B (id .hash) n ws v o room g
       (λ same b. invariant-keeps (configOf rate) B (k .hash) (k .key) (moment n) _ _ (other differs) b) (λ apart. refl)))
 
-  -- What the store in the key's shard gives for a request.
-  abbrev storeGives : Request → Nanos → Identity → ℕ → List ℕ → Outcome Answer Shard.Shard
-  storeGives r at id cost ws = OneShard.withOrInsert (policyOf s rate) id r cost at (shardAt s (id .hash) ws)
-
   -- A request of any kind, put to the store.
   module _ (r : Request) (at : Nanos) (id : Identity) (cost : ℕ) (ws : List ℕ) (g : B .History) (patient : longestWait r ≤ 2 ^ 46)
       (sound : Shard.Sound (shardAt s (id .hash) ws)) (alone : id .hash ≡ k .hash → id .key ≡ k .key) (v : Stands (at .0) ws g) where
+    -- What the store gives in the shard of the call's key.
     abbrev answered : Outcome Answer Shard.Shard
-    answered = storeGives r at id cost ws
+    answered = OneShard.withOrInsert (policyOf s rate) id r cost at (shardAt s (id .hash) ws)
 
     request-stands : 1 ≤ cost → cost ≤ burstOf rate
         → Stands (at .0) (inShard s (id .hash) ws answered .after) (ifOwn k id (granting B r at cost g (replyTo r (answered .answer))) g)

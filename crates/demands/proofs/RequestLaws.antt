@@ -30,7 +30,7 @@ use Rattle.shard.proofs.OwnBucketLaws.{returning-lacks-the-debt}
 use Rattle.shard.proofs.RoomLaws.{room-keeps-shortage, room-made-leaves-room}
 use Rattle.shard.proofs.ShardLaws.{Rebucketed, debtTaken, roomFor, debt-taken-sound, Asking, slot-asked, key-joins, no-space, ask-cases, Refunding}
 use Rattle.shard.proofs.ShardLaws.{slot-refunded, debt-paid, refund-cases, Removing, slot-removed, no-slot, remove-cases}
-use Rattle.demands.proofs.LineBound.{LineBound, BoundOf}
+use Rattle.demands.proofs.LineBound.{BoundOf}
 use Rattle.demands.proofs.BucketKept.{decisionAdds, answerAdds, HoldsAt, holds-of-more, asked-keeps-bound}
 
 -- The invariant, of any bound by the line, after calls up to a moment: g is what happened to the key in them.
