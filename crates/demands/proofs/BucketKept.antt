@@ -31,7 +31,8 @@ answerAdds B at cost (NoSpace wait) g = g
 abbrev pub HoldsAt : (c : BucketConfig) (B : BoundOf c) → Nanos → ℕ → B .History → Type 0
 HoldsAt c B at lacking g = B .Holds (at .0 * c .amount + lacking) g
 
-pub holds-of-more : (c : BucketConfig) (B : BoundOf c) (at : Nanos) {less more : ℕ} {g : B .History} → less ≤ more → HoldsAt c B at less g → HoldsAt c B at more g
+pub holds-of-more : (c : BucketConfig) (B : BoundOf c) (at : Nanos) {less more : ℕ} {g : B .History} → less ≤ more
+    → HoldsAt c B at less g → HoldsAt c B at more g
 holds-of-more c B at le holds = B .raised (omega arith) holds
 
 -- A bucket that was just charged lacks what it lacked and the parts of the cost, unless that is more than is ever read.

@@ -73,12 +73,14 @@ module _ {A P C : ℕ} (B : LineBound A P C) (k : Identity) where
   never-undone-is-as-allowed (undo s id r) never = λ hash key. absurd (never hash key)
   never-undone-is-as-allowed (len s) never = tt
 
-module _ (s : Settings) (rate : Rate) (k : Identity) (B : BoundOf (configOf rate)) (a : Accepted (configOf rate)) (never : policyOf s rate .«forget_debt» ≡ false) where
+module _ (s : Settings) (rate : Rate) (k : Identity) (B : BoundOf (configOf rate)) (a : Accepted (configOf rate))
+    (never : policyOf s rate .«forget_debt» ≡ false) where
   abbrev Stands : ℕ → List ℕ → B .History → Type 0
   Stands n ws g = Standing s rate k B n ws g
 
   -- An operation for a key, in the shard of its hash. The key's own has to keep the bound; one for another hash has to lose nothing.
-  keyed-stands : {R : Type 0} (id : Identity) (n : ℕ) (ws : List ℕ) {g : B .History} → Stands n ws g → (o : Outcome R Shard.Shard) → SameRoom (shardAt s (id .hash) ws) (o .after)
+  keyed-stands : {R : Type 0} (id : Identity) (n : ℕ) (ws : List ℕ) {g : B .History} → Stands n ws g
+      → (o : Outcome R Shard.Shard) → SameRoom (shardAt s (id .hash) ws) (o .after)
       → (id .hash ≡ k .hash → id .key ≡ k .key) → (next : B .History)
       → (id .hash ≡ k .hash → id .key ≡ k .key → Bounds s rate k B n (shardAt s (id .hash) ws) g → Bounds s rate k B n (o .after) next)
       → ((id .hash ≡ k .hash → ⊥) → Keeps (configOf rate) (k .hash) (k .key) (moment n) (shardAt s (id .hash) ws) (o .after))

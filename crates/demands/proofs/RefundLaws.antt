@@ -55,7 +55,13 @@ module _ (c : BucketConfig) (B : BoundOf c) (allowed : B .Refundable) (cost : �
       let new : Debt = LedgerSteps.sooner-by (Ledger.credit c cost) old in
       let value : ℕ → ℕ = unpaid c at in
       record {
-        one = omega (arith, v .one, Debts.owed-stored h Debts.one l p new (u .ledger) (f .below), Debts.weigh-own h Debts.one old (f .own), Debts.weigh-own h Debts.one new (f .own));
+        one = omega (
+          arith,
+          v .one,
+          Debts.owed-stored h Debts.one l p new (u .ledger) (f .below),
+          Debts.weigh-own h Debts.one old (f .own),
+          Debts.weigh-own h Debts.one new (f .own),
+        );
         bound = B .refunded cost allowed (
             omega (
               arith,

@@ -80,7 +80,8 @@ module _ (c : BucketConfig) (h k : ℕ) (at : Nanos) (s : Shard) (u : Sound s) {
         more = λ single. omega (arith, shortage-stored c h at s i slot u (f .below), short-other c h at (slotAt s i) before);
       }
 
-  pub own-slot-changed : (B : BoundOf c) {g : B .History} → Holding s h k i → count h k s ≤ 1 → HoldsAt c B at (shortfallAt c b at) g → Invariant c B h k at (withSlot s i slot) g
+  pub own-slot-changed : (B : BoundOf c) {g : B .History} → Holding s h k i → count h k s ≤ 1 → HoldsAt c B at (shortfallAt c b at) g
+      → Invariant c B h k at (withSlot s i slot) g
   own-slot-changed B {g} f single holds =
       let all : OneSlot c h k at s i = one-slot-is-all c h k at s i u f single in
       let lacks : HoldsAt c B at (shortfallAt c (slot .bucket) at) g = rw (r .bucket) holds in
@@ -158,7 +159,8 @@ module _ (p : Policy) (id : Identity) (request : Request) (cost : ℕ) (at : Nan
   -- lacks bounds what happened.
   own-request-of-identity : (B : BoundOf (p .config)) {g : B .History} → 1 ≤ cost → cost ≤ p .config .capacity → longestWait request ≤ 2 ^ 46
       → Invariant (p .config) B (id .hash) (id .key) at s g
-      → Invariant (p .config) B (id .hash) (id .key) at (withOrInsert p id request cost at s .after) (answerAdds B at cost (withOrInsert p id request cost at s .answer) g)
+      → Invariant (p .config) B (id .hash) (id .key) at (withOrInsert p id request cost at s .after)
+      (answerAdds B at cost (withOrInsert p id request cost at s .answer) g)
   own-request-of-identity B {g} some within-burst longest v = go (ask-cases p id request cost at s u)
     where
       c : BucketConfig

@@ -32,8 +32,8 @@ pub record HoldsBySomeLine {A P C : ℕ} (B : LineBound A P C) (g : B .History) 
 abbrev pub AlwaysAsAllowed : {A P C : ℕ} → LineBound A P C → Identity → List Answered → Type 0
 AlwaysAsAllowed B k = Every (λ a. accepted a ≡ true → UndoneAsAllowed B k (a .call))
 
-module _ (s : Settings) (rate : Rate) (k : Identity) (B : BoundOf (configOf rate)) (a : Accepted (configOf rate)) (never : policyOf s rate .«forget_debt» ≡ false)
-    (rated : s .limit ≡ Open rate) where
+module _ (s : Settings) (rate : Rate) (k : Identity) (B : BoundOf (configOf rate)) (a : Accepted (configOf rate))
+    (never : policyOf s rate .«forget_debt» ≡ false) (rated : s .limit ≡ Open rate) where
   abbrev Stands : ℕ → List ℕ → B .History → Type 0
   Stands n ws g = Standing s rate k B n ws g
 

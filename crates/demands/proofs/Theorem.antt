@@ -56,8 +56,8 @@ set-up-done s ws done′ =
     let z : _≡_ {A = ℕ} 0 1 = cc in absurd (omega arith))
 
 -- The window over a list from a fresh memory: the bound of the window holds of the grants to the key, and their sums are the tokens that demand 3 counts.
-module _ (s : Settings) (rate : Rate) (k : Identity) (a : Accepted (configOf rate)) (never : policyOf s rate .«forget_debt» ≡ false) (rated : s .limit ≡ Open rate)
-    (cs : List Call) where
+module _ (s : Settings) (rate : Rate) (k : Identity) (a : Accepted (configOf rate)) (never : policyOf s rate .«forget_debt» ≡ false)
+    (rated : s .limit ≡ Open rate) (cs : List Call) where
   abbrev window : BoundOf (configOf rate)
   window = windowBound (rate .amount) (rate .period .0) (burstOf rate)
 
