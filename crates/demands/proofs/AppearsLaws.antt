@@ -1,19 +1,18 @@
--- Whether a key is named by an accepted call of a list at all. If it is, no accepted call names another key of its hash; if not, it is granted nothing.
-use Prim.Native.Nat.{ℕ, _+_}
-use mathlib.Core.Path.{_≡_, refl, sym, ap, subst}
+-- Whether a key is named by an accepted call of a list at all. If it is, no accepted call names another key of its hash; if not, nothing happens to it.
+use Prim.Native.Nat.{ℕ}
+use mathlib.Core.Path.{_≡_, refl, sym, ap, subst, _∙_}
 use mathlib.Core.Bool.{Bool, true, false, cond, true≢false}
 use mathlib.Core.List.{List, [], _∷_}
-use native.Mathlib.Omega.{arith}
 use lib.Dec.{eqb}
 use borrow.Author.Tests.{eqb-true}
 use Rattle.arith.proofs.Cases.{by-test}
-use Rattle.settings.specs.declared.decision.Decision.the-variants.{Acquired, Retry, Impossible}
 use Rattle.shard.specs.declared.Identity.{Identity}
 use Rattle.perkey.specs.declared.Reply.{Reply}
-use Rattle.perkey.specs.declared.Reply.the-variants.{Tried, Reserved, Nothing, Done, Count, Refused}
-use Rattle.perkey.specs.Calls.{Call, request, look, undo, len, rules, Answered, replies, ofKey, ofGrant, accepted, Every}
-use Rattle.demands.specs.Demands.{usable, usableFrom, tokensOf, tokensUsable, Agree, NoSharedHash}
+use Rattle.perkey.specs.Calls.{Call, request, look, undo, len, refunds, removes, rules, Answered, replies, ofKey, accepted, Every}
+use Rattle.demands.specs.Demands.{Agree, NoSharedHash}
 use Rattle.perkey.proofs.CallLaws.{unaccepted-refused}
+use Rattle.demands.proofs.LineBound.{LineBound}
+use Rattle.demands.proofs.GivenLaws.{ifOwn, given, happened, refusal-gives-nothing}
 use Rattle.demands.proofs.CallSteps.{ruled}
 
 -- Whether an identity is the key, and whether a call names it.
@@ -109,47 +108,33 @@ appearing-is-alone k (a ∷ rest) e apart =
     (λ t. let c = calls-both k a t in (λ taken. own-alone k (a .call) (c .named), rest-alone k a c rest (apart .0)))
     (λ t. let there : appears k rest ≡ true = rw t at e in (first-alone k a rest there (apart .0), appearing-is-alone k rest there (apart .1)))
 
--- A key that no accepted call names is granted nothing by the rules.
-unnamed-unusable : (k : Identity) (t u : ℕ) (id : Identity) (m cost : ℕ) → is k id ≡ false → usable k t u id m cost ≡ 0
-unfolding is usable
-unnamed-unusable k t u id m cost e =
-    by-test (eqb (id .hash) (k .hash)) (λ h. rw (h, rw h at e)) (λ h. rw h)
+-- Nothing happens to a key that no accepted call names.
+module _ {A P C : ℕ} (B : LineBound A P C) (k : Identity) where
+  unnamed-call : {H : Type 0} (id : Identity) (own other : H) → is k id ≡ false → ifOwn k id own other ≡ other
+  unfolding is ifOwn
+  unnamed-call id own other e = by-test (eqb (id .hash) (k .hash)) (λ h. rw (h, rw h at e)) (λ h. rw h)
 
-unnamed-granted : (k : Identity) (t u : ℕ) (id : Identity) (m : ℕ → ℕ) (cost : ℕ) → is k id ≡ false → (reply : Reply)
-    → ofGrant (λ wait. usable k t u id (m wait) cost) 0 reply ≡ 0
-unnamed-granted k t u id m cost e (Tried Acquired) = unnamed-unusable k t u id (m 0) cost e
-unnamed-granted k t u id m cost e (Tried (Retry after)) = refl
-unnamed-granted k t u id m cost e (Tried Impossible) = refl
-unnamed-granted k t u id m cost e (Reserved wait) = unnamed-unusable k t u id (m (wait .0)) cost e
-unnamed-granted k t u id m cost e Nothing = refl
-unnamed-granted k t u id m cost e Done = refl
-unnamed-granted k t u id m cost e (Count n) = refl
-unnamed-granted k t u id m cost e (Refused n) = refl
+  unnamed-gives-nothing : (c : Call) (reply : Reply) (g : B .History) → names k c ≡ false → given B k c reply g ≡ g
+  unnamed-gives-nothing (request s at id r cost) reply g e = unnamed-call id _ g e
+  unnamed-gives-nothing (look s at id l) reply g e = refl
+  unnamed-gives-nothing (undo s id (refunds cost)) reply g e = unnamed-call id _ g e
+  unnamed-gives-nothing (undo s id removes) reply g e = refl
+  unnamed-gives-nothing (len s) reply g e = refl
 
-unnamed-tokens : (k : Identity) (t u : ℕ) (c : Call) (reply : Reply) → names k c ≡ false → tokensOf k t u c reply ≡ 0
-unnamed-tokens k t u (request s at id r cost) reply e = unnamed-granted k t u id (usableFrom r at) cost e reply
-unnamed-tokens k t u (look s at id l) reply e = refl
-unnamed-tokens k t u (undo s id r) reply e = refl
-unnamed-tokens k t u (len s) reply e = refl
+  uncalled-gives-nothing : (c : Call) (ws : List ℕ) (g : B .History) → calls k (ruled c ws) ≡ false → given B k c (rules c ws .answer) g ≡ g
+  unfolding calls
+  uncalled-gives-nothing c ws g e =
+      by-test (accepted (ruled c ws))
+      (λ yes′. unnamed-gives-nothing c (rules c ws .answer) g (rw yes′ at e))
+      (λ no′. rw (unaccepted-refused (ruled c ws) no′) (refusal-gives-nothing B k c _ g))
 
-refused-tokens : (k : Identity) (t u : ℕ) (c : Call) (n : ℕ) → tokensOf k t u c (Refused n) ≡ 0
-refused-tokens k t u (request s at id r cost) n = refl
-refused-tokens k t u (look s at id l) n = refl
-refused-tokens k t u (undo s id r) n = refl
-refused-tokens k t u (len s) n = refl
-
-uncalled-tokens : (k : Identity) (t u : ℕ) (c : Call) (ws : List ℕ) → calls k (ruled c ws) ≡ false → tokensOf k t u c (rules c ws .answer) ≡ 0
-unfolding calls
-uncalled-tokens k t u c ws e =
-    by-test (accepted (ruled c ws))
-    (λ yes′. unnamed-tokens k t u c (rules c ws .answer) (rw yes′ at e))
-    (λ no′. rw (unaccepted-refused (ruled c ws) no′) (refused-tokens k t u c _))
-
-pub absent-is-granted-nothing : (k : Identity) (t u : ℕ) (cs : List Call) (ws : List ℕ) → appears k (replies rules cs ws ws) ≡ false
-    → tokensUsable k t u (replies rules cs ws ws) ≡ 0
-unfolding appears replies tokensUsable
-absent-is-granted-nothing k t u [] ws e = refl
-absent-is-granted-nothing k t u (c ∷ cs) ws e =
-    by-test (calls k (ruled c ws))
-    (λ yes′. absurd (true≢false (rw yes′ at e)))
-    (λ no′. omega (arith, uncalled-tokens k t u c ws no′, absent-is-granted-nothing k t u cs (rules c ws .after) (rw no′ at e)))
+  pub nothing-happens-to-the-absent : (cs : List Call) (ws : List ℕ) (g : B .History) → appears k (replies rules cs ws ws) ≡ false
+      → happened B k (replies rules cs ws ws) g ≡ g
+  unfolding appears replies happened
+  nothing-happens-to-the-absent [] ws g e = refl
+  nothing-happens-to-the-absent (c ∷ cs) ws g e =
+      by-test (calls k (ruled c ws))
+      (λ yes′. absurd (true≢false (rw yes′ at e)))
+      (λ no′.
+      let rest : List Answered = replies rules cs (rules c ws .after) (rules c ws .after) in
+      ap (happened B k rest) (uncalled-gives-nothing c ws g no′) ∙ nothing-happens-to-the-absent cs (rules c ws .after) g (rw no′ at e))

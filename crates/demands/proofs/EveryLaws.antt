@@ -41,7 +41,11 @@ module _ {A : Type 0} (Q : A → Type 0) where
   every-copy zero x q = tt
   every-copy (suc n) x q = (q, every-copy n x q)
 
--- What is made of every member.
+-- What follows for every member, and what is made of every member.
+pub every-implies : {A : Type 0} (Q R : A → Type 0) → ((x : A) → Q x → R x) → (xs : List A) → Every Q xs → Every R xs
+every-implies Q R implies [] every = tt
+every-implies Q R implies (x ∷ xs) every = (implies x (every .0), every-implies Q R implies xs (every .1))
+
 pub every-made : {A B : Type 0} (Q : A → Type 0) (R : B → Type 0) (make : A → B) → ((x : A) → Q x → R (make x))
     → (xs : List A) → Every Q xs → Every R (map make xs)
 every-made Q R make makes [] every = tt

@@ -1,8 +1,8 @@
--- The grants of a list of calls to one key, one call at a time, and that their sums are the tokens that demand 3 counts.
+-- What happens to one key in a list of calls, one call at a time. For the window, that is the grants to it: their sums are the tokens that demand 3 counts.
 use Prim.Native.Nat.{ℕ, _+_}
-use mathlib.Core.Path.{_≡_, refl, ap}
-use mathlib.Core.Bool.{cond}
-use mathlib.Core.List.{List, _∷_}
+use mathlib.Core.Path.{_≡_, refl, sym, ap}
+use mathlib.Core.Bool.{Bool, true, false, cond}
+use mathlib.Core.List.{List, [], _∷_}
 use native.Mathlib.Omega.{arith}
 use lib.Dec.{eqb}
 use borrow.Author.Tests.{eq-eqb, ne-eqb}
@@ -17,29 +17,52 @@ use Rattle.shard.specs.declared.Answer.{Answer}
 use Rattle.shard.specs.declared.Answer.the-variants.{Decided, NoSpace}
 use Rattle.perkey.specs.declared.Reply.{Reply}
 use Rattle.perkey.specs.declared.Reply.the-variants.{Tried, Reserved, Nothing, Done, Count, Refused}
-use Rattle.perkey.specs.Rules.{replyTo, tooMuch, atOnce}
-use Rattle.perkey.specs.Calls.{Call, request, look, undo, len, ofGrant}
-use Rattle.demands.specs.Demands.{usable, usableFrom, tokensOf}
+use Rattle.perkey.specs.Rules.{replyTo, tooMuch, atOnce, knownReply}
+use Rattle.perkey.specs.Calls.{refunds, removes, Call, request, look, undo, len, Answered, ofGrant}
+use Rattle.demands.specs.Demands.{usable, usableFrom, tokensOf, tokensUsable}
 use Rattle.demands.proofs.TryLaws.{AsAsked}
-use Rattle.demands.proofs.GrantLaws.{Grant, within}
-use Rattle.demands.proofs.BucketKept.{grantsOfAnswer}
+use Rattle.demands.proofs.LineBound.{LineBound}
+use Rattle.demands.proofs.GrantLaws.{Grant, within, windowBound}
+use Rattle.demands.proofs.BucketKept.{answerAdds}
+use Rattle.demands.proofs.RefundLaws.{refundAdds}
 
--- One list for the key's own calls, another for other keys'.
-unfoldable pub ifOwn : Identity → Identity → List Grant → List Grant → List Grant
+-- One value for the key's own calls, another for other keys'.
+unfoldable pub ifOwn : {H : Type 0} → Identity → Identity → H → H → H
 ifOwn k id own other = cond (eqb (id .hash) (k .hash)) (cond (eqb (id .key) (k .key)) own other) other
 
--- A reply to a request adds its grant, if it is one: the wait says from when its tokens are usable.
-abbrev pub granting : (ℕ → ℕ) → ℕ → List Grant → Reply → List Grant
-granting from cost gs reply = ofGrant (λ wait. record { usable = from wait; tokens = cost } ∷ gs) gs reply
+-- The wait until the tokens of a grant are usable: none for a try, and for a reservation the wait answered.
+abbrev pub waitTold : Request → ℕ → ℕ
+waitTold Acquire wait = 0
+waitTold (Reserve longest) wait = wait
 
--- The grants to the key after a call.
-abbrev pub given : Identity → Call → Reply → List Grant → List Grant
-given k (request s at id r cost) reply gs = ifOwn k id (granting (usableFrom r at) cost gs reply) gs
-given k (look s at id l) reply gs = gs
-given k (undo s id r) reply gs = gs
-given k (len s) reply gs = gs
+-- Whether a reply to a refund tells that the key was known.
+abbrev pub toldKnown : Reply → Bool
+toldKnown (Tried decision) = false
+toldKnown (Reserved wait) = false
+toldKnown Nothing = false
+toldKnown Done = true
+toldKnown (Count n) = false
+toldKnown (Refused n) = false
 
-module _ (k id : Identity) (own other : List Grant) where
+module _ {A P C : ℕ} (B : LineBound A P C) where
+  -- A reply to a request adds its grant, if it is one.
+  abbrev pub granting : Request → Nanos → ℕ → B .History → Reply → B .History
+  granting r at cost g reply = ofGrant (λ wait. B .grant (at .0) (waitTold r wait) cost g) g reply
+
+  -- What happened to the key after a call. A refund counts by its cost if it is answered known.
+  abbrev pub given : Identity → Call → Reply → B .History → B .History
+  given k (request s at id r cost) reply g = ifOwn k id (granting r at cost g reply) g
+  given k (look s at id l) reply g = g
+  given k (undo s id (refunds cost)) reply g = ifOwn k id (refundAdds B cost (toldKnown reply) g) g
+  given k (undo s id removes) reply g = g
+  given k (len s) reply g = g
+
+  -- What happened to the key after a list of calls.
+  unfoldable pub happened : Identity → List Answered → B .History → B .History
+  happened k [] g = g
+  happened k (a ∷ rest) g = happened k rest (given k (a .call) (a .reply) g)
+
+module _ {H : Type 0} (k id : Identity) (own other : H) where
   pub own-call : id .hash ≡ k .hash → id .key ≡ k .key → ifOwn k id own other ≡ own
   unfolding ifOwn
   own-call hash key = rw (eq-eqb _ _ hash, eq-eqb _ _ key)
@@ -48,40 +71,54 @@ module _ (k id : Identity) (own other : List Grant) where
   unfolding ifOwn
   other-hash differs = rw (ne-eqb _ _ differs)
 
-pub same-either-way : (k id : Identity) (gs : List Grant) → ifOwn k id gs gs ≡ gs
+pub same-either-way : {H : Type 0} (k id : Identity) (g : H) → ifOwn k id g g ≡ g
 unfolding ifOwn
-same-either-way k id gs =
+same-either-way k id g =
     by-test (eqb (id .hash) (k .hash)) (λ t. by-test (eqb (id .key) (k .key)) (λ u. rw (t, u)) (λ u. rw (t, u))) (λ t. rw t)
 
--- A refusal by number grants nothing.
-pub refusal-gives-nothing : (k : Identity) (c : Call) (n : ℕ) (gs : List Grant) → given k c (Refused n) gs ≡ gs
-refusal-gives-nothing k (request s at id r cost) n gs = same-either-way k id gs
-refusal-gives-nothing k (look s at id l) n gs = refl
-refusal-gives-nothing k (undo s id r) n gs = refl
-refusal-gives-nothing k (len s) n gs = refl
+module _ {A P C : ℕ} (B : LineBound A P C) where
+  -- Nothing happens to the key in a call that is refused by number.
+  pub refusal-gives-nothing : (k : Identity) (c : Call) (n : ℕ) (g : B .History) → given B k c (Refused n) g ≡ g
+  refusal-gives-nothing k (request s at id r cost) n g = same-either-way k id g
+  refusal-gives-nothing k (look s at id l) n g = refl
+  refusal-gives-nothing k (undo s id (refunds cost)) n g = same-either-way k id g
+  refusal-gives-nothing k (undo s id removes) n g = refl
+  refusal-gives-nothing k (len s) n g = refl
 
--- What a reply tells is granted as the store's answer grants it.
-pub reply-grants : (r : Request) (at : Nanos) (cost : ℕ) (gs : List Grant) (a : Answer) → AsAsked r a
-    → granting (usableFrom r at) cost gs (replyTo r a) ≡ grantsOfAnswer at cost a gs
-reply-grants Acquire at cost gs (Decided (Allowed wait)) none = ap {B = List Grant} (λ m. record { usable = m; tokens = cost } ∷ gs) (omega (arith, none))
-reply-grants Acquire at cost gs (Decided (Denied wait)) none = refl
-reply-grants Acquire at cost gs (NoSpace wait) none = refl
-reply-grants (Reserve longest) at cost gs (Decided (Allowed wait)) none = refl
-reply-grants (Reserve longest) at cost gs (Decided (Denied wait)) none = refl
-reply-grants (Reserve longest) at cost gs (NoSpace wait) none = refl
+  -- What a reply tells is granted as the store's answer grants it.
+  pub reply-grants : (r : Request) (at : Nanos) (cost : ℕ) (g : B .History) (a : Answer) → AsAsked r a
+      → granting B r at cost g (replyTo r a) ≡ answerAdds B at cost a g
+  reply-grants Acquire at cost g (Decided (Allowed wait)) none = ap (λ (w : ℕ). B .grant (at .0) w cost g) (sym none)
+  reply-grants Acquire at cost g (Decided (Denied wait)) none = refl
+  reply-grants Acquire at cost g (NoSpace wait) none = refl
+  reply-grants (Reserve longest) at cost g (Decided (Allowed wait)) none = refl
+  reply-grants (Reserve longest) at cost g (Decided (Denied wait)) none = refl
+  reply-grants (Reserve longest) at cost g (NoSpace wait) none = refl
 
--- Too large a cost is granted nothing; no cost at all is granted at once.
-pub too-much-grants-nothing : (r : Request) (at : Nanos) (cost : ℕ) (gs : List Grant) → granting (usableFrom r at) cost gs (tooMuch r) ≡ gs
-too-much-grants-nothing Acquire at cost gs = refl
-too-much-grants-nothing (Reserve longest) at cost gs = refl
+  -- Too large a cost is granted nothing; no cost at all is granted at once.
+  pub too-much-grants-nothing : (r : Request) (at : Nanos) (cost : ℕ) (g : B .History) → granting B r at cost g (tooMuch r) ≡ g
+  too-much-grants-nothing Acquire at cost g = refl
+  too-much-grants-nothing (Reserve longest) at cost g = refl
 
-pub at-once-grants : (r : Request) (at : Nanos) (cost : ℕ) (gs : List Grant)
-    → granting (usableFrom r at) cost gs (atOnce r) ≡ record { usable = usableFrom r at 0; tokens = cost } ∷ gs
-at-once-grants Acquire at cost gs = refl
-at-once-grants (Reserve longest) at cost gs = refl
+  pub at-once-grants : (r : Request) (at : Nanos) (cost : ℕ) (g : B .History) → granting B r at cost g (atOnce r) ≡ B .grant (at .0) 0 cost g
+  at-once-grants Acquire at cost g = refl
+  at-once-grants (Reserve longest) at cost g = refl
+
+-- The reply to a refund tells what the shard answers.
+pub known-is-told : (known : Bool) → toldKnown (knownReply known) ≡ known
+known-is-told true = refl
+known-is-told false = refl
+
+-- The tokens of a grant are usable after the wait told.
+usable-after-the-wait : (r : Request) (at : Nanos) (wait : ℕ) → at .0 + waitTold r wait ≡ usableFrom r at wait
+usable-after-the-wait Acquire at wait = omega arith
+usable-after-the-wait (Reserve longest) at wait = refl
 
 -- The tokens of a window, call by call.
-module _ (k : Identity) (t u : ℕ) (gs : List Grant) where
+module _ (A P C : ℕ) (k : Identity) (t u : ℕ) (gs : List Grant) where
+  abbrev window : LineBound A P C
+  window = windowBound A P C
+
   granted-within : (id : Identity) (moment cost : ℕ)
       → within t u (ifOwn k id (record { usable = moment; tokens = cost } ∷ gs) gs) ≡ usable k t u id moment cost + within t u gs
   unfolding ifOwn usable within
@@ -90,19 +127,33 @@ module _ (k : Identity) (t u : ℕ) (gs : List Grant) where
       (λ h. by-test (eqb (id .key) (k .key)) (λ y. rw (h, y)) (λ n. rw (h, n) (omega arith)))
       (λ h. rw h (omega arith))
 
-  request-within : (from : ℕ → ℕ) (id : Identity) (cost : ℕ) (reply : Reply)
-      → within t u (ifOwn k id (granting from cost gs reply) gs) ≡ ofGrant (λ wait. usable k t u id (from wait) cost) 0 reply + within t u gs
-  request-within from id cost (Tried Acquired) = granted-within id (from 0) cost
-  request-within from id cost (Tried (Retry after)) = rw (same-either-way k id gs) (omega arith)
-  request-within from id cost (Tried Impossible) = rw (same-either-way k id gs) (omega arith)
-  request-within from id cost (Reserved wait) = granted-within id (from (wait .0)) cost
-  request-within from id cost Nothing = rw (same-either-way k id gs) (omega arith)
-  request-within from id cost Done = rw (same-either-way k id gs) (omega arith)
-  request-within from id cost (Count n) = rw (same-either-way k id gs) (omega arith)
-  request-within from id cost (Refused n) = rw (same-either-way k id gs) (omega arith)
+  request-within : (r : Request) (at : Nanos) (id : Identity) (cost : ℕ) (reply : Reply)
+      → within t u (ifOwn k id (granting window r at cost gs reply) gs) ≡ ofGrant (λ wait. usable k t u id (usableFrom r at wait) cost) 0 reply + within t u gs
+  request-within r at id cost (Tried Acquired) = rw (← usable-after-the-wait r at 0) (granted-within id (at .0 + waitTold r 0) cost)
+  request-within r at id cost (Tried (Retry after)) = rw (same-either-way k id gs) (omega arith)
+  request-within r at id cost (Tried Impossible) = rw (same-either-way k id gs) (omega arith)
+  request-within r at id cost (Reserved wait) = rw (← usable-after-the-wait r at (wait .0)) (granted-within id (at .0 + waitTold r (wait .0)) cost)
+  request-within r at id cost Nothing = rw (same-either-way k id gs) (omega arith)
+  request-within r at id cost Done = rw (same-either-way k id gs) (omega arith)
+  request-within r at id cost (Count n) = rw (same-either-way k id gs) (omega arith)
+  request-within r at id cost (Refused n) = rw (same-either-way k id gs) (omega arith)
 
-  pub given-within : (c : Call) (reply : Reply) → within t u (given k c reply gs) ≡ tokensOf k t u c reply + within t u gs
-  given-within (request s at id r cost) reply = request-within (usableFrom r at) id cost reply
+  -- Refunds change no grant.
+  refund-leaves-grants : (cost : ℕ) (known : Bool) → refundAdds window cost known gs ≡ gs
+  refund-leaves-grants cost true = refl
+  refund-leaves-grants cost false = refl
+
+  given-within : (c : Call) (reply : Reply) → within t u (given window k c reply gs) ≡ tokensOf k t u c reply + within t u gs
+  given-within (request s at id r cost) reply = request-within r at id cost reply
   given-within (look s at id l) reply = omega arith
-  given-within (undo s id r) reply = omega arith
+  given-within (undo s id (refunds cost)) reply = rw (refund-leaves-grants cost (toldKnown reply), same-either-way k id gs) (omega arith)
+  given-within (undo s id removes) reply = omega arith
   given-within (len s) reply = omega arith
+
+-- The tokens of a window over a list of calls.
+pub happened-within : (A P C : ℕ) (k : Identity) (t u : ℕ) (answered : List Answered) (gs : List Grant)
+    → within t u (happened (windowBound A P C) k answered gs) ≡ tokensUsable k t u answered + within t u gs
+unfolding happened tokensUsable
+happened-within A P C k t u [] gs = omega arith
+happened-within A P C k t u (a ∷ rest) gs =
+    omega (arith, happened-within A P C k t u rest (given (windowBound A P C) k (a .call) (a .reply) gs), given-within A P C k t u gs (a .call) (a .reply))

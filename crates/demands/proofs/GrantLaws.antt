@@ -1,6 +1,5 @@
--- The grants to one key, and the bound that every grant keeps. A bucket that lacks s parts at moment n is known here by one number, the line n × A + s:
--- it never falls as time passes, since at most A parts come back each nanosecond, and a grant raises it by the parts granted. All arithmetic of the
--- window rule is here, for amount A, period P and burst C; no store appears.
+-- The window as a bound on the grants to one key, by the line. All arithmetic of the window rule is here, for amount A, period P and burst C; no store
+-- appears.
 use Prim.Native.Nat.{ℕ, _+_, _*_, _-_, _≤_, _<_}
 use mathlib.Core.Path.{_≡_, ap}
 use mathlib.Core.Bool.{cond}
@@ -10,6 +9,7 @@ use native.Mathlib.Omega.{arith}
 use lib.Dec.{leb}
 use borrow.Author.Tests.{le-leb, lt-leb}
 use Rattle.arith.proofs.Cases.{by-le}
+use Rattle.demands.proofs.LineBound.{Soonest, LineBound}
 
 -- Tokens granted, and the moment from which they are usable.
 pub record Grant : Type 0 where
@@ -99,8 +99,10 @@ module _ (A P C : ℕ) where
           (λ early. within-passes-early t nil gs v early)
 
   -- A grant at n of c tokens to a bucket that lacks s, usable at u: the first moment at which what is then lacking is no more than a full bucket has.
-  module _ (n s c u : ℕ) (gs : List Grant) (b : Bounded A P C (n * A + s) gs) (within-burst : c ≤ C)
-      (enough : n * A + (s + c * P) ≤ u * A + C * P) (soonest : u * A < n * A + (s + c * P - C * P) + A) where
+  module _ (n s c wait : ℕ) {gs : List Grant} (within-burst : c ≤ C) (first : Soonest A (s + c * P - C * P) wait) (b : Bounded A P C (n * A + s) gs) where
+    abbrev u : ℕ
+    u = n + wait
+
     -- The grant and all that is usable from a moment not after it.
     cover-with : (t : ℕ) → t ≤ u → (c + since t gs) * P + t * A ≤ n * A + (s + c * P) + A
     cover-with t from =
@@ -126,3 +128,19 @@ module _ (A P C : ℕ) where
               (λ late. rw (within-passes-late t g gs v from late) (b .window t v le)))
               (λ early. rw (within-passes-early t g gs v early) (b .window t v le));
         }
+
+-- The window is a bound by the line. It does not allow for refunds: tokens given back can be granted again within it.
+abbrev pub windowBound : (A P C : ℕ) → LineBound A P C
+windowBound A P C = record {
+  History = List Grant;
+  Holds = Bounded A P C;
+  start = [];
+  at-start = bounded-none A P C;
+  raised = bounded-up A P C;
+  grant = λ n wait cost gs. record { usable = n + wait; tokens = cost } ∷ gs;
+  granted = bounded-grant A P C;
+  granted-none = λ n s. bounded-nil A P C (n + 0);
+  Refundable = ⊥;
+  refund = λ cost gs. gs;
+  refunded = λ cost no. absurd no;
+}

@@ -7,9 +7,11 @@ pub mod ShardFits
 pub mod LayoutFits
 pub mod EvictFits
 pub mod StoreFits
+pub mod LineBound
 pub mod GrantLaws
 pub mod BucketKept
 pub mod RequestLaws
+pub mod RefundLaws
 pub mod OwnBucket
 pub mod LendableTheorem
 pub mod StandingLaws
@@ -17,6 +19,7 @@ pub mod TryLaws
 pub mod GivenLaws
 pub mod CallSteps
 pub mod AppearsLaws
+pub mod RunLaws
 pub mod Theorem
 pub mod GrownLaws
 pub mod CodeTheorem

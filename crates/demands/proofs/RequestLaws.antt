@@ -1,9 +1,9 @@
 -- What one call does to what is held against one key (h, k). The key's own request keeps the invariant: the shard has at most one slot or debt of hash h,
--- and what that lacks bounds the grants so far. A request, a refund or a removal for another hash loses nothing that is held.
+-- and a bound by the line of what that lacks holds of what happened to the key so far. A request, a refund or a removal for another hash loses nothing that
+-- is held.
 use Prim.Native.Nat.{ℕ, _≤_, _<_, _^_}
 use mathlib.Core.Path.{_≡_, refl, sym, _∙_}
 use mathlib.Core.Bool.{Bool, false}
-use mathlib.Core.List.{List, []}
 use native.Mathlib.Omega.{arith}
 use Rattle.units.specs.declared.Nanos.{Nanos}
 use Rattle.units.specs.declared.OptionNanos.{OptionNanos}
@@ -30,29 +30,29 @@ use Rattle.shard.proofs.OwnBucketLaws.{returning-lacks-the-debt}
 use Rattle.shard.proofs.RoomLaws.{room-keeps-shortage, room-made-leaves-room}
 use Rattle.shard.proofs.ShardLaws.{Rebucketed, debtTaken, roomFor, debt-taken-sound, Asking, slot-asked, key-joins, no-space, ask-cases, Refunding}
 use Rattle.shard.proofs.ShardLaws.{slot-refunded, debt-paid, refund-cases, Removing, slot-removed, no-slot, remove-cases}
-use Rattle.demands.proofs.GrantLaws.{Grant, bounded-none, bounded-up}
-use Rattle.demands.proofs.BucketKept.{grantsOf, grantsOfAnswer, BoundedBy, bounded-by-more, asked-keeps-bound}
+use Rattle.demands.proofs.LineBound.{BoundOf}
+use Rattle.demands.proofs.BucketKept.{decisionAdds, answerAdds, HoldsAt, holds-of-more, asked-keeps-bound}
 
--- The invariant, after calls up to a moment that granted gs to the key.
-pub record Invariant (c : BucketConfig) (h k : ℕ) (at : Nanos) (s : Shard) (gs : List Grant) : Type 0 where
+-- The invariant, of any bound by the line, after calls up to a moment: g is what happened to the key in them.
+pub record Invariant (c : BucketConfig) (B : BoundOf c) (h k : ℕ) (at : Nanos) (s : Shard) (g : B .History) : Type 0 where
   pub one : count h k s ≤ 1
-  pub bound : BoundedBy c at (shortage c h at s) gs
+  pub bound : HoldsAt c B at (shortage c h at s) g
 
-module _ (c : BucketConfig) (h k : ℕ) where
-  -- A shard that holds nothing, before any grant.
-  pub invariant-empty : (at : Nanos) (s : Shard) → s .slots .count ≡ 0 → s .ledger .debts .count ≡ 0 → Invariant c h k at s []
+module _ (c : BucketConfig) (B : BoundOf c) (h k : ℕ) where
+  -- A shard that holds nothing, before anything happened.
+  pub invariant-empty : (at : Nanos) (s : Shard) → s .slots .count ≡ 0 → s .ledger .debts .count ≡ 0 → Invariant c B h k at s (B .start)
   invariant-empty at s slotless debtless = record {
     one = omega (arith, empty-has-nothing h (weight h k) Debts.one s slotless debtless);
-    bound = bounded-none (c .amount) (c .period .0) (c .capacity) _;
+    bound = B .at-start _;
   }
 
   -- Time passes.
-  pub invariant-later : (n m : Nanos) (s : Shard) {gs : List Grant} → n .0 ≤ m .0 → Invariant c h k n s gs → Invariant c h k m s gs
-  invariant-later n m s le v = record { one = v .one; bound = bounded-up (c .amount) (c .period .0) (c .capacity) (later-keeps-line c h k n m s le (v .one)) (v .bound) }
+  pub invariant-later : (n m : Nanos) (s : Shard) {g : B .History} → n .0 ≤ m .0 → Invariant c B h k n s g → Invariant c B h k m s g
+  invariant-later n m s le v = record { one = v .one; bound = B .raised (later-keeps-line c h k n m s le (v .one)) (v .bound) }
 
   -- A step that grants the key nothing.
-  pub invariant-keeps : (at : Nanos) (s t : Shard) {gs : List Grant} → Keeps c h k at s t → Invariant c h k at s gs → Invariant c h k at t gs
-  invariant-keeps at s t kept v = record { one = omega (arith, kept .fewer, v .one); bound = bounded-by-more c at (kept .more (v .one)) (v .bound) }
+  pub invariant-keeps : (at : Nanos) (s t : Shard) {g : B .History} → Keeps c h k at s t → Invariant c B h k at s g → Invariant c B h k at t g
+  invariant-keeps at s t kept v = record { one = omega (arith, kept .fewer, v .one); bound = holds-of-more c B at (kept .more (v .one)) (v .bound) }
 
 -- A slot that comes in where there is room: another hash's takes nothing away; the key's own, where the shard had nothing of the hash, is all there is.
 module _ (c : BucketConfig) (h k : ℕ) (at : Nanos) (s : Shard) (slot : Slot) (room : s .slots .count < capOf s) where
@@ -62,11 +62,11 @@ module _ (c : BucketConfig) (h k : ℕ) (at : Nanos) (s : Shard) (slot : Slot) (
     more = λ single. omega (arith, shortage-inserted c h at s slot room);
   }
 
-  own-slot-inserted : {gs : List Grant} → slot .hash ≡ h → slot .key ≡ k → count h k s ≤ 0 → BoundedBy c at (shortfallAt c (slot .bucket) at) gs
-      → Invariant c h k at (insert s slot) gs
-  own-slot-inserted hash key none bound = record {
+  own-slot-inserted : (B : BoundOf c) {g : B .History} → slot .hash ≡ h → slot .key ≡ k → count h k s ≤ 0 → HoldsAt c B at (shortfallAt c (slot .bucket) at) g
+      → Invariant c B h k at (insert s slot) g
+  own-slot-inserted B hash key none holds = record {
     one = omega (arith, count-inserted h k s slot room, weight-own h k slot hash key);
-    bound = bounded-by-more c at (omega (arith, shortage-inserted c h at s slot room, short-own c h at slot hash)) bound;
+    bound = holds-of-more c B at (omega (arith, shortage-inserted c h at s slot room, short-own c h at slot hash)) holds;
   }
 
 -- A slot that gets another bucket, likewise.
@@ -80,14 +80,15 @@ module _ (c : BucketConfig) (h k : ℕ) (at : Nanos) (s : Shard) (u : Sound s) {
         more = λ single. omega (arith, shortage-stored c h at s i slot u (f .below), short-other c h at (slotAt s i) before);
       }
 
-  own-slot-changed : {gs : List Grant} → Holding s h k i → count h k s ≤ 1 → BoundedBy c at (shortfallAt c b at) gs → Invariant c h k at (withSlot s i slot) gs
-  own-slot-changed {gs} f single bound =
+  pub own-slot-changed : (B : BoundOf c) {g : B .History} → Holding s h k i → count h k s ≤ 1 → HoldsAt c B at (shortfallAt c b at) g
+      → Invariant c B h k at (withSlot s i slot) g
+  own-slot-changed B {g} f single holds =
       let all : OneSlot c h k at s i = one-slot-is-all c h k at s i u f single in
-      let lacks : BoundedBy c at (shortfallAt c (slot .bucket) at) gs = rw (r .bucket) bound in
+      let lacks : HoldsAt c B at (shortfallAt c (slot .bucket) at) g = rw (r .bucket) holds in
       let hash : slot .hash ≡ h = r .hash ∙ f .hash in
       record {
         one = omega (arith, all .single, count-stored h k s i slot u (f .below), weight-own h k (slotAt s i) (f .hash) (f .key), weight-own h k slot hash (r .key ∙ f .key));
-        bound = bounded-by-more c at (omega (arith, all .all, shortage-stored c h at s i slot u (f .below), short-own c h at (slotAt s i) (f .hash), short-own c h at slot hash)) lacks;
+        bound = holds-of-more c B at (omega (arith, all .all, shortage-stored c h at s i slot u (f .below), short-own c h at (slotAt s i) (f .hash), short-own c h at slot hash)) lacks;
       }
 
 module _ (c : BucketConfig) (h k : ℕ) (at : Nanos) (s : Shard) (u : Sound s) where
@@ -155,11 +156,12 @@ module _ (p : Policy) (id : Identity) (request : Request) (cost : ℕ) (at : Nan
       go (no-space wait e no-debt told) = room-keeps-shortage p at s u a never h k
 
   -- The key's own request: its slot is asked, or it comes in with the bucket that its debt left it; then that slot is all there is of the hash, and what it
-  -- lacks bounds the grants.
-  own-request-of-identity : {gs : List Grant} → 1 ≤ cost → cost ≤ p .config .capacity → longestWait request ≤ 2 ^ 46
-      → Invariant (p .config) (id .hash) (id .key) at s gs
-      → Invariant (p .config) (id .hash) (id .key) at (withOrInsert p id request cost at s .after) (grantsOfAnswer at cost (withOrInsert p id request cost at s .answer) gs)
-  own-request-of-identity {gs} some within-burst longest v = go (ask-cases p id request cost at s u)
+  -- lacks bounds what happened.
+  own-request-of-identity : (B : BoundOf (p .config)) {g : B .History} → 1 ≤ cost → cost ≤ p .config .capacity → longestWait request ≤ 2 ^ 46
+      → Invariant (p .config) B (id .hash) (id .key) at s g
+      → Invariant (p .config) B (id .hash) (id .key) at (withOrInsert p id request cost at s .after)
+      (answerAdds B at cost (withOrInsert p id request cost at s .answer) g)
+  own-request-of-identity B {g} some within-burst longest v = go (ask-cases p id request cost at s u)
     where
       c : BucketConfig
       c = p .config
@@ -174,26 +176,26 @@ module _ (p : Policy) (id : Identity) (request : Request) (cost : ℕ) (at : Nan
       debt = Ledger.taken (s .ledger) h
 
       asked-bounds : (b : BucketCore) → shortage c h at s ≤ shortfallAt c b at
-          → BoundedBy c at (shortfallAt c (asked c request b cost at .bucket) at) (grantsOf at cost (asked c request b cost at .decision) gs)
-      asked-bounds b lacks = asked-keeps-bound c request b cost at a some within-burst longest (bounded-by-more c at lacks (v .bound))
+          → HoldsAt c B at (shortfallAt c (asked c request b cost at .bucket) at) (decisionAdds B at cost (asked c request b cost at .decision) g)
+      asked-bounds b lacks = asked-keeps-bound c B request b cost at a some within-burst longest (holds-of-more c B at lacks (v .bound))
 
-      go : {o : Outcome Answer Shard} → Asking p id request cost at s o → Invariant c h k at (o .after) (grantsOfAnswer at cost (o .answer) gs)
+      go : {o : Outcome Answer Shard} → Asking p id request cost at s o → Invariant c B h k at (o .after) (answerAdds B at cost (o .answer) g)
       go (slot-asked i slot e f r) =
           let all : OneSlot c h k at s i = one-slot-is-all c h k at s i u f (v .one) in
-          own-slot-changed c h k at s u r f (v .one) (asked-bounds (slotAt s i .bucket) (omega (arith, all .all)))
+          own-slot-changed c h k at s u r B f (v .one) (asked-bounds (slotAt s i .bucket) (omega (arith, all .all)))
       go (key-joins e made) =
           let gone : OwnDebtTaken c h k at s u debt = own-debt-taken c h k at s u e (v .one) in
-          own-slot-inserted c h k at (roomFor p id at s .after) _ (room-for-slot made) refl refl (omega (arith, room-loses-nothing h k .fewer, gone .none))
+          own-slot-inserted c h k at (roomFor p id at s .after) _ (room-for-slot made) B refl refl (omega (arith, room-loses-nothing h k .fewer, gone .none))
           (asked-bounds (returning c at (debt .answer)) (omega (arith, gone .all, returning-lacks-the-debt c at a (debt .answer))))
-      go (no-space wait e no-debt told) = invariant-keeps c h k at s _ (room-keeps-shortage p at s u a never h k) v
+      go (no-space wait e no-debt told) = invariant-keeps c B h k at s _ (room-keeps-shortage p at s u a never h k) v
 
 -- The same, for a key whose hash and key are known by an equation.
 pub own-request : (p : Policy) (id : Identity) (request : Request) (cost : ℕ) (at : Nanos) (s : Shard) → Accepted (p .config) → p .«forget_debt» ≡ false → Sound s
-    → (h k : ℕ) → id .hash ≡ h → id .key ≡ k → 1 ≤ cost → cost ≤ p .config .capacity → longestWait request ≤ 2 ^ 46 → {gs : List Grant}
-    → Invariant (p .config) h k at s gs
-    → Invariant (p .config) h k at (withOrInsert p id request cost at s .after) (grantsOfAnswer at cost (withOrInsert p id request cost at s .answer) gs)
-own-request p id request cost at s a never u h k hash key some within-burst longest {gs} v =
-    rw (← hash, ← key) (own-request-of-identity p id request cost at s a never u some within-burst longest (rw (← hash, ← key) at v))
+    → (B : BoundOf (p .config)) (h k : ℕ) → id .hash ≡ h → id .key ≡ k → 1 ≤ cost → cost ≤ p .config .capacity → longestWait request ≤ 2 ^ 46 → {g : B .History}
+    → Invariant (p .config) B h k at s g
+    → Invariant (p .config) B h k at (withOrInsert p id request cost at s .after) (answerAdds B at cost (withOrInsert p id request cost at s .answer) g)
+own-request p id request cost at s a never u B h k hash key some within-burst longest v =
+    rw (← hash, ← key) (own-request-of-identity p id request cost at s a never u B some within-burst longest (rw (← hash, ← key) at v))
 
 -- Refunds and removals for other hashes lose nothing, at any moment.
 module _ (c : BucketConfig) (h k : ℕ) (at : Nanos) (s : Shard) (u : Sound s) (id : Identity) (other : id .hash ≡ h → ⊥) where

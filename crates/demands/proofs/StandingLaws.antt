@@ -1,5 +1,5 @@
--- The state of a whole memory between two calls, as far as one key is concerned: what stands in the key's own shard bounds the grants so far. An operation
--- in any shard leaves it standing.
+-- The state of a whole memory between two calls, as far as one key is concerned: what stands in the key's own shard bounds what happened to the key so far,
+-- by any bound by its line. An operation in any shard leaves it standing.
 use Prim.Native.Nat.{ℕ, _≤_}
 use mathlib.Core.Path.{_≡_, _∙_}
 use mathlib.Core.List.{List}
@@ -15,48 +15,47 @@ use Rattle.shard_map.specs.Model as Shard
 use Rattle.ledger.specs.Model as Ledger
 use Rattle.shard.specs.declared.Identity.{Identity}
 use Rattle.shard.proofs.ShardLaws.{SameRoom}
-use Rattle.store.specs.Memory.{shardAt, inShard}
+use Rattle.store.specs.Memory.{memoryWords, shardAt, inShard}
 use Rattle.store.proofs.MemoryLaws.{same-shard, shard-at-cap, shard-at-debt-cap, in-shard-length, in-shard-reads-back-for, in-shard-leaves-others}
-use Rattle.demands.proofs.GrantLaws.{Grant}
+use Rattle.demands.proofs.LineBound.{BoundOf}
 use Rattle.demands.proofs.RequestLaws.{Invariant, invariant-later}
-use Rattle.store.specs.Memory.{memoryWords}
 
 -- A moment, from its number.
 abbrev pub moment : ℕ → Nanos
 moment n = record { 0 = n }
 
-module _ (s : Settings) (rate : Rate) (k : Identity) where
+module _ (s : Settings) (rate : Rate) (k : Identity) (B : BoundOf (configOf rate)) where
   -- The key's shard, and the invariant of that shard at a moment.
   abbrev pub own : List ℕ → Shard.Shard
   own ws = shardAt s (k .hash) ws
 
-  abbrev pub Bounds : ℕ → Shard.Shard → List Grant → Type 0
-  Bounds n shard gs = Invariant (configOf rate) (k .hash) (k .key) (moment n) shard gs
+  abbrev pub Bounds : ℕ → Shard.Shard → B .History → Type 0
+  Bounds n shard g = Invariant (configOf rate) B (k .hash) (k .key) (moment n) shard g
 
-  pub record Standing (n : ℕ) (ws : List ℕ) (gs : List Grant) : Type 0 where
+  pub record Standing (n : ℕ) (ws : List ℕ) (g : B .History) : Type 0 where
     pub size : length ws ≡ memoryWords s
     pub sound : Shard.Sound (own ws)
-    pub bounds : Bounds n (own ws) gs
+    pub bounds : Bounds n (own ws) g
 
   -- Time passes.
-  pub standing-later : (n m : ℕ) (ws : List ℕ) {gs : List Grant} → n ≤ m → Standing n ws gs → Standing m ws gs
+  pub standing-later : (n m : ℕ) (ws : List ℕ) {g : B .History} → n ≤ m → Standing n ws g → Standing m ws g
   standing-later n m ws later v = record {
     size = v .size;
     sound = v .sound;
-    bounds = invariant-later (configOf rate) (k .hash) (k .key) (moment n) (moment m) (own ws) later (v .bounds);
+    bounds = invariant-later (configOf rate) B (k .hash) (k .key) (moment n) (moment m) (own ws) later (v .bounds);
   }
 
-  -- An operation in the shard of a hash. In the key's own shard it has to keep the bound; elsewhere it grants the key nothing.
-  module _ {A : Type 0} (hash n : ℕ) (ws : List ℕ) {gs : List Grant} (v : Standing n ws gs) (o : Outcome A Shard.Shard)
-      (room : SameRoom (shardAt s hash ws) (o .after)) (next : List Grant) where
+  -- An operation in the shard of a hash. In the key's own shard it has to keep the bound; elsewhere nothing happens to the key.
+  module _ {A : Type 0} (hash n : ℕ) (ws : List ℕ) {g : B .History} (v : Standing n ws g) (o : Outcome A Shard.Shard)
+      (room : SameRoom (shardAt s hash ws) (o .after)) (next : B .History) where
     slots-fit : Shard.capOf (o .after) ≡ capOf s
     slots-fit = room .cap ∙ shard-at-cap s hash ws
 
     debts-fit : Ledger.capOf (o .after .ledger) ≡ capOf s
     debts-fit = room .ledger-cap ∙ shard-at-debt-cap s hash ws
 
-    pub operation-stands : (shardOf s (k .hash) ≡ shardOf s hash → Bounds n (shardAt s hash ws) gs → Bounds n (o .after) next)
-        → ((shardOf s (k .hash) ≡ shardOf s hash → ⊥) → next ≡ gs) → Standing n (inShard s hash ws o .after) next
+    pub operation-stands : (shardOf s (k .hash) ≡ shardOf s hash → Bounds n (shardAt s hash ws) g → Bounds n (o .after) next)
+        → ((shardOf s (k .hash) ≡ shardOf s hash → ⊥) → next ≡ g) → Standing n (inShard s hash ws o .after) next
     operation-stands here there =
         by-eq (shardOf s (k .hash)) (shardOf s hash)
         (λ same.

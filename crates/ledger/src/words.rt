@@ -9,9 +9,13 @@ use units::Nanos;
 
 // Where a ledger's words lie, counted from its first: the count, the cursor, then the debts, each of its hash and the moment at which it settles.
 const COUNT: usize = 0;
+
 const CURSOR: usize = 1;
+
 pub const DEBTS: usize = 2;
+
 pub const DEBT_WIDTH: usize = 2;
+
 const SETTLES: usize = 1;
 
 // How many debts are held.
@@ -28,7 +32,11 @@ pub(crate) fn cursor(ws: &[u64], cap: usize) -> usize
     ensures { λ r. ⌜ r ≡ Model.cursorOf (ledger cap (now (ws .entry))) ⌝ }
 {
     let cursor = ws[CURSOR];
-    if cursor < ws[COUNT] { cursor as usize } else { 0 }
+    if cursor < ws[COUNT] {
+        cursor as usize
+    } else {
+        0
+    }
 }
 
 // The hash of the debt at a place.

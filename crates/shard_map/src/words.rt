@@ -13,20 +13,29 @@ use units::Nanos;
 
 // Where a shard's words lie, counted from its first: the slot count, the hand, the sweep, then the slots; after the slots come the words of the ledger.
 const COUNT: usize = 0;
+
 const HAND: usize = 1;
+
 const SWEEP: usize = 2;
+
 const SLOTS: usize = 3;
+
 const SLOT_WIDTH: usize = 6;
 
 // Where a slot's words lie, counted from its first, which is its hash.
 const KEY: usize = 1;
+
 const SHORTFALL: usize = 2;
+
 const STAMP: usize = 3;
+
 const MARK: usize = 4;
+
 const SEEN: usize = 5;
 
 // The words of a shard that its places do not add to, and those that each place adds, with the ledger's.
 pub const HEAD_WORDS: usize = SLOTS + ledger::words::DEBTS;
+
 pub const PLACE_WORDS: usize = SLOT_WIDTH + ledger::words::DEBT_WIDTH;
 
 // The words of a shard of so many places.
