@@ -37,29 +37,29 @@ held-read-fits Q read width cap at first ws reads room every =
 
 slot-read-fits : (row : List ℕ) → Every Word row → SlotFits (slotOf row)
 slot-read-fits row every = record {
-  hash = word-fits row 0 every;
-  key = word-fits row 1 every;
-  bucket = record { shortfall = word-fits row 2 every; stamp = word-fits row 3 every };
-  mark = word-fits row 4 every;
-  seen = word-fits row 5 every;
+  hash = word-fits row _ every;
+  key = word-fits row _ every;
+  bucket = record { shortfall = word-fits row _ every; stamp = word-fits row _ every };
+  mark = word-fits row _ every;
+  seen = word-fits row _ every;
 }
 
 debt-read-fits : (row : List ℕ) → Every Word row → DebtFits (Debts.debtOf row)
-debt-read-fits row every = record { hash = word-fits row 0 every; settles = word-fits row 1 every }
+debt-read-fits row every = record { hash = word-fits row _ every; settles = word-fits row _ every }
 
 ledger-read-fits : (cap : ℕ) (ws : List ℕ) → Word cap → Every Word ws → LedgerFits (Debts.ledger cap ws)
 unfolding Debts.ledger
 ledger-read-fits cap ws room every = record {
-  debts = held-read-fits DebtFits Debts.debtOf 2 cap 0 2 ws debt-read-fits room every;
-  cursor = word-fits ws 1 every;
+  debts = held-read-fits DebtFits Debts.debtOf _ cap _ _ ws debt-read-fits room every;
+  cursor = word-fits ws _ every;
 }
 
 pub shard-read-fits : (cap : ℕ) (ws : List ℕ) → Word cap → Every Word ws → ShardFits (shard cap ws)
 unfolding shard
 shard-read-fits cap ws room every = record {
-  slots = held-read-fits SlotFits slotOf 6 cap 0 3 ws slot-read-fits room every;
-  hand = word-fits ws 1 every;
-  sweep = word-fits ws 2 every;
+  slots = held-read-fits SlotFits slotOf _ cap _ _ ws slot-read-fits room every;
+  hand = word-fits ws _ every;
+  sweep = word-fits ws _ every;
   ledger = ledger-read-fits cap _ room (every-in-part Word (ledgerStart cap) (Debts.ledgerWords cap) ws every);
 }
 

@@ -23,7 +23,7 @@ use Rattle.ledger.specs.Model as Debts
 use Rattle.ledger.specs.Layout as Ledger
 use Rattle.ledger.proofs.LayoutLaws.{words-ledger}
 use Rattle.shard_map.specs.Model.{noSlot, capOf, slotAt, withCount, withSlot, withHand, withSweep, withLedger, inLedger, handOf, sweepOf}
-use Rattle.shard_map.specs.Layout.{countAt, handAt, sweepAt, slotsAt, slotWidth, markIn}
+use Rattle.shard_map.specs.Layout.{countAt, handAt, sweepAt, slotsAt, slotWidth, slotStart, markIn}
 use Rattle.shard_map.specs.Layout.{slotOf, slotWords, ledgerStart, shardWords, shard, wordsOf}
 
 -- Whatever the words, the shard in them has room for cap slots.
@@ -55,11 +55,12 @@ module _ (cap : ℕ) (ws : List ℕ) where
   sweep-read-past past = rw (held-count slotOf slotWidth cap countAt slotsAt ws, le-ltb _ _ past)
 
   -- Word f of the slot at i.
-  slot-word : (i f : ℕ) → f < slotWidth → getD (segment (slotsAt + slotWidth * i) slotWidth ws) f 0 ≡ getD ws (slotsAt + slotWidth * i + f) 0
-  slot-word i f below = segment-word (slotsAt + slotWidth * i) slotWidth ws f below
+  slot-word : (i f : ℕ) → f < slotWidth → getD (segment (slotStart i) slotWidth ws) f 0 ≡ getD ws (slotStart i + f) 0
+  slot-word i f below = segment-word (slotStart i) slotWidth ws f below
 
   pub slot-read : (i : ℕ) → i < cap
-      → slotOf (getD ws (slotsAt + slotWidth * i) 0 ∷ getD ws (slotsAt + slotWidth * i + 1) 0 ∷ getD ws (slotsAt + slotWidth * i + 2) 0 ∷ getD ws (slotsAt + slotWidth * i + 3) 0 ∷ getD ws (slotsAt + slotWidth * i + 4) 0 ∷ getD ws (slotsAt + slotWidth * i + 5) 0 ∷ [])
+      → slotOf (getD ws (slotStart i) 0 ∷ getD ws (slotStart i + 1) 0 ∷ getD ws (slotStart i + 2) 0 ∷ getD ws (slotStart i + 3) 0 ∷ getD ws (slotStart i + 4) 0
+      ∷ getD ws (slotStart i + 5) 0 ∷ [])
       ≡ slotAt (shard cap ws) i
   unfolding shard
   slot-read i below =
@@ -84,8 +85,8 @@ module _ (cap : ℕ) (ws : List ℕ) (size : length ws ≡ shardWords cap) where
       let slots-put = held-count-put slotOf slotWidth cap countAt slotsAt ws (lit< tt) (omega arith) n in
       let hand-kept = getD-set-other ws countAt handAt n 0 (omega arith) in
       let sweep-kept = getD-set-other ws countAt sweepAt n 0 (omega arith) in
-      let part-kept = ledger-kept countAt n (omega arith) in
-      λ j. record { slots = slots-put j; hand = hand-kept j; sweep = sweep-kept j; ledger = Ledger.ledger cap (part-kept j) }
+      let words-kept = ledger-kept countAt n (omega arith) in
+      λ j. record { slots = slots-put j; hand = hand-kept j; sweep = sweep-kept j; ledger = Ledger.ledger cap (words-kept j) }
 
   pub hand-put : (n : ℕ) → shard cap (set ws handAt n) ≡ withHand (shard cap ws) n
   unfolding shard
@@ -93,8 +94,8 @@ module _ (cap : ℕ) (ws : List ℕ) (size : length ws ≡ shardWords cap) where
       let slots-kept = held-set-before slotOf slotWidth cap countAt slotsAt ws (lit< tt) (omega arith) handAt n (lit< tt) (λ e. omega arith) in
       let hand-put = getD-set-same ws handAt n 0 (omega arith) in
       let sweep-kept = getD-set-other ws handAt sweepAt n 0 (omega arith) in
-      let part-kept = ledger-kept handAt n (omega arith) in
-      λ j. record { slots = slots-kept j; hand = hand-put j; sweep = sweep-kept j; ledger = Ledger.ledger cap (part-kept j) }
+      let words-kept = ledger-kept handAt n (omega arith) in
+      λ j. record { slots = slots-kept j; hand = hand-put j; sweep = sweep-kept j; ledger = Ledger.ledger cap (words-kept j) }
 
   pub sweep-put : (n : ℕ) → shard cap (set ws sweepAt n) ≡ withSweep (shard cap ws) n
   unfolding shard
@@ -102,45 +103,46 @@ module _ (cap : ℕ) (ws : List ℕ) (size : length ws ≡ shardWords cap) where
       let slots-kept = held-set-before slotOf slotWidth cap countAt slotsAt ws (lit< tt) (omega arith) sweepAt n (lit< tt) (λ e. omega arith) in
       let hand-kept = getD-set-other ws sweepAt handAt n 0 (omega arith) in
       let sweep-put = getD-set-same ws sweepAt n 0 (omega arith) in
-      let part-kept = ledger-kept sweepAt n (omega arith) in
-      λ j. record { slots = slots-kept j; hand = hand-kept j; sweep = sweep-put j; ledger = Ledger.ledger cap (part-kept j) }
+      let words-kept = ledger-kept sweepAt n (omega arith) in
+      λ j. record { slots = slots-kept j; hand = hand-kept j; sweep = sweep-put j; ledger = Ledger.ledger cap (words-kept j) }
 
   -- A whole slot, as a run of words, and as the code stores them one by one.
-  run-put : (i : ℕ) (slot : Slot) → i < cap → shard cap (sets ws (slotsAt + slotWidth * i) (slotWords slot)) ≡ withSlot (shard cap ws) i slot
+  run-put : (i : ℕ) (slot : Slot) → i < cap → shard cap (sets ws (slotStart i) (slotWords slot)) ≡ withSlot (shard cap ws) i slot
   unfolding shard
   run-put i slot below =
       let slots-put = held-put slotOf slotWidth cap countAt slotsAt ws (lit< tt) (omega arith) i (slotWords slot) below refl in
-      let hand-kept = getD-sets-lt ws (slotsAt + slotWidth * i) handAt (slotWords slot) (omega arith) in
-      let sweep-kept = getD-sets-lt ws (slotsAt + slotWidth * i) sweepAt (slotWords slot) (omega arith) in
-      let part-kept = segment-sets-below (ledgerStart cap) (Ledger.ledgerWords cap) ws (slotsAt + slotWidth * i) (slotWords slot) (omega arith) in
-      λ j. record { slots = slots-put j; hand = hand-kept j; sweep = sweep-kept j; ledger = Ledger.ledger cap (part-kept j) }
+      let hand-kept = getD-sets-lt ws (slotStart i) handAt (slotWords slot) (omega arith) in
+      let sweep-kept = getD-sets-lt ws (slotStart i) sweepAt (slotWords slot) (omega arith) in
+      let words-kept = segment-sets-below (ledgerStart cap) (Ledger.ledgerWords cap) ws (slotStart i) (slotWords slot) (omega arith) in
+      λ j. record { slots = slots-put j; hand = hand-kept j; sweep = sweep-kept j; ledger = Ledger.ledger cap (words-kept j) }
 
   pub slot-put : (i : ℕ) (slot : Slot) → i < cap
-      → shard cap (set (set (set (set (set (set ws (slotsAt + slotWidth * i) (slot .hash)) (slotsAt + slotWidth * i + 1) (slot .key)) (slotsAt + slotWidth * i + 2) (slot .bucket .shortfall))
-      (slotsAt + slotWidth * i + 3) (slot .bucket .stamp .0)) (slotsAt + slotWidth * i + 4) (slot .mark)) (slotsAt + slotWidth * i + 5) (slot .seen .0))
+      → shard cap (set (set (set (set (set (set ws (slotStart i) (slot .hash)) (slotStart i + 1) (slot .key)) (slotStart i + 2) (slot .bucket .shortfall))
+      (slotStart i + 3) (slot .bucket .stamp .0)) (slotStart i + 4) (slot .mark)) (slotStart i + 5) (slot .seen .0))
       ≡ withSlot (shard cap ws) i slot
   slot-put i slot below =
-      let second : slotsAt + slotWidth * i + 1 ≡ suc (slotsAt + slotWidth * i) = omega arith in
-      let third : slotsAt + slotWidth * i + 2 ≡ suc (suc (slotsAt + slotWidth * i)) = omega arith in
-      let fourth : slotsAt + slotWidth * i + 3 ≡ suc (suc (suc (slotsAt + slotWidth * i))) = omega arith in
-      let fifth : slotsAt + slotWidth * i + 4 ≡ suc (suc (suc (suc (slotsAt + slotWidth * i)))) = omega arith in
-      let sixth : slotsAt + slotWidth * i + 5 ≡ suc (suc (suc (suc (suc (slotsAt + slotWidth * i))))) = omega arith in
+      let second : slotStart i + 1 ≡ suc (slotStart i) = omega arith in
+      let third : slotStart i + 2 ≡ suc (suc (slotStart i)) = omega arith in
+      let fourth : slotStart i + 3 ≡ suc (suc (suc (slotStart i))) = omega arith in
+      let fifth : slotStart i + 4 ≡ suc (suc (suc (suc (slotStart i)))) = omega arith in
+      let sixth : slotStart i + 5 ≡ suc (suc (suc (suc (suc (slotStart i))))) = omega arith in
       rw (second, third, fourth, fifth, sixth) (run-put i slot below)
 
   -- The mark of a slot alone.
-  pub mark-put : (i mark : ℕ) → i < cap → shard cap (set ws (slotsAt + slotWidth * i + markIn) mark) ≡ withSlot (shard cap ws) i (withMark (slotAt (shard cap ws) i) mark)
+  pub mark-put : (i mark : ℕ) → i < cap → shard cap (set ws (slotStart i + markIn) mark) ≡ withSlot (shard cap ws) i (withMark (slotAt (shard cap ws) i) mark)
   unfolding shard
   mark-put i mark below =
-      let index : slotsAt + slotWidth * i + markIn ≡ slotsAt + (slotWidth * i + markIn) = omega arith in
-      let long = segment-length (slotsAt + slotWidth * i) slotWidth ws (omega (arith, row-end slotWidth cap i below)) in
-      let marked : slotOf (set (segment (slotsAt + slotWidth * i) slotWidth ws) markIn mark) ≡ withMark (itemAt noSlot (heldIn slotOf slotWidth cap countAt slotsAt ws) i) mark =
-      by-listed slotWidth (λ row. slotOf (set row markIn mark) ≡ withMark (slotOf row) mark) (λ f. refl) (segment (slotsAt + slotWidth * i) slotWidth ws) long
+      let index : slotStart i + markIn ≡ slotsAt + (slotWidth * i + markIn) = omega arith in
+      let long = segment-length (slotStart i) slotWidth ws (omega (arith, row-end slotWidth cap i below)) in
+      let marked : slotOf (set (segment (slotStart i) slotWidth ws) markIn mark) ≡ withMark (itemAt noSlot (heldIn slotOf slotWidth cap countAt slotsAt ws) i) mark =
+      by-listed slotWidth (λ row. slotOf (set row markIn mark) ≡ withMark (slotOf row) mark) (λ f. refl) (segment (slotStart i) slotWidth ws) long
       ∙ ap (λ (slot : Slot). withMark slot mark) (sym (held-item slotOf slotWidth cap countAt slotsAt ws i below)) in
-      let slots-put = held-put-word slotOf slotWidth cap countAt slotsAt ws (lit< tt) (omega arith) i markIn mark below (lit< tt) ∙ ap (λ (slot : Slot). stored (heldIn slotOf slotWidth cap countAt slotsAt ws) i slot) marked in
+      let slots-put = held-put-word slotOf slotWidth cap countAt slotsAt ws (lit< tt) (omega arith) i markIn mark below (lit< tt)
+      ∙ ap (λ (slot : Slot). stored (heldIn slotOf slotWidth cap countAt slotsAt ws) i slot) marked in
       let hand-kept = getD-set-other ws (slotsAt + (slotWidth * i + markIn)) handAt mark 0 (λ e. omega arith) in
       let sweep-kept = getD-set-other ws (slotsAt + (slotWidth * i + markIn)) sweepAt mark 0 (λ e. omega arith) in
-      let part-kept = ledger-kept (slotsAt + (slotWidth * i + markIn)) mark (omega arith) in
-      rw index (λ j. record { slots = slots-put j; hand = hand-kept j; sweep = sweep-kept j; ledger = Ledger.ledger cap (part-kept j) })
+      let words-kept = ledger-kept (slotsAt + (slotWidth * i + markIn)) mark (omega arith) in
+      rw index (λ j. record { slots = slots-put j; hand = hand-kept j; sweep = sweep-kept j; ledger = Ledger.ledger cap (words-kept j) })
 
 -- The ledger's part of the words, in the form in which it is lent from its start on, and come back as other words.
 module _ (cap : ℕ) (ws : List ℕ) (size : length ws ≡ shardWords cap) {start : ℕ} (is : start ≡ ledgerStart cap) where

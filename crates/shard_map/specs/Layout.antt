@@ -27,6 +27,10 @@ slotsAt = 3
 abbrev pub slotWidth : ℕ
 slotWidth = 6
 
+-- The first word of the slot at a place.
+abbrev pub slotStart : ℕ → ℕ
+slotStart i = slotsAt + slotWidth * i
+
 -- The word of a slot that has the mark.
 abbrev pub markIn : ℕ
 markIn = 4
