@@ -78,3 +78,21 @@ module _ {A : Type 0} (free : A) (goes : A → Bool) where
         sweep-keeps (λ h. Sound h × (total free w h ≡ total free w (r .items)))
         (λ h p below passes q. (removed-sound free h p (q .0), omega (arith, q .1, total-removed free w h p (q .0) below, weightless _ passes)))
         n r (sound, refl) .1
+
+-- A sweep of a state by looks: `all n` makes n of them, each is `one`, and where no item is left a look changes nothing.
+pub record ByLooks {S : Type 0} (all : ℕ → S → S) (one : S → S) (count : S → ℕ) : Type 0 where
+  pub none-left : (s : S) → all 0 s ≡ s
+  pub one-more : (n : ℕ) (s : S) → all (suc n) s ≡ all n (one s)
+  pub no-item : (s : S) → count s ≡ 0 → one s ≡ s
+
+-- The steps of a loop that makes the looks one by one: one look more, no look left, no item left.
+module _ {S : Type 0} {all : ℕ → S → S} {one : S → S} {count : S → ℕ} (looks : ByLooks all one count) where
+  pub looks-turn : (left : ℕ) (s : S) → 0 < left → all left s ≡ all (left - 1) (one s)
+  looks-turn left s some = let e : left ≡ suc (left - 1) = omega arith in ap (λ (n : ℕ). all n s) e ∙ looks .one-more (left - 1) s
+
+  pub looks-end : (left : ℕ) (s : S) → left ≤ 0 → all left s ≡ s
+  looks-end left s none = let e : left ≡ 0 = omega arith in rw e (looks .none-left s)
+
+  pub looks-stop : (left : ℕ) (s : S) → count s ≡ 0 → all left s ≡ s
+  looks-stop zero s none = looks .none-left s
+  looks-stop (suc left) s none = looks .one-more left s ∙ rw (looks .no-item s none) (looks-stop left s none)

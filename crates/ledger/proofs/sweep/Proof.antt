@@ -4,8 +4,9 @@ use mathlib.Core.List.{List}
 use Prim.Native.Nat.{ℕ, _<_}
 use native.Mathlib.Omega.{arith}
 use Rattle.units.specs.declared.Nanos.{Nanos}
+use Rattle.rows.proofs.RoundLaws.{looks-turn, looks-end, looks-stop}
 use Rattle.ledger.proofs.StepLaws.{look-sound}
-use Rattle.ledger.proofs.ModelLaws.{sweep-turn, sweep-none, sweep-end, intact-after}
+use Rattle.ledger.proofs.ModelLaws.{sweep-by-looks, intact-after}
 use Rattle.ledger.specs.Layout.{ledger, Intact}
 use Rattle.ledger.specs.Model.{sweep}
 use borrow.Author.Needs.{needs}
@@ -50,20 +51,20 @@ loop-again c =
     let more : 0 < h .loop .left = omega arith in
     record {
       intact = intact-after (inv .intact) (l .look .kept .0) (l .look .ensures) (look-sound _ _ (inv .intact .sound));
-      same = rw (l .look .ensures) (sym (sweep-turn _ _ _ more) ∙ inv .same);
+      same = rw (l .look .ensures) (sym (looks-turn (sweep-by-looks _) _ _ more) ∙ inv .same);
     }
 
 same-length : tie.Need-same-length Inv-loop μ-loop
 same-length c = search needs
 
 returns : tie.Need-returns Inv-loop μ-loop
-returns c = sym (sweep-end _ _ _ (c .loop-test .left)) ∙ c .before .loop .inv .same
+returns c = sym (looks-end (sweep-by-looks _) _ _ (c .loop-test .left)) ∙ c .before .loop .inv .same
 
 same-length-2 : tie.Need-same-length-2 Inv-loop μ-loop
 same-length-2 c = search needs
 
 returns-2 : tie.Need-returns-2 Inv-loop μ-loop
-returns-2 c = let n = c .before in sym (sweep-none _ _ _ (sym (n .count .ensures) ∙ c .if1 .taken)) ∙ head n .loop .inv .same
+returns-2 c = let n = c .before in sym (looks-stop (sweep-by-looks _) _ _ (sym (n .count .ensures) ∙ c .if1 .taken)) ∙ head n .loop .inv .same
 
 pub sweep-spec : {M : Type 1} → statement M
 sweep-spec =

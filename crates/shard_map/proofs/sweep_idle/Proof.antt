@@ -7,7 +7,9 @@ use Rattle.units.specs.declared.Nanos.{Nanos}
 use Prim.Native.Nat.{ℕ, _<_}
 use mathlib.Core.List.{List}
 use mathlib.Core.Path.{_≡_, refl, sym, _∙_}
-use Rattle.shard_map.proofs.ModelLaws.{idle-look-sound, sweep-idle-turn, sweep-idle-end, sweep-idle-none, intact-after}
+use Rattle.rows.proofs.RoundLaws.{looks-turn, looks-end, looks-stop}
+use Rattle.shard_map.proofs.StepLaws.{idle-look-sound}
+use Rattle.shard_map.proofs.ModelLaws.{idle-sweep-by-looks, intact-after}
 use borrow.Author.Needs.{needs}
 use Rattle.shard_map.proofs.sweep_idle.Statement.{statement}
 use Rattle.shard_map.proofs.sweep_idle.Tie as tie
@@ -54,14 +56,14 @@ loop-again c =
     let inv = place k .loop .inv in
     record {
       intact = intact-after (inv .intact) (look .idle-look .kept .0) (look .idle-look .ensures) (idle-look-sound _ _ _ _ (inv .intact .sound));
-      same = rw (look .idle-look .ensures) (sym (sweep-idle-turn _ _ _ _ _ (look-left k)) ∙ inv .same);
+      same = rw (look .idle-look .ensures) (sym (looks-turn (idle-sweep-by-looks _ _ _) _ _ (look-left k)) ∙ inv .same);
     }
 
 same-length : tie.Need-same-length Inv-loop μ-loop
 same-length c = search needs
 
 returns : tie.Need-returns Inv-loop μ-loop
-returns c = sym (sweep-idle-end _ _ _ _ _ (c .loop-test .left)) ∙ c .before .loop .inv .same
+returns c = sym (looks-end (idle-sweep-by-looks _ _ _) _ _ (c .loop-test .left)) ∙ c .before .loop .inv .same
 
 same-length-2 : tie.Need-same-length-2 Inv-loop μ-loop
 same-length-2 c = search needs
@@ -69,7 +71,7 @@ same-length-2 c = search needs
 returns-2 : tie.Need-returns-2 Inv-loop μ-loop
 returns-2 c =
     let k = c .before in
-    sym (sweep-idle-none _ _ _ _ _ (sym (k .count .ensures) ∙ c .if1 .taken)) ∙ place k .loop .inv .same
+    sym (looks-stop (idle-sweep-by-looks _ _ _) _ _ (sym (k .count .ensures) ∙ c .if1 .taken)) ∙ place k .loop .inv .same
 
 pub sweep-idle-spec : {M : Type 1} → statement M
 sweep-idle-spec =
