@@ -28,7 +28,7 @@ use Rattle.ledger.specs.Model.{append, takenAt, taken, roundOf, ofRound,
 use Rattle.ledger.specs.Model.{recorded, credit, paidAt, paidDown}
 use Rattle.ledger.specs.Layout.{ledger, Intact}
 use Rattle.ledger.proofs.LayoutLaws.{cap-is}
-use Rattle.ledger.proofs.StepLaws.{cursor-below, found-owes}
+use Rattle.ledger.proofs.StepLaws.{cursor-below, found-owes, look-sound}
 use Rattle.ledger.proofs.RecordLaws.{sooner-is-either, chosen, scan-chooses-held, scan-sound, make-room-sound, make-room-makes-room}
 
 -- Append and removal, store by store, as the code makes them.
@@ -56,7 +56,7 @@ module _ (l : Ledger) (hash : ℕ) {place known : Place} (gave : place ≡ place
   unfolding paidDown
   paid-where cost c = rw (← gave, is)
 
--- A look of the sweep at a settled debt and at an unsettled one, and the sweep by its looks.
+-- A look of the sweep at a settled debt, and at an unsettled one.
 module _ (at : Nanos) (l : Ledger) where
   pub look-settled : 0 < l .debts .count → settlesAt l (cursorOf l) .0 ≤ at .0 → removeAt (withCursor l (cursorOf l)) (cursorOf l) ≡ look at l
   unfolding look removeAt
@@ -65,14 +65,6 @@ module _ (at : Nanos) (l : Ledger) where
   pub look-unsettled : 0 < l .debts .count → at .0 < settlesAt l (cursorOf l) .0 → withCursor l (cursorOf l + 1) ≡ look at l
   unfolding look
   look-unsettled some unsettled = ap ofRound (look-stays noDebt (settledBy at) (roundOf l) some (lt-leb _ _ unsettled))
-
-pub sweep-by-looks : (at : Nanos) → ByLooks (sweep at) (look at) (λ l. l .debts .count)
-unfolding sweep look Round.sweep
-sweep-by-looks at = record {
-  none-left = λ l. refl;
-  one-more = λ n l. refl;
-  no-item = λ l none. ap ofRound (look-none noDebt (settledBy at) (roundOf l) none);
-}
 
 -- The scan of a full ledger: its start, no look left, a settled debt, an unsettled one.
 pub scan-start : (at : Nanos) (l : Ledger) → scanFrom at (min ledgerScan (l .debts .count)) l (cursorOf l) ≡ scan at l
@@ -162,6 +154,16 @@ module _ {cap : ℕ} {ws ws′ : List ℕ} (intact : Intact cap ws) (same : leng
 
   pub intact-after-answer : {A : Type 0} {a : A} {o : Outcome A Ledger} → outcome a (ledger cap ws′) ≡ o → Sound (o .after) → Intact cap ws′
   intact-after-answer gave s = intact-after (after-is gave) s
+
+-- The sweep by its looks, for its loop.
+pub sweep-by-looks : (cap : ℕ) (at : Nanos) → ByLooks (Intact cap) (ledger cap) (sweep at) (look at) (λ l. l .debts .count)
+unfolding sweep look Round.sweep
+sweep-by-looks cap at = record {
+  none-left = λ l. refl;
+  one-more = λ n l. refl;
+  no-item = λ l none. ap ofRound (look-none noDebt (settledBy at) (roundOf l) none);
+  stay-lent = λ intact same looked. intact-after intact same looked (look-sound at _ (intact .sound));
+}
 
 -- After a scan the words are still lent, and the place that it chose holds a debt.
 pub record AfterScan (cap : ℕ) (ws : List ℕ) (choice : Choice) : Type 0 where

@@ -1,7 +1,8 @@
 -- The sweep: what a look is in each case, what a sweep keeps, and the steps of a loop that makes its looks one by one.
 use Prim.Native.Nat.{ℕ, zero, suc, _+_, _-_, _≤_, _<_, max}
-use mathlib.Core.Path.{_≡_, refl, ap, _∙_}
+use mathlib.Core.Path.{_≡_, refl, sym, _∙_}
 use mathlib.Core.Bool.{Bool, true, false}
+use mathlib.Core.List.{List}
 use native.Mathlib.Omega.{arith}
 use lib.Dec.{eqb}
 use lib.ListN.{length}
@@ -79,20 +80,38 @@ module _ {A : Type 0} (free : A) (goes : A → Bool) where
         (λ h p below passes q. (removed-sound free h p (q .0), omega (arith, q .1, total-removed free w h p (q .0) below, weightless _ passes)))
         n r (sound, refl) .1
 
--- A sweep of a state by looks: `all n` makes n of them, each is `one`, and where no item is left a look changes nothing.
-pub record ByLooks {S : Type 0} (all : ℕ → S → S) (one : S → S) (count : S → ℕ) : Type 0 where
+-- A sweep by looks over lent words, in which a state lies (`view`): `all n` makes n looks, each of them `one`. Where no item is left a look changes nothing, and
+-- words that are lent stay so after a look.
+pub record ByLooks {S : Type 0} (Lent : List ℕ → Type 0) (view : List ℕ → S) (all : ℕ → S → S) (one : S → S) (count : S → ℕ) : Type 0 where
   pub none-left : (s : S) → all 0 s ≡ s
   pub one-more : (n : ℕ) (s : S) → all (suc n) s ≡ all n (one s)
   pub no-item : (s : S) → count s ≡ 0 → one s ≡ s
+  pub stay-lent : {ws ws′ : List ℕ} → Lent ws → length ws′ ≡ length ws → view ws′ ≡ one (view ws) → Lent ws′
 
--- The steps of a loop that makes the looks one by one: one look more, no look left, no item left.
-module _ {S : Type 0} {all : ℕ → S → S} {one : S → S} {count : S → ℕ} (looks : ByLooks all one count) where
-  pub looks-turn : (left : ℕ) (s : S) → 0 < left → all left s ≡ all (left - 1) (one s)
-  looks-turn left s some = let e : left ≡ suc (left - 1) = omega arith in ap (λ (n : ℕ). all n s) e ∙ looks .one-more (left - 1) s
+-- A loop that makes the looks one by one: the words are lent, and the looks left, made from here, give what all of them give from the start. Then its steps.
+pub record Sweeping {S : Type 0} (Lent : List ℕ → Type 0) (view : List ℕ → S) (all : ℕ → S → S) (left : ℕ) (ws : List ℕ) (end : S) : Type 0 where
+  pub lent : Lent ws
+  pub same : all left (view ws) ≡ end
 
-  pub looks-end : (left : ℕ) (s : S) → left ≤ 0 → all left s ≡ s
-  looks-end left s none = let e : left ≡ 0 = omega arith in rw e (looks .none-left s)
+module _ {S : Type 0} {Lent : List ℕ → Type 0} {view : List ℕ → S} {all : ℕ → S → S} {one : S → S} {count : S → ℕ} (looks : ByLooks Lent view all one count)
+    {left : ℕ} {ws : List ℕ} {end : S} (sweeping : Sweeping Lent view all left ws end) where
+  -- A look was made.
+  pub sweep-goes-on : {ws′ : List ℕ} → 0 < left → length ws′ ≡ length ws → view ws′ ≡ one (view ws) → Sweeping Lent view all (left - 1) ws′ end
+  sweep-goes-on some long looked =
+      let e : left ≡ suc (left - 1) = omega arith in
+      record {
+        lent = looks .stay-lent (sweeping .lent) long looked;
+        same = rw (looked, ← looks .one-more (left - 1) (view ws), ← e) (sweeping .same);
+      }
 
-  pub looks-stop : (left : ℕ) (s : S) → count s ≡ 0 → all left s ≡ s
-  looks-stop zero s none = looks .none-left s
-  looks-stop (suc left) s none = looks .one-more left s ∙ rw (looks .no-item s none) (looks-stop left s none)
+  -- No look is left.
+  pub sweep-ends : left ≤ 0 → view ws ≡ end
+  sweep-ends none = let e : left ≡ 0 = omega arith in rw (e, looks .none-left (view ws)) at (sweeping .same)
+
+  -- No item is left.
+  pub sweep-stops : count (view ws) ≡ 0 → view ws ≡ end
+  sweep-stops none = sym (unchanged left) ∙ sweeping .same
+    where
+      unchanged : (n : ℕ) → all n (view ws) ≡ view ws
+      unchanged zero = looks .none-left (view ws)
+      unchanged (suc n) = looks .one-more n (view ws) ∙ rw (looks .no-item (view ws) none) (unchanged n)

@@ -23,7 +23,7 @@ use Rattle.shard_map.specs.Model.{Shard, Sound, noSlot, capOf, slotAt, w
 use Rattle.shard_map.specs.Model.{reclaimable, roundOf, withRound, idleLook, sweepIdle}
 use Rattle.shard_map.specs.Layout.{shard, Intact}
 use Rattle.shard_map.proofs.LayoutLaws.{cap-is, ledger-lent, ledger-long}
-use Rattle.shard_map.proofs.StepLaws.{hand-below, sweep-below, sweep-sound}
+use Rattle.shard_map.proofs.StepLaws.{hand-below, sweep-below, sweep-sound, idle-look-sound}
 
 -- Words that are lent have room for cap slots; a slot that is held, and the hand and the sweep where one is, stand below the cap.
 pub intact-cap : {cap : ℕ} {ws : List ℕ} → Intact cap ws → capOf (shard cap ws) ≡ cap
@@ -77,12 +77,13 @@ module _ (c : BucketConfig) (at : Nanos) (limit : Millis) where
   unfolding idleLook
   idle-look-stays s some stays = ap (withRound s) (look-stays noSlot (reclaimable c at limit) (roundOf s) some stays)
 
-  pub idle-sweep-by-looks : ByLooks (sweepIdle c at limit) (idleLook c at limit) (λ s. s .slots .count)
+  pub idle-sweep-by-looks : (cap : ℕ) → ByLooks (Intact cap) (shard cap) (sweepIdle c at limit) (idleLook c at limit) (λ s. s .slots .count)
   unfolding sweepIdle idleLook Round.sweep
-  idle-sweep-by-looks = record {
+  idle-sweep-by-looks cap = record {
     none-left = λ s. refl;
     one-more = λ n s. refl;
     no-item = λ s none. ap (withRound s) (look-none noSlot (reclaimable c at limit) (roundOf s) none);
+    stay-lent = λ intact same looked. intact-after intact same looked (idle-look-sound c at limit _ (intact .sound));
   }
 
 -- Words that are still lent, and hold as many slots as before: so they are after the sweep has moved.
