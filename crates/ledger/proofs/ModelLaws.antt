@@ -121,8 +121,8 @@ module _ (l : Ledger) (d : Debt) (at : Nanos) (forget : Bool) where
   unfolding recordedAt
   recorded-full full made is = rw (le-ltb _ _ full, ← made, is)
 
--- Words that are lent have room for cap debts, and a debt that is held stands below the cap. Where there is a debt the cursor stands at one, and the
--- sooner of two that are held is held.
+-- Words that are lent have room for cap debts, and a debt that is held stands below the cap. Where there is a debt the cursor, as
+-- it is read, stands at one, and the sooner of two that are held is held.
 pub intact-cap : {cap : ℕ} {ws : List ℕ} → Intact cap ws → capOf (ledger cap ws) ≡ cap
 intact-cap {cap} {ws} intact = cap-is cap ws
 
@@ -130,8 +130,8 @@ pub intact-below : {cap : ℕ} {ws : List ℕ} {i : ℕ} → Intact cap ws → i
 intact-below intact below = omega (arith, intact .sound .count-fits, intact-cap intact)
 
 pub intact-cursor : {cap c : ℕ} {ws : List ℕ} → Intact cap ws → 0 < ledger cap ws .debts .count → c ≡ cursorOf (ledger cap ws)
-    → c < ledger cap ws .debts .count
-intact-cursor {cap} {c} {ws} intact some is = rw is (cursor-below (ledger cap ws) some)
+    → (c < ledger cap ws .debts .count) × (c < cap)
+intact-cursor {cap} {c} {ws} intact some is = let below : c < ledger cap ws .debts .count = rw is (cursor-below (ledger cap ws) some) in (below, intact-below intact below)
 
 pub intact-sooner : {cap : ℕ} {ws : List ℕ} {best c : ℕ} → Intact cap ws → best < ledger cap ws .debts .count → c < ledger cap ws .debts .count
     → sooner (ledger cap ws) best c < ledger cap ws .debts .count

@@ -35,8 +35,9 @@ intact-below intact below = omega (arith, intact .sound .count-fits, intact-cap 
 pub intact-hand : {cap : ℕ} {ws : List ℕ} → Intact cap ws → 0 < shard cap ws .slots .count → handOf (shard cap ws) < cap
 intact-hand {cap} {ws} intact some = intact-below intact (hand-below (shard cap ws) some)
 
-pub intact-sweep : {cap : ℕ} {ws : List ℕ} → Intact cap ws → 0 < shard cap ws .slots .count → (sweepOf (shard cap ws) < shard cap ws .slots .count) × (sweepOf (shard cap ws) < cap)
-intact-sweep {cap} {ws} intact some = let below = sweep-below (shard cap ws) some in (below, intact-below intact below)
+pub intact-sweep : {cap p : ℕ} {ws : List ℕ} → Intact cap ws → 0 < shard cap ws .slots .count → p ≡ sweepOf (shard cap ws)
+    → (p < shard cap ws .slots .count) × (p < cap)
+intact-sweep {cap} {p} {ws} intact some is = let below : p < shard cap ws .slots .count = rw is (sweep-below (shard cap ws) some) in (below, intact-below intact below)
 
 -- The ledger's part of words that are lent is lent, in the form in which the code lends it.
 pub intact-ledger : {cap : ℕ} {ws : List ℕ} → Intact cap ws → LedgerLayout.Intact cap (segment (3 + 6 * cap) (length ws - (3 + 6 * cap)) ws)
