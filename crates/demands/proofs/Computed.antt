@@ -6,6 +6,7 @@ use Rattle.arith.specs.Arith.{ceilDiv}
 use Rattle.rows.specs.Rows.{rows, unrow}
 use Rattle.rows.specs.Layout.{heldIn}
 use Rattle.rows.specs.Held.{lowestFrom, removed, sum}
+use Rattle.rows.specs.Round as Round
 use Rattle.bucket.specs.Bucket.{shortfallAt, availableAt, waitAt, asked}
 use Rattle.bucket.specs.Debt.{takenOut, lacking, restored}
 use Rattle.settings.specs.declared.rate.Rate.{Rate}
@@ -52,9 +53,9 @@ pub record Computed : Type 0 where
   pub two-at-once : Overgrants 0 rules fast 1 ((7, 1) ∷ (7, 1) ∷ (7, 1) ∷ []) 7 1
 
 pub computed : Computed
-unfolding ceilDiv rows unrow heldIn lowestFrom removed sum shortfallAt availableAt waitAt asked takenOut lacking restored
+unfolding ceilDiv rows unrow heldIn lowestFrom removed sum Round.lookAt Round.look Round.sweep shortfallAt availableAt waitAt asked takenOut lacking restored
     Rate.unlessWithin Rate.rateRefusal Settings.sizeRefusal Settings.firstRefusal Settings.doubledUpTo
-    Debts.ledger Debts.wordsOf Ledger.placeOf Ledger.removeAt Ledger.append Ledger.owedBy Ledger.taken Ledger.lookAt Ledger.look Ledger.sweep
+    Debts.ledger Debts.wordsOf Ledger.placeOf Ledger.removeAt Ledger.append Ledger.owedBy Ledger.taken Ledger.sweep
     Ledger.scanFrom Ledger.scan Ledger.dropChosen Ledger.makeRoom Ledger.recordedAt Ledger.recorded
     Layout.shard Layout.wordsOf Shard.placeOf Shard.removeAt Shard.insert
     noted walkFrom walked evicted OneShard.makeRoom OneShard.withExisting OneShard.admit OneShard.withOrInsert OneShard.viewed OneShard.holds

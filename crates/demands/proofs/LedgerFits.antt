@@ -3,7 +3,7 @@ use Prim.Native.Nat.{ℕ, zero, suc, _+_}
 use mathlib.Core.Path.{_≡_, refl, sym}
 use mathlib.Core.Bool.{Bool}
 use native.Mathlib.Omega.{arith}
-use lib.Dec.{ltb, eqb}
+use lib.Dec.{ltb}
 use borrow.Author.Tests.{ltb-true}
 use Rattle.arith.proofs.Cases.{by-test}
 use Rattle.units.specs.declared.Nanos.{Nanos}
@@ -16,12 +16,12 @@ use Rattle.ledger.specs.declared.Choice.{Choice}
 use Rattle.ledger.specs.declared.Choice.the-variants.{Settled, Soonest}
 use Rattle.ledger.specs.declared.Recorded.{Recorded}
 use Rattle.ledger.specs.declared.Recorded.the-variants.{Done, NoRoom}
-use Rattle.ledger.specs.Model.{Ledger, noDebt, capOf, debtAt, hasSettled, cursorOf, withCursor, withDebt, placeOf, removeAt, append, taken, lookAt, look, sweep}
+use Rattle.ledger.specs.Model.{Ledger, noDebt, capOf, debtAt, settledBy, hasSettled, cursorOf, withCursor, withDebt, placeOf, removeAt, append, taken, roundOf, sweep}
 use Rattle.ledger.specs.Model.{sooner, scanFrom, scan, dropChosen, makeRoom, joined, recordedAt, recorded, paidDown}
 use Rattle.ledger.proofs.StepLaws.{removal-count, taken-cases, paid-cases}
 use Rattle.ledger.proofs.RecordLaws.{done-is-no-refusal}
 use Rattle.demands.proofs.EveryLaws.{of-either}
-use Rattle.demands.proofs.WordFits.{Word, next-place-fits, HeldFits, item-fits, stored-fits, appended-fits, removed-fits}
+use Rattle.demands.proofs.WordFits.{Word, next-place-fits, HeldFits, item-fits, stored-fits, appended-fits, removed-fits, swept-fits}
 
 -- A debt and a ledger whose words fit.
 pub record DebtFits (d : Debt) : Type 0 where
@@ -61,16 +61,11 @@ module _ (l : Ledger) (f : LedgerFits l) where
   resting-cursor-fits = moved-cursor-fits _ (omega (arith, next-place-fits (l .cursor) (l .debts .count) (f .debts .count)))
 
 -- The sweep.
-look-fits : (at : Nanos) (l : Ledger) → LedgerFits l → LedgerFits (look at l)
-unfolding look lookAt
-look-fits at l f =
-    of-either LedgerFits (eqb (l .debts .count) 0) l (lookAt at l (cursorOf l)) f
-    (of-either LedgerFits (hasSettled at l (cursorOf l)) _ _ (debt-removed-fits _ (resting-cursor-fits l f) (cursorOf l)) (next-cursor-fits l f))
-
 pub sweep-fits : (at : Nanos) (n : ℕ) (l : Ledger) → LedgerFits l → LedgerFits (sweep at n l)
 unfolding sweep
-sweep-fits at zero l f = f
-sweep-fits at (suc n) l f = sweep-fits at n (look at l) (look-fits at l f)
+sweep-fits at n l f =
+    let swept = swept-fits DebtFits noDebt no-debt-fits (settledBy at) n (roundOf l) (record { items = f .debts; next = f .cursor }) in
+    record { debts = swept .items; cursor = swept .next }
 
 -- Taking out and paying down.
 pub taken-fits : (l : Ledger) (h : ℕ) → LedgerFits l → LedgerFits (taken l h .after)

@@ -1,17 +1,15 @@
 -- A shard whose words fit 64 bits, free places too, and what every step on it and the idle sweep leave.
-use Prim.Native.Nat.{ℕ, zero, suc, _+_}
+use Prim.Native.Nat.{ℕ, _+_}
 use native.Mathlib.Omega.{arith}
-use lib.Dec.{eqb}
 use Rattle.units.specs.declared.Nanos.{Nanos}
 use Rattle.units.specs.declared.Millis.{Millis}
 use Rattle.bucket.specs.declared.BucketConfig.{BucketConfig}
 use Rattle.rows.specs.Held.{Held}
 use Rattle.slot.specs.declared.Slot.{Slot}
 use Rattle.ledger.specs.Model.{Ledger}
-use Rattle.shard_map.specs.Model.{Shard, noSlot, slotAt, withSlots, withSlot, withHand, withSweep, withLedger, sweepOf, removeAt, insert}
-use Rattle.shard_map.specs.Model.{reclaimable, idleLookAt, idleLook, sweepIdle}
-use Rattle.demands.proofs.EveryLaws.{of-either}
-use Rattle.demands.proofs.WordFits.{Word, next-place-fits, HeldFits, item-fits, stored-fits, appended-fits, removed-fits}
+use Rattle.shard_map.specs.Model.{Shard, noSlot, slotAt, withSlots, withSlot, withHand, withLedger, removeAt, insert}
+use Rattle.shard_map.specs.Model.{reclaimable, roundOf, sweepIdle}
+use Rattle.demands.proofs.WordFits.{Word, HeldFits, item-fits, stored-fits, appended-fits, removed-fits, swept-fits}
 use Rattle.demands.proofs.BucketFits.{BucketFits}
 use Rattle.demands.proofs.LedgerFits.{LedgerFits}
 
@@ -60,24 +58,12 @@ module _ (s : Shard) (f : ShardFits s) where
   pub moved-hand-fits : (hand : ℕ) → Word hand → ShardFits (withHand s hand)
   moved-hand-fits hand fits = record { slots = f .slots; hand = fits; sweep = f .sweep; ledger = f .ledger }
 
-  moved-sweep-fits : (sweep : ℕ) → Word sweep → ShardFits (withSweep s sweep)
-  moved-sweep-fits sweep fits = record { slots = f .slots; hand = f .hand; sweep = fits; ledger = f .ledger }
-
   pub changed-ledger-fits : (l : Ledger) → LedgerFits l → ShardFits (withLedger s l)
   changed-ledger-fits l fits = record { slots = f .slots; hand = f .hand; sweep = f .sweep; ledger = fits }
 
 -- The idle sweep.
-module _ (c : BucketConfig) (at : Nanos) (limit : Millis) where
-  idle-look-fits : (s : Shard) → ShardFits s → ShardFits (idleLook c at limit s)
-  unfolding idleLook idleLookAt
-  idle-look-fits s f =
-      let next : Word (sweepOf s + 1) = next-place-fits (s .sweep) (s .slots .count) (f .slots .count) in
-      of-either ShardFits (eqb (s .slots .count) 0) s (idleLookAt c at limit s (sweepOf s)) f
-      (of-either ShardFits (reclaimable c at limit (slotAt s (sweepOf s))) _ _
-      (removed-slot-fits _ (moved-sweep-fits s f (sweepOf s) (omega (arith, next))) (sweepOf s))
-      (moved-sweep-fits s f _ next))
-
-  pub sweep-idle-fits : (n : ℕ) (s : Shard) → ShardFits s → ShardFits (sweepIdle c at limit n s)
-  unfolding sweepIdle
-  sweep-idle-fits zero s f = f
-  sweep-idle-fits (suc n) s f = sweep-idle-fits n (idleLook c at limit s) (idle-look-fits s f)
+pub sweep-idle-fits : (c : BucketConfig) (at : Nanos) (limit : Millis) (n : ℕ) (s : Shard) → ShardFits s → ShardFits (sweepIdle c at limit n s)
+unfolding sweepIdle
+sweep-idle-fits c at limit n s f =
+    let swept = swept-fits SlotFits noSlot no-slot-fits (reclaimable c at limit) n (roundOf s) (record { items = f .slots; next = f .sweep }) in
+    record { slots = swept .items; hand = f .hand; sweep = swept .next; ledger = f .ledger }

@@ -1,4 +1,4 @@
--- Numbers that fit a word, lists of them, and held items that fit: what a store, an addition and a removal leave fits.
+-- Numbers that fit a word, lists of them, and held items that fit: what a store, an addition, a removal and a sweep leave fits.
 use Prim.Native.Nat.{ℕ, _+_, _-_, _<_, _^_}
 use mathlib.Core.Path.{_≡_, refl}
 use mathlib.Core.Bool.{Bool, true, _&&_}
@@ -9,6 +9,8 @@ use lib.ListN.{length, set, length-set}
 use borrow.Author.Tests.{ltb-true, lt-ltb}
 use Rattle.arith.proofs.Cases.{by-test}
 use Rattle.rows.specs.Held.{Held, wrapped, itemAt, removed, appended, stored}
+use Rattle.rows.specs.Round.{Round, sweep}
+use Rattle.rows.proofs.RoundLaws.{sweep-keeps, sweep-next}
 use Rattle.perkey.specs.Calls.{Every}
 use Rattle.demands.specs.Widths.{lendable}
 use Rattle.demands.proofs.WidthLaws.{both-true}
@@ -66,3 +68,14 @@ module _ {A : Type 0} (Q : A → Type 0) (h : Held A) (f : HeldFits Q h) where
     items = every-set Q (set (h .places) p (itemAt free h (h .count - 1))) (h .count - 1) free q
         (every-set Q (h .places) p (itemAt free h (h .count - 1)) (item-fits free q (h .count - 1)) (f .items));
   }
+
+-- A sweep of such items leaves such items, and a place that fits for the next look.
+pub record RoundFits {A : Type 0} (Q : A → Type 0) (r : Round A) : Type 0 where
+  pub items : HeldFits Q (r .items)
+  pub next : Word (r .next)
+
+pub swept-fits : {A : Type 0} (Q : A → Type 0) (free : A) → Q free → (goes : A → Bool) (n : ℕ) (r : Round A) → RoundFits Q r → RoundFits Q (sweep free goes n r)
+swept-fits Q free q goes n r f = record {
+  items = sweep-keeps free goes (HeldFits Q) (λ h p below passes g. removed-fits Q h g free q p) n r (f .items);
+  next = omega (arith, sweep-next free goes n r, f .next, f .items .count);
+}

@@ -4,7 +4,7 @@ use Prim.Native.Nat.{ℕ, _+_, _*_, _≤_, _<_, max}
 use mathlib.Core.Path.{_≡_, refl, sym, _∙_, ap}
 use mathlib.Core.Bool.{Bool, false, cond}
 use native.Mathlib.Omega.{arith}
-use borrow.Author.Tests.{eq-eqb, ne-eqb}
+use borrow.Author.Tests.{eq-eqb, ne-eqb, leb-true}
 use Rattle.arith.proofs.Cases.{by-eq, by-le}
 use Rattle.units.specs.declared.Nanos.{Nanos}
 use Rattle.units.specs.declared.OptionNanos.{OptionNanos}
@@ -14,13 +14,15 @@ use Rattle.rows.specs.declared.Place.the-variants.{At, Nowhere}
 use Rattle.rows.specs.Outcome.{Outcome}
 use Rattle.rows.specs.Held.{total}
 use Rattle.rows.proofs.SumLaws.{sum-of-zeros, sum-le, term-le-sum}
+use Rattle.rows.proofs.RoundLaws as RoundLaws
+use Rattle.rows.proofs.RoundLaws.{sweep-keeps-total}
 use Rattle.rows.proofs.HeldLaws.{total-stored, total-appended, total-removed}
 use Rattle.ledger.specs.declared.Debt.{Debt}
 use Rattle.ledger.specs.declared.Recorded.{Recorded}
 use Rattle.ledger.specs.declared.Recorded.the-variants.{Done, NoRoom}
-use Rattle.ledger.specs.Model.{Ledger, Sound, noDebt, capOf, debtAt, settlesAt, withCursor, withDebt, owes, placeOf, removeAt, append, taken, sweep}
+use Rattle.ledger.specs.Model.{Ledger, Sound, noDebt, capOf, debtAt, settlesAt, settledBy, withCursor, withDebt, owes, placeOf, removeAt, append, taken, roundOf, sweep}
 use Rattle.ledger.specs.Model.{later, recorded, credit, paidDown}
-use Rattle.ledger.proofs.StepLaws.{sweep-keeps, cursor-sound, removal-leaves-room, Owing, found-owes, nowhere-owes-none, taken-cases, paid-cases}
+use Rattle.ledger.proofs.StepLaws.{cursor-sound, removal-leaves-room, Owing, found-owes, nowhere-owes-none, taken-cases, paid-cases}
 use Rattle.ledger.proofs.StepLaws.{sooner-by}
 use Rattle.ledger.proofs.RecordLaws.{Recording, merged, joins, replaces, refused, record-cases, done-is-no-refusal, refusal}
 
@@ -98,19 +100,14 @@ module _ (h : ℕ) (value : ℕ → ℕ) where
 
   -- A sweep never adds, and of what is unsettled it loses nothing.
   pub sweep-never-adds : (at : Nanos) (n : ℕ) (l : Ledger) → Sound l → owed h value (sweep at n l) ≤ owed h value l
-  sweep-never-adds at n l s =
-      sweep-keeps at (λ m. owed h value m ≤ owed h value l)
-      (record { moves = λ m c less. omega (arith, owed-cursor m c); drops = λ m p t below settled less. omega (arith, owed-removed m p t below) })
-      n l s (omega arith)
+  unfolding owed sweep
+  sweep-never-adds at n l s = RoundLaws.sweep-never-adds noDebt (settledBy at) (weigh h value) n (roundOf l) (record { count-fits = s .count-fits })
 
   pub sweep-keeps-unsettled : (at : Nanos) (n : ℕ) (l : Ledger) → Sound l → SettledIsNothing at value → owed h value (sweep at n l) ≡ owed h value l
+  unfolding owed sweep
   sweep-keeps-unsettled at n l s nothing =
-      sweep-keeps at (λ m. owed h value m ≡ owed h value l)
-      (record {
-        moves = λ m c same. omega (arith, owed-cursor m c);
-        drops = λ m p t below settled same. omega (arith, owed-removed m p t below, weigh-settled at nothing (debtAt m p) settled);
-      })
-      n l s refl
+      sweep-keeps-total noDebt (settledBy at) (weigh h value) n (roundOf l) (record { count-fits = s .count-fits })
+      (λ d settled. weigh-settled at nothing d (leb-true _ _ settled))
 
 -- Where lookup finds no debt of the hash, nothing is owed.
 pub nowhere-owes-nothing : (h : ℕ) (value : ℕ → ℕ) (l : Ledger) → placeOf l h ≡ Nowhere → owed h value l ≡ 0

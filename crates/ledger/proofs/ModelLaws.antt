@@ -1,33 +1,34 @@
 -- Laws that the proofs of the code go by: one turn of a loop is one step of the definition that counts the looks left; what a definition is in each
 -- case that the code goes through; and words that are lent stay lent after each call.
-use Prim.Native.Nat.{ℕ, zero, suc, _+_, _-_, _≤_, _<_, min}
+use Prim.Native.Nat.{ℕ, suc, _+_, _-_, _≤_, _<_, min}
 use native.Mathlib.Omega.{arith}
-use native.Mathlib.Nat.{sub-zero}
 use mathlib.Core.Path.{_≡_, refl, ap, sym, _∙_}
 use mathlib.Core.Bool.{Bool, true, false}
 use mathlib.Core.List.{List}
 use lib.ListN.{length}
-use borrow.Author.Tests.{eq-eqb, ne-eqb, lt-ltb, le-ltb, le-leb, lt-leb}
+use borrow.Author.Tests.{lt-ltb, le-ltb, le-leb, lt-leb}
 use Rattle.units.specs.declared.Nanos.{Nanos}
 use Rattle.bucket.specs.declared.BucketConfig.{BucketConfig}
 use Rattle.settings.specs.Eviction.{ledgerScan}
 use Rattle.rows.specs.declared.Place.{Place}
 use Rattle.rows.specs.declared.Place.the-variants.{At, Nowhere}
-use Rattle.rows.specs.Held.{lowestFrom, removed}
+use Rattle.rows.specs.Held.{removed}
+use Rattle.rows.specs.Round as Round
 use Rattle.rows.specs.Outcome.{Outcome, outcome}
 use Rattle.rows.proofs.OutcomeLaws.{answer-is, after-is}
-use Rattle.rows.proofs.LowestLaws.{lowest-hit, lowest-miss, lowest-end}
+use Rattle.rows.proofs.LowestLaws.{Searching, search-begins}
+use Rattle.rows.proofs.RoundLaws.{look-goes, look-stays, look-none, ByLooks}
 use Rattle.ledger.specs.declared.Debt.{Debt}
 use Rattle.ledger.specs.declared.Choice.{Choice}
 use Rattle.ledger.specs.declared.Choice.the-variants.{Settled, Soonest}
 use Rattle.ledger.specs.declared.Recorded.{Recorded}
 use Rattle.ledger.specs.declared.Recorded.the-variants.{Done, NoRoom}
-use Rattle.ledger.specs.Model.{Ledger, Sound, noDebt, capOf, debtAt, settlesAt, cursorOf, withCount, withCursor, withDebt, owes, placeOf, removeAt}
-use Rattle.ledger.specs.Model.{append, takenAt, taken, lookAt, look, sweep, sooner, scanFrom, scan, dropChosen, makeRoom, joined, later, recordedAt}
+use Rattle.ledger.specs.Model.{Ledger, Sound, noDebt, capOf, debtAt, settlesAt, settledBy, cursorOf, withCount, withCursor, withDebt, owes, placeOf, removeAt}
+use Rattle.ledger.specs.Model.{append, takenAt, taken, roundOf, ofRound, look, sweep, sooner, scanFrom, scan, dropChosen, makeRoom, joined, later, recordedAt}
 use Rattle.ledger.specs.Model.{recorded, credit, paidAt, paidDown}
 use Rattle.ledger.specs.Layout.{ledger, Intact}
 use Rattle.ledger.proofs.LayoutLaws.{cap-is}
-use Rattle.ledger.proofs.StepLaws.{cursor-below, found-owes}
+use Rattle.ledger.proofs.StepLaws.{cursor-below, found-owes, look-sound}
 use Rattle.ledger.proofs.RecordLaws.{sooner-is-either, chosen, scan-chooses-held, scan-sound, make-room-sound, make-room-makes-room}
 
 -- Append and removal, store by store, as the code makes them.
@@ -40,26 +41,10 @@ pub remove-by-stores : (l : Ledger) (p : ℕ)
 unfolding removeAt removed
 remove-by-stores l p = refl
 
--- Lookup. `placeFrom l hash i n` is what a search that has come to place i of n will give; the next laws are the steps of its loop.
-unfoldable pub placeFrom : Ledger → ℕ → ℕ → ℕ → Place
-placeFrom l hash i n = lowestFrom (λ j. owes hash (debtAt l j)) i (n - i)
-
-pub place-start : (l : Ledger) (hash : ℕ) → placeFrom l hash 0 (l .debts .count) ≡ placeOf l hash
-unfolding placeFrom placeOf
-place-start l hash = rw sub-zero
-
-module _ (l : Ledger) (hash i n : ℕ) where
-  pub place-hit : i < n → debtAt l i .hash ≡ hash → placeFrom l hash i n ≡ At i
-  unfolding placeFrom
-  place-hit below same = lowest-hit (λ j. owes hash (debtAt l j)) i n below (eq-eqb _ _ same)
-
-  pub place-miss : i < n → (debtAt l i .hash ≡ hash → ⊥) → placeFrom l hash i n ≡ placeFrom l hash (i + 1) n
-  unfolding placeFrom
-  place-miss below other = lowest-miss (λ j. owes hash (debtAt l j)) i n below (ne-eqb _ _ other)
-
-  pub place-end : n ≤ i → placeFrom l hash i n ≡ Nowhere
-  unfolding placeFrom
-  place-end past = lowest-end (λ j. owes hash (debtAt l j)) i n past
+-- Lookup: where its loop begins.
+pub place-begins : (l : Ledger) (hash count : ℕ) → count ≡ l .debts .count → Searching noDebt (l .debts) (owes hash) count 0 (placeOf l hash)
+unfolding placeOf
+place-begins l hash count counted = search-begins noDebt (l .debts) (owes hash) count counted
 
 -- Take and pay down, once lookup has given a place and it is known which.
 module _ (l : Ledger) (hash : ℕ) {place known : Place} (gave : place ≡ placeOf l hash) (is : place ≡ known) where
@@ -71,34 +56,15 @@ module _ (l : Ledger) (hash : ℕ) {place known : Place} (gave : place ≡ place
   unfolding paidDown
   paid-where cost c = rw (← gave, is)
 
--- A look of the sweep: at a settled debt, at an unsettled one, and where there is none.
+-- A look of the sweep at a settled debt, and at an unsettled one.
 module _ (at : Nanos) (l : Ledger) where
   pub look-settled : 0 < l .debts .count → settlesAt l (cursorOf l) .0 ≤ at .0 → removeAt (withCursor l (cursorOf l)) (cursorOf l) ≡ look at l
-  unfolding look lookAt
-  look-settled some settled = rw (ne-eqb (l .debts .count) 0 (omega arith), le-leb _ _ settled)
+  unfolding look removeAt
+  look-settled some settled = ap ofRound (look-goes noDebt (settledBy at) (roundOf l) some (le-leb _ _ settled))
 
   pub look-unsettled : 0 < l .debts .count → at .0 < settlesAt l (cursorOf l) .0 → withCursor l (cursorOf l + 1) ≡ look at l
-  unfolding look lookAt
-  look-unsettled some unsettled = rw (ne-eqb (l .debts .count) 0 (omega arith), lt-leb _ _ unsettled)
-
-  pub look-none : l .debts .count ≡ 0 → look at l ≡ l
   unfolding look
-  look-none none = rw (eq-eqb _ _ none)
-
--- The sweep: one look more, no look left, no debt left.
-module _ (at : Nanos) (l : Ledger) (left : ℕ) where
-  pub sweep-turn : 0 < left → sweep at left l ≡ sweep at (left - 1) (look at l)
-  unfolding sweep
-  sweep-turn some = let e : left ≡ suc (left - 1) = omega arith in ap (λ (n : ℕ). sweep at n l) e
-
-  pub sweep-end : left ≤ 0 → sweep at left l ≡ l
-  unfolding sweep
-  sweep-end none = let e : left ≡ 0 = omega arith in rw e
-
-pub sweep-none : (at : Nanos) (l : Ledger) (left : ℕ) → l .debts .count ≡ 0 → sweep at left l ≡ l
-unfolding sweep
-sweep-none at l zero none = refl
-sweep-none at l (suc left) none = rw (look-none at l none) (sweep-none at l left none)
+  look-unsettled some unsettled = ap ofRound (look-stays noDebt (settledBy at) (roundOf l) some (lt-leb _ _ unsettled))
 
 -- The scan of a full ledger: its start, no look left, a settled debt, an unsettled one.
 pub scan-start : (at : Nanos) (l : Ledger) → scanFrom at (min ledgerScan (l .debts .count)) l (cursorOf l) ≡ scan at l
@@ -155,8 +121,8 @@ module _ (l : Ledger) (d : Debt) (at : Nanos) (forget : Bool) where
   unfolding recordedAt
   recorded-full full made is = rw (le-ltb _ _ full, ← made, is)
 
--- Words that are lent have room for cap debts, and a debt that is held stands below the cap. Where there is a debt the cursor stands at one, and the
--- sooner of two that are held is held.
+-- Words that are lent have room for cap debts, and a debt that is held stands below the cap. Where there is a debt the cursor, as
+-- it is read, stands at one, and the sooner of two that are held is held.
 pub intact-cap : {cap : ℕ} {ws : List ℕ} → Intact cap ws → capOf (ledger cap ws) ≡ cap
 intact-cap {cap} {ws} intact = cap-is cap ws
 
@@ -164,8 +130,8 @@ pub intact-below : {cap : ℕ} {ws : List ℕ} {i : ℕ} → Intact cap ws → i
 intact-below intact below = omega (arith, intact .sound .count-fits, intact-cap intact)
 
 pub intact-cursor : {cap c : ℕ} {ws : List ℕ} → Intact cap ws → 0 < ledger cap ws .debts .count → c ≡ cursorOf (ledger cap ws)
-    → c < ledger cap ws .debts .count
-intact-cursor {cap} {c} {ws} intact some is = rw is (cursor-below (ledger cap ws) some)
+    → (c < ledger cap ws .debts .count) × (c < cap)
+intact-cursor {cap} {c} {ws} intact some is = let below : c < ledger cap ws .debts .count = rw is (cursor-below (ledger cap ws) some) in (below, intact-below intact below)
 
 pub intact-sooner : {cap : ℕ} {ws : List ℕ} {best c : ℕ} → Intact cap ws → best < ledger cap ws .debts .count → c < ledger cap ws .debts .count
     → sooner (ledger cap ws) best c < ledger cap ws .debts .count
@@ -188,6 +154,16 @@ module _ {cap : ℕ} {ws ws′ : List ℕ} (intact : Intact cap ws) (same : leng
 
   pub intact-after-answer : {A : Type 0} {a : A} {o : Outcome A Ledger} → outcome a (ledger cap ws′) ≡ o → Sound (o .after) → Intact cap ws′
   intact-after-answer gave s = intact-after (after-is gave) s
+
+-- The sweep by its looks, for its loop.
+pub sweep-by-looks : (cap : ℕ) (at : Nanos) → ByLooks (Intact cap) (ledger cap) (sweep at) (look at) (λ l. l .debts .count)
+unfolding sweep look Round.sweep
+sweep-by-looks cap at = record {
+  none-left = λ l. refl;
+  one-more = λ n l. refl;
+  no-item = λ l none. ap ofRound (look-none noDebt (settledBy at) (roundOf l) none);
+  stay-lent = λ intact same looked. intact-after intact same looked (look-sound at _ (intact .sound));
+}
 
 -- After a scan the words are still lent, and the place that it chose holds a debt.
 pub record AfterScan (cap : ℕ) (ws : List ℕ) (choice : Choice) : Type 0 where

@@ -1,13 +1,10 @@
--- What lookup by hash says, what the operations leave of the room, and the sweep as steps: it only moves the cursor and drops settled debts, so what
--- both keep a sweep keeps. Laws about sums and lookup go by this and do not open the sweep.
-use Prim.Native.Nat.{ℕ, zero, suc, _-_, _≤_, _<_}
-use mathlib.Core.Path.{_≡_, refl, _∙_}
+-- What lookup by hash says, and what the operations leave of the room.
+use Prim.Native.Nat.{ℕ, _-_, _≤_, _<_}
+use mathlib.Core.Path.{_≡_, refl}
 use mathlib.Core.Bool.{Bool, true, false}
 use native.Mathlib.Omega.{arith}
 use lib.ListN.{length-set}
-use lib.Dec.{eqb}
-use borrow.Author.Tests.{leb-true, eqb-true, eqb-false}
-use Rattle.arith.proofs.Cases.{by-test}
+use borrow.Author.Tests.{eqb-true, eqb-false}
 use Rattle.units.specs.declared.Nanos.{Nanos}
 use Rattle.units.specs.declared.OptionNanos.{OptionNanos}
 use Rattle.units.specs.declared.OptionNanos.the-variants.{None, Some}
@@ -15,11 +12,14 @@ use Rattle.bucket.specs.declared.BucketConfig.{BucketConfig}
 use Rattle.rows.specs.declared.Place.{Place}
 use Rattle.rows.specs.declared.Place.the-variants.{At, Nowhere}
 use Rattle.rows.specs.Outcome.{Outcome, outcome}
+use Rattle.rows.specs.Round as Round
+use Rattle.rows.proofs.RoundLaws as RoundLaws
+use Rattle.rows.proofs.RoundLaws.{sweep-length}
 use Rattle.rows.proofs.HeldLaws.{wrapped-below, removed-count, removed-length}
 use Rattle.rows.proofs.LowestLaws.{found-passes, nowhere-passes-none}
 use Rattle.ledger.specs.declared.Debt.{Debt}
-use Rattle.ledger.specs.Model.{Ledger, Sound, noDebt, capOf, debtAt, hasSettled, settlesAt, cursorOf, withCursor, withDebt, owes, placeOf, removeAt}
-use Rattle.ledger.specs.Model.{append, owedAt, owedBy, takenAt, taken, lookAt, look, sweep, credit, paidAt, paidDown}
+use Rattle.ledger.specs.Model.{Ledger, Sound, noDebt, capOf, debtAt, settledBy, cursorOf, withCursor, withDebt, owes, placeOf, removeAt}
+use Rattle.ledger.specs.Model.{append, owedAt, owedBy, takenAt, taken, roundOf, look, sweep, credit, paidAt, paidDown}
 
 -- The cursor, as it is read, stands at a debt.
 pub cursor-below : (l : Ledger) → 0 < l .debts .count → cursorOf l < l .debts .count
@@ -107,41 +107,19 @@ paid-sound l h cost c s = paid-cases l h cost c (λ o. Sound (o .after)) (λ p e
 pub paid-cap : (l : Ledger) (h cost : ℕ) (c : BucketConfig) → capOf (paidDown l h cost c .after) ≡ capOf l
 paid-cap l h cost c = paid-cases l h cost c (λ o. capOf (o .after) ≡ capOf l) (λ p e. simp length-set) (λ e. refl)
 
--- Q is kept by the two steps of a sweep: the cursor moves, and a settled debt leaves.
-pub record KeptBySteps (at : Nanos) (Q : Ledger → Type 0) : Type 0 where
-  pub moves : (l : Ledger) (c : ℕ) → Q l → Q (withCursor l c)
-  pub drops : (l : Ledger) (p : ℕ) → Sound l → p < l .debts .count → settlesAt l p .0 ≤ at .0 → Q l → Q (removeAt l p)
+-- A sweep leaves a sound ledger with the same room, and no more debts than there were. So does a look, which is a sweep of one look.
+module _ (at : Nanos) (n : ℕ) (l : Ledger) where
+  pub sweep-cap : capOf (sweep at n l) ≡ capOf l
+  unfolding sweep
+  sweep-cap = sweep-length noDebt (settledBy at) n (roundOf l)
 
-look-keeps : (at : Nanos) (Q : Ledger → Type 0) → KeptBySteps at Q → (l : Ledger) → Sound l → Q l → Q (look at l)
-unfolding look lookAt
-look-keeps at Q k l s q =
-    by-test (eqb (l .debts .count) 0)
-    (λ none. rw (none, look) q)
-    (λ some. by-test (hasSettled at l (cursorOf l))
-    (λ settled.
-    let below : cursorOf l < l .debts .count = cursor-below l (omega (arith, eqb-false (l .debts .count) 0 some)) in
-    rw (some, look, settled, lookAt) (k .drops (withCursor l _) (cursorOf l) (cursor-sound l _ s) below (leb-true _ _ settled) (k .moves l _ q)))
-    (λ unsettled. rw (some, look, unsettled, lookAt) (k .moves l _ q)))
+  pub sweep-count : sweep at n l .debts .count ≤ l .debts .count
+  unfolding sweep
+  sweep-count = RoundLaws.sweep-count noDebt (settledBy at) n (roundOf l)
 
-sound-by-steps : {at : Nanos} → KeptBySteps at Sound
-sound-by-steps = record { moves = cursor-sound; drops = λ m p t below settled u. removal-sound m p t }
+  pub sweep-sound : Sound l → Sound (sweep at n l)
+  sweep-sound s = record { room = omega (arith, sweep-cap); count-fits = omega (arith, sweep-cap, sweep-count) }
 
 pub look-sound : (at : Nanos) (l : Ledger) → Sound l → Sound (look at l)
-look-sound at l s = look-keeps at Sound sound-by-steps l s s
-
--- What the steps keep a sweep keeps.
-pub sweep-keeps : (at : Nanos) (Q : Ledger → Type 0) → KeptBySteps at Q → (n : ℕ) (l : Ledger) → Sound l → Q l → Q (sweep at n l)
-unfolding sweep
-sweep-keeps at Q k zero l s q = q
-sweep-keeps at Q k (suc n) l s q = sweep-keeps at Q k n (look at l) (look-sound at l s) (look-keeps at Q k l s q)
-
--- A sweep leaves a sound ledger with the same room, and no more debts than there were.
-pub sweep-sound : (at : Nanos) (n : ℕ) (l : Ledger) → Sound l → Sound (sweep at n l)
-sweep-sound at n l s = sweep-keeps at Sound sound-by-steps n l s s
-
-pub sweep-cap : (at : Nanos) (n : ℕ) (l : Ledger) → Sound l → capOf (sweep at n l) ≡ capOf l
-sweep-cap at n l s = sweep-keeps at (λ m. capOf m ≡ capOf l) (record { moves = λ m c same. same; drops = λ m p t below settled same. removal-cap m p ∙ same }) n l s refl
-
-pub sweep-count : (at : Nanos) (n : ℕ) (l : Ledger) → Sound l → sweep at n l .debts .count ≤ l .debts .count
-sweep-count at n l s =
-    sweep-keeps at (λ m. m .debts .count ≤ l .debts .count) (record { moves = λ m c fewer. fewer; drops = λ m p t below settled fewer. omega (arith, removal-count m p) }) n l s (omega arith)
+unfolding look sweep Round.sweep
+look-sound at l s = sweep-sound at 1 l s

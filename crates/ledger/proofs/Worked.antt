@@ -9,10 +9,11 @@ use Rattle.units.specs.declared.OptionNanos.the-variants.{Some}
 use Rattle.bucket.specs.declared.BucketConfig.{BucketConfig}
 use Rattle.settings.specs.Eviction.{ledgerScan}
 use Rattle.rows.specs.Held.{lowestFrom, removed}
+use Rattle.rows.specs.Round as Round
 use Rattle.rows.specs.Outcome.{outcome}
 use Rattle.ledger.specs.declared.Debt.{Debt}
 use Rattle.ledger.specs.declared.Recorded.the-variants.{Done, NoRoom}
-use Rattle.ledger.specs.Model.{Ledger, noDebt, placeOf, removeAt, append, taken, lookAt, look, sweep, scanFrom, scan, dropChosen, makeRoom, recordedAt}
+use Rattle.ledger.specs.Model.{Ledger, noDebt, placeOf, removeAt, append, taken, sweep, scanFrom, scan, dropChosen, makeRoom, recordedAt}
 use Rattle.ledger.specs.Model.{recorded, paidDown}
 
 -- A moment by its nanoseconds.
@@ -28,27 +29,27 @@ holding count cursor places = record { debts = record { count = count; places = 
 
 -- Two looks from place 1 at moment 5: the settled debt there goes, the last one moves into the gap, is looked at next, and goes too.
 sweep-looks-at-the-moved-debt : sweep (moment 5) 2 (holding 3 1 (owing 1 10 ∷ owing 2 5 ∷ owing 3 5 ∷ [])) ≡ holding 1 1 (owing 1 10 ∷ noDebt ∷ noDebt ∷ [])
-unfolding sweep look lookAt removeAt removed
+unfolding sweep Round.sweep Round.look Round.lookAt removed
 sweep-looks-at-the-moved-debt = refl
 
 -- An unsettled debt stays and the cursor advances; past the last debt the looks go on from the first.
 sweep-goes-round : sweep (moment 5) 3 (holding 3 2 (owing 1 4 ∷ owing 2 10 ∷ owing 3 10 ∷ [])) ≡ holding 2 1 (owing 3 10 ∷ owing 2 10 ∷ noDebt ∷ [])
-unfolding sweep look lookAt removeAt removed
+unfolding sweep Round.sweep Round.look Round.lookAt removed
 sweep-goes-round = refl
 
 -- A sweep takes its looks, and no more: of settled debts one more than there are looks, one is left.
 a-sweep-takes-its-looks :
     sweep (moment 5) ledgerScan (holding (ledgerScan + 1) 0 (replicate (ledgerScan + 1) (owing 1 5))) ≡ holding 1 0 (owing 1 5 ∷ replicate ledgerScan noDebt)
-unfolding sweep look lookAt removeAt removed
+unfolding sweep Round.sweep Round.look Round.lookAt removed
 a-sweep-takes-its-looks = refl
 
 -- The looks end once no debt is left, and the cursor stays as it is.
 sweep-ends-when-empty : sweep (moment 5) ledgerScan (holding 1 0 (owing 1 5 ∷ noDebt ∷ [])) ≡ holding 0 0 (noDebt ∷ noDebt ∷ [])
-unfolding sweep look lookAt removeAt removed
+unfolding sweep Round.sweep Round.look Round.lookAt removed
 sweep-ends-when-empty = refl
 
 empty-sweep-leaves-the-cursor : sweep (moment 5) ledgerScan (holding 0 7 (noDebt ∷ [])) ≡ holding 0 7 (noDebt ∷ [])
-unfolding sweep look lookAt removeAt removed
+unfolding sweep Round.sweep Round.look Round.lookAt removed
 empty-sweep-leaves-the-cursor = refl
 
 -- A hash that is there keeps the later moment, in a full ledger too and without a look.

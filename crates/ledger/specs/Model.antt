@@ -12,6 +12,8 @@ use Rattle.settings.specs.Eviction.{ledgerScan}
 use Rattle.rows.specs.declared.Place.{Place}
 use Rattle.rows.specs.declared.Place.the-variants.{At, Nowhere}
 use Rattle.rows.specs.Held.{Held, wrapped, itemAt, position, removed, appended, stored}
+use Rattle.rows.specs.Round.{Round}
+use Rattle.rows.specs.Round as Round
 use Rattle.rows.specs.Outcome.{Outcome, outcome}
 use Rattle.ledger.specs.declared.Debt.{Debt}
 use Rattle.ledger.specs.declared.Choice.{Choice}
@@ -44,9 +46,12 @@ debtAt l i = itemAt noDebt (l .debts) i
 abbrev pub settlesAt : Ledger → ℕ → Nanos
 settlesAt l i = debtAt l i .settles
 
--- Whether the debt at a place has settled by a moment: it settles then or before.
+-- Whether a debt, and the debt at a place, has settled by a moment: it settles then or before.
+abbrev pub settledBy : Nanos → Debt → Bool
+settledBy at d = leb (d .settles .0) (at .0)
+
 abbrev pub hasSettled : Nanos → Ledger → ℕ → Bool
-hasSettled at l i = leb (settlesAt l i .0) (at .0)
+hasSettled at l i = settledBy at (debtAt l i)
 
 -- The cursor as it is read: the first place where it stands at or past the count.
 abbrev pub cursorOf : Ledger → ℕ
@@ -94,18 +99,19 @@ takenAt l Nowhere = outcome None l
 unfoldable pub taken : Ledger → ℕ → Outcome OptionNanos Ledger
 taken l hash = takenAt l (placeOf l hash)
 
--- A look of the sweep, at place c: a settled debt goes, and what moves into its place is looked at next; else the cursor advances.
-unfoldable pub lookAt : Nanos → Ledger → ℕ → Ledger
-lookAt at l c = cond (hasSettled at l c) (removeAt (withCursor l c) c) (withCursor l (c + 1))
+-- The sweep goes round the debts from the cursor on.
+abbrev pub roundOf : Ledger → Round Debt
+roundOf l = record { items = l .debts; next = l .cursor }
 
--- The next look; there is none where no debt is left.
+abbrev pub ofRound : Round Debt → Ledger
+ofRound r = record { debts = r .items; cursor = r .next }
+
+-- The next look of the sweep, and a sweep of n looks: settled debts go.
 unfoldable pub look : Nanos → Ledger → Ledger
-look at l = cond (eqb (l .debts .count) 0) l (lookAt at l (cursorOf l))
+look at l = ofRound (Round.look noDebt (settledBy at) (roundOf l))
 
--- The sweep: so many looks, going round again if need be.
 unfoldable pub sweep : Nanos → ℕ → Ledger → Ledger
-sweep at zero l = l
-sweep at (suc left) l = sweep at left (look at l)
+sweep at n l = ofRound (Round.sweep noDebt (settledBy at) n (roundOf l))
 
 -- Of two debts, the place of the one that settles sooner; `best` where both settle at one moment.
 abbrev pub sooner : Ledger → ℕ → ℕ → ℕ

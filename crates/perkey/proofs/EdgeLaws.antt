@@ -5,6 +5,7 @@ use Rattle.arith.specs.Arith.{ceilDiv}
 use Rattle.rows.specs.Rows.{rows, unrow}
 use Rattle.rows.specs.Layout.{heldIn}
 use Rattle.rows.specs.Held.{lowestFrom, removed}
+use Rattle.rows.specs.Round as Round
 use Rattle.bucket.specs.Bucket.{shortfallAt, availableAt, waitAt, asked}
 use Rattle.bucket.specs.Debt.{takenOut, lacking, restored}
 use Rattle.settings.specs.Rate as Rate
@@ -21,11 +22,11 @@ use Rattle.perkey.specs.Rules as Rules
 use Rattle.perkey.specs.Edges.{allHold, edges}
 
 pub every-edge-holds : allHold edges ≡ true
-unfolding ceilDiv rows unrow heldIn lowestFrom removed shortfallAt availableAt waitAt asked takenOut lacking restored
+unfolding ceilDiv rows unrow heldIn lowestFrom removed Round.lookAt Round.look Round.sweep shortfallAt availableAt waitAt asked takenOut lacking restored
     Rate.unlessWithin Rate.rateRefusal Settings.sizeRefusal Settings.firstRefusal Settings.doubledUpTo hashFrom
-    Debts.ledger Debts.wordsOf Ledger.placeOf Ledger.removeAt Ledger.append Ledger.owedBy Ledger.taken Ledger.lookAt Ledger.look Ledger.sweep
+    Debts.ledger Debts.wordsOf Ledger.placeOf Ledger.removeAt Ledger.append Ledger.owedBy Ledger.taken Ledger.sweep
     Ledger.scanFrom Ledger.scan Ledger.dropChosen Ledger.makeRoom Ledger.recordedAt Ledger.recorded Ledger.paidDown
-    Layout.shard Layout.wordsOf Shard.placeOf Shard.removeAt Shard.insert Shard.idleLookAt Shard.idleLook Shard.sweepIdle
+    Layout.shard Layout.wordsOf Shard.placeOf Shard.removeAt Shard.insert Shard.sweepIdle
     noted walkFrom walked evicted OneShard.makeRoom OneShard.withExisting OneShard.admit OneShard.withOrInsert OneShard.viewed OneShard.refunded
     Refusals.memoryRefusal Refusals.countRefusal Refusals.momentRefusal
     Rules.unlessRefused Rules.setUp Rules.unlessTrivial Rules.tryAcquire Rules.available Rules.refund

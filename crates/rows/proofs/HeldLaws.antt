@@ -53,6 +53,9 @@ module _ {A : Type 0} (free : A) where
   unfolding removed
   removed-length h p = simp length-set
 
+  pub removed-sound : (h : Held A) (p : ℕ) → Sound h → Sound (removed free h p)
+  removed-sound h p s = record { count-fits = omega (arith, s .count-fits, removed-count h p, removed-length h p) }
+
   -- The weights: a stored item changes its own, an appended one adds its own, a removed one takes its own away.
   pub total-stored : (w : A → ℕ) (h : Held A) (i : ℕ) (x : A) → Sound h → i < h .count
       → total free w (stored h i x) + w (itemAt free h i) ≡ total free w h + w x

@@ -3,6 +3,7 @@ pub mod RowLaws
 pub mod SumLaws
 pub mod LowestLaws
 pub mod HeldLaws
+pub mod RoundLaws
 pub mod LayoutLaws
 pub mod OutcomeLaws
 pub mod ReadBack

@@ -1,5 +1,6 @@
 pub mod Segments
 pub mod Rows
 pub mod Held
+pub mod Round
 pub mod Layout
 pub mod Outcome

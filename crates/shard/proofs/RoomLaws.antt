@@ -52,8 +52,8 @@ module _ (p : Policy) (at : Nanos) where
 
   ledger-cap-by-sweeps : (cap : ℕ) → KeptBySweeps p at (λ s. Ledger.capOf (s .ledger) ≡ cap)
   ledger-cap-by-sweeps cap = record {
-    idle = λ s limit u same. rw (sweep-idle-ledger (p .config) at limit ttlSweep s u) same;
-    ledger = λ s u same. LedgerSteps.sweep-cap at ledgerScan (s .ledger) (u .ledger) ∙ same;
+    idle = λ s limit u same. rw (sweep-idle-ledger (p .config) at limit ttlSweep s) same;
+    ledger = λ s u same. LedgerSteps.sweep-cap at ledgerScan (s .ledger) ∙ same;
   }
 
 -- What a refusal says: the ledger is full, nothing may be forgotten, and the wait is at least a millisecond.
@@ -88,8 +88,8 @@ module _ (p : Policy) (at : Nanos) (s : Shard) (u : Sound s) where
   swept-ledger-count =
       swept-keeps (λ t. t .ledger .debts .count ≤ s .ledger .debts .count)
       (record {
-        idle = λ t limit v fewer. rw (sweep-idle-ledger (p .config) at limit ttlSweep t v) fewer;
-        ledger = λ t v fewer. omega (arith, LedgerSteps.sweep-count at ledgerScan (t .ledger) (v .ledger));
+        idle = λ t limit v fewer. rw (sweep-idle-ledger (p .config) at limit ttlSweep t) fewer;
+        ledger = λ t v fewer. omega (arith, LedgerSteps.sweep-count at ledgerScan (t .ledger));
       })
       (omega arith)
 
@@ -113,7 +113,7 @@ module _ (p : Policy) (at : Nanos) (s : Shard) (u : Sound s) where
   pub room-cap : capOf (makeRoom p at s .after) ≡ capOf s
   room-cap =
       room-keeps (λ t. capOf t ≡ capOf s)
-      (record { idle = λ t limit v same. sweep-idle-cap (p .config) at limit ttlSweep t v ∙ same; ledger = λ t v same. same })
+      (record { idle = λ t limit v same. sweep-idle-cap (p .config) at limit ttlSweep t ∙ same; ledger = λ t v same. same })
       (λ t v some same. evict-cap (p .config) at (p .«forget_debt») t v some ∙ same) refl
 
   pub room-ledger-cap : Ledger.capOf (makeRoom p at s .after .ledger) ≡ Ledger.capOf (s .ledger)

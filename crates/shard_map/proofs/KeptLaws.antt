@@ -3,7 +3,7 @@
 -- first and, while that is at most 1, never lowers the second: this is how no debt is lost. Layers above add up these laws and look at no place.
 use Prim.Native.Nat.{ℕ, _+_, _*_, _-_, _≤_, _<_, min}
 use mathlib.Core.Path.{_≡_, _∙_, ap}
-use mathlib.Core.Bool.{cond}
+use mathlib.Core.Bool.{true, cond}
 use native.Mathlib.Nat.{mul-le-mul-left, mul-le-mul-right, sub-self}
 use native.Mathlib.Omega.{arith}
 use lib.Dec.{eqb}
@@ -20,12 +20,15 @@ use Rattle.bucket.proofs.DebtLaws.{restored-fresh}
 use Rattle.rows.specs.declared.Place.the-variants.{Nowhere}
 use Rattle.rows.specs.Held.{total}
 use Rattle.rows.proofs.SumLaws.{sum-le, term-le-sum, sum-of-zeros}
+use Rattle.rows.proofs.RoundLaws as RoundLaws
+use Rattle.rows.proofs.RoundLaws.{sweep-keeps-total}
+use Rattle.rows.proofs.HeldLaws as Held
 use Rattle.rows.proofs.HeldLaws.{total-stored, total-appended, total-removed}
 use Rattle.slot.specs.declared.Slot.{Slot}
 use Rattle.ledger.specs.Model as Ledger
 use Rattle.ledger.proofs.KeptLaws.{weigh, owed, one, SettledIsNothing, sweep-never-adds, sweep-keeps-unsettled, owed-by-another-value, none-owed-nothing-owed}
-use Rattle.shard_map.specs.Model.{Shard, Sound, noSlot, capOf, slotAt, withSlot, withLedger, placeOf, removeAt, insert, sweepIdle}
-use Rattle.shard_map.proofs.StepLaws.{Holding, nowhere-holds-none, removal-ledger, reclaimable-is-full, sweep-idle-keeps}
+use Rattle.shard_map.specs.Model.{Shard, Sound, noSlot, capOf, slotAt, withSlot, withLedger, placeOf, removeAt, insert, reclaimable, roundOf, sweepIdle}
+use Rattle.shard_map.proofs.StepLaws.{Holding, nowhere-holds-none, removal-ledger, reclaimable-is-full}
 
 -- What a slot counts for the identity (h, k), and what it lacks at a moment if its hash is h.
 unfoldable pub weight : ℕ → ℕ → Slot → ℕ
@@ -168,13 +171,15 @@ module _ (c : BucketConfig) (h k : ℕ) where
 
   -- The sweeps.
   pub sweep-idle-keeps-shortage : (at : Nanos) (limit : Millis) (n : ℕ) (s : Shard) → Sound s → Keeps c h k at s (sweepIdle c at limit n s)
+  unfolding sweepIdle
   sweep-idle-keeps-shortage at limit n s u =
-      sweep-idle-keeps c at limit (Keeps c h k at s)
-      (record {
-        moves = λ t p kept. record { fewer = kept .fewer; more = kept .more };
-        drops = λ t p v below goes kept. keeps-trans at s t (removeAt t p) kept (full-slot-loses-nothing at t p v below (reclaimable-is-full c at limit (slotAt t p) goes));
-      })
-      n s u (keeps-refl at s)
+      let sound : Held.Sound (s .slots) = record { count-fits = u .count-fits } in
+      let weightless : (slot : Slot) → reclaimable c at limit slot ≡ true → short c h at slot ≡ 0 =
+      λ slot goes. short-full c h at slot (reclaimable-is-full c at limit slot goes) in
+      record {
+        fewer = omega (arith, RoundLaws.sweep-never-adds noSlot (reclaimable c at limit) (weight h k) n (roundOf s) sound);
+        more = λ single. omega (arith, sweep-keeps-total noSlot (reclaimable c at limit) (short c h at) n (roundOf s) sound weightless);
+      }
 
   pub ledger-sweep-keeps-shortage : (at : Nanos) (n : ℕ) (s : Shard) → Sound s → Keeps c h k at s (withLedger s (Ledger.sweep at n (s .ledger)))
   ledger-sweep-keeps-shortage at n s u = record {

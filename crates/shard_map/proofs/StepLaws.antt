@@ -1,12 +1,10 @@
--- What lookup by hash and key says, what the steps leave of the room, and the idle sweep as steps: it only moves the sweep and drops slots that may be
--- reclaimed, so what both keep an idle sweep keeps. Laws about sums go by this and do not open the sweep.
-use Prim.Native.Nat.{ℕ, zero, suc, _+_, _-_, _<_}
+-- What lookup by hash and key says, and what the steps leave of the room.
+use Prim.Native.Nat.{ℕ, _+_, _-_, _<_}
 use mathlib.Core.Path.{_≡_, refl, sym, _∙_}
 use mathlib.Core.Bool.{true, false, true≢false}
 use native.Mathlib.Omega.{arith}
 use lib.ListN.{length-set}
-use lib.Dec.{eqb}
-use borrow.Author.Tests.{eqb-true, eqb-false}
+use borrow.Author.Tests.{eqb-true}
 use Rattle.arith.proofs.Cases.{by-test}
 use Rattle.units.specs.declared.Nanos.{Nanos}
 use Rattle.units.specs.declared.Millis.{Millis}
@@ -14,6 +12,8 @@ use Rattle.units.specs.Units.{millisOf}
 use Rattle.bucket.specs.declared.BucketConfig.{BucketConfig}
 use Rattle.bucket.specs.Bucket.{shortfallAt}
 use Rattle.rows.specs.declared.Place.the-variants.{At, Nowhere}
+use Rattle.rows.specs.Round as Round
+use Rattle.rows.proofs.RoundLaws.{sweep-length, sweep-count}
 use Rattle.rows.proofs.HeldLaws.{wrapped-below, removed-count, removed-length}
 use Rattle.rows.proofs.LowestLaws.{found-passes, nowhere-passes-none}
 use Rattle.slot.specs.declared.Slot.{Slot}
@@ -21,7 +21,7 @@ use Rattle.slot.specs.Slot.{isKey, expired}
 use Rattle.slot.proofs.SlotLaws.{is-key-iff}
 use Rattle.ledger.specs.Model as Ledger
 use Rattle.shard_map.specs.Model.{Shard, Sound, noSlot, capOf, slotAt, withSlot, withSweep, withLedger, handOf, sweepOf, placeOf, removeAt, insert}
-use Rattle.shard_map.specs.Model.{reclaimable, idleLookAt, idleLook, sweepIdle}
+use Rattle.shard_map.specs.Model.{reclaimable, roundOf, idleLook, sweepIdle}
 
 -- The hand and the sweep, as they are read, stand at a slot.
 pub hand-below : (s : Shard) → 0 < s .slots .count → handOf s < s .slots .count
@@ -107,40 +107,22 @@ ledger-sound s l t u = record { room = t .room; count-fits = t .count-fits; ledg
 pub reclaimable-is-full : (c : BucketConfig) (at : Nanos) (limit : Millis) (slot : Slot) → reclaimable c at limit slot ≡ true → shortfallAt c (slot .bucket) at ≡ 0
 reclaimable-is-full c at limit slot = by-test (expired slot (millisOf at) limit) (λ t. rw t (λ full. eqb-true _ _ full)) (λ t. rw t (λ e. cc))
 
--- Q is kept by the two steps of an idle sweep: the sweep moves, and a slot that may be reclaimed leaves.
-pub record KeptByIdleSteps (c : BucketConfig) (at : Nanos) (limit : Millis) (Q : Shard → Type 0) : Type 0 where
-  pub moves : (s : Shard) (p : ℕ) → Q s → Q (withSweep s p)
-  pub drops : (s : Shard) (p : ℕ) → Sound s → p < s .slots .count → reclaimable c at limit (slotAt s p) ≡ true → Q s → Q (removeAt s p)
-
+-- An idle sweep leaves a sound shard with the same room and the same ledger. So does a look, which is an idle sweep of one look.
 module _ (c : BucketConfig) (at : Nanos) (limit : Millis) where
-  idle-look-keeps : (Q : Shard → Type 0) → KeptByIdleSteps c at limit Q → (s : Shard) → Sound s → Q s → Q (idleLook c at limit s)
-  unfolding idleLook idleLookAt
-  idle-look-keeps Q k s t q =
-      by-test (eqb (s .slots .count) 0)
-      (λ none. rw (none, idleLook) q)
-      (λ some. by-test (reclaimable c at limit (slotAt s (sweepOf s)))
-      (λ goes.
-      let below : sweepOf s < s .slots .count = sweep-below s (omega (arith, eqb-false (s .slots .count) 0 some)) in
-      rw (some, idleLook, goes, idleLookAt) (k .drops (withSweep s _) (sweepOf s) (sweep-sound s _ t) below goes (k .moves s _ q)))
-      (λ stays. rw (some, idleLook, stays, idleLookAt) (k .moves s _ q)))
-
-  sound-by-steps : KeptByIdleSteps c at limit Sound
-  sound-by-steps = record { moves = λ s p t. sweep-sound s p t; drops = λ s p t below goes u. removal-sound s p t }
-
-  -- What the steps keep an idle sweep keeps.
-  pub sweep-idle-keeps : (Q : Shard → Type 0) → KeptByIdleSteps c at limit Q → (n : ℕ) (s : Shard) → Sound s → Q s → Q (sweepIdle c at limit n s)
+  pub sweep-idle-cap : (n : ℕ) (s : Shard) → capOf (sweepIdle c at limit n s) ≡ capOf s
   unfolding sweepIdle
-  sweep-idle-keeps Q k zero s t q = q
-  sweep-idle-keeps Q k (suc n) s t q = sweep-idle-keeps Q k n (idleLook c at limit s) (idle-look-keeps Sound sound-by-steps s t t) (idle-look-keeps Q k s t q)
+  sweep-idle-cap n s = sweep-length noSlot (reclaimable c at limit) n (roundOf s)
 
-  -- It leaves a sound shard with the same room and the same ledger.
+  pub sweep-idle-ledger : (n : ℕ) (s : Shard) → sweepIdle c at limit n s .ledger ≡ s .ledger
+  unfolding sweepIdle
+  sweep-idle-ledger n s = refl
+
   pub sweep-idle-sound : (n : ℕ) (s : Shard) → Sound s → Sound (sweepIdle c at limit n s)
-  sweep-idle-sound n s t = sweep-idle-keeps Sound sound-by-steps n s t t
+  unfolding sweepIdle
+  sweep-idle-sound n s t =
+      let fewer = sweep-count noSlot (reclaimable c at limit) n (roundOf s) in
+      record { room = omega (arith, sweep-idle-cap n s, t .room); count-fits = omega (arith, sweep-idle-cap n s, t .count-fits); ledger = t .ledger }
 
-  pub sweep-idle-cap : (n : ℕ) (s : Shard) → Sound s → capOf (sweepIdle c at limit n s) ≡ capOf s
-  sweep-idle-cap n s t =
-      sweep-idle-keeps (λ u. capOf u ≡ capOf s) (record { moves = λ u p same. same; drops = λ u p v below goes same. removal-cap u p ∙ same }) n s t refl
-
-  pub sweep-idle-ledger : (n : ℕ) (s : Shard) → Sound s → sweepIdle c at limit n s .ledger ≡ s .ledger
-  sweep-idle-ledger n s t =
-      sweep-idle-keeps (λ u. u .ledger ≡ s .ledger) (record { moves = λ u p same. same; drops = λ u p v below goes same. removal-ledger u p ∙ same }) n s t refl
+  pub idle-look-sound : (s : Shard) → Sound s → Sound (idleLook c at limit s)
+  unfolding idleLook sweepIdle Round.sweep
+  idle-look-sound s t = sweep-idle-sound 1 s t

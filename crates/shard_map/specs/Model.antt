@@ -1,14 +1,15 @@
 -- One shard: the slots of its keys, the hand and the sweep that go round them, and the ledger. No word offset stands here.
-use Prim.Native.Nat.{ℕ, zero, suc, _+_, _≤_, _<_}
+use Prim.Native.Nat.{ℕ, _≤_, _<_}
 use mathlib.Core.Bool.{Bool, false, cond}
 use lib.ListN.{length}
-use lib.Dec.{eqb}
 use Rattle.units.specs.declared.Nanos.{Nanos}
 use Rattle.units.specs.declared.Millis.{Millis}
 use Rattle.units.specs.Units.{millisOf}
 use Rattle.bucket.specs.declared.BucketConfig.{BucketConfig}
 use Rattle.rows.specs.declared.Place.{Place}
 use Rattle.rows.specs.Held.{Held, wrapped, itemAt, position, removed, appended, stored}
+use Rattle.rows.specs.Round.{Round}
+use Rattle.rows.specs.Round as Round
 use Rattle.rows.specs.Outcome.{Outcome, outcome}
 use Rattle.slot.specs.declared.Slot.{Slot}
 use Rattle.slot.specs.Slot.{isKey, touched, expired, lossless}
@@ -85,15 +86,16 @@ touchAt s p stamp track = withSlot s p (touched (slotAt s p) stamp track)
 abbrev pub reclaimable : BucketConfig → Nanos → Millis → Slot → Bool
 reclaimable c at limit slot = cond (expired slot (millisOf at) limit) (lossless c slot at) false
 
--- A look of the idle sweep, at place p: such a slot goes, and what moves into its place is looked at next; else the sweep advances.
-unfoldable pub idleLookAt : BucketConfig → Nanos → Millis → Shard → ℕ → Shard
-idleLookAt c at limit s p = cond (reclaimable c at limit (slotAt s p)) (removeAt (withSweep s p) p) (withSweep s (p + 1))
+-- The idle sweep goes round the slots from the sweep's place on.
+abbrev pub roundOf : Shard → Round Slot
+roundOf s = record { items = s .slots; next = s .sweep }
 
--- The next look; there is none where no slot is left.
+abbrev pub withRound : Shard → Round Slot → Shard
+withRound s r = record { slots = r .items; hand = s .hand; sweep = r .next; ledger = s .ledger }
+
+-- The next look of the idle sweep, and an idle sweep of n looks: slots that may be reclaimed go.
 unfoldable pub idleLook : BucketConfig → Nanos → Millis → Shard → Shard
-idleLook c at limit s = cond (eqb (s .slots .count) 0) s (idleLookAt c at limit s (sweepOf s))
+idleLook c at limit s = withRound s (Round.look noSlot (reclaimable c at limit) (roundOf s))
 
--- The idle sweep: so many looks, going round again if need be.
 unfoldable pub sweepIdle : BucketConfig → Nanos → Millis → ℕ → Shard → Shard
-sweepIdle c at limit zero s = s
-sweepIdle c at limit (suc left) s = sweepIdle c at limit left (idleLook c at limit s)
+sweepIdle c at limit n s = withRound s (Round.sweep noSlot (reclaimable c at limit) n (roundOf s))

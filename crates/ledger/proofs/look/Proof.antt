@@ -3,7 +3,7 @@ use Prim.Native.Nat.{_<_}
 use native.Mathlib.Omega.{arith}
 use Rattle.ledger.specs.Layout.{ledger}
 use Rattle.ledger.proofs.StepLaws.{cursor-sound}
-use Rattle.ledger.proofs.ModelLaws.{look-settled, look-unsettled, intact-below, intact-cursor, intact-after}
+use Rattle.ledger.proofs.ModelLaws.{look-settled, look-unsettled, intact-cursor, intact-after}
 use borrow.Author.Needs.{needs}
 use Rattle.ledger.proofs.look.Statement.{statement}
 use Rattle.ledger.proofs.look.Tie as tie
@@ -15,18 +15,15 @@ start k = k .before .before .before
 abbrev looked : tie.After-set-cursor → tie.After-cursor
 looked s = s .before .before .before .before .before .before .before
 
--- The cursor stands at a debt.
-cursor-held : (k : tie.After-cursor) → let a = start k .args in k .cursor .result < ledger (a .cap) (a .ws .now) .debts .count
-cursor-held k = intact-cursor (start k .pre .0) (start k .pre .1) (k .cursor .ensures)
+-- The cursor stands at a debt, below the cap.
+held : (k : tie.After-cursor) → let a = start k .args in (k .cursor .result < ledger (a .cap) (a .ws .now) .debts .count) × (k .cursor .result < a .cap)
+held k = intact-cursor (start k .pre .0) (start k .pre .1) (k .cursor .ensures)
 
 cursor-requires : tie.Need-cursor-requires
 cursor-requires c κs = search needs
 
 settles-at-requires : tie.Need-settles-at-requires
-settles-at-requires c κs =
-    let k = c .before in
-    let intact = start k .pre .0 in
-    (intact .size, intact-below intact (cursor-held k))
+settles-at-requires c κs = (start (c .before) .pre .0 .size, held (c .before) .1)
 
 set-cursor-requires : tie.Need-set-cursor-requires
 set-cursor-requires c κs = search needs
@@ -36,12 +33,10 @@ remove-at-requires c κs =
     let stored = c .before .before .before in
     let intact = start (looked stored) .pre .0 in
     let still-intact = intact-after intact (stored .set-cursor .kept .0) (stored .set-cursor .ensures) (cursor-sound _ _ (intact .sound)) in
-    (still-intact, rw (stored .set-cursor .ensures) (cursor-held (looked stored)))
+    (still-intact, rw (stored .set-cursor .ensures) (held (looked stored) .0))
 
 add-set-cursor : tie.Need-add-set-cursor
-add-set-cursor c =
-    let k = c .before .before .before .before .before .before in
-    omega (arith, intact-below (start k .pre .0) (cursor-held k))
+add-set-cursor c = omega (arith, held (c .before .before .before .before .before .before) .1)
 
 set-cursor-requires-2 : tie.Need-set-cursor-requires-2
 set-cursor-requires-2 c κs = search needs

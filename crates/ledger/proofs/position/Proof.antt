@@ -1,46 +1,39 @@
 -- `position` gives the lowest place of the hash. The loop holds that the search from place i on gives what the whole search gives.
 use native.Mathlib.Omega.{arith}
-use mathlib.Core.Path.{_≡_, sym, _∙_}
-use mathlib.Core.List.{List}
-use Prim.Native.Nat.{ℕ, _-_}
-use Rattle.ledger.proofs.ModelLaws.{placeFrom, place-hit, place-miss, place-end, place-start, intact-cap}
-use Rattle.ledger.specs.Layout.{ledger}
-use Rattle.ledger.specs.Model.{placeOf}
+use mathlib.Core.Path.{sym, _∙_}
+use Prim.Native.Nat.{_-_}
+use borrow.Author.Tests.{eq-eqb, ne-eqb}
 use borrow.Author.Needs.{needs}
+use Rattle.rows.proofs.LowestLaws.{Searching, search-hits, search-goes-on, search-ends}
+use Rattle.ledger.specs.Model.{noDebt, owes, placeOf}
+use Rattle.ledger.specs.Layout.{ledger}
+use Rattle.ledger.proofs.ModelLaws.{place-begins, intact-cap}
 use Rattle.ledger.proofs.position.Statement.{statement}
 use Rattle.ledger.proofs.position.Tie as tie
 
--- The search from place i on gives what the whole search gives.
-record Searching (ws : List ℕ) (cap hash count i : ℕ) : Type 0 where
-  all : count ≡ ledger cap ws .debts .count
-  same : placeFrom (ledger cap ws) hash i count ≡ placeOf (ledger cap ws) hash
-
 abbrev Inv-loop : tie.InvT-loop
-Inv-loop ws cap hash count i₀ i = Searching ws cap hash count i
+Inv-loop ws cap hash count i₀ i = Searching noDebt (ledger cap ws .debts) (owes hash) count i (placeOf (ledger cap ws) hash)
 
 abbrev μ-loop : tie.MeasureT-loop
 μ-loop ws cap hash count i₀ i = count - i
+
+-- In a turn, once the hash is read: the loop's head.
+abbrev head : tie.After-hash-at Inv-loop μ-loop → tie.At-loop Inv-loop μ-loop
+head r = r .before .before
 
 count-requires : tie.Need-count-requires Inv-loop μ-loop
 count-requires c κs = search needs
 
 loop-holds : tie.Need-loop-holds Inv-loop μ-loop
-loop-holds c =
-    let count′ = c .count in
-    record { all = count′ .ensures; same = rw (count′ .ensures) (place-start _ _) }
+loop-holds c = place-begins _ _ _ (c .count .ensures)
 
 hash-at-requires : tie.Need-hash-at-requires Inv-loop μ-loop
-hash-at-requires c κs =
-    let pre′ = c .before .before .before .before .pre in
-    (pre′ .size, omega (arith, intact-cap pre′))
+hash-at-requires c κs = let pre′ = c .before .before .before .before .pre in (pre′ .size, omega (arith, intact-cap pre′))
 
 returns : tie.Need-returns Inv-loop μ-loop
 returns c =
-    let loop-test′ = c .before .before .loop-test in
-    let hash-at′ = c .before .hash-at in
-    let if1′ = c .if1 in
-    let loop′ = c .before .before .before .loop in
-    sym (place-hit _ _ _ _ (loop-test′ .taken) (sym (hash-at′ .ensures) ∙ if1′ .taken)) ∙ loop′ .inv .same
+    let r = c .before in
+    search-hits (head r .loop .inv) (r .before .loop-test .taken) (eq-eqb _ _ (sym (r .hash-at .ensures) ∙ c .if1 .taken))
 
 add-i : tie.Need-add-i Inv-loop μ-loop
 add-i c = search needs
@@ -50,17 +43,11 @@ loop-less c = search needs
 
 loop-again : tie.Need-loop-again Inv-loop μ-loop
 loop-again c =
-    let loop′ = c .before .before .before .loop in
-    let loop-test′ = c .before .before .loop-test in
-    let if1′ = c .if1 in
-    let hash-at′ = c .before .hash-at in
-    record {
-      all = loop′ .inv .all;
-      same = sym (place-miss _ _ _ _ (loop-test′ .taken) (λ e. if1′ .left (hash-at′ .ensures ∙ e))) ∙ loop′ .inv .same;
-    }
+    let r = c .before in
+    search-goes-on (head r .loop .inv) (r .before .loop-test .taken) (ne-eqb _ _ (λ e. c .if1 .left (r .hash-at .ensures ∙ e)))
 
 returns-2 : tie.Need-returns-2 Inv-loop μ-loop
-returns-2 c = sym (place-end _ _ _ _ (c .loop-test .left)) ∙ c .before .loop .inv .same
+returns-2 c = search-ends (c .before .loop .inv) (c .loop-test .left)
 
 pub position-spec : {M : Type 1} → statement M
 position-spec =

@@ -1,17 +1,12 @@
 -- `remove_at` is the model's removal: its calls make the same stores, in the same order, and each call says what it stores.
-use Prim.Native.Nat.{_-_, _<_}
-use native.Mathlib.Omega.{arith}
-use Rattle.ledger.proofs.ModelLaws.{intact-cap, intact-below, remove-by-stores}
+use Rattle.ledger.proofs.ModelLaws.{intact-cap, remove-by-stores}
 use borrow.Author.Needs.{needs}
 use Rattle.ledger.proofs.remove_at.Statement.{statement}
 use Rattle.ledger.proofs.remove_at.Tie as tie
 
--- Where the call began, once the debts are counted. The last debt stands below the cap.
+-- Where the call began, once the debts are counted.
 abbrev start : tie.After-count → tie.Start
 start n = n .before .before .before
-
-last-below : (n : tie.After-count) → n .count .result - 1 < start n .args .cap
-last-below n = let pre′ = start n .pre in omega (arith, intact-below (pre′ .0) (pre′ .1), intact-cap (pre′ .0), pre′ .0 .sound .count-fits, n .count .ensures)
 
 count-requires : tie.Need-count-requires
 count-requires c κs = search needs
@@ -20,13 +15,13 @@ sub-last : tie.Need-sub-last
 sub-last c = search needs
 
 load-requires : tie.Need-load-requires
-load-requires c κs = let n = c .before in (start n .pre .0 .size, last-below n)
+load-requires c κs = let cap = intact-cap (start (c .before) .pre .0) in search needs
 
 put-requires : tie.Need-put-requires
-put-requires c κs = let intact = start (c .before .before .before) .pre .0 in (intact .size, intact-below intact (start (c .before .before .before) .pre .1))
+put-requires c κs = let cap = intact-cap (start (c .before .before .before) .pre .0) in search needs
 
 put-requires-2 : tie.Need-put-requires-2
-put-requires-2 c κs = (search needs, last-below (c .before .before .before .before .before .before .before))
+put-requires-2 c κs = let cap = intact-cap (start (c .before .before .before .before .before .before .before) .pre .0) in search needs
 
 set-count-requires : tie.Need-set-count-requires
 set-count-requires c κs = search needs

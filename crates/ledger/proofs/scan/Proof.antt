@@ -35,9 +35,10 @@ turn k = k .before .before .before
 abbrev looked : tie.Else1 Inv-loop μ-loop → tie.After-cursor2 Inv-loop μ-loop
 looked e = e .before .before .before .before .before
 
--- The cursor stands at a debt.
-cursor-held : (k : tie.After-cursor2 Inv-loop μ-loop) → k .cursor2 .result < ledger (start (turn k) .args .cap) (turn k .loop .ws) .debts .count
-cursor-held k = let inv = turn k .loop .inv in intact-cursor (inv .intact) (inv .some) (k .cursor2 .ensures)
+-- The cursor stands at a debt, below the cap.
+held : (k : tie.After-cursor2 Inv-loop μ-loop) → let cap = start (turn k) .args .cap in
+    (k .cursor2 .result < ledger cap (turn k .loop .ws) .debts .count) × (k .cursor2 .result < cap)
+held k = let inv = turn k .loop .inv in intact-cursor (inv .intact) (inv .some) (k .cursor2 .ensures)
 
 ledger-looks-requires : tie.Need-ledger-looks-requires Inv-loop μ-loop
 ledger-looks-requires c κs = search needs
@@ -60,7 +61,7 @@ loop-holds c =
     record {
       intact = pre′ .0;
       some = pre′ .1;
-      below = intact-cursor (pre′ .0) (pre′ .1) (c .cursor .ensures);
+      below = intact-cursor (pre′ .0) (pre′ .1) (c .cursor .ensures) .0;
       same = rw (c .cursor .ensures, fewer′ .fewer .ensures, count′ .count .ensures, looks .ledger-looks .ensures) (scan-start _ _);
     }
 
@@ -70,8 +71,7 @@ cursor-requires-2 c κs = search needs
 settles-at-requires : tie.Need-settles-at-requires Inv-loop μ-loop
 settles-at-requires c κs =
     let k = c .before in
-    let inv = turn k .loop .inv in
-    (inv .intact .size, intact-below (inv .intact) (cursor-held k))
+    (turn k .loop .inv .intact .size, held k .1)
 
 set-cursor-requires : tie.Need-set-cursor-requires Inv-loop μ-loop
 set-cursor-requires c κs = search needs
@@ -93,12 +93,10 @@ sooner-requires : tie.Need-sooner-requires Inv-loop μ-loop
 sooner-requires c κs =
     let k = looked (c .before) in
     let inv = turn k .loop .inv in
-    (inv .intact, intact-below (inv .intact) (inv .below), intact-below (inv .intact) (cursor-held k))
+    (inv .intact, intact-below (inv .intact) (inv .below), held k .1)
 
 add-set-cursor : tie.Need-add-set-cursor Inv-loop μ-loop
-add-set-cursor c =
-    let k = looked (c .before .before .before) in
-    omega (arith, intact-below (turn k .loop .inv .intact) (cursor-held k))
+add-set-cursor c = omega (arith, held (looked (c .before .before .before)) .1)
 
 set-cursor-requires-2 : tie.Need-set-cursor-requires-2 Inv-loop μ-loop
 set-cursor-requires-2 c κs = search needs
@@ -121,7 +119,7 @@ loop-again c =
     record {
       intact = intact-after (inv .intact) (stored .set-cursor2 .kept .0) (stored .set-cursor2 .ensures) (cursor-sound _ _ (inv .intact .sound));
       some = rw (stored .set-cursor2 .ensures) (inv .some);
-      below = rw (stored .set-cursor2 .ensures, chosen .sooner .ensures) (intact-sooner (inv .intact) (inv .below) (cursor-held k));
+      below = rw (stored .set-cursor2 .ensures, chosen .sooner .ensures) (intact-sooner (inv .intact) (inv .below) (held k .0));
       same = rw (stored .set-cursor2 .ensures, chosen .sooner .ensures, k .cursor2 .ensures) (sym goes-on ∙ inv .same);
     }
 

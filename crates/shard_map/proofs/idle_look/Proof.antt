@@ -15,7 +15,7 @@ start s = s .before .before .before
 
 held : (s : tie.After-sweep) → let a = start s .args in
     (s .sweep .result < shard (a .cap) (a .ws .now) .slots .count) × (s .sweep .result < a .cap)
-held s = let below = intact-sweep (start s .pre .0) (start s .pre .2) in (omega arith, omega arith)
+held s = intact-sweep (start s .pre .0) (start s .pre .2) (s .sweep .ensures)
 
 -- Once the slot there is tested: the reading before, and that the test is the definition's.
 abbrev place : tie.After-is-reclaimable → tie.After-sweep

@@ -1,45 +1,38 @@
 -- `position` gives the lowest place of the hash and the key. The loop holds that the search from place i on gives what the whole search gives.
 use native.Mathlib.Omega.{arith}
-use mathlib.Core.Path.{_≡_, sym, _∙_}
-use mathlib.Core.List.{List}
-use Prim.Native.Nat.{ℕ, _-_}
-use Rattle.shard_map.proofs.ModelLaws.{placeFrom, place-hit, place-miss, place-end, place-start, intact-cap}
-use Rattle.shard_map.specs.Layout.{shard}
-use Rattle.shard_map.specs.Model.{placeOf}
+use Prim.Native.Nat.{_-_}
 use borrow.Author.Needs.{needs}
+use Rattle.rows.proofs.LowestLaws.{Searching, search-hits, search-goes-on, search-ends}
+use Rattle.slot.specs.Slot.{isKey}
+use Rattle.shard_map.specs.Model.{noSlot, placeOf}
+use Rattle.shard_map.specs.Layout.{shard}
+use Rattle.shard_map.proofs.ModelLaws.{place-begins, intact-cap}
 use Rattle.shard_map.proofs.position.Statement.{statement}
 use Rattle.shard_map.proofs.position.Tie as tie
 
--- The search from place i on gives what the whole search gives.
-record Searching (ws : List ℕ) (cap hash key count i : ℕ) : Type 0 where
-  all : count ≡ shard cap ws .slots .count
-  same : placeFrom (shard cap ws) hash key i count ≡ placeOf (shard cap ws) hash key
-
 abbrev Inv-loop : tie.InvT-loop
-Inv-loop ws cap hash key count i₀ i = Searching ws cap hash key count i
+Inv-loop ws cap hash key count i₀ i = Searching noSlot (shard cap ws .slots) (isKey hash key) count i (placeOf (shard cap ws) hash key)
 
 abbrev μ-loop : tie.MeasureT-loop
 μ-loop ws cap hash key count i₀ i = count - i
+
+-- In a turn, once the slot is tested: the loop's head.
+abbrev head : tie.After-is-key-at Inv-loop μ-loop → tie.At-loop Inv-loop μ-loop
+head k = k .before .before
 
 count-requires : tie.Need-count-requires Inv-loop μ-loop
 count-requires c κs = search needs
 
 loop-holds : tie.Need-loop-holds Inv-loop μ-loop
-loop-holds c =
-    let count′ = c .count in
-    record { all = count′ .ensures; same = rw (count′ .ensures) (place-start _ _ _) }
+loop-holds c = place-begins _ _ _ _ (c .count .ensures)
 
 is-key-at-requires : tie.Need-is-key-at-requires Inv-loop μ-loop
-is-key-at-requires c κs =
-    let pre′ = c .before .before .before .before .pre in
-    (pre′, omega (arith, intact-cap pre′))
+is-key-at-requires c κs = let pre′ = c .before .before .before .before .pre in (pre′, omega (arith, intact-cap pre′))
 
 returns : tie.Need-returns Inv-loop μ-loop
 returns c =
-    let loop-test′ = c .before .before .loop-test in
-    let is-key-at′ = c .before .is-key-at in
-    let loop′ = c .before .before .before .loop in
-    sym (place-hit _ _ _ _ _ (loop-test′ .taken) (sym (is-key-at′ .ensures) ∙ c .if1 .taken)) ∙ loop′ .inv .same
+    let k = c .before in
+    search-hits (head k .loop .inv) (k .before .loop-test .taken) (rw (← k .is-key-at .ensures) (c .if1 .taken))
 
 add-i : tie.Need-add-i Inv-loop μ-loop
 add-i c = search needs
@@ -49,16 +42,11 @@ loop-less c = search needs
 
 loop-again : tie.Need-loop-again Inv-loop μ-loop
 loop-again c =
-    let loop′ = c .before .before .before .loop in
-    let loop-test′ = c .before .before .loop-test in
-    let is-key-at′ = c .before .is-key-at in
-    record {
-      all = loop′ .inv .all;
-      same = sym (place-miss _ _ _ _ _ (loop-test′ .taken) (sym (is-key-at′ .ensures) ∙ c .if1 .left)) ∙ loop′ .inv .same;
-    }
+    let k = c .before in
+    search-goes-on (head k .loop .inv) (k .before .loop-test .taken) (rw (← k .is-key-at .ensures) (c .if1 .left))
 
 returns-2 : tie.Need-returns-2 Inv-loop μ-loop
-returns-2 c = sym (place-end _ _ _ _ _ (c .loop-test .left)) ∙ c .before .loop .inv .same
+returns-2 c = search-ends (c .before .loop .inv) (c .loop-test .left)
 
 pub position-spec : {M : Type 1} → statement M
 position-spec =

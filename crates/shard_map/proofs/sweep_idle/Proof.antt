@@ -1,45 +1,32 @@
 -- `sweep_idle` makes its looks one by one. The loop holds that the looks left, made from here, give what all of them give from the start.
+use mathlib.Core.Path.{refl, sym, _∙_}
+use borrow.Author.Needs.{needs}
+use Rattle.rows.proofs.RoundLaws.{Sweeping, sweep-goes-on, sweep-ends, sweep-stops}
 use Rattle.shard_map.specs.Model.{sweepIdle}
 use Rattle.shard_map.specs.Layout.{shard, Intact}
-use Rattle.bucket.specs.declared.BucketConfig.{BucketConfig}
-use Rattle.units.specs.declared.Millis.{Millis}
-use Rattle.units.specs.declared.Nanos.{Nanos}
-use Prim.Native.Nat.{ℕ, _<_}
-use mathlib.Core.List.{List}
-use mathlib.Core.Path.{_≡_, refl, sym, _∙_}
-use Rattle.shard_map.proofs.ModelLaws.{idle-look-sound, sweep-idle-turn, sweep-idle-end, sweep-idle-none, intact-after}
-use borrow.Author.Needs.{needs}
+use Rattle.shard_map.proofs.ModelLaws.{idle-sweep-by-looks}
 use Rattle.shard_map.proofs.sweep_idle.Statement.{statement}
 use Rattle.shard_map.proofs.sweep_idle.Tie as tie
 
--- The sweep from here, with the looks that are left, is the sweep from the start.
-record Sweeping (ws₀ : List ℕ) (cap : ℕ) (c : BucketConfig) (at : Nanos) (limit : Millis) (budget : ℕ) (ws : List ℕ) (left : ℕ) : Type 0 where
-  intact : Intact cap ws
-  same : sweepIdle c at limit left (shard cap ws) ≡ sweepIdle c at limit budget (shard cap ws₀)
-
 abbrev Inv-loop : tie.InvT-loop
-Inv-loop ws₀ cap config at ttl-ms budget left₀ ws left = Sweeping ws₀ cap config at ttl-ms budget ws left
+Inv-loop ws₀ cap config at ttl-ms budget left₀ ws left =
+    Sweeping (Intact cap) (shard cap) (sweepIdle config at ttl-ms) left ws (sweepIdle config at ttl-ms budget (shard cap ws₀))
 
 abbrev μ-loop : tie.MeasureT-loop
 μ-loop ws₀ cap config at ttl-ms budget left₀ ws left = left
 
--- In a turn, once the slots are counted: the place where it began, and that a look is left.
-abbrev place : tie.After-count Inv-loop μ-loop → tie.At-loop Inv-loop μ-loop
-place k = k .before .before .before
-
-look-left : (k : tie.After-count Inv-loop μ-loop) → 0 < place k .loop .left
-look-left k = k .before .before .loop-test .taken
+-- In a turn, once the slots are counted: the loop's head.
+abbrev head : tie.After-count Inv-loop μ-loop → tie.At-loop Inv-loop μ-loop
+head k = k .before .before .before
 
 loop-holds : tie.Need-loop-holds Inv-loop μ-loop
-loop-holds c = record { intact = c .before .pre .0; same = refl }
+loop-holds c = record { lent = c .before .pre .0; same = refl }
 
 count-requires : tie.Need-count-requires Inv-loop μ-loop
 count-requires c κs = search needs
 
 idle-look-requires : tie.Need-idle-look-requires Inv-loop μ-loop
-idle-look-requires c κs =
-    let l = place (c .before .before) in
-    (l .loop .inv .intact, l .before .before .pre .1, search needs)
+idle-look-requires c κs = let l = head (c .before .before) in (l .loop .inv .lent, l .before .before .pre .1, search needs)
 
 sub-left : tie.Need-sub-left Inv-loop μ-loop
 sub-left c = search needs
@@ -51,25 +38,20 @@ loop-again : tie.Need-loop-again Inv-loop μ-loop
 loop-again c =
     let look = c .before .before in
     let k = look .before .before .before in
-    let inv = place k .loop .inv in
-    record {
-      intact = intact-after (inv .intact) (look .idle-look .kept .0) (look .idle-look .ensures) (idle-look-sound _ _ _ _ (inv .intact .sound));
-      same = rw (look .idle-look .ensures) (sym (sweep-idle-turn _ _ _ _ _ (look-left k)) ∙ inv .same);
-    }
+    let looked = look .idle-look in
+    sweep-goes-on (idle-sweep-by-looks _ _ _ _) (head k .loop .inv) (k .before .before .loop-test .taken) (looked .kept .0) (looked .ensures)
 
 same-length : tie.Need-same-length Inv-loop μ-loop
 same-length c = search needs
 
 returns : tie.Need-returns Inv-loop μ-loop
-returns c = sym (sweep-idle-end _ _ _ _ _ (c .loop-test .left)) ∙ c .before .loop .inv .same
+returns c = sweep-ends (idle-sweep-by-looks _ _ _ _) (c .before .loop .inv) (c .loop-test .left)
 
 same-length-2 : tie.Need-same-length-2 Inv-loop μ-loop
 same-length-2 c = search needs
 
 returns-2 : tie.Need-returns-2 Inv-loop μ-loop
-returns-2 c =
-    let k = c .before in
-    sym (sweep-idle-none _ _ _ _ _ (sym (k .count .ensures) ∙ c .if1 .taken)) ∙ place k .loop .inv .same
+returns-2 c = let k = c .before in sweep-stops (idle-sweep-by-looks _ _ _ _) (head k .loop .inv) (sym (k .count .ensures) ∙ c .if1 .taken)
 
 pub sweep-idle-spec : {M : Type 1} → statement M
 sweep-idle-spec =

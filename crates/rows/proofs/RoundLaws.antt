@@ -1,0 +1,117 @@
+-- The sweep: what a look is in each case, what a sweep keeps, and the steps of a loop that makes its looks one by one.
+use Prim.Native.Nat.{ℕ, zero, suc, _+_, _-_, _≤_, _<_, max}
+use mathlib.Core.Path.{_≡_, refl, sym, _∙_}
+use mathlib.Core.Bool.{Bool, true, false}
+use mathlib.Core.List.{List}
+use native.Mathlib.Omega.{arith}
+use lib.Dec.{eqb}
+use lib.ListN.{length}
+use borrow.Author.Tests.{eqb-false, eq-eqb, ne-eqb}
+use Rattle.arith.proofs.Cases.{by-test}
+use Rattle.rows.specs.Held.{Held, itemAt, removed, total}
+use Rattle.rows.specs.Round.{Round, nextOf, lookAt, look, sweep}
+use Rattle.rows.proofs.HeldLaws.{Sound, wrapped-below, removed-count, removed-length, removed-sound, total-removed}
+
+module _ {A : Type 0} (free : A) (goes : A → Bool) where
+  -- A look at an item that goes, at one that stays, and where there is none.
+  module _ (r : Round A) where
+    pub look-goes : 0 < r .items .count → goes (itemAt free (r .items) (nextOf r)) ≡ true
+        → record { items = removed free (r .items) (nextOf r); next = nextOf r } ≡ look free goes r
+    unfolding look lookAt
+    look-goes some passes = rw (ne-eqb (r .items .count) 0 (omega arith), lookAt, passes)
+
+    pub look-stays : 0 < r .items .count → goes (itemAt free (r .items) (nextOf r)) ≡ false → record { items = r .items; next = nextOf r + 1 } ≡ look free goes r
+    unfolding look lookAt
+    look-stays some fails = rw (ne-eqb (r .items .count) 0 (omega arith), lookAt, fails)
+
+    pub look-none : r .items .count ≡ 0 → look free goes r ≡ r
+    unfolding look
+    look-none none = rw (eq-eqb _ _ none)
+
+  -- A look leaves the round as it is, takes out an item that goes, or moves on by a place.
+  look-cases : (Q : Round A → Type 0) (r : Round A) → Q r
+      → (nextOf r < r .items .count → goes (itemAt free (r .items) (nextOf r)) ≡ true → Q (record { items = removed free (r .items) (nextOf r); next = nextOf r }))
+      → (nextOf r < r .items .count → Q (record { items = r .items; next = nextOf r + 1 })) → Q (look free goes r)
+  unfolding look lookAt
+  look-cases Q r same drops moves =
+      by-test (eqb (r .items .count) 0)
+      (λ none. rw (none, look) same)
+      (λ some.
+      let below : nextOf r < r .items .count = wrapped-below (r .next) (r .items .count) (omega (arith, eqb-false (r .items .count) 0 some)) in
+      by-test (goes (itemAt free (r .items) (nextOf r)))
+      (λ passes. rw (some, look, passes, lookAt) (drops below passes))
+      (λ fails. rw (some, look, fails, lookAt) (moves below)))
+
+  -- What a removal of an item that goes keeps, a sweep keeps.
+  abbrev pub KeptByRemovals : (Held A → Type 0) → Type 0
+  KeptByRemovals Q = (h : Held A) (p : ℕ) → p < h .count → goes (itemAt free h p) ≡ true → Q h → Q (removed free h p)
+
+  pub sweep-keeps : (Q : Held A → Type 0) → KeptByRemovals Q → (n : ℕ) (r : Round A) → Q (r .items) → Q (sweep free goes n r .items)
+  unfolding sweep
+  sweep-keeps Q kept zero r q = q
+  sweep-keeps Q kept (suc n) r q =
+      sweep-keeps Q kept n (look free goes r) (look-cases (λ t. Q (t .items)) r q (λ below passes. kept (r .items) (nextOf r) below passes q) (λ below. q))
+
+  -- The room stays, and there are no more items than there were. The next look is at a place up to the count, unless there was no look.
+  pub sweep-length : (n : ℕ) (r : Round A) → length (sweep free goes n r .items .places) ≡ length (r .items .places)
+  sweep-length n r = sweep-keeps (λ h. length (h .places) ≡ length (r .items .places)) (λ h p below passes same. removed-length free h p ∙ same) n r refl
+
+  pub sweep-count : (n : ℕ) (r : Round A) → sweep free goes n r .items .count ≤ r .items .count
+  sweep-count n r = sweep-keeps (λ h. h .count ≤ r .items .count) (λ h p below passes fewer. omega (arith, removed-count free h p)) n r (omega arith)
+
+  pub sweep-next : (n : ℕ) (r : Round A) → sweep free goes n r .next ≤ max (r .next) (r .items .count)
+  unfolding sweep
+  sweep-next zero r = omega arith
+  sweep-next (suc n) r =
+      let look-next : look free goes r .next ≤ max (r .next) (r .items .count) =
+      look-cases (λ t. t .next ≤ max (r .next) (r .items .count)) r (omega arith) (λ below passes. omega arith) (λ below. omega arith) in
+      omega (arith, sweep-next n (look free goes r), sweep-count 1 r)
+
+  -- A sweep never adds to a sum of weights, and where an item that goes weighs nothing it takes nothing away.
+  module _ (w : A → ℕ) (n : ℕ) (r : Round A) (sound : Sound (r .items)) where
+    pub sweep-never-adds : total free w (sweep free goes n r .items) ≤ total free w (r .items)
+    sweep-never-adds =
+        sweep-keeps (λ h. Sound h × (total free w h ≤ total free w (r .items)))
+        (λ h p below passes q. (removed-sound free h p (q .0), omega (arith, q .1, total-removed free w h p (q .0) below))) n r (sound, omega arith) .1
+
+    pub sweep-keeps-total : ((x : A) → goes x ≡ true → w x ≡ 0) → total free w (sweep free goes n r .items) ≡ total free w (r .items)
+    sweep-keeps-total weightless =
+        sweep-keeps (λ h. Sound h × (total free w h ≡ total free w (r .items)))
+        (λ h p below passes q. (removed-sound free h p (q .0), omega (arith, q .1, total-removed free w h p (q .0) below, weightless _ passes)))
+        n r (sound, refl) .1
+
+-- A sweep by looks over lent words, in which a state lies (`view`): `all n` makes n looks, each of them `one`. Where no item is left a look changes nothing, and
+-- words that are lent stay so after a look.
+pub record ByLooks {S : Type 0} (Lent : List ℕ → Type 0) (view : List ℕ → S) (all : ℕ → S → S) (one : S → S) (count : S → ℕ) : Type 0 where
+  pub none-left : (s : S) → all 0 s ≡ s
+  pub one-more : (n : ℕ) (s : S) → all (suc n) s ≡ all n (one s)
+  pub no-item : (s : S) → count s ≡ 0 → one s ≡ s
+  pub stay-lent : {ws ws′ : List ℕ} → Lent ws → length ws′ ≡ length ws → view ws′ ≡ one (view ws) → Lent ws′
+
+-- A loop that makes the looks one by one: the words are lent, and the looks left, made from here, give what all of them give from the start. Then its steps.
+pub record Sweeping {S : Type 0} (Lent : List ℕ → Type 0) (view : List ℕ → S) (all : ℕ → S → S) (left : ℕ) (ws : List ℕ) (end : S) : Type 0 where
+  pub lent : Lent ws
+  pub same : all left (view ws) ≡ end
+
+module _ {S : Type 0} {Lent : List ℕ → Type 0} {view : List ℕ → S} {all : ℕ → S → S} {one : S → S} {count : S → ℕ} (looks : ByLooks Lent view all one count)
+    {left : ℕ} {ws : List ℕ} {end : S} (sweeping : Sweeping Lent view all left ws end) where
+  -- A look was made.
+  pub sweep-goes-on : {ws′ : List ℕ} → 0 < left → length ws′ ≡ length ws → view ws′ ≡ one (view ws) → Sweeping Lent view all (left - 1) ws′ end
+  sweep-goes-on some long looked =
+      let e : left ≡ suc (left - 1) = omega arith in
+      record {
+        lent = looks .stay-lent (sweeping .lent) long looked;
+        same = rw (looked, ← looks .one-more (left - 1) (view ws), ← e) (sweeping .same);
+      }
+
+  -- No look is left.
+  pub sweep-ends : left ≤ 0 → view ws ≡ end
+  sweep-ends none = let e : left ≡ 0 = omega arith in rw (e, looks .none-left (view ws)) at (sweeping .same)
+
+  -- No item is left.
+  pub sweep-stops : count (view ws) ≡ 0 → view ws ≡ end
+  sweep-stops none = sym (unchanged left) ∙ sweeping .same
+    where
+      unchanged : (n : ℕ) → all n (view ws) ≡ view ws
+      unchanged zero = looks .none-left (view ws)
+      unchanged (suc n) = looks .one-more n (view ws) ∙ rw (looks .no-item (view ws) none) (unchanged n)
