@@ -1,9 +1,10 @@
 -- Division rounded up, for every divisor: what bounds it, what it is, and how it splits into a quotient and a rest.
-use Prim.Native.Nat.{ℕ, suc, _+_, _*_, _-_, _/_, _%_, _≤_, _<_}
+use Prim.Native.Nat.{ℕ, suc, _+_, _*_, _-_, _/_, _%_, _≤_, _<_, min}
 use mathlib.Core.Path.{_≡_}
 use native.Mathlib.Nat.{mod-lt, div-add-mod', le-of-suc-le-suc, lt-of-mul-lt-mul-right, mul-le-mul-left}
 use native.Mathlib.Omega.{arith}
 use Rattle.arith.specs.Arith.{ceilDiv}
+use Rattle.arith.proofs.Cases.{by-le}
 
 -- It is the least multiple of the divisor that reaches a: not below a, and less than one divisor above it.
 pub ceilDiv-reaches : (a b : ℕ) → 0 < b → a ≤ ceilDiv a b * b
@@ -16,6 +17,16 @@ ceilDiv-within a b h = omega (arith, div-add-mod' (a + (b - 1)) b)
 
 pub ceilDiv-least : (a b c : ℕ) → 0 < b → a ≤ c * b → ceilDiv a b ≤ c
 ceilDiv-least a b c h enough = le-of-suc-le-suc (lt-of-mul-lt-mul-right b {m = ceilDiv a b} {n = suc c} (omega (arith, ceilDiv-within a b h)))
+
+-- The quotient of the smaller of two numbers is the smaller of their quotients.
+pub ceilDiv-mono : (a b c : ℕ) → 0 < c → a ≤ b → ceilDiv a c ≤ ceilDiv b c
+ceilDiv-mono a b c h less = ceilDiv-least a c (ceilDiv b c) h (omega (arith, ceilDiv-reaches b c h))
+
+pub ceilDiv-of-smaller : (a b c : ℕ) → 0 < c → ceilDiv (min a b) c ≡ min (ceilDiv a c) (ceilDiv b c)
+ceilDiv-of-smaller a b c h =
+    by-le a b
+    (λ less. let e : min a b ≡ a = omega arith in rw e (omega (arith, ceilDiv-mono a b c h less)))
+    (λ more. let e : min a b ≡ b = omega arith in rw e (omega (arith, ceilDiv-mono b a c h (omega arith))))
 
 -- Nothing else lies between those two bounds.
 pub ceilDiv-only : (a b c : ℕ) → 0 < b → a ≤ c * b → c * b < a + b → ceilDiv a b ≡ c

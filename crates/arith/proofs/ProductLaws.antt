@@ -8,6 +8,10 @@ use Rattle.arith.specs.Arith.{saturated}
 pub half-product-fits : {a b : ℕ} → a < 2 ^ 32 → b < 2 ^ 32 → a * b < 2 ^ 64
 half-product-fits {a} {b} ha hb = lt-of-le-of-lt (mul-le-mul-left a (le-of-lt hb)) (mul-lt-mul-of-pos-right ha (omega arith))
 
+-- So such a product is not held down.
+pub half-product-saturated : {a b : ℕ} → a < 2 ^ 32 → b < 2 ^ 32 → a * b ≡ saturated (a * b)
+half-product-saturated ha hb = omega (arith, half-product-fits ha hb)
+
 product-by-halves : (a b : ℕ) → a * b ≡ a / 2 ^ 32 * b * 2 ^ 32 + a % 2 ^ 32 * b
 product-by-halves a b =
     let e : a ≡ a / 2 ^ 32 * 2 ^ 32 + a % 2 ^ 32 = omega arith in

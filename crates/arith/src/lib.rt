@@ -38,11 +38,15 @@ pub fn saturating_add(a: u64, b: u64) -> u64
     if a <= u64::MAX - b { a + b } else { u64::MAX }
 }
 
-// The product, held to 64 bits. The two halves of a are multiplied separately, so that neither product wraps. The only division is by a power of two.
+// The product, held to 64 bits. Below 2^32 it takes one multiplication. Else the two halves of a are multiplied separately, so that neither product wraps.
+// The only division is by a power of two.
 pub fn saturating_mul(a: u64, b: u32) -> u64
     ensures { λ r. ⌜ r ≡ saturated (a * b) ⌝ }
 {
     let wide = b as u64;
+    if a < 0x1_0000_0000 {
+        return a * wide;
+    }
     let high = (a / 0x1_0000_0000) * wide;
     let low = (a % 0x1_0000_0000) * wide;
     if 0x1_0000_0000 <= high {

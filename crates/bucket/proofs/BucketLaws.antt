@@ -13,8 +13,8 @@ use Rattle.bucket.specs.declared.BucketConfig.{BucketConfig}
 use Rattle.bucket.specs.declared.BucketCore.{BucketCore}
 use Rattle.bucket.specs.declared.Request.{Request}
 use Rattle.bucket.specs.declared.BucketDecision.the-variants.{Allowed, Denied}
-use Rattle.bucket.specs.Bucket.{Accepted, partsOf, fullParts, mostShortfall, readShortfall, shortfallAt, availableAt, fullAt, waitAt, spent, longestWait}
-use Rattle.bucket.specs.Bucket.{asked, refunded}
+use Rattle.bucket.specs.Bucket.{Accepted, partsOf, fullParts, mostShortfall, readShortfall, shortfallAt, availableAt, fullAt, waitAt, recoveryOf, recoveryAt, spent}
+use Rattle.bucket.specs.Bucket.{longestWait, asked, refunded}
 
 -- At an accepted rate a full bucket has less than 2^62 parts, so the most shortfall is below 2^63: every sum of the bucket fits 64 bits.
 pub full-parts-most : {c : BucketConfig} → Accepted c → fullParts c ≤ 2 ^ 62 - 2 ^ 46
@@ -74,6 +74,12 @@ pub enough-no-wait : {c : BucketConfig} (b : BucketCore) (cost : ℕ) (at : Nano
 enough-no-wait {c} b cost at a h =
     by-eq cost 0 (no-cost-no-wait c b cost at)
     (λ n. sym (ceilDiv-only _ (c .amount) 0 (a .amount-least) (omega arith) (omega arith)) ∙ wait-for-lack c b cost at n)
+
+-- The recovery of a bucket is that of its shortfall.
+pub recovery-of-shortfall : {c : BucketConfig} (b : BucketCore) (at : Nanos) → Accepted c → recoveryOf c (shortfallAt c b at) ≡ recoveryAt c b at
+recovery-of-shortfall {c} b at a =
+    let same : shortfallAt c b at ≡ shortfallAt c b at + fullParts c - fullParts c = omega arith in
+    ap (recoveryOf c) same ∙ wait-for-lack c b (c .capacity) at (λ e. omega (arith, a .capacity-least))
 
 -- A span is known by its number. (A contract gives the number of a wait, an answer holds the span.)
 pub same-nanos : (t : Nanos) {n : ℕ} → t .0 ≡ n → t ≡ record { 0 = n }

@@ -59,6 +59,10 @@ fresh c at = record { shortfall = partsOf c (c .capacity - c .initial); stamp = 
 unfoldable pub waitAt : BucketConfig → BucketCore → ℕ → Nanos → ℕ
 waitAt c b cost at = cond (eqb cost 0) 0 (ceilDiv (shortfallAt c b at + partsOf c cost - fullParts c) (c .amount))
 
+-- How long it takes until so large a shortfall has come back, rounded up.
+abbrev pub recoveryOf : BucketConfig → ℕ → ℕ
+recoveryOf c shortfall = ceilDiv shortfall (c .amount)
+
 -- The recovery: the wait for as many tokens as the bucket can hold.
 abbrev pub recoveryAt : BucketConfig → BucketCore → Nanos → ℕ
 recoveryAt c b at = waitAt c b (c .capacity) at

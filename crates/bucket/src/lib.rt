@@ -2,7 +2,7 @@
 ghost use mathlib.Core.Path.{_≡_};
 ghost use Prim.Native.Nat.{_≤_};
 ghost use Rattle.arith.specs.Arith.{saturated};
-ghost use Rattle.bucket.specs.Bucket.{Accepted, fullParts, mostShortfall, readShortfall, shortfallAt, availableAt, fullAt, fresh, waitAt, recoveryAt, spent, longestWait, asked, refunded};
+ghost use Rattle.bucket.specs.Bucket.{Accepted, fullParts, mostShortfall, readShortfall, shortfallAt, availableAt, fullAt, fresh, waitAt, recoveryOf, recoveryAt, spent, longestWait, asked, refunded};
 ghost use Rattle.bucket.specs.Debt.{missingTokens, charged, takenOut, restored};
 use units::Nanos;
 
@@ -54,6 +54,14 @@ impl BucketConfig {
         ensures { λ r. ⌜ r ≡ mostShortfall self ⌝ }
     {
         self.full_parts() + 0x4000_0000_0000_0000
+    }
+
+    // How long it takes until so large a shortfall has come back.
+    pub fn recovery_of(self, shortfall: u64) -> Nanos
+        requires { ⌜ Accepted self ⌝ }
+        ensures { λ r. ⌜ r .0 ≡ recoveryOf self shortfall ⌝ }
+    {
+        Nanos(arith::div_ceil(shortfall, self.amount as u64))
     }
 
     // The tokens that come back in a span, rounded up and held to 64 bits. Whole periods and the rest are counted separately, so that nothing wraps.
@@ -145,7 +153,7 @@ impl BucketCore {
         requires { ⌜ Accepted config ⌝ }
         ensures { λ r. ⌜ r .0 ≡ recoveryAt config self at ⌝ }
     {
-        self.time_until_at(config, config.capacity, at)
+        config.recovery_of(self.shortfall_at(config, at))
     }
 
     // The bucket after a grant of `cost` tokens.

@@ -52,10 +52,10 @@ module _ (c : BucketConfig) (at : Nanos) (forget : Bool) (a : Accepted c) (early
   debt-recorded-fits : (s : Shard) (p : ℕ) → ShardFits s → ShardFits (withLedger s (debtRecorded c at forget s p .after))
   debt-recorded-fits s p f = changed-ledger-fits s f _ (recorded-fits (s .ledger) _ at forget (debt-left-fits _ (slot-at-fits s f p)) (f .ledger))
 
-  ended-fits : {s : Shard} {o : Outcome Room Shard} → ShardFits s → Evicting c at forget s o → ShardFits (o .after)
-  ended-fits {s} f (full-goes p full) = evicted-at-fits s p (full .below) f
-  ended-fits {s} f (owing-goes p below done) = evicted-at-fits _ p below (debt-recorded-fits s p f)
-  ended-fits {s} f (none-goes p wait ledger-wait below told least) = debt-recorded-fits s p f
+  ended-fits : {least : ℕ} {s : Shard} {o : Outcome Room Shard} → ShardFits s → Evicting c at forget least s o → ShardFits (o .after)
+  ended-fits {s = s} f (full-goes p full) = evicted-at-fits s p (full .below) f
+  ended-fits {s = s} f (owing-goes p below done) = evicted-at-fits _ p below (debt-recorded-fits s p f)
+  ended-fits {s = s} f (none-goes p wait below told) = debt-recorded-fits s p f
 
   pub evicted-fits : (s : Shard) → Sound s → 0 < s .slots .count → ShardFits s → ShardFits (evicted c at forget s .after)
   evicted-fits s u some f = ended-fits (walked-fits c at s f) (evict-cases c at forget s u some)

@@ -5,7 +5,6 @@ use mathlib.Core.Bool.{Bool}
 use native.Mathlib.Nat.{div-le-self}
 use native.Mathlib.Omega.{arith}
 use Rattle.units.specs.declared.Nanos.{Nanos}
-use Rattle.units.specs.declared.Millis.{Millis}
 use Rattle.units.specs.declared.OptionNanos.{OptionNanos}
 use Rattle.units.specs.Units.{nanosPerMilli, millisOf}
 use Rattle.bucket.specs.declared.BucketConfig.{BucketConfig}
@@ -40,8 +39,8 @@ use Rattle.demands.proofs.EvictFits.{evicted-fits}
 rebucketed-fits : (slot : Slot) (b : BucketCore) → SlotFits slot → BucketFits b → SlotFits (withBucket slot b)
 rebucketed-fits slot b f fits = record { hash = f .hash; key = f .key; bucket = fits; mark = f .mark; seen = f .seen }
 
-touched-fits : (slot : Slot) (stamp : Millis) (track : Bool) → SlotFits slot → Word (stamp .0) → SlotFits (touched slot stamp track)
-touched-fits slot stamp track f stamped = record {
+touched-fits : (slot : Slot) (at : Nanos) (track : Bool) → SlotFits slot → Word (millisOf at .0) → SlotFits (touched slot at track)
+touched-fits slot at track f stamped = record {
   hash = f .hash;
   key = f .key;
   bucket = f .bucket;
@@ -62,8 +61,8 @@ module _ (p : Policy) (id : Identity) (request : Request) (cost : ℕ) (at : Nan
   known-fits : (s : Shard) (i : ℕ) → ShardFits s → ShardFits (withExisting p request cost at s i .after)
   unfolding withExisting
   known-fits s i f =
-      let old : SlotFits (touched (slotAt s i) (millisOf at) (tracks (p .«idle_ttl»))) =
-      touched-fits (slotAt s i) (millisOf at) (tracks (p .«idle_ttl»)) (slot-at-fits s f i) stamp-fits in
+      let old : SlotFits (touched (slotAt s i) at (tracks (p .«idle_ttl»))) =
+      touched-fits (slotAt s i) at (tracks (p .«idle_ttl»)) (slot-at-fits s f i) stamp-fits in
       changed-slot-fits s f i _ (rebucketed-fits _ _ old (asked-fits (p .config) at a early request _ cost within (old .bucket)))
 
   -- Room is made by the two sweeps and an eviction.

@@ -9,8 +9,8 @@ use Rattle.arith.proofs.DivisionLaws.{ceilDiv-reaches}
 use Rattle.units.specs.declared.Nanos.{Nanos}
 use Rattle.bucket.specs.declared.BucketConfig.{BucketConfig}
 use Rattle.bucket.specs.declared.BucketCore.{BucketCore}
-use Rattle.bucket.specs.Bucket.{Accepted, fullParts, shortfallAt, recoveryAt}
-use Rattle.bucket.proofs.BucketLaws.{shortfall-most, wait-for-lack}
+use Rattle.bucket.specs.Bucket.{Accepted, shortfallAt, recoveryAt}
+use Rattle.bucket.proofs.BucketLaws.{shortfall-most, recovery-of-shortfall}
 use Rattle.rows.specs.Outcome.{Outcome}
 use Rattle.rows.proofs.SumLaws.{sum-same}
 use Rattle.slot.specs.declared.Slot.{Slot}
@@ -38,11 +38,10 @@ all-remarked h slotValue debtValue blind s t r =
 -- A debt lasts at least as long as the shortfall that it stands for.
 pub debt-lasts : (c : BucketConfig) (b : BucketCore) (at : Nanos) → Accepted c → shortfallAt c b at ≤ (at .0 + recoveryAt c b at - at .0) * c .amount
 debt-lasts c b at a =
-    let lack : ℕ = shortfallAt c b at + fullParts c - fullParts c in
     omega (
       arith,
-      ceilDiv-reaches lack (c .amount) (a .amount-least),
-      ap (λ (n : ℕ). n * c .amount) (wait-for-lack c b (c .capacity) at (λ e. omega (arith, a .capacity-least))),
+      ceilDiv-reaches (shortfallAt c b at) (c .amount) (a .amount-least),
+      ap (λ (n : ℕ). n * c .amount) (recovery-of-shortfall b at a),
       mul-le-mul-right {m = recoveryAt c b at} {n = at .0 + recoveryAt c b at - at .0} (c .amount) (omega arith),
     )
 
@@ -106,9 +105,9 @@ module _ (c : BucketConfig) (h k : ℕ) where
       walk : Remarked s (walked c at s .after)
       walk = walk-kept c at s u some .same
 
-      go : {t : Shard} {o : Outcome Room Shard} → Sound t → Evicting c at forget t o → Keeps c h k at t (o .after)
-      go {t} v (full-goes p f) =
+      go : {least : ℕ} {t : Shard} {o : Outcome Room Shard} → Sound t → Evicting c at forget least t o → Keeps c h k at t (o .after)
+      go {t = t} v (full-goes p f) =
           let kept : Keeps c h k at t (removeAt t p) = full-slot-loses-nothing c h k at t p v (f .below) (f .full) in
           record { fewer = kept .fewer; more = kept .more }
-      go {t} v (owing-goes p below done) = owing-slot-loses-nothing at forget t p a v never below done
-      go {t} v (none-goes p wait ledger-wait below told least) = refusal-loses-nothing at forget t p ledger-wait v told
+      go {t = t} v (owing-goes p below done) = owing-slot-loses-nothing at forget t p a v never below done
+      go {t = t} v (none-goes p wait below told) = refusal-loses-nothing at forget t p wait v told

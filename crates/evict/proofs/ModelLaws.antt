@@ -1,6 +1,6 @@
 -- Laws of the eviction that its functions go by: one look is one step of the definition that counts the looks left; what a definition is in each case that
 -- the code goes through; and that words which are lent stay so. What an eviction keeps is in WalkLaws.
-use Prim.Native.Nat.{ℕ, suc, _+_, _-_, _*_, _≤_, _<_, _^_, min, max}
+use Prim.Native.Nat.{ℕ, suc, _+_, _-_, _*_, _≤_, _<_, _^_, min}
 use native.Mathlib.Omega.{arith}
 use native.Mathlib.Nat.{mul-le-mul-left}
 use mathlib.Core.Path.{_≡_, refl, ap, sym, _∙_}
@@ -14,13 +14,13 @@ use Rattle.settings.specs.Eviction.{clockScan}
 use Rattle.bucket.specs.declared.BucketConfig.{BucketConfig}
 use Rattle.bucket.specs.declared.BucketCore.{BucketCore}
 use Rattle.bucket.specs.Bucket.{Accepted, mostShortfall, shortfallAt, recoveryAt}
-use Rattle.bucket.proofs.BucketLaws.{most-shortfall-fits, shortfall-most, wait-for-lack}
+use Rattle.bucket.proofs.BucketLaws.{most-shortfall-fits, shortfall-most, recovery-of-shortfall}
 use Rattle.rows.specs.declared.Place.{Place}
 use Rattle.rows.specs.declared.Place.the-variants.{At, Nowhere}
 use Rattle.rows.specs.Outcome.{Outcome, outcome}
 use Rattle.rows.proofs.OutcomeLaws.{answer-is, after-is}
 use Rattle.slot.specs.declared.Slot.{Slot}
-use Rattle.slot.specs.Slot.{lossless, recovery}
+use Rattle.slot.specs.Slot.{recovery}
 use Rattle.ledger.specs.declared.Debt.{Debt}
 use Rattle.ledger.specs.declared.Recorded.{Recorded}
 use Rattle.ledger.specs.declared.Recorded.the-variants.{Done, NoRoom}
@@ -28,30 +28,30 @@ use Rattle.ledger.specs.Model as Ledger
 use Rattle.ledger.proofs.RecordLaws.{recorded-sound}
 use Rattle.shard_map.specs.Model.{Shard, slotAt, inLedger, handOf}
 use Rattle.shard_map.specs.Layout.{shard, Intact}
-use Rattle.shard_map.proofs.StepLaws.{hand-below, change-sound, ledger-sound}
+use Rattle.shard_map.proofs.StepLaws.{change-sound, ledger-sound}
 use Rattle.shard_map.proofs.ModelLaws.{intact-after, intact-after-answer, StillLent}
 use Rattle.evict.specs.declared.Walk.{Walk}
+use Rattle.evict.specs.declared.Victim.{Victim}
+use Rattle.evict.specs.declared.Victim.the-variants.{Free, Owing}
 use Rattle.evict.specs.declared.Room.{Room}
 use Rattle.evict.specs.declared.Room.the-variants.{Made, Refused}
-use Rattle.evict.specs.Evict.{minRefusalWait, orPlace, placeOr, nothingNoted, noted, looked, goesAtOnce, inUse, Within, walkFrom, walked, evictAt}
-use Rattle.evict.specs.Evict.{evictLimited, evictNoted, evicted}
-use Rattle.evict.proofs.WalkLaws.{debtRecorded, fullIfAny, walk-kept, remarked-sound}
+use Rattle.evict.specs.Evict.{orElse, nothingNoted, noted, looked, goesAtOnce, walkFrom, walked, victimOf, placeOfVictim, evictAt, refusalWait, evictVictim, evicted}
+use Rattle.evict.proofs.WalkLaws.{victimIs, debtRecorded, walk-kept, walk-chooses, remarked-sound}
 
--- What a look of the walk notes: of a full slot, and of one that is not full, by its mark.
-module _ (c : BucketConfig) (at : Nanos) (w : Walk) (p : ℕ) (slot : Slot) where
-  pub noted-full : lossless c slot at ≡ true → record { full = orPlace (w .full) p; unmarked = w .unmarked; soonest = w .soonest } ≡ noted c at w p slot
+-- What a look of the walk notes: of a full slot, and of one that is not full, by its mark. The code has worked out the shortfall n.
+module _ (c : BucketConfig) (at : Nanos) (w : Walk) (p : ℕ) (slot : Slot) {n : ℕ} (is : n ≡ shortfallAt c (slot .bucket) at) where
+  pub noted-full : n ≡ 0 → record { full = orElse (w .full) (At p); unmarked = w .unmarked; least = w .least } ≡ noted c at w p slot
   unfolding noted
-  noted-full full = rw full
+  noted-full full = rw (eq-eqb _ _ (sym is ∙ full))
 
-  pub noted-unmarked : lossless c slot at ≡ false → slot .mark ≡ 0
-      → record { full = w .full; unmarked = orPlace (w .unmarked) p; soonest = record { 0 = min (w .soonest .0) (recovery c slot at) } } ≡ noted c at w p slot
+  pub noted-unmarked : (n ≡ 0 → ⊥) → slot .mark ≡ 0
+      → record { full = w .full; unmarked = orElse (w .unmarked) (At p); least = min (w .least) n } ≡ noted c at w p slot
   unfolding noted
-  noted-unmarked owing clear = rw (owing, eq-eqb _ _ clear)
+  noted-unmarked owing clear = rw (ne-eqb _ _ (rw is at owing), eq-eqb _ _ clear, is)
 
-  pub noted-marked : lossless c slot at ≡ false → (slot .mark ≡ 0 → ⊥)
-      → record { full = w .full; unmarked = w .unmarked; soonest = record { 0 = min (w .soonest .0) (recovery c slot at) } } ≡ noted c at w p slot
+  pub noted-marked : (n ≡ 0 → ⊥) → (slot .mark ≡ 0 → ⊥) → record { full = w .full; unmarked = w .unmarked; least = min (w .least) n } ≡ noted c at w p slot
   unfolding noted
-  noted-marked owing set = rw (owing, ne-eqb _ _ set)
+  noted-marked owing set = rw (ne-eqb _ _ (rw is at owing), ne-eqb _ _ set, is)
 
 -- The walk: its start, and its end where no look is left.
 pub walk-start : (c : BucketConfig) (at : Nanos) (s : Shard) → walkFrom c at (min clockScan (s .slots .count)) s nothingNoted ≡ walked c at s
@@ -59,14 +59,14 @@ unfolding walked
 walk-start c at s = refl
 
 pub walk-end : (c : BucketConfig) (at : Nanos) (left : ℕ) (s : Shard) (w : Walk) → left ≡ 0
-    → walkFrom c at left s w ≡ record { victim = Nowhere; walk = w; after = s }
+    → walkFrom c at left s w ≡ record { ended = Nowhere; walk = w; after = s }
 unfolding walkFrom
 walk-end c at left s w none = rw none
 
 -- A look at the place of the hand, as the code makes it: it gives the slot and leaves the shard t. The slot goes at once, or the walk goes on.
 module _ (c : BucketConfig) (at : Nanos) (left : ℕ) (s : Shard) (w : Walk) {t : Shard} {pos : ℕ} {slot : Slot} {goes : Bool} (more : 0 < left)
     (there : pos ≡ handOf s) (saw : outcome slot t ≡ outcome (slotAt s pos) (looked s pos)) (told : goes ≡ goesAtOnce c at slot) where
-  pub walk-ends-at-once : goes ≡ true → walkFrom c at left s w ≡ record { victim = At pos; walk = w; after = t }
+  pub walk-ends-at-once : goes ≡ true → walkFrom c at left s w ≡ record { ended = At pos; walk = w; after = t }
   unfolding walkFrom
   walk-ends-at-once so =
       let e : left ≡ suc (left - 1) = omega arith in
@@ -97,55 +97,31 @@ module _ {cap : ℕ} {ws ws′ : List ℕ} (intact : Intact cap ws) (same : leng
     count = ap (λ s. s .slots .count) (after-is gave);
   }
 
--- After the walk the words are still lent, and what it noted, and the place at which it ended, hold slots.
-pub record AfterWalk (cap : ℕ) (ws : List ℕ) (first : ℕ) (victim : Place) (w : Walk) : Type 0 where
+-- After the walk the words are still lent, and the victim is held.
+pub record AfterWalk (cap : ℕ) (ws : List ℕ) (v : Victim) : Type 0 where
   pub intact : Intact cap ws
-  pub victim-in-use : inUse (shard cap ws) victim
-  pub within : Within (shard cap ws) first w
+  pub held : placeOfVictim v < shard cap ws .slots .count
 
-full-held : (c : BucketConfig) (at : Nanos) (s t : Shard) (place : Place) → t .slots .count ≡ s .slots .count → fullIfAny c at s place → inUse t place
-full-held c at s t (At p) same full = omega (arith, full .below)
-full-held c at s t Nowhere same full = tt
+victim-held : (c : BucketConfig) (at : Nanos) (s : Shard) (v : Victim) → victimIs c at s v → placeOfVictim v < s .slots .count
+victim-held c at s (Free p) full = full .below
+victim-held c at s (Owing p) below = below
 
-still-held : (s t : Shard) (place : Place) → t .slots .count ≡ s .slots .count → inUse s place → inUse t place
-still-held s t (At p) same used = omega arith
-still-held s t Nowhere same used = tt
-
-pub after-walk : (c : BucketConfig) (at : Nanos) {cap : ℕ} {ws ws′ : List ℕ} {victim : Place} {w : Walk} → Intact cap ws → 0 < shard cap ws .slots .count
-    → length ws′ ≡ length ws → walked c at (shard cap ws) ≡ record { victim = victim; walk = w; after = shard cap ws′ }
-    → AfterWalk cap ws′ (handOf (shard cap ws)) victim w
-after-walk c at {cap} {ws} {ws′} {victim} {w} intact some same ended =
-    let kept = rw ended at (walk-kept c at (shard cap ws) (intact .sound) some) in
-    let count = kept .same .count in
+pub after-walk : (c : BucketConfig) (at : Nanos) {cap : ℕ} {ws ws′ : List ℕ} {ended : Place} {w : Walk} → Intact cap ws → 0 < shard cap ws .slots .count
+    → length ws′ ≡ length ws → walked c at (shard cap ws) ≡ record { ended = ended; walk = w; after = shard cap ws′ }
+    → AfterWalk cap ws′ (victimOf ended w (handOf (shard cap ws)))
+after-walk c at {cap} {ws} {ws′} {ended} {w} intact some same is =
+    let kept = rw is at (walk-kept c at (shard cap ws) (intact .sound) some) in
     record {
       intact = intact-after intact same refl (remarked-sound (shard cap ws) (shard cap ws′) (kept .same) (intact .sound));
-      victim-in-use = full-held c at (shard cap ws) (shard cap ws′) victim count (kept .victim);
-      within = record {
-        first = omega (arith, hand-below (shard cap ws) some);
-        full = full-held c at (shard cap ws) (shard cap ws′) (w .full) count (kept .full);
-        unmarked = still-held (shard cap ws) (shard cap ws′) (w .unmarked) count (kept .unmarked);
-      };
+      held = victim-held c at (shard cap ws′) (victimOf ended w (handOf (shard cap ws))) (rw is at (walk-chooses c at (shard cap ws) (intact .sound) some));
     }
 
--- The slot that goes with its debt, the first unmarked or else the first looked at, is held.
-placed-below : (s : Shard) (place : Place) (first : ℕ) → inUse s place → first < s .slots .count → placeOr place first < s .slots .count
-placed-below s (At p) first held below = held
-placed-below s Nowhere first held below = below
-
-pub chosen-held : {s : Shard} {first : ℕ} {w : Walk} → Within s first w → placeOr (w .unmarked) first < s .slots .count
-chosen-held {s} {first} {w} within = placed-below s (w .unmarked) first (within .unmarked) (within .first)
-
--- An eviction, once the walk has ended: at a place, or at none.
-module _ (c : BucketConfig) (at : Nanos) (forget : Bool) (s : Shard) {victim : Place} {w : Walk} {t : Shard}
-    (ended : walked c at s ≡ record { victim = victim; walk = w; after = t }) where
-  pub evicted-at-once : {p : ℕ} → victim ≡ At p → outcome Made (evictAt t p) ≡ evicted c at forget s
-  unfolding evicted
-  evicted-at-once is = rw (ended, is)
-
-  pub evicted-noted : {first : ℕ} {o : Outcome Room Shard} → victim ≡ Nowhere → first ≡ handOf s → o ≡ evictNoted c at forget t first w (w .full)
-      → o ≡ evicted c at forget s
-  unfolding evicted
-  evicted-noted is hand gave = rw (ended, is, ← hand) gave
+-- An eviction is the walk, the choice of the victim, and what happens to the victim.
+pub evicted-in-steps : (c : BucketConfig) (at : Nanos) (forget : Bool) (s : Shard) {ended : Place} {w : Walk} {t : Shard} {first : ℕ} {v : Victim}
+    {o : Outcome Room Shard} → walked c at s ≡ record { ended = ended; walk = w; after = t } → first ≡ handOf s → v ≡ victimOf ended w first
+    → o ≡ evictVictim c at forget t (w .least) v → o ≡ evicted c at forget s
+unfolding evicted
+evicted-in-steps c at forget s is hand chosen gave = rw (is, ← hand, ← chosen) gave
 
 -- The code makes the debt of the slot at p of the slot that it read and of the recovery that it worked out.
 pub debt-recorded : (c : BucketConfig) (at : Nanos) (forget : Bool) (p : ℕ) (s : Shard) {t : Shard} {r : Recorded} {slot : Slot} {n : ℕ}
@@ -154,23 +130,21 @@ pub debt-recorded : (c : BucketConfig) (at : Nanos) (forget : Bool) (p : ℕ) (s
     → outcome r t ≡ inLedger s (debtRecorded c at forget s p)
 debt-recorded c at forget p s read takes gave = rw (takes, read) at gave
 
--- The eviction of a slot that leaves a debt, once the debt is recorded, or is not.
-module _ (c : BucketConfig) (at : Nanos) (forget : Bool) (p : ℕ) (soonest : Nanos) {cap : ℕ} {ws : List ℕ} {r : Recorded} {t : Shard} (intact : Intact cap ws)
-    (gave : outcome r t ≡ inLedger (shard cap ws) (debtRecorded c at forget (shard cap ws) p)) where
-  pub limited-made : r ≡ Done → outcome Made (evictAt t p) ≡ evictLimited c at forget (shard cap ws) p soonest
-  limited-made is = rw (after-is gave, sym (answer-is gave) ∙ is)
+-- The eviction of a slot that owes, once its debt is recorded, or is not.
+module _ (c : BucketConfig) (at : Nanos) (forget : Bool) (p least : ℕ) (s : Shard) {r : Recorded} {t : Shard}
+    (gave : outcome r t ≡ inLedger s (debtRecorded c at forget s p)) where
+  pub owing-goes-out : r ≡ Done → outcome Made (evictAt t p) ≡ evictVictim c at forget s least (Owing p)
+  owing-goes-out is = rw (after-is gave, sym (answer-is gave) ∙ is)
 
-  pub limited-refused : {wait : Nanos} → r ≡ NoRoom wait
-      → outcome (Refused (record { 0 = max (min (soonest .0) (wait .0)) minRefusalWait })) t ≡ evictLimited c at forget (shard cap ws) p soonest
-  limited-refused is = rw (after-is gave, sym (answer-is gave) ∙ is)
+  pub owing-stays : {wait : Nanos} → r ≡ NoRoom wait → outcome (Refused (refusalWait c least wait)) t ≡ evictVictim c at forget s least (Owing p)
+  owing-stays is = rw (after-is gave, sym (answer-is gave) ∙ is)
 
 -- A recovery takes no longer than the largest shortfall has parts, so the moment at which a debt settles fits 64 bits.
 pub recovery-most : {c : BucketConfig} (b : BucketCore) (at : Nanos) → Accepted c → recoveryAt c b at ≤ mostShortfall c
 recovery-most {c} b at a =
-    let lack = shortfallAt c b at + c .capacity * c .period .0 - c .capacity * c .period .0 in
+    let lack : ℕ = shortfallAt c b at in
     let least : lack ≤ lack * c .amount = omega (arith, mul-le-mul-left lack (a .amount-least)) in
-    rw (← wait-for-lack c b (c .capacity) at (λ e. omega (arith, a .capacity-least)))
-    (omega (arith, ceilDiv-least lack (c .amount) lack (a .amount-least) least, shortfall-most c b at))
+    rw (← recovery-of-shortfall b at a) (omega (arith, ceilDiv-least lack (c .amount) lack (a .amount-least) least, shortfall-most c b at))
 
 pub debt-fits : {c : BucketConfig} (b : BucketCore) (at : Nanos) {n : ℕ} → Accepted c → at .0 ≤ 2 ^ 62 → n ≡ recoveryAt c b at → at .0 + n < 2 ^ 64
 debt-fits b at a early is = omega (arith, recovery-most b at a, most-shortfall-fits a)

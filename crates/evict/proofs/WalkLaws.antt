@@ -2,32 +2,37 @@
 -- ends in one of three ways. Laws about sums go by these cases and do not open the walk.
 use Prim.Native.Nat.{ℕ, zero, suc, _+_, _≤_, _<_, max, min}
 use mathlib.Core.Path.{_≡_, refl, sym, _∙_, ap}
-use mathlib.Core.Bool.{Bool, true, false, true≢false}
+use mathlib.Core.Bool.{Bool, true, false, cond, true≢false}
 use native.Mathlib.Omega.{arith}
 use lib.ListN.{length, length-set}
 use borrow.Author.Tests.{eqb-true}
 use Rattle.arith.proofs.Cases.{by-test, by-eq}
+use Rattle.arith.proofs.DivisionLaws.{ceilDiv-of-smaller}
 use Rattle.units.specs.declared.Nanos.{Nanos}
 use Rattle.bucket.specs.declared.BucketConfig.{BucketConfig}
-use Rattle.bucket.specs.Bucket.{shortfallAt}
+use Rattle.bucket.specs.Bucket.{Accepted, shortfallAt, recoveryOf}
+use Rattle.bucket.proofs.BucketLaws.{recovery-of-shortfall}
+use Rattle.settings.specs.Eviction.{clockScan}
 use Rattle.rows.specs.declared.Place.{Place}
 use Rattle.rows.specs.declared.Place.the-variants.{At, Nowhere}
 use Rattle.rows.specs.Held.{Held}
 use Rattle.rows.specs.Outcome.{Outcome, outcome}
 use Rattle.rows.proofs.HeldLaws.{item-stored, item-stored-other}
 use Rattle.slot.specs.declared.Slot.{Slot}
-use Rattle.slot.specs.Slot.{marked, withMark, lossless}
+use Rattle.slot.specs.Slot.{marked, withMark, lossless, recovery}
 use Rattle.ledger.specs.declared.Debt.{Debt}
 use Rattle.ledger.specs.declared.Recorded.{Recorded}
 use Rattle.ledger.specs.declared.Recorded.the-variants.{Done, NoRoom}
 use Rattle.ledger.specs.Model as Ledger
 use Rattle.ledger.proofs.RecordLaws.{recorded-sound, recorded-cap, Refusal, refusal}
 use Rattle.evict.specs.declared.Walk.{Walk}
+use Rattle.evict.specs.declared.Victim.{Victim}
+use Rattle.evict.specs.declared.Victim.the-variants.{Free, Owing}
 use Rattle.evict.specs.declared.Room.{Room}
 use Rattle.evict.specs.declared.Room.the-variants.{Made, Refused}
 use Rattle.shard_map.specs.Model.{Shard, Sound, noSlot, capOf, slotAt, withLedger, handOf, removeAt}
-use Rattle.evict.specs.Evict.{minRefusalWait, orPlace, placeOr, nothingNoted, noted, looked, goesAtOnce, inUse, Walked, walkFrom, walked, evictAt}
-use Rattle.evict.specs.Evict.{debtLeft, evictOwing, evictLimited, evictNoted, evictWalked, evicted}
+use Rattle.evict.specs.Evict.{minRefusalWait, orElse, placeOr, nothingNoted, noted, looked, goesAtOnce, Walked, walkFrom, walked, freeOr, victimOf, evictAt}
+use Rattle.evict.specs.Evict.{debtLeft, refusalWait, afterRecording, evictVictim, evicted}
 use Rattle.shard_map.proofs.StepLaws.{hand-below, removal-count, removal-cap, removal-ledger, ledger-sound}
 
 -- A shard that is another but for the hand and the marks.
@@ -71,26 +76,31 @@ abbrev pub fullIfAny : BucketConfig → Nanos → Shard → Place → Type 0
 fullIfAny c at s (At p) = FullSlot c at s p
 fullIfAny c at s Nowhere = Unit {0}
 
--- What the walk leaves: nothing but marks and the hand has changed, the victim and the first full slot are held and full, the first unmarked one is held.
+abbrev heldIfAny : Shard → Place → Type 0
+heldIfAny s (At p) = p < s .slots .count
+heldIfAny s Nowhere = Unit {0}
+
+-- What the walk leaves: nothing but marks and the hand has changed, the slot at which it ended and the first full one are held and full, the first unmarked
+-- one is held.
 pub record WalkKept (c : BucketConfig) (at : Nanos) (s : Shard) (w : Walked) : Type 0 where
   pub same : Remarked s (w .after)
-  pub victim : fullIfAny c at s (w .victim)
+  pub ended : fullIfAny c at s (w .ended)
   pub full : fullIfAny c at s (w .walk .full)
-  pub unmarked : inUse s (w .walk .unmarked)
+  pub unmarked : heldIfAny s (w .walk .unmarked)
 
 -- What has been noted so far: the first of each kind stays noted.
 record NotedKept (c : BucketConfig) (at : Nanos) (s : Shard) (w : Walk) : Type 0 where
   full : fullIfAny c at s (w .full)
-  unmarked : inUse s (w .unmarked)
+  unmarked : heldIfAny s (w .unmarked)
 
 module _ (c : BucketConfig) (at : Nanos) (s : Shard) where
-  first-full : (place : Place) (p : ℕ) → fullIfAny c at s place → FullSlot c at s p → fullIfAny c at s (orPlace place p)
-  first-full (At q) p earlier this = earlier
-  first-full Nowhere p earlier this = this
+  first-full : (a b : Place) → fullIfAny c at s a → fullIfAny c at s b → fullIfAny c at s (orElse a b)
+  first-full (At p) b first second = first
+  first-full Nowhere b first second = second
 
-  first-held : (place : Place) (p : ℕ) → inUse s place → p < s .slots .count → inUse s (orPlace place p)
-  first-held (At q) p earlier this = earlier
-  first-held Nowhere p earlier this = this
+  first-held : (a b : Place) → heldIfAny s a → heldIfAny s b → heldIfAny s (orElse a b)
+  first-held (At p) b first second = first
+  first-held Nowhere b first second = second
 
   -- The bucket that a look sees, after other looks have cleared marks.
   seen-full : (t : Shard) (p : ℕ) → Remarked s t → p < s .slots .count → lossless c (slotAt t p) at ≡ true → FullSlot c at s p
@@ -100,23 +110,23 @@ module _ (c : BucketConfig) (at : Nanos) (s : Shard) where
   unfolding noted
   noted-kept t w p r below n =
       by-test (lossless c (slotAt t p) at)
-      (λ full. rw (full, noted) (record { full = first-full (w .full) p (n .full) (seen-full t p r below full); unmarked = n .unmarked }))
+      (λ full. rw (full, noted) (record { full = first-full (w .full) (At p) (n .full) (seen-full t p r below full); unmarked = n .unmarked }))
       (λ owing. by-test (marked (slotAt t p))
       (λ m. rw (owing, noted, m) (record { full = n .full; unmarked = n .unmarked }))
-      (λ m. rw (owing, noted, m) (record { full = n .full; unmarked = first-held (w .unmarked) p (n .unmarked) below })))
+      (λ m. rw (owing, noted, m) (record { full = n .full; unmarked = first-held (w .unmarked) (At p) (n .unmarked) below })))
 
   at-once-is-full : (slot : Slot) → goesAtOnce c at slot ≡ true → lossless c slot at ≡ true
   at-once-is-full slot = by-test (lossless c slot at) (λ t. rw t (λ e. refl)) (λ t. rw t (λ e. e))
 
   walkFrom-kept : (left : ℕ) (t : Shard) (w : Walk) → Sound s → 0 < s .slots .count → Remarked s t → NotedKept c at s w → WalkKept c at s (walkFrom c at left t w)
   unfolding walkFrom
-  walkFrom-kept zero t w u some r n = record { same = r; victim = tt; full = n .full; unmarked = n .unmarked }
+  walkFrom-kept zero t w u some r n = record { same = r; ended = tt; full = n .full; unmarked = n .unmarked }
   walkFrom-kept (suc left) t w u some r n =
       let below : handOf t < t .slots .count = hand-below t (omega (arith, r .count)) in
       let held : handOf t < s .slots .count = omega (arith, r .count) in
       let next : Remarked s (looked t (handOf t)) = look-remarks s t (handOf t) r (omega (arith, r .count, r .cap, u .count-fits)) in
       by-test (goesAtOnce c at (slotAt t (handOf t)))
-      (λ goes. rw (goes, walkFrom) (record { same = next; victim = seen-full t (handOf t) r held (at-once-is-full (slotAt t (handOf t)) goes); full = n .full; unmarked = n .unmarked }))
+      (λ goes. rw (goes, walkFrom) (record { same = next; ended = seen-full t (handOf t) r held (at-once-is-full (slotAt t (handOf t)) goes); full = n .full; unmarked = n .unmarked }))
       (λ stays. rw (stays, walkFrom) (walkFrom-kept left (looked t (handOf t)) (noted c at w (handOf t) (slotAt t (handOf t))) u some next (noted-kept t w (handOf t) r held n)))
 
   pub walk-kept : Sound s → 0 < s .slots .count → WalkKept c at s (walked c at s)
@@ -124,9 +134,73 @@ module _ (c : BucketConfig) (at : Nanos) (s : Shard) where
   walk-kept u some =
       walkFrom-kept _ s nothingNoted u some (record { count = refl; cap = refl; sweep = refl; ledger = refl; slots = λ i. refl }) (record { full = tt; unmarked = tt })
 
+-- The soonest recovery of the slots that a walk looks at and that are not full, worked out at each look, with so many looks left.
+unfoldable pub soonestFrom : BucketConfig → Nanos → ℕ → Shard → ℕ → ℕ
+soonestFrom c at zero s soonest = soonest
+soonestFrom c at (suc left) s soonest =
+    let slot = slotAt s (handOf s) in
+    let sooner = cond (lossless c slot at) soonest (min soonest (recovery c slot at)) in
+    cond (goesAtOnce c at slot) soonest (soonestFrom c at left (looked s (handOf s)) sooner)
+
+-- That of the slots that an eviction looks at. No recovery is longer than the number that it starts with.
+abbrev pub soonestOf : BucketConfig → Nanos → Shard → ℕ
+soonestOf c at s = soonestFrom c at (min clockScan (s .slots .count)) s (recoveryOf c (nothingNoted .least))
+
+-- It is the recovery of the least shortfall that the walk notes: the code divides once.
+module _ {c : BucketConfig} (a : Accepted c) (at : Nanos) where
+  least-noted : (w : Walk) (p : ℕ) (slot : Slot)
+      → recoveryOf c (noted c at w p slot .least) ≡ cond (lossless c slot at) (recoveryOf c (w .least)) (min (recoveryOf c (w .least)) (recovery c slot at))
+  unfolding noted
+  least-noted w p slot =
+      by-test (lossless c slot at)
+      (λ full. rw (full, noted))
+      (λ owing. rw (owing, noted, ceilDiv-of-smaller (w .least) _ (c .amount) (a .amount-least), ← recovery-of-shortfall (slot .bucket) at a))
+
+  least-from : (left : ℕ) (s : Shard) (w : Walk)
+      → recoveryOf c (walkFrom c at left s w .walk .least) ≡ soonestFrom c at left s (recoveryOf c (w .least))
+  unfolding walkFrom soonestFrom
+  least-from zero s w = refl
+  least-from (suc left) s w =
+      by-test (goesAtOnce c at (slotAt s (handOf s)))
+      (λ goes. rw (goes, walkFrom, soonestFrom))
+      (λ stays. rw (stays, walkFrom, soonestFrom, ← least-noted w (handOf s) (slotAt s (handOf s))) (least-from left (looked s (handOf s)) _))
+
+  pub least-shortfall-recovers-soonest : (s : Shard) → recoveryOf c (walked c at s .walk .least) ≡ soonestOf c at s
+  unfolding walked
+  least-shortfall-recovers-soonest s = least-from _ s nothingNoted
+
 -- A slot that is full before the walk is full after it.
 remarked-full : (c : BucketConfig) (at : Nanos) (s t : Shard) (p : ℕ) → Remarked s t → FullSlot c at s p → FullSlot c at t p
 remarked-full c at s t p r f = record { below = omega (arith, r .count, f .below); full = rw (remarked-bucket s t r p) (f .full) }
+
+-- What a victim is: a free slot is held and full, and one that owes is held.
+abbrev pub victimIs : BucketConfig → Nanos → Shard → Victim → Type 0
+victimIs c at s (Free p) = FullSlot c at s p
+victimIs c at s (Owing p) = p < s .slots .count
+
+remarked-victim : (c : BucketConfig) (at : Nanos) (s t : Shard) (v : Victim) → Remarked s t → victimIs c at s v → victimIs c at t v
+remarked-victim c at s t (Free p) r full = remarked-full c at s t p r full
+remarked-victim c at s t (Owing p) r below = omega (arith, r .count)
+
+-- So is the slot that a walk chooses.
+full-or-held : (c : BucketConfig) (at : Nanos) (s : Shard) (place : Place) (p : ℕ) → fullIfAny c at s place → p < s .slots .count → victimIs c at s (freeOr place p)
+full-or-held c at s (At q) p full below = full
+full-or-held c at s Nowhere p full below = below
+
+held-or-first : (s : Shard) (place : Place) (first : ℕ) → heldIfAny s place → first < s .slots .count → placeOr place first < s .slots .count
+held-or-first s (At p) first held below = held
+held-or-first s Nowhere first held below = below
+
+pub walk-chooses : (c : BucketConfig) (at : Nanos) (s : Shard) → Sound s → 0 < s .slots .count
+    → victimIs c at (walked c at s .after) (victimOf (walked c at s .ended) (walked c at s .walk) (handOf s))
+walk-chooses c at s u some =
+    let ended : Place = walked c at s .ended in
+    let w : Walk = walked c at s .walk in
+    let kept : WalkKept c at s (walked c at s) = walk-kept c at s u some in
+    let full = first-full c at s ended (w .full) (kept .ended) (kept .full) in
+    let held = held-or-first s (w .unmarked) (handOf s) (kept .unmarked) (hand-below s some) in
+    let chosen = full-or-held c at s (orElse ended (w .full)) (placeOr (w .unmarked) (handOf s)) full held in
+    remarked-victim c at s (walked c at s .after) (victimOf ended w (handOf s)) (kept .same) chosen
 
 -- The debt of the slot at p is recorded in the ledger of its shard.
 abbrev pub debtRecorded : BucketConfig → Nanos → Bool → Shard → ℕ → Outcome Recorded Ledger.Ledger
@@ -135,47 +209,31 @@ debtRecorded c at forget s p = Ledger.recorded (s .ledger) (debtLeft c at (slotA
 pub debt-recorded-sound : (c : BucketConfig) (at : Nanos) (forget : Bool) (s : Shard) (p : ℕ) → Sound s → Sound (withLedger s (debtRecorded c at forget s p .after))
 debt-recorded-sound c at forget s p u = ledger-sound s _ u (recorded-sound (s .ledger) (debtLeft c at (slotAt s p)) at forget (u .ledger))
 
--- How an eviction ends, by the shard that the walk left: a full slot goes; a slot goes once its debt is in the ledger; or none goes, since the ledger had
--- no room, and the wait told is at least a millisecond.
-pub data Evicting (c : BucketConfig) (at : Nanos) (forget : Bool) (s : Shard) : Outcome Room Shard → Type 0 where
-  full-goes : (p : ℕ) → FullSlot c at s p → Evicting c at forget s (outcome Made (evictAt s p))
+-- How an eviction ends, by the shard that the walk left and the least shortfall that it noted: a full slot goes; a slot goes once its debt is in the ledger;
+-- or none goes, since the ledger had no room.
+pub data Evicting (c : BucketConfig) (at : Nanos) (forget : Bool) (least : ℕ) (s : Shard) : Outcome Room Shard → Type 0 where
+  full-goes : (p : ℕ) → FullSlot c at s p → Evicting c at forget least s (outcome Made (evictAt s p))
   owing-goes : (p : ℕ) → p < s .slots .count → debtRecorded c at forget s p .answer ≡ Done
-      → Evicting c at forget s (outcome Made (evictAt (withLedger s (debtRecorded c at forget s p .after)) p))
-  none-goes : (p : ℕ) (wait ledger-wait : Nanos) → p < s .slots .count → debtRecorded c at forget s p .answer ≡ NoRoom ledger-wait → minRefusalWait ≤ wait .0
-      → Evicting c at forget s (outcome (Refused wait) (withLedger s (debtRecorded c at forget s p .after)))
+      → Evicting c at forget least s (outcome Made (evictAt (withLedger s (debtRecorded c at forget s p .after)) p))
+  none-goes : (p : ℕ) (wait : Nanos) → p < s .slots .count → debtRecorded c at forget s p .answer ≡ NoRoom wait
+      → Evicting c at forget least s (outcome (Refused (refusalWait c least wait)) (withLedger s (debtRecorded c at forget s p .after)))
 
-limited-cases : (c : BucketConfig) (at : Nanos) (forget : Bool) (s : Shard) (p : ℕ) (soonest : Nanos) → p < s .slots .count
-    → Evicting c at forget s (evictLimited c at forget s p soonest)
-limited-cases c at forget s p soonest below = go (debtRecorded c at forget s p .answer) refl
+victim-cases : (c : BucketConfig) (at : Nanos) (forget : Bool) (s : Shard) (least : ℕ) (v : Victim) → victimIs c at s v
+    → Evicting c at forget least s (evictVictim c at forget s least v)
+victim-cases c at forget s least (Free p) full = full-goes p full
+victim-cases c at forget s least (Owing p) below = go (debtRecorded c at forget s p .answer) refl
   where
-    go : (answer : Recorded) → debtRecorded c at forget s p .answer ≡ answer → Evicting c at forget s (evictOwing s p soonest (debtRecorded c at forget s p .after) answer)
+    go : (answer : Recorded) → debtRecorded c at forget s p .answer ≡ answer
+        → Evicting c at forget least s (afterRecording c s p least (debtRecorded c at forget s p .after) answer)
     go Done e = owing-goes p below e
-    go (NoRoom wait) e = none-goes p (record { 0 = max (min (soonest .0) (wait .0)) minRefusalWait }) wait below e (omega arith)
+    go (NoRoom wait) e = none-goes p wait below e
 
-pub evict-cases : (c : BucketConfig) (at : Nanos) (forget : Bool) (s : Shard) → Sound s → 0 < s .slots .count → Evicting c at forget (walked c at s .after) (evicted c at forget s)
+pub evict-cases : (c : BucketConfig) (at : Nanos) (forget : Bool) (s : Shard) → Sound s → 0 < s .slots .count
+    → Evicting c at forget (walked c at s .walk .least) (walked c at s .after) (evicted c at forget s)
 unfolding evicted
-evict-cases c at forget s u some = by-victim (walked c at s .victim) (kept .victim)
-  where
-    t : Shard
-    t = walked c at s .after
-
-    w : Walk
-    w = walked c at s .walk
-
-    kept : WalkKept c at s (walked c at s)
-    kept = walk-kept c at s u some
-
-    chosen-below : (place : Place) → inUse s place → placeOr place (handOf s) < t .slots .count
-    chosen-below (At p) count-fits = omega (arith, kept .same .count)
-    chosen-below Nowhere count-fits = omega (arith, kept .same .count, hand-below s some)
-
-    by-full : (place : Place) → fullIfAny c at s place → Evicting c at forget t (evictNoted c at forget t (handOf s) w place)
-    by-full (At p) f = full-goes p (remarked-full c at s t p (kept .same) f)
-    by-full Nowhere f = limited-cases c at forget t (placeOr (w .unmarked) (handOf s)) (w .soonest) (chosen-below (w .unmarked) (kept .unmarked))
-
-    by-victim : (place : Place) → fullIfAny c at s place → Evicting c at forget t (evictWalked c at forget t (handOf s) w place)
-    by-victim (At p) f = full-goes p (remarked-full c at s t p (kept .same) f)
-    by-victim Nowhere f = by-full (w .full) (kept .full)
+evict-cases c at forget s u some =
+    let w : Walked = walked c at s in
+    victim-cases c at forget (w .after) (w .walk .least) (victimOf (w .ended) (w .walk) (handOf s)) (walk-chooses c at s u some)
 
 -- The two answers are not one, and there is no third.
 pub made-is-no-refusal : {Q : Type 0} {wait : Nanos} → Made ≡ Refused wait → Q
@@ -193,6 +251,13 @@ pub record EvictRefusal (forget : Bool) (s : Shard) (wait : Nanos) (after : Shar
   pub same : Remarked s (withLedger after (s .ledger))
   pub debts : after .ledger .debts ≡ s .ledger .debts
 
+-- A refusal's wait, by what the ledger told of the debt that it had no room for.
+pub record RefusalWait (c : BucketConfig) (at : Nanos) (forget : Bool) (s : Shard) (wait : Nanos) : Type 0 where
+  pub place : ℕ
+  pub ledger-wait : Nanos
+  pub told : debtRecorded c at forget (walked c at s .after) place .answer ≡ NoRoom ledger-wait
+  pub shorter : wait .0 ≡ max (min (soonestOf c at s) (ledger-wait .0)) minRefusalWait
+
 -- Q, of the slots, is kept by the two steps of an eviction: marks change, and a slot leaves.
 pub record KeptByEvictSteps (Q : Held Slot → Type 0) : Type 0 where
   pub remarks : (s t : Shard) → Remarked s t → Q (s .slots) → Q (t .slots)
@@ -209,20 +274,20 @@ module _ (c : BucketConfig) (at : Nanos) (forget : Bool) (s : Shard) (u : Sound 
   pub evict-keeps-slots : (Q : Held Slot → Type 0) → KeptByEvictSteps Q → Q (s .slots) → Q (evicted c at forget s .after .slots)
   evict-keeps-slots Q k q = go walk-sound (k .remarks s (walked c at s .after) walk-remarks q) (evict-cases c at forget s u some)
     where
-      go : {t : Shard} {o : Outcome Room Shard} → Sound t → Q (t .slots) → Evicting c at forget t o → Q (o .after .slots)
-      go {t} v r (full-goes p f) = k .drops t p v r
-      go {t} v r (owing-goes p below done) = k .drops (withLedger t (debtRecorded c at forget t p .after)) p (debt-recorded-sound c at forget t p v) r
-      go {t} v r (none-goes p wait ledger-wait below told least) = r
+      go : {least : ℕ} {t : Shard} {o : Outcome Room Shard} → Sound t → Q (t .slots) → Evicting c at forget least t o → Q (o .after .slots)
+      go {t = t} v r (full-goes p f) = k .drops t p v r
+      go {t = t} v r (owing-goes p below done) = k .drops (withLedger t (debtRecorded c at forget t p .after)) p (debt-recorded-sound c at forget t p v) r
+      go {t = t} v r (none-goes p wait below told) = r
 
   pub evict-keeps-ledger : (Q : Ledger.Ledger → Type 0) → ((l : Ledger.Ledger) (d : Debt) → Ledger.Sound l → Q l → Q (Ledger.recorded l d at forget .after))
       → Q (s .ledger) → Q (evicted c at forget s .after .ledger)
   evict-keeps-ledger Q records q = go walk-sound (rw (walk-remarks .ledger) q) (evict-cases c at forget s u some)
     where
-      go : {t : Shard} {o : Outcome Room Shard} → Sound t → Q (t .ledger) → Evicting c at forget t o → Q (o .after .ledger)
-      go {t} v r (full-goes p f) = rw (removal-ledger t p) r
-      go {t} v r (owing-goes p below done) =
+      go : {least : ℕ} {t : Shard} {o : Outcome Room Shard} → Sound t → Q (t .ledger) → Evicting c at forget least t o → Q (o .after .ledger)
+      go {t = t} v r (full-goes p f) = rw (removal-ledger t p) r
+      go {t = t} v r (owing-goes p below done) =
           rw (removal-ledger (withLedger t (debtRecorded c at forget t p .after)) p) (records (t .ledger) (debtLeft c at (slotAt t p)) (v .ledger) r)
-      go {t} v r (none-goes p wait ledger-wait below told least) = records (t .ledger) (debtLeft c at (slotAt t p)) (v .ledger) r
+      go {t = t} v r (none-goes p wait below told) = records (t .ledger) (debtLeft c at (slotAt t p)) (v .ledger) r
 
   -- It leaves the same room for slots and for debts, no more slots than there were, and a sound shard.
   pub evict-cap : capOf (evicted c at forget s .after) ≡ capOf s
@@ -247,10 +312,10 @@ module _ (c : BucketConfig) (at : Nanos) (forget : Bool) (s : Shard) (u : Sound 
   pub evict-made-count : evicted c at forget s .answer ≡ Made → evicted c at forget s .after .slots .count + 1 ≡ s .slots .count
   evict-made-count made = omega (arith, go (evict-cases c at forget s u some) made, walk-remarks .count)
     where
-      go : {t : Shard} {o : Outcome Room Shard} → Evicting c at forget t o → o .answer ≡ Made → o .after .slots .count + 1 ≡ t .slots .count
-      go {t} (full-goes p f) e = omega (arith, removal-count t p, f .below)
-      go {t} (owing-goes p below done) e = omega (arith, removal-count (withLedger t (debtRecorded c at forget t p .after)) p)
-      go {t} (none-goes p wait ledger-wait below told least) e = made-is-no-refusal (sym e)
+      go : {least : ℕ} {t : Shard} {o : Outcome Room Shard} → Evicting c at forget least t o → o .answer ≡ Made → o .after .slots .count + 1 ≡ t .slots .count
+      go {t = t} (full-goes p f) e = omega (arith, removal-count t p, f .below)
+      go {t = t} (owing-goes p below done) e = omega (arith, removal-count (withLedger t (debtRecorded c at forget t p .after)) p)
+      go {t = t} (none-goes p wait below told) e = made-is-no-refusal (sym e)
 
   pub evict-made-leaves-room : evicted c at forget s .answer ≡ Made → evicted c at forget s .after .slots .count < capOf (evicted c at forget s .after)
   evict-made-leaves-room made = omega (arith, evict-made-count made, evict-cap, u .count-fits)
@@ -258,12 +323,12 @@ module _ (c : BucketConfig) (at : Nanos) (forget : Bool) (s : Shard) (u : Sound 
   pub evict-refusal : (wait : Nanos) → evicted c at forget s .answer ≡ Refused wait → EvictRefusal forget s wait (evicted c at forget s .after)
   evict-refusal wait = go walk-remarks walk-sound (evict-cases c at forget s u some)
     where
-      go : {t : Shard} {o : Outcome Room Shard} → Remarked s t → Sound t → Evicting c at forget t o → o .answer ≡ Refused wait → EvictRefusal forget s wait (o .after)
+      go : {least : ℕ} {t : Shard} {o : Outcome Room Shard} → Remarked s t → Sound t → Evicting c at forget least t o → o .answer ≡ Refused wait → EvictRefusal forget s wait (o .after)
       go r v (full-goes p f) e = made-is-no-refusal e
       go r v (owing-goes p below done) e = made-is-no-refusal e
-      go {t} r v (none-goes p w ledger-wait below told least) e =
-          let q : Refusal (t .ledger) forget ledger-wait (debtRecorded c at forget t p .after) = refusal (t .ledger) _ at forget ledger-wait (v .ledger) told in
-          let same : w .0 ≡ wait .0 = cc in
+      go {least} {t} r v (none-goes p w below told) e =
+          let q : Refusal (t .ledger) forget w (debtRecorded c at forget t p .after) = refusal (t .ledger) _ at forget w (v .ledger) told in
+          let same : refusalWait c least w .0 ≡ wait .0 = cc in
           record {
             full = rw (← r .ledger) (q .full);
             never = q .never;
@@ -271,6 +336,18 @@ module _ (c : BucketConfig) (at : Nanos) (forget : Bool) (s : Shard) (u : Sound 
             same = record { count = r .count; cap = r .cap; sweep = r .sweep; ledger = refl; slots = r .slots };
             debts = q .debts ∙ ap (λ (l : Ledger.Ledger). l .debts) (r .ledger);
           }
+
+  -- The wait that a refusal tells is the shorter of the soonest recovery of the slots looked at and the ledger's wait, but at least a millisecond.
+  pub refusal-waits-for-the-soonest : Accepted c → (wait : Nanos) → evicted c at forget s .answer ≡ Refused wait → RefusalWait c at forget s wait
+  refusal-waits-for-the-soonest a wait = go (least-shortfall-recovers-soonest a at s) (evict-cases c at forget s u some)
+    where
+      go : {least : ℕ} {o : Outcome Room Shard} → recoveryOf c least ≡ soonestOf c at s → Evicting c at forget least (walked c at s .after) o
+          → o .answer ≡ Refused wait → RefusalWait c at forget s wait
+      go is (full-goes p f) e = made-is-no-refusal e
+      go is (owing-goes p below done) e = made-is-no-refusal e
+      go {least} is (none-goes p w below told) e =
+          let same : refusalWait c least w .0 ≡ wait .0 = cc in
+          record { place = p; ledger-wait = w; told = told; shorter = rw (← is) (sym same) }
 
   -- So it is never refused while the ledger is below its cap, nor where debts may be forgotten.
   pub evict-below-ledger-cap-never-refuses : s .ledger .debts .count < Ledger.capOf (s .ledger) → evicted c at forget s .answer ≡ Made

@@ -5,6 +5,7 @@ ghost use Rattle.rows.specs.Outcome.{outcome};
 ghost use Rattle.bucket.specs.Bucket.{Accepted};
 ghost use Rattle.shard_map.specs.Model as Model;
 ghost use Rattle.shard_map.specs.Layout.{shard, Intact};
+ghost use Rattle.evict.specs.declared.Victim.the-variants.{Owing};
 ghost use Rattle.evict.specs.Evict as Evict;
 use bucket::BucketConfig;
 use ledger::Debt;
@@ -25,11 +26,18 @@ pub enum Room {
     Refused(Nanos),
 }
 
-// What the walk of the hand has noted: the first full slot, the first slot neither full nor marked, and the soonest recovery of those not full.
+// Who goes in an eviction, by its place: a free slot is full and goes without loss; one that owes goes once its debt is recorded.
+pub enum Victim {
+    Free(usize),
+    Owing(usize),
+}
+
+// What the walk of the hand has noted: the first full slot, the first slot neither full nor marked, and the least shortfall of those not full. The least
+// shortfall is the soonest to recover, and only a refusal divides it.
 pub struct Walk {
     pub full: Place,
     pub unmarked: Place,
-    pub soonest: Nanos,
+    pub least: u64,
 }
 
 impl Walk {
@@ -40,7 +48,7 @@ impl Walk {
         Walk {
             full: Place::Nowhere,
             unmarked: Place::Nowhere,
-            soonest: Nanos(u64::MAX),
+            least: u64::MAX,
         }
     }
 
@@ -51,38 +59,50 @@ impl Walk {
     {
         let full = self.full;
         let unmarked = self.unmarked;
-        let soonest = self.soonest;
-        if slot.is_lossless(config, at) {
+        let bucket = slot.bucket;
+        let shortfall = bucket.shortfall_at(config, at);
+        if shortfall == 0 {
             return Walk {
-                full: first_noted(full, pos),
+                full: first_of(full, Place::At(pos)),
                 unmarked,
-                soonest,
+                least: self.least,
             };
         }
-        let recovers_in = slot.recovers_in(config, at);
-        let sooner = Nanos(arith::smaller(soonest.0, recovers_in.0));
+        let least = arith::smaller(self.least, shortfall);
         if slot.mark == 0 {
             return Walk {
                 full,
-                unmarked: first_noted(unmarked, pos),
-                soonest: sooner,
+                unmarked: first_of(unmarked, Place::At(pos)),
+                least,
             };
         }
         Walk {
             full,
             unmarked,
-            soonest: sooner,
+            least,
+        }
+    }
+
+    // Who goes: the slot at which the walk ended; else the first full one; else the first unmarked one, or the first looked at, which owes.
+    fn choose(self, ended: Place, first: usize) -> Victim
+        ensures { λ r. ⌜ r ≡ Evict.victimOf ended self first ⌝ }
+    {
+        let full = self.full;
+        let unmarked = self.unmarked;
+        match first_of(ended, full) {
+            Place::At(pos) => Victim::Free(pos),
+            Place::Nowhere => Victim::Owing(place_or(unmarked, first)),
         }
     }
 }
 
-// The place noted, if there is one, else this one.
-fn first_noted(noted: Place, pos: usize) -> Place
-    ensures { λ r. ⌜ r ≡ Evict.orPlace noted pos ⌝ }
+// The first of two places, if there is one, else the second.
+fn first_of(first: Place, second: Place) -> Place
+    ensures { λ r. ⌜ r ≡ Evict.orElse first second ⌝ }
 {
-    match noted {
-        Place::At(first) => Place::At(first),
-        Place::Nowhere => Place::At(pos),
+    match first {
+        Place::At(pos) => Place::At(pos),
+        Place::Nowhere => second,
     }
 }
 
@@ -138,12 +158,37 @@ pub fn evict_one(ws: &mut [u64], cap: usize, config: BucketConfig, at: Nanos, fo
         walk = walk.noted(pos, slot, config, at);
         left -= 1;
     };
+    let least = walk.least;
+    evict_victim(
+        ws,
+        cap,
+        config,
+        at,
+        forget,
+        walk.choose(victim, first),
+        least,
+    )
+}
+
+// What happens to the victim: a free slot goes; one that owes goes once its debt is recorded.
+fn evict_victim(
+    ws: &mut [u64],
+    cap: usize,
+    config: BucketConfig,
+    at: Nanos,
+    forget: bool,
+    victim: Victim,
+    least: u64,
+) -> Room
+    requires { ⌜ Intact cap (now ws) × Accepted config × (at .0 ≤ 2 ^ 62) × (Evict.placeOfVictim victim < shard cap (now ws) .slots .count) ⌝ }
+    ensures { λ r. ⌜ outcome r (shard cap (now (ws .exit))) ≡ Evict.evictVictim config at forget (shard cap (now (ws .entry))) least victim ⌝ }
+{
     match victim {
-        Place::At(pos) => {
+        Victim::Free(pos) => {
             evict_at(ws, cap, pos);
             Room::Made
         }
-        Place::Nowhere => evict_noted(ws, cap, config, at, forget, first, walk),
+        Victim::Owing(pos) => evict_owing(ws, cap, config, at, forget, pos, least),
     }
 }
 
@@ -156,51 +201,18 @@ fn evict_at(ws: &mut [u64], cap: usize, pos: usize)
     words::set_hand(ws, cap, pos + 1);
 }
 
-// After a walk that did not end at once: the first full slot goes; failing that the first unmarked one, or the first looked at, with its debt.
-fn evict_noted(
-    ws: &mut [u64],
-    cap: usize,
-    config: BucketConfig,
-    at: Nanos,
-    forget: bool,
-    first: usize,
-    walk: Walk,
-) -> Room
-    requires { ⌜ Intact cap (now ws) × Accepted config × (at .0 ≤ 2 ^ 62) × Evict.Within (shard cap (now ws)) first walk ⌝ }
-    ensures { λ r. ⌜ outcome r (shard cap (now (ws .exit))) ≡ Evict.evictNoted config at forget (shard cap (now (ws .entry))) first walk (walk .full) ⌝ }
-{
-    let full = walk.full;
-    let unmarked = walk.unmarked;
-    let soonest = walk.soonest;
-    match full {
-        Place::At(pos) => {
-            evict_at(ws, cap, pos);
-            Room::Made
-        }
-        Place::Nowhere => evict_limited(
-            ws,
-            cap,
-            config,
-            at,
-            forget,
-            place_or(unmarked, first),
-            soonest,
-        ),
-    }
-}
-
 // The slot at a place goes once its debt is recorded. If there is no room for the debt, the wait until room is expected is told.
-fn evict_limited(
+fn evict_owing(
     ws: &mut [u64],
     cap: usize,
     config: BucketConfig,
     at: Nanos,
     forget: bool,
     pos: usize,
-    soonest: Nanos,
+    least: u64,
 ) -> Room
     requires { ⌜ Intact cap (now ws) × Accepted config × (at .0 ≤ 2 ^ 62) × (pos < shard cap (now ws) .slots .count) ⌝ }
-    ensures { λ r. ⌜ outcome r (shard cap (now (ws .exit))) ≡ Evict.evictLimited config at forget (shard cap (now (ws .entry))) pos soonest ⌝ }
+    ensures { λ r. ⌜ outcome r (shard cap (now (ws .exit))) ≡ Evict.evictVictim config at forget (shard cap (now (ws .entry))) least (Owing pos) ⌝ }
 {
     let slot = shard_map::get(ws, cap, pos);
     let recovers_in = slot.recovers_in(config, at);
@@ -214,6 +226,7 @@ fn evict_limited(
             Room::Made
         }
         Recorded::NoRoom(wait) => {
+            let soonest = config.recovery_of(least);
             let sooner = arith::smaller(soonest.0, wait.0);
             Room::Refused(Nanos(arith::larger(sooner, MIN_REFUSAL_WAIT)))
         }

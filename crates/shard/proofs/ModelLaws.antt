@@ -6,24 +6,21 @@ use mathlib.Core.Path.{_≡_, sym, _∙_}
 use mathlib.Core.Bool.{true}
 use mathlib.Core.List.{List}
 use lib.ListN.{length}
-use lib.Seq.{set-set}
 use borrow.Author.Tests.{lt-ltb, le-ltb}
 use Rattle.units.specs.declared.Nanos.{Nanos}
 use Rattle.units.specs.declared.OptionNanos.{OptionNanos}
-use Rattle.units.specs.Units.{millisOf}
 use Rattle.bucket.specs.declared.BucketConfig.{BucketConfig}
 use Rattle.bucket.specs.declared.Request.{Request}
 use Rattle.bucket.specs.Bucket.{refunded as refundedBucket}
 use Rattle.rows.specs.declared.Place.the-variants.{At, Nowhere}
 use Rattle.rows.specs.Outcome.{outcome}
-use Rattle.rows.proofs.HeldLaws.{item-stored}
 use Rattle.rows.proofs.OutcomeLaws.{answer-is, after-is}
 use Rattle.slot.specs.declared.Slot.{Slot}
-use Rattle.slot.specs.Slot.{withBucket}
+use Rattle.slot.specs.Slot.{touched, withBucket}
 use Rattle.ledger.specs.Model as Ledger
-use Rattle.shard_map.specs.Model.{Shard, Sound, noSlot, capOf, slotAt, withSlot, inLedger, placeOf, removeAt, touchAt}
+use Rattle.shard_map.specs.Model.{Shard, Sound, capOf, slotAt, withSlot, inLedger, placeOf, removeAt}
 use Rattle.shard_map.specs.Layout.{shard, Intact}
-use Rattle.shard_map.proofs.StepLaws.{found-holds, change-sound}
+use Rattle.shard_map.proofs.StepLaws.{found-holds}
 use Rattle.shard_map.proofs.ModelLaws.{intact-cap, intact-below, intact-after, intact-after-answer}
 use Rattle.evict.specs.declared.Room.{Room}
 use Rattle.evict.specs.declared.Room.the-variants.{Made, Refused}
@@ -42,13 +39,13 @@ found-held s h k i e = found-holds s h k i e .below
 pub found-below-cap : {cap : ℕ} {ws : List ℕ} (h k i : ℕ) → Intact cap ws → placeOf (shard cap ws) h k ≡ At i → i < cap
 found-below-cap {cap} {ws} h k i intact e = intact-below intact (found-held (shard cap ws) h k i e)
 
--- A known key, store by store: the slot is touched in its place, read back, and put there again with the bucket that was asked.
-pub known-by-stores : (p : Policy) (request : Request) (cost : ℕ) (at : Nanos) (s : Shard) (i : ℕ) {t : Shard} {slot : Slot} → i < capOf s
-    → t ≡ touchAt s i (millisOf at) (tracks (p .«idle_ttl»)) → slot ≡ slotAt t i
-    → outcome (Decided (askedAt p slot request cost at .decision)) (withSlot t i (withBucket slot (askedAt p slot request cost at .bucket)))
+-- A known key: the slot that was read is touched, and is put back with the bucket that was asked.
+pub known-by-store : (p : Policy) (request : Request) (cost : ℕ) (at : Nanos) (s : Shard) (i : ℕ) {slot : Slot}
+    → slot ≡ touched (slotAt s i) at (tracks (p .«idle_ttl»))
+    → outcome (Decided (askedAt p slot request cost at .decision)) (withSlot s i (withBucket slot (askedAt p slot request cost at .bucket)))
     ≡ withExisting p request cost at s i
 unfolding withExisting
-known-by-stores p request cost at s i below touched read = rw (read, touched, item-stored noSlot (s .slots) i _ below, set-set)
+known-by-store p request cost at s i is = rw is
 
 -- Making room, once the two sweeps have left the shard t: there is room, or an eviction decides.
 module _ (p : Policy) (at : Nanos) (s : Shard) {t : Shard} (gave : t ≡ swept p at s) where
@@ -60,12 +57,8 @@ module _ (p : Policy) (at : Nanos) (s : Shard) {t : Shard} (gave : t ≡ swept p
   unfolding makeRoom
   room-by-eviction full = rw (gave, le-ltb _ _ (rw gave at full))
 
--- The words are still lent after a slot was stored, after the sweeps, after a debt was taken out, and after room was made, where one more slot
--- fits.
+-- The words are still lent after the sweeps, after a debt was taken out, and after room was made, where one more slot fits.
 module _ {cap : ℕ} {ws ws′ : List ℕ} (intact : Intact cap ws) (same : length ws′ ≡ length ws) where
-  pub intact-after-store : (i : ℕ) (slot : Slot) → shard cap ws′ ≡ withSlot (shard cap ws) i slot → Intact cap ws′
-  intact-after-store i slot gave = intact-after intact same gave (change-sound (shard cap ws) i slot (intact .sound))
-
   pub intact-after-idle-sweep : (p : Policy) (at : Nanos) → shard cap ws′ ≡ sweptIdle p at (shard cap ws) (idleLimitIn p) → Intact cap ws′
   intact-after-idle-sweep p at gave = intact-after intact same gave (swept-idle-sound p at (shard cap ws) (intact .sound) (idleLimitIn p))
 

@@ -43,7 +43,7 @@ askedAt p slot request cost at = Bucket.asked (p .config) request (slot .bucket)
 
 unfoldable pub withExisting : Policy → Request → ℕ → Nanos → Shard → ℕ → Outcome Answer Shard
 withExisting p request cost at s i =
-    let slot = touched (slotAt s i) (millisOf at) (tracks (p .«idle_ttl»)) in
+    let slot = touched (slotAt s i) at (tracks (p .«idle_ttl»)) in
     outcome (Decided (askedAt p slot request cost at .decision)) (withSlot s i (withBucket slot (askedAt p slot request cost at .bucket)))
 
 -- The idle limit, by the idle time and the time in which a bucket is full.

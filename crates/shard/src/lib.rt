@@ -50,7 +50,7 @@ impl Policy {
     }
 }
 
-// A request of a known key, by its place: its slot is touched, and its bucket is asked.
+// A request of a known key, by its place: its slot is touched, and its bucket is asked. The slot is read once and stored once.
 pub fn with_existing(
     ws: &mut [u64],
     cap: usize,
@@ -63,8 +63,8 @@ pub fn with_existing(
     requires { ⌜ Intact cap (now ws) × Accepted (policy .config) × (cost ≤ policy .config .capacity) × (pos < cap) ⌝ }
     ensures { λ r. ⌜ outcome r (shard cap (now (ws .exit))) ≡ Model.withExisting policy request cost at (shard cap (now (ws .entry))) pos ⌝ }
 {
-    shard_map::touch_at(ws, cap, pos, at.millis(), policy.tracks_idle());
-    let slot = shard_map::get(ws, cap, pos);
+    let stored = shard_map::get(ws, cap, pos);
+    let slot = slot::touch_value(stored, at, policy.tracks_idle());
     let bucket = slot.bucket;
     let config = policy.config;
     let asked = bucket.ask_at(config, request, cost, at);

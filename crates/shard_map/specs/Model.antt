@@ -12,7 +12,7 @@ use Rattle.rows.specs.Round.{Round}
 use Rattle.rows.specs.Round as Round
 use Rattle.rows.specs.Outcome.{Outcome, outcome}
 use Rattle.slot.specs.declared.Slot.{Slot}
-use Rattle.slot.specs.Slot.{isKey, touched, expired, lossless}
+use Rattle.slot.specs.Slot.{isKey, expired, lossless}
 use Rattle.ledger.specs.Model as Ledger
 
 pub record Shard : Type 0 where
@@ -77,10 +77,6 @@ removeAt s p = withSlots s (removed noSlot (s .slots) p)
 
 unfoldable pub insert : Shard → Slot → Shard
 insert s slot = withSlots s (appended (s .slots) slot)
-
--- A touch alters the slot at a place, and nothing else.
-abbrev pub touchAt : Shard → ℕ → Millis → Bool → Shard
-touchAt s p stamp track = withSlot s p (touched (slotAt s p) stamp track)
 
 -- A slot may go for being idle where it has been idle for the limit and its bucket is full.
 abbrev pub reclaimable : BucketConfig → Nanos → Millis → Slot → Bool

@@ -107,16 +107,6 @@ fn free_slot() -> Slot
     }
 }
 
-// Marks the slot at a place as used: it is read into a record, lent to `touch`, and written back.
-pub fn touch_at(ws: &mut [u64], cap: usize, pos: usize, now_ms: Millis, track_idle: bool)
-    requires { ⌜ Intact cap (now ws) × (pos < cap) ⌝ }
-    ensures { λ _. ⌜ shard cap (now (ws .exit)) ≡ Model.touchAt (shard cap (now (ws .entry))) pos «now_ms» «track_idle» ⌝ }
-{
-    let slot = words::load(ws, cap, pos);
-    let touched = slot::touch_value(slot, now_ms, track_idle);
-    words::put(ws, cap, pos, touched);
-}
-
 // Whether the slot has been idle for the limit and its bucket is full.
 fn is_reclaimable(slot: Slot, config: BucketConfig, at: Nanos, ttl_ms: Millis) -> bool
     requires { ⌜ Accepted config ⌝ }

@@ -3,17 +3,17 @@ use mathlib.Core.Path.{_≡_, refl}
 use Prim.Native.Nat.{ℕ}
 use mathlib.Core.Bool.{Bool, true, false, cond}
 use borrow.Author.Tests.{eqb-true, eq-eqb}
-use Rattle.units.specs.declared.Millis.{Millis}
+use Rattle.units.specs.declared.Nanos.{Nanos}
 use Rattle.slot.specs.declared.Slot.{Slot}
 use Rattle.slot.specs.Slot.{isKey, touched}
 
 -- A touch moves no key to another identity, and gives no tokens and takes none.
-pub touch-keeps-identity : (s : Slot) (stamp : Millis) (track : Bool) →
-    (touched s stamp track .hash ≡ s .hash) × (touched s stamp track .key ≡ s .key)
-touch-keeps-identity s stamp track = (refl, refl)
+pub touch-keeps-identity : (s : Slot) (at : Nanos) (track : Bool) →
+    (touched s at track .hash ≡ s .hash) × (touched s at track .key ≡ s .key)
+touch-keeps-identity s at track = (refl, refl)
 
-pub touch-keeps-bucket : (s : Slot) (stamp : Millis) (track : Bool) → touched s stamp track .bucket ≡ s .bucket
-touch-keeps-bucket s stamp track = refl
+pub touch-keeps-bucket : (s : Slot) (at : Nanos) (track : Bool) → touched s at track .bucket ≡ s .bucket
+touch-keeps-bucket s at track = refl
 
 -- Where two tests both have to hold and do, each of them holds.
 both-hold : (a b : Bool) → cond a b false ≡ true → (a ≡ true) × (b ≡ true)

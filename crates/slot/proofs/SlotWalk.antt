@@ -1,5 +1,5 @@
--- What the two proofs by hand, of `touch` and of `touch_value`, share: the machine values of a slot and of an idle stamp, and steps of the
--- calculus (`types.Kit`) over them. Both functions take a slot, an idle stamp and whether idle times are tracked.
+-- What the two proofs by hand, of `touch` and of `touch_value`, share: the machine values of a slot and of a moment, and steps of the
+-- calculus (`types.Kit`) over them. Both functions take a slot, a moment and whether idle times are tracked.
 use mathlib.Core.Path.{refl}
 use Prim.Native.Nat.{ℕ}
 use mathlib.Core.Bool.{Bool}
@@ -23,9 +23,9 @@ use denote.Builtin.{bool}
 use denote.Steps.{owned, peeks, nothing}
 use denote.Struct.Steps.{spelt}
 use denote.Struct.Laws as Laws
-use Rattle.units.specs.declared.Millis.{Millis}
-use Rattle.units.proofs.Millis as Stamp
-use Rattle.units.proofs.Millis.Laws as Stamp′
+use Rattle.units.specs.declared.Nanos.{Nanos}
+use Rattle.units.proofs.Nanos as Moment
+use Rattle.units.proofs.Nanos.Laws as Moment′
 use Rattle.slot.specs.declared.Slot.{Slot}
 use Rattle.slot.proofs.Slot as S
 use Rattle.slot.proofs.Slot.Laws as S′
@@ -40,23 +40,23 @@ slot-val = Laws.val S.the-type S′.the-laws
 abbrev pub slot-vals : Slot → List Val
 slot-vals = Laws.vals S.the-type S′.the-laws
 
-abbrev pub stamp-val : Millis → Val
-stamp-val = Laws.val Stamp.the-type Stamp′.the-laws
+abbrev pub moment-val : Nanos → Val
+moment-val = Laws.val Moment.the-type Moment′.the-laws
 
-abbrev pub stamp-vals : Millis → List Val
-stamp-vals = Laws.vals Stamp.the-type Stamp′.the-laws
+abbrev pub moment-vals : Nanos → List Val
+moment-vals = Laws.vals Moment.the-type Moment′.the-laws
 
--- That a stamp has its machine value, which holds of every stamp that a function is passed.
-abbrev pub IsStamp : Millis → Type 0
-IsStamp stamp = Is Stamp.the-row stamp (stamp-vals stamp)
+-- That a moment has its machine value, which holds of every moment that a function is passed.
+abbrev pub IsMoment : Nanos → Type 0
+IsMoment at = Is Moment.the-row at (moment-vals at)
 
 module _ {M : Type 1} {𝓤 : URA M} {H : Heap 𝓤} {A : Atoms 𝓤} (W : Given 𝓤 H A) where
-  -- A machine value that is a slot's, or a stamp's, can be stored in a local of that type.
+  -- A machine value that is a slot's, or a moment's, can be stored in a local of that type.
   pub slot-typed : (s : Slot) (v : Val) → Is S.the-row s (v ∷ []) → T (hasTy slot-type v) × WT v
   slot-typed s v is = Laws.lawful S.the-type S′.the-laws 𝓤 H A W .typed s (v ∷ []) is .0
 
-  pub stamp-typed : (stamp : Millis) → IsStamp stamp → T (hasTy (lone (Stamp.the-row .mir)) (stamp-val stamp)) × WT (stamp-val stamp)
-  stamp-typed stamp is = Laws.lawful Stamp.the-type Stamp′.the-laws 𝓤 H A W .typed stamp (stamp-vals stamp) is .0
+  pub moment-typed : (at : Nanos) → IsMoment at → T (hasTy (lone (Moment.the-row .mir)) (moment-val at)) × WT (moment-val at)
+  moment-typed at is = Laws.lawful Moment.the-type Moment′.the-laws 𝓤 H A W .typed at (moment-vals at) is .0
 
 module _ {M : Type 1} {𝓤 : URA M} {H : Heap 𝓤} {A : Atoms 𝓤} {K : Type 0} {W : Given 𝓤 H A} {Γ : List (Item 𝓤)} {G : Goal 𝓤 H} where
   -- What a slot owns shows that the machine values are its own, and stays.
@@ -73,11 +73,11 @@ module _ {M : Type 1} {𝓤 : URA M} {H : Heap 𝓤} {A : Atoms 𝓤} {K : Type 
   pub owned-slot : K → (s : Slot) → Is S.the-row s (slot-vals s) → Step K W (‵ (S.the-row .own s (slot-vals s)) ∷ Γ) G Γ G
   owned-slot t s = owned t S.the-row (Is S.the-row) (Laws.makes S.the-type S′.the-plain 𝓤 H A) s (slot-vals s)
 
-  -- So is a stamp, and whether idle times are tracked: the two parameters after the slot.
-  pub owned-access : K → (stamp : Millis) (track : Bool) → IsStamp stamp
-      → Step K W (‵ (owns (Stamp.the-row ∷ bool ∷ []) (stamp, (track, tt)) (stamp-vals stamp, (vbool track ∷ [], tt))) ∷ Γ) G Γ G
-  owned-access t stamp track is = step (λ s. nothing t $ owned t bool (Is bool) (bool-makes 𝓤 H A W) track _ refl $ fjoin t $
-      owned t Stamp.the-row (Is Stamp.the-row) (Laws.makes Stamp.the-type Stamp′.the-plain 𝓤 H A) stamp _ is $ fjoin t $ s)
+  -- So is a moment, and whether idle times are tracked: the two parameters after the slot.
+  pub owned-access : K → (at : Nanos) (track : Bool) → IsMoment at
+      → Step K W (‵ (owns (Moment.the-row ∷ bool ∷ []) (at, (track, tt)) (moment-vals at, (vbool track ∷ [], tt))) ∷ Γ) G Γ G
+  owned-access t at track is = step (λ s. nothing t $ owned t bool (Is bool) (bool-makes 𝓤 H A W) track _ refl $ fjoin t $
+      owned t Moment.the-row (Is Moment.the-row) (Laws.makes Moment.the-type Moment′.the-plain 𝓤 H A) at _ is $ fjoin t $ s)
 
 module _ {M : Type 1} (𝓤 : URA M) (H : Heap 𝓤) (A : Atoms 𝓤) (W : Given 𝓤 H A) (l : ℕ) (s : Slot) where
   -- A local that holds a slot lies in memory as a slot that can be lent, and back.

@@ -4,6 +4,7 @@ use mathlib.Core.Bool.{Bool, false, cond, not}
 use lib.Dec.{leb, eqb}
 use Rattle.units.specs.declared.Nanos.{Nanos}
 use Rattle.units.specs.declared.Millis.{Millis}
+use Rattle.units.specs.Units.{millisOf}
 use Rattle.bucket.specs.declared.BucketConfig.{BucketConfig}
 use Rattle.bucket.specs.declared.BucketCore.{BucketCore}
 use Rattle.bucket.specs.Bucket.{fullAt, recoveryAt}
@@ -24,13 +25,13 @@ abbrev pub withBucket : Slot → BucketCore → Slot
 withBucket s b = record { hash = s .hash; key = s .key; bucket = b; mark = s .mark; seen = s .seen }
 
 -- A touch sets the mark and, where idle times are tracked, raises last-seen to the moment's idle stamp.
-abbrev pub touched : Slot → Millis → Bool → Slot
-touched s stamp track = record {
+abbrev pub touched : Slot → Nanos → Bool → Slot
+touched s at track = record {
   hash = s .hash;
   key = s .key;
   bucket = s .bucket;
   mark = 1;
-  seen = record { 0 = cond track (max (s .seen .0) (stamp .0)) (s .seen .0) };
+  seen = record { 0 = cond track (max (s .seen .0) (millisOf at .0)) (s .seen .0) };
 }
 
 -- A new slot has no mark, and was last seen now.

@@ -32,11 +32,11 @@ impl Slot {
     }
 
     // The slot after an access.
-    pub fn touched(self, now_ms: Millis, track_idle: bool) -> Slot
-        ensures { λ r. ⌜ r ≡ Model.touched self «now_ms» «track_idle» ⌝ }
+    pub fn touched(self, at: Nanos, track_idle: bool) -> Slot
+        ensures { λ r. ⌜ r ≡ Model.touched self at «track_idle» ⌝ }
     {
         let bucket = self.bucket;
-        let seen = self.seen_after(now_ms, track_idle);
+        let seen = self.seen_after(at, track_idle);
         Slot {
             hash: self.hash,
             key: self.key,
@@ -46,13 +46,14 @@ impl Slot {
         }
     }
 
-    // Last-seen after an access: raised to the access's stamp where idle times are tracked.
-    fn seen_after(self, now_ms: Millis, track_idle: bool) -> Millis
-        ensures { λ r. ⌜ r ≡ Model.touched self «now_ms» «track_idle» .seen ⌝ }
+    // Last-seen after an access: raised to the idle stamp of the moment where idle times are tracked. Only then is the stamp worked out.
+    fn seen_after(self, at: Nanos, track_idle: bool) -> Millis
+        ensures { λ r. ⌜ r ≡ Model.touched self at «track_idle» .seen ⌝ }
     {
         let seen = self.seen;
         if track_idle {
-            return Millis(arith::larger(seen.0, now_ms.0));
+            let stamp = at.millis();
+            return Millis(arith::larger(seen.0, stamp.0));
         }
         seen
     }
@@ -85,17 +86,17 @@ impl Slot {
 }
 
 // Marks the one slot that is lent as used.
-pub fn touch(slot: &mut Slot, now_ms: Millis, track_idle: bool)
-    ensures { λ _. ⌜ now (slot .exit) ≡ Model.touched (now (slot .entry)) «now_ms» «track_idle» ⌝ }
+pub fn touch(slot: &mut Slot, at: Nanos, track_idle: bool)
+    ensures { λ _. ⌜ now (slot .exit) ≡ Model.touched (now (slot .entry)) at «track_idle» ⌝ }
 {
-    *slot = slot.touched(now_ms, track_idle);
+    *slot = slot.touched(at, track_idle);
 }
 
 // As `touch`, by value: a copy of the slot is lent to `touch`, and returned.
-pub fn touch_value(slot: Slot, now_ms: Millis, track_idle: bool) -> Slot
-    ensures { λ r. ⌜ r ≡ Model.touched slot «now_ms» «track_idle» ⌝ }
+pub fn touch_value(slot: Slot, at: Nanos, track_idle: bool) -> Slot
+    ensures { λ r. ⌜ r ≡ Model.touched slot at «track_idle» ⌝ }
 {
     let mut lent = slot;
-    touch(&mut lent, now_ms, track_idle);
+    touch(&mut lent, at, track_idle);
     lent
 }

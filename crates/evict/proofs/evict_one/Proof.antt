@@ -1,5 +1,5 @@
 -- `evict_one` is the walk and what follows from it. The loop holds that the looks left, made from here, give the walk from the start; where its two
--- ways out meet, the place that it yields and the shard are the walk's own, and the rest goes by that place as the definition does.
+-- ways out meet, the place that it yields and the shard are the walk's own. Then the victim is chosen and what is to happen to it happens.
 use Prim.Native.Nat.{ℕ, _<_}
 use mathlib.Core.Path.{_≡_, refl, sym, _∙_}
 use mathlib.Core.List.{List}
@@ -13,9 +13,9 @@ use Rattle.shard_map.specs.Layout.{shard, Intact}
 use Rattle.shard_map.specs.Model.{handOf}
 use Rattle.shard_map.proofs.ModelLaws.{intact-hand}
 use Rattle.evict.specs.declared.Walk.{Walk}
-use Rattle.evict.specs.Evict.{walkFrom, walked}
+use Rattle.evict.specs.Evict.{walkFrom, walked, victimOf}
 use Rattle.evict.proofs.ModelLaws.{walk-start, walk-end, walk-turn, walk-ends-at-once}
-use Rattle.evict.proofs.ModelLaws.{AfterWalk, after-look, after-walk, evicted-at-once, evicted-noted}
+use Rattle.evict.proofs.ModelLaws.{AfterWalk, after-look, after-walk, evicted-in-steps}
 use borrow.Author.Needs.{needs}
 use Rattle.evict.proofs.evict_one.Statement.{statement}
 use Rattle.evict.proofs.evict_one.Tie as tie
@@ -108,7 +108,7 @@ loop-again c =
 -- Where the two ways out of the loop meet: what it yields, what was noted and the shard are those of the walk.
 record Ended (ws₀ : List ℕ) (cap : ℕ) (c : BucketConfig) (at : Nanos) (ws : List ℕ) (victim : Place) (walk : Walk) : Type 0 where
   long : length ws ≡ length ws₀
-  same : walked c at (shard cap ws₀) ≡ record { victim = victim; walk = walk; after = shard cap ws }
+  same : walked c at (shard cap ws₀) ≡ record { ended = victim; walk = walk; after = shard cap ws }
 
 -- `began` is where the hand was first read, as seen from there.
 abbrev began : tie.Joined1 Inv-loop μ-loop → tie.After-hand Inv-loop μ-loop
@@ -126,53 +126,35 @@ walk-ended c =
     }))
     (c .if1 .came)
 
--- So the words are still lent there, and what was noted, and the place that the loop yields, hold slots.
+-- So the words are still lent there, and the victim is held.
 walk-left : (c : tie.Joined1 Inv-loop μ-loop) → let a = start (began c) .args in
-    AfterWalk (a .cap) (c .if1 .ws) (handOf (shard (a .cap) (a .ws .now))) (c .if1 .victim) (c .before .loop .walk)
+    AfterWalk (a .cap) (c .if1 .ws) (victimOf (c .if1 .victim) (c .before .loop .walk) (handOf (shard (a .cap) (a .ws .now))))
 walk-left c =
     let pre′ = start (began c) .pre in
     after-walk _ _ (pre′ .0) (pre′ .2) (walk-ended c .long) (walk-ended c .same)
 
--- Where the loop's ways met, from where a slot has gone at once, and from where one that was noted was asked to go.
-abbrev went : tie.After-evict-at Inv-loop μ-loop → tie.Joined1 Inv-loop μ-loop
-went gone = gone .before .before .before .before .before
+-- Where the loop's ways met, from where the victim was chosen.
+abbrev met : tie.After-choose Inv-loop μ-loop → tie.Joined1 Inv-loop μ-loop
+met chosen = chosen .before .before
 
-abbrev went-on : tie.After-evict-noted Inv-loop μ-loop → tie.Joined1 Inv-loop μ-loop
-went-on asked = asked .before .before .before .before
+choose-requires : tie.Need-choose-requires Inv-loop μ-loop
+choose-requires c κs = search needs
 
-enum-known-victim : tie.Need-enum-known-victim Inv-loop μ-loop
-enum-known-victim c = search needs
-
-evict-at-requires : tie.Need-evict-at-requires Inv-loop μ-loop
-evict-at-requires c κs =
-    let after = walk-left (c .before .before .before .before) in
-    (after .intact, rw (c .before .before .victim .given .1) at (after .victim-in-use))
-
-enum-told : tie.Need-enum-told Inv-loop μ-loop
-enum-told c = search needs
-
-evict-noted-requires : tie.Need-evict-noted-requires Inv-loop μ-loop
-evict-noted-requires c κs =
-    let met = c .before .before .before in
-    let pre′ = start (began met) .pre in
-    (walk-left met .intact, pre′ .1, pre′ .3, rw (began met .hand .ensures) (walk-left met .within))
+evict-victim-requires : tie.Need-evict-victim-requires Inv-loop μ-loop
+evict-victim-requires c κs =
+    let pre′ = start (began (met c)) .pre in
+    let after = walk-left (met c) in
+    (after .intact, pre′ .1, pre′ .3, rw (c .choose .ensures, began (met c) .hand .ensures) (after .held))
 
 same-length : tie.Need-same-length Inv-loop μ-loop
-same-length c = let gone = c .before .before in gone .evict-at .kept .0 ∙ walk-ended (went gone) .long
+same-length c = let gone = c .before .before in gone .evict-victim .kept .0 ∙ walk-ended (met (gone .before)) .long
 
 returns : tie.Need-returns Inv-loop μ-loop
 returns c =
     let gone = c .before .before in
-    rw (gone .evict-at .ensures) (evicted-at-once _ _ _ _ (walk-ended (went gone) .same) (gone .before .before .before .victim .given .1))
-
-same-length-2 : tie.Need-same-length-2 Inv-loop μ-loop
-same-length-2 c = let asked = c .before .before in asked .evict-noted .kept .0 ∙ walk-ended (went-on asked) .long
-
-returns-2 : tie.Need-returns-2 Inv-loop μ-loop
-returns-2 c =
-    let asked = c .before .before in
-    let nowhere = asked .before .before .enum-told .given .1 in
-    evicted-noted _ _ _ _ (walk-ended (went-on asked) .same) nowhere (began (went-on asked) .hand .ensures) (asked .evict-noted .ensures)
+    let chosen = gone .before in
+    let hand = began (met chosen) .hand .ensures in
+    evicted-in-steps _ _ _ _ (walk-ended (met chosen) .same) hand (chosen .choose .ensures) (gone .evict-victim .ensures)
 
 pub evict-one-spec : {M : Type 1} → statement M
 evict-one-spec =
@@ -193,11 +175,7 @@ evict-one-spec =
     sub-left
     loop-less
     loop-again
-    enum-known-victim
-    evict-at-requires
-    enum-told
-    evict-noted-requires
+    choose-requires
+    evict-victim-requires
     same-length
-    returns
-    same-length-2
-    returns-2)
+    returns)

@@ -40,14 +40,14 @@ use denote.Triple.Table.{entered, cited}
 use denote.Triple.Walked.{says, Stays, stay-none, walkOf, AllGo, goes-none, Walks, ends-at, walked, walk-meets}
 use denote.Triple.Clauses.{ensured, lasts}
 use denote.Exit.{yes}
-use Rattle.units.specs.declared.Millis.{Millis}
-use Rattle.units.proofs.Millis as Stamp
-use Rattle.units.proofs.Millis.Laws as Stamp′
+use Rattle.units.specs.declared.Nanos.{Nanos}
+use Rattle.units.proofs.Nanos as Moment
+use Rattle.units.proofs.Nanos.Laws as Moment′
 use Rattle.slot.specs.Slot.{touched}
 use Rattle.slot.specs.declared.Slot.{Slot}
 use Rattle.slot.proofs.Slot as S
 use Rattle.slot.proofs.Slot.Laws as S′
-use Rattle.slot.proofs.SlotWalk.{slot-type, slot-val, slot-vals, stamp-val, stamp-vals, IsStamp, slot-typed, stamp-typed, peeks-slot, owned-slot}
+use Rattle.slot.proofs.SlotWalk.{slot-type, slot-val, slot-vals, moment-val, moment-vals, IsMoment, slot-typed, moment-typed, peeks-slot, owned-slot}
 use Rattle.slot.proofs.SlotWalk.{owned-access, local-lies, lies-local}
 use Rattle.slot.proofs.touch as g
 use Rattle.slot.proofs.touch.Symbol as g-def
@@ -59,33 +59,33 @@ use Rattle.slot.proofs.touch_value.Code as code
 
 -- All three parameters are plain data, and at exit as they were passed.
 abbrev stayed : Stays (f.ended .signature .params) (f.ended .kept)
-stayed = (stay-none (λ _. S.the-row) yes, (stay-none (λ _. Stamp.the-row) yes, (stay-none (λ _. bool) yes, tt)))
+stayed = (stay-none (λ _. S.the-row) yes, (stay-none (λ _. Moment.the-row) yes, (stay-none (λ _. bool) yes, tt)))
 
 module _ {M : Type 1} (𝓤 : URA M) (H : Heap 𝓤) (A : Atoms 𝓤) (W : Given 𝓤 H A) (at-mem : Memory → SProp 𝓤) (run : Routine → Fun 𝓤) where
   -- The contract of `touch`.
   abbrev Touch : Contract 𝓤
   Touch = tripleOf 𝓤 H A g.signature (g.spec 𝓤 H A at-mem run)
 
-  module _ (s : Slot) (stamp : Millis) (track : Bool) (is-stamp : IsStamp stamp) where
+  module _ (s : Slot) (at : Nanos) (track : Bool) (is-moment : IsMoment at) where
     -- The arguments, and their machine values.
-    abbrev args : Slot × (Millis × (Bool × Unit {0}))
-    args = (s, (stamp, (track, tt)))
+    abbrev args : Slot × (Nanos × (Bool × Unit {0}))
+    args = (s, (at, (track, tt)))
 
     abbrev machine : List Val × (List Val × (List Val × Unit {0}))
-    machine = (slot-vals s, (stamp-vals stamp, (vbool track ∷ [], tt)))
+    machine = (slot-vals s, (moment-vals at, (vbool track ∷ [], tt)))
 
     abbrev Post : Val → SProp 𝓤
     Post = walkOf 𝓤 H A f.ended stayed (f.clauses 𝓤 H A at-mem run) .post ((tt, tt, tt, args, machine), tt)
 
     -- The exit: what is returned is r, the slot touched.
-    exits : (r : Slot) → r ≡ touched s stamp track
+    exits : (r : Slot) → r ≡ touched s at track
         → ent 𝓤 (sep 𝓤 (sem 𝓤 H A (S.the-row .own r (slot-vals r))) (sem 𝓤 H A (S.the-row .own s (slot-vals s)))) (Post (slot-val r))
     exits r e =
         qed W (‵ (S.the-row .own r (slot-vals r)) ∷ ‵ (S.the-row .own s (slot-vals s)) ∷ []) ∵
         suffices ! _ (ends-at 𝓤 H A f.ended stayed (f.clauses 𝓤 H A at-mem run) W ((tt, tt, tt, args, machine), tt) (slot-val r) r (tt, (tt, (tt, tt))) (tt, (tt, (tt, tt)))) $
-        says ! e $ move ! (1 ∷ []) $ owned-access ! stamp track is-stamp $ move ! (1 ∷ 0 ∷ []) $ fjoin ! $ nothing ! $ done !
+        says ! e $ move ! (1 ∷ []) $ owned-access ! at track is-moment $ move ! (1 ∷ 0 ∷ []) $ fjoin ! $ nothing ! $ done !
 
-    -- The call: `touch` is passed the reference to the local at l, for the lifetime ν and under the name γ, the stamp and the flag.
+    -- The call: `touch` is passed the reference to the local at l, for the lifetime ν and under the name γ, the moment and the flag.
     abbrev ref : ℕ → GName → RefT Slot
     ref l γ = record { ptr = (l, 0); name = γ; now = s }
 
@@ -93,23 +93,23 @@ module _ {M : Type 1} (𝓤 : URA M) (H : Heap 𝓤) (A : Atoms 𝓤) (W : Given
     Ref l ν γ = sem 𝓤 H A (MutRef (named 0) (ν ∷ []) S.the-row .own (ref l γ) (vptr l 0 ∷ []))
 
     abbrev passed : ℕ → ℕ → GName → Touch .Ghost
-    passed l ν γ = (((ν ∷ [], tt), (fullShare, tt), tt, (ref l γ, (stamp, (track, tt))), (vptr l 0 ∷ [], (stamp-vals stamp, (vbool track ∷ [], tt)))), tt)
+    passed l ν γ = (((ν ∷ [], tt), (fullShare, tt), tt, (ref l γ, (at, (track, tt))), (vptr l 0 ∷ [], (moment-vals at, (vbool track ∷ [], tt)))), tt)
 
     passes : (l ν : ℕ) (γ : GName) → ent 𝓤 (sep 𝓤 (A .lft (ν ∷ []) fullShare) (Ref l ν γ)) (Touch .pre (passed l ν γ))
     passes l ν γ =
         qed W (‵ (flft (ν ∷ []) fullShare) ∷ ‵ (MutRef (named 0) (ν ∷ []) S.the-row .own (ref l γ) (vptr l 0 ∷ [])) ∷ []) ∵
-        nothing ! $ move ! (1 ∷ 0 ∷ []) $ join ! $ move ! (1 ∷ []) $ owned-access ! stamp track is-stamp $ move ! (1 ∷ 0 ∷ []) $ fjoin ! $
+        nothing ! $ move ! (1 ∷ 0 ∷ []) $ join ! $ move ! (1 ∷ []) $ owned-access ! at track is-moment $ move ! (1 ∷ 0 ∷ []) $ fjoin ! $
         move ! (1 ∷ 0 ∷ []) $ join ! $ frame ! $ done !
 
     module _ (C : Calls 𝓤 H) (Λ : Loops 𝓤 H) (fm : FmC 𝓤 H (W .laws) C) (known : Triple 𝓤 (C g-def.name) Touch) where
       -- A local _i stands at the place that the comments give, with what frees it right after.
-      walk : ent 𝓤 (onEntry 𝓤 H A f.signature tt tt args machine) (WpFn 𝓤 H C Λ code.function (slot-val s ∷ stamp-val stamp ∷ vbool track ∷ []) Post)
+      walk : ent 𝓤 (onEntry 𝓤 H A f.signature tt tt args machine) (WpFn 𝓤 H C Λ code.function (slot-val s ∷ moment-val at ∷ vbool track ∷ []) Post)
       walk =
-          qed W (‵ ftrue ∷ ‵ (owns (S.the-row ∷ Stamp.the-row ∷ bool ∷ []) args machine) ∷ []) ∵ move ! (1 ∷ []) $ fsplit ! $ peeks-slot ! s (slot-vals s) (λ is.
+          qed W (‵ ftrue ∷ ‵ (owns (S.the-row ∷ Moment.the-row ∷ bool ∷ []) args machine) ∷ []) ∵ move ! (1 ∷ []) $ fsplit ! $ peeks-slot ! s (slot-vals s) (λ is.
           -- the locals are allocated, and the arguments stored in _1, _2, _3
-          enter ! C Λ code.function (slot-val s ∷ stamp-val stamp ∷ vbool track ∷ []) _ $
+          enter ! C Λ code.function (slot-val s ∷ moment-val at ∷ vbool track ∷ []) _ $
           alloc1 ! (λ l₀. alloc1 ! (λ l₁. alloc1 ! (λ l₂. alloc1 ! (λ l₃. alloc1 ! (λ l₄. alloc1 ! (λ l₅. alloc1 ! (λ l₆. alloc0 ! $ params1 ! $
-          pass1 ! (init ! 10 refl (slot-typed W s _ is)) $ pass1 ! (init ! 8 refl (stamp-typed W stamp is-stamp)) $ pass1 ! (init ! 6 refl (tt, tt)) $ pass0 ! $
+          pass1 ! (init ! 10 refl (slot-typed W s _ is)) $ pass1 ! (init ! 8 refl (moment-typed W at is-moment)) $ pass1 ! (init ! 6 refl (tt, tt)) $ pass0 ! $
           -- [_6 at 0; _5 at 2; _4 at 4; _3 at 6; _2 at 8; _1 at 10; _0 at 12; what s owns at 14; ..]: _4 = _1, _6 = &mut _4
           assigns ! (of-opd ! (load ! (from ! (stop !)) (look ! 10 refl))) (from ! (stop !)) (init ! 4 refl (slot-typed W s _ is)) $
           assigns ! (addr ! (from ! (stop !))) (from ! (stop !)) (init ! 0 refl (tt, tt)) $
@@ -122,10 +122,10 @@ module _ {M : Type 1} (𝓤 : URA M) (H : Heap 𝓤) (A : Atoms 𝓤) (W : Given
           calls-at ! fm Touch known (passed l₄ ν γ)
           (and-then ! (load ! (from ! (stop !)) (look ! 2 refl)) (and-then ! (load ! (from ! (stop !)) (look ! 9 refl)) (and-then ! (load ! (from ! (stop !)) (look ! 7 refl)) (no-more !)))) (λ w.
           use1 W (later (some (λ (r : Unit {0}). ((‵ (flft (ν ∷ []) fullShare) ⊛ ‵ ftrue) ⊛ ‵ (Nothing .own r (w ∷ [])))
-          ⊛ raw (ensured 𝓤 H A g.ended (g.clauses 𝓤 H A at-mem run) (ν ∷ [], tt) (ref l₄ γ, (stamp, (track, tt))) tt r)))) (id⊢ 𝓤 _) $ await ! tt $ pick ! (λ r. split ! $ move ! (1 ∷ []) $
-          use1 W (some (λ (zs : Slot × (Unit {0} × (Unit {0} × Unit {0}))). ‵ (lasts g.ended (ν ∷ [], tt) (ref l₄ γ, (stamp, (track, tt))) zs) ⊛
-          raw (fact 𝓤 (zs .0 ≡ touched s stamp track)))) (id⊢ 𝓤 _) $
-          pick ! (λ zs. split ! $ move ! (1 ∷ []) $ heard ! (zs .0 ≡ touched s stamp track) (λ e. fsplit ! $ move ! (2 ∷ []) $ split ! $ move ! (1 ∷ []) $ feqL ! (λ u. split ! $
+          ⊛ raw (ensured 𝓤 H A g.ended (g.clauses 𝓤 H A at-mem run) (ν ∷ [], tt) (ref l₄ γ, (at, (track, tt))) tt r)))) (id⊢ 𝓤 _) $ await ! tt $ pick ! (λ r. split ! $ move ! (1 ∷ []) $
+          use1 W (some (λ (zs : Slot × (Unit {0} × (Unit {0} × Unit {0}))). ‵ (lasts g.ended (ν ∷ [], tt) (ref l₄ γ, (at, (track, tt))) zs) ⊛
+          raw (fact 𝓤 (zs .0 ≡ touched s at track)))) (id⊢ 𝓤 _) $
+          pick ! (λ zs. split ! $ move ! (1 ∷ []) $ heard ! (zs .0 ≡ touched s at track) (λ e. fsplit ! $ move ! (2 ∷ []) $ split ! $ move ! (1 ∷ []) $ feqL ! (λ u. split ! $
           -- [the token; true; the last value; true; what is lent; _6 at 5; _5 at 7; what frees _4 at 9; _3 at 10; _2 at 12; _1 at 14; _0 at 16]
           land ! (from ! (stop !)) (init ! 7 refl (subst (λ (y : Val). T (hasTy tyUnit y) × WT y) (sym (ap only u)) (tt, tt))) $
           -- the lifetime ends, and _4 is back at the last value
@@ -144,14 +144,14 @@ module _ {M : Type 1} (𝓤 : URA M) (H : Heap 𝓤) (A : Atoms 𝓤) (W : Given
   walks : (C : Calls 𝓤 H) (Λ : Loops 𝓤 H) → FmC 𝓤 H (W .laws) C → Triple 𝓤 (C g-def.name) Touch
       → Walks 𝓤 H A f.ended stayed (WpFn 𝓤 H C Λ code.function) (f.clauses 𝓤 H A at-mem run)
   walks C Λ fm known =
-      walked 𝓤 H A f.ended stayed (f.clauses 𝓤 H A at-mem run) (WpFn 𝓤 H C Λ code.function) (λ κs. (slot-vals, (stamp-vals, (bool-vals, tt))))
-      (λ κs. (Laws.tells S.the-type S′.the-laws, (Laws.tells Stamp.the-type Stamp′.the-laws, (bool-tells, tt))))
+      walked 𝓤 H A f.ended stayed (f.clauses 𝓤 H A at-mem run) (WpFn 𝓤 H C Λ code.function) (λ κs. (slot-vals, (moment-vals, (bool-vals, tt))))
+      (λ κs. (Laws.tells S.the-type S′.the-laws, (Laws.tells Moment.the-type Moment′.the-laws, (bool-tells, tt))))
       (λ κs qs bounds a _ are. via 𝓤 _ (fst∗ 𝓤 _ (emp 𝓤)) (walk (a .0) (a .1 .0) (a .1 .1 .0) (are .1 .0) C Λ fm known))
 
   goes : AllGo 𝓤 H A W 0 (f.signature .params) (f.ended .kept) stayed
   goes = (
     goes-none 𝓤 H A W 0 (λ _. S.the-row) yes (λ κs x f. refl),
-    (goes-none 𝓤 H A W 0 (λ _. Stamp.the-row) yes (λ κs x f. refl), (goes-none 𝓤 H A W 0 (λ _. bool) yes (λ κs x f. refl), tt)),
+    (goes-none 𝓤 H A W 0 (λ _. Moment.the-row) yes (λ κs x f. refl), (goes-none 𝓤 H A W 0 (λ _. bool) yes (λ κs x f. refl), tt)),
   )
 
   meets : (𝓣 : Tables 𝓤 H) → Triple 𝓤 (𝓣 .C g-def.name) Touch → Meets 𝓤 H A f.signature (WpFn 𝓤 H (𝓣 .C) (𝓣 .Λ) code.function) (f.spec 𝓤 H A at-mem run)

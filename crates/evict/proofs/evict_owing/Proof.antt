@@ -1,4 +1,4 @@
--- `evict_limited` goes by the ledger's answer, as its definition does. The moment of the debt fits 64 bits, since a recovery is below 2^63 ns.
+-- `evict_owing` goes by the ledger's answer, as its definition does. The moment of the debt fits 64 bits, since a recovery is below 2^63 ns.
 use native.Mathlib.Omega.{arith}
 use mathlib.Core.Path.{_≡_}
 use Rattle.rows.specs.Outcome.{outcome}
@@ -6,10 +6,10 @@ use Rattle.shard_map.specs.Model.{inLedger}
 use Rattle.shard_map.specs.Layout.{shard}
 use Rattle.shard_map.proofs.ModelLaws.{intact-below}
 use Rattle.evict.proofs.WalkLaws.{debtRecorded}
-use Rattle.evict.proofs.ModelLaws.{after-record, debt-fits, debt-recorded, limited-made, limited-refused}
+use Rattle.evict.proofs.ModelLaws.{after-record, debt-fits, debt-recorded, owing-goes-out, owing-stays}
 use borrow.Author.Needs.{needs}
-use Rattle.evict.proofs.evict_limited.Statement.{statement}
-use Rattle.evict.proofs.evict_limited.Tie as tie
+use Rattle.evict.proofs.evict_owing.Statement.{statement}
+use Rattle.evict.proofs.evict_owing.Tie as tie
 
 -- Where the call began, once the recovery of the slot is known; where that was, once the ledger has answered; and what the ledger gave.
 abbrev start : tie.After-recovers-in → tie.Start
@@ -31,8 +31,8 @@ get-requires c κs =
 recovers-in-requires : tie.Need-recovers-in-requires
 recovers-in-requires c κs = search needs
 
-add-t15 : tie.Need-add-t15
-add-t15 c =
+add-t16 : tie.Need-add-t16
+add-t16 c =
     let known = c .before .before in
     omega (arith, debt-fits _ _ (start known .pre .1) (start known .pre .2) (known .recovers-in .ensures))
 
@@ -52,6 +52,9 @@ evict-at-requires c κs =
 enum-known-wait : tie.Need-enum-known-wait
 enum-known-wait c = search needs
 
+recovery-of-requires : tie.Need-recovery-of-requires
+recovery-of-requires c κs = search needs
+
 smaller-requires : tie.Need-smaller-requires
 smaller-requires c κs = search needs
 
@@ -65,32 +68,33 @@ returns : tie.Need-returns
 returns c =
     let told = c .before .before .before .before .before .before .before .before in
     let a = start (recovery told) .args in
-    let intact = start (recovery told) .pre .0 in
-    let made = limited-made (a .config) (a .at) (a .forget) (a .pos) (a .soonest) intact (gave told) (c .before .before .before .before .enum-told .given .1) in
-    rw (c .before .before .evict-at .ensures) made
+    let done = c .before .before .before .before .enum-told .given .1 in
+    rw (c .before .before .evict-at .ensures) (owing-goes-out (a .config) (a .at) (a .forget) (a .pos) (a .least) _ (gave told) done)
 
 same-length-2 : tie.Need-same-length-2
 same-length-2 c = search needs
 
 returns-2 : tie.Need-returns-2
 returns-2 c =
-    let told = c .before .before .before .before .before .before .before in
+    let soonest = c .before .before in
+    let wait = soonest .before .before in
+    let told = wait .before .before .before .before in
     let a = start (recovery told) .args in
-    let intact = start (recovery told) .pre .0 in
-    let refused = limited-refused (a .config) (a .at) (a .forget) (a .pos) (a .soonest) intact (gave told) (c .before .before .before .wait .given .1) in
-    rw (c .larger .ensures, c .before .smaller .ensures) refused
+    let stays = owing-stays (a .config) (a .at) (a .forget) (a .pos) (a .least) _ (gave told) (wait .wait .given .1) in
+    rw (c .larger .ensures, c .before .smaller .ensures, soonest .recovery-of .ensures) stays
 
-pub evict-limited-spec : {M : Type 1} → statement M
-evict-limited-spec =
+pub evict-owing-spec : {M : Type 1} → statement M
+evict-owing-spec =
     tie.close
     (tie.spec
     get-requires
     recovers-in-requires
-    add-t15
+    add-t16
     record-requires
     enum-told
     evict-at-requires
     enum-known-wait
+    recovery-of-requires
     smaller-requires
     larger-requires
     same-length
