@@ -1,32 +1,21 @@
 -- What is read of a field byte by byte; what is written digit by digit; what was written is read back.
 use Prim.Native.Nat.{ℕ, zero, suc, _+_, _*_, _-_, _/_, _%_, _^_, _≤_, _<_}
 use native.Mathlib.Numerals.{add-one}
-use native.Mathlib.Nat.{le-refl, add-zero, pow-suc}
+use native.Mathlib.Nat.{le-refl, add-zero, pow-suc, pow-le-pow-right}
 use native.Mathlib.Omega.{arith}
-use mathlib.Core.Bool.{true, false, cond}
+use mathlib.Core.Bool.{true, false, true≢false}
 use mathlib.Core.List.{List, [], _∷_, _++_}
 use mathlib.Core.Path.{_≡_, refl, ap, sym, _∙_}
-use lib.Dec.{leb}
-use lib.ListN.{length, drop, getD, set, drop-of-length-le, List·getD-append}
-use lib.Seq.{drop-cons, sets, set-comm}
+use lib.ListN.{length, take, drop, getD, set, drop-of-length-le, length-drop, List·getD-append}
+use lib.Seq.{take-all, take-suc, drop-cons, sets, set-comm}
 use Rattle.rows.specs.Outcome.{outcome}
 use Rattle.arith.proofs.Cases.{by-test, by-le}
-use Rattle.decimal.specs.declared.OptionNumber.{OptionNumber}
+use Rattle.decimal.specs.declared.Digits.{Digits}
 use Rattle.decimal.specs.declared.OptionNumber.the-variants.{None, Some}
-use Rattle.decimal.specs.Decimal.{isDigit, allDigits, decimalFrom, numberOf, digitsFrom, digitsOf, written}
+use Rattle.decimal.specs.Decimal.{isDigit, allDigits, decimalFrom, digitsAhead, frontFrom, frontOf, atMost, numberOf, digitsFrom, digitsOf, written}
 use borrow.Author.Tests.{lt-ltb, le-ltb, le-leb, lt-leb}
 
--- More digits never make a number less.
-decimal-at-least : (n : ℕ) (bs : List ℕ) → n ≤ decimalFrom n bs
-unfolding decimalFrom
-decimal-at-least n [] = le-refl n
-decimal-at-least n (b ∷ bs) = omega (arith, decimal-at-least (10 * n + (b - 48)) bs)
-
--- What is read of the bytes that are left, after digits that were n.
-unfoldable pub readFrom : ℕ → ℕ → List ℕ → OptionNumber
-readFrom most n bs = cond (allDigits bs) (cond (leb (decimalFrom n bs) most) (Some (decimalFrom n bs)) None) None
-
--- A field of no byte or of more than 20 is no number; any other is read from its first byte on.
+-- A field of no byte or of more than 20 is no number; any other is one if all its bytes are digits.
 module _ (most : ℕ) (bs : List ℕ) where
   pub empty-is-no-number : length bs < 1 → None ≡ numberOf most bs
   unfolding numberOf
@@ -38,58 +27,100 @@ module _ (most : ℕ) (bs : List ℕ) where
       let some : 1 ≤ length bs = omega arith in
       rw (le-leb 1 (length bs) some, lt-leb (length bs) 20 many)
 
-  pub read-from-the-first : 1 ≤ length bs → length bs ≤ 20 → readFrom most 0 bs ≡ numberOf most bs
-  unfolding numberOf readFrom
-  read-from-the-first some few = rw (le-leb 1 (length bs) some, le-leb (length bs) 20 few)
+  module _ (some : 1 ≤ length bs) (few : length bs ≤ 20) where
+    pub digits-are-a-number : allDigits bs ≡ true → numberOf most bs ≡ atMost most (decimalFrom 0 bs)
+    unfolding numberOf
+    digits-are-a-number all = rw (le-leb 1 (length bs) some, le-leb (length bs) 20 few, all)
+
+    other-is-no-number : allDigits bs ≡ false → numberOf most bs ≡ None
+    unfolding numberOf
+    other-is-no-number other = rw (le-leb 1 (length bs) some, le-leb (length bs) 20 few, other)
 
 -- Which bytes are digits.
-digit : (b : ℕ) → 48 ≤ b → b ≤ 57 → isDigit b ≡ true
+pub digit : (b : ℕ) → 48 ≤ b → b ≤ 57 → isDigit b ≡ true
 unfolding isDigit
 digit b low high = rw (le-leb 48 b low, le-leb b 57 high)
 
-below-is-no-digit : (b : ℕ) → b < 48 → isDigit b ≡ false
+pub below-is-no-digit : (b : ℕ) → b < 48 → isDigit b ≡ false
 unfolding isDigit
 below-is-no-digit b below = rw (lt-leb 48 b below)
 
-above-is-no-digit : (b : ℕ) → 57 < b → isDigit b ≡ false
+pub above-is-no-digit : (b : ℕ) → 57 < b → isDigit b ≡ false
 unfolding isDigit
 above-is-no-digit b above =
     let low : 48 ≤ b = omega arith in
     rw (le-leb 48 b low, lt-leb b 57 above)
 
--- Digits that already make too much make no number, whatever follows.
-too-much : (most n : ℕ) (bs : List ℕ) → most < n → readFrom most n bs ≡ None
-unfolding readFrom
-too-much most n bs over =
-    let more : most < decimalFrom n bs = omega (arith, decimal-at-least n bs) in
-    rw (lt-leb (decimalFrom n bs) most more) (by-test (allDigits bs) (λ t. rw t) (λ t. rw t))
+-- Digits in front: no more than are asked for and than there are bytes; and all of them digits.
+pub ahead-within : (left : ℕ) (bs : List ℕ) → (digitsAhead left bs ≤ left) × (digitsAhead left bs ≤ length bs)
+unfolding digitsAhead
+ahead-within zero bs = (omega arith, omega arith)
+ahead-within (suc left) [] = (omega arith, omega arith)
+ahead-within (suc left) (b ∷ bs) =
+    let fewer = ahead-within left bs in
+    by-test (isDigit b) (λ t. rw t (omega arith, omega arith)) (λ t. rw t (omega arith, omega arith))
 
--- One byte: it ends the reading, or the rest is read after one digit more.
-module _ (most n : ℕ) (bs : List ℕ) (i : ℕ) (inside : i < length bs) where
-  no-digit : isDigit (getD bs i 0) ≡ false → readFrom most n (drop i bs) ≡ None
-  unfolding readFrom allDigits
-  no-digit none = rw (drop-cons bs i 0, allDigits, none)
+pub ahead-are-digits : (left : ℕ) (bs : List ℕ) → allDigits (take (digitsAhead left bs) bs) ≡ true
+unfolding digitsAhead allDigits
+ahead-are-digits zero bs = refl
+ahead-are-digits (suc left) [] = refl
+ahead-are-digits (suc left) (b ∷ bs) = by-test (isDigit b) (λ t. rw (t, t) (ahead-are-digits left bs)) (λ t. rw t)
 
-  next-digit : isDigit (getD bs i 0) ≡ true → readFrom most n (drop i bs) ≡ readFrom most (10 * n + (getD bs i 0 - 48)) (drop (i + 1) bs)
-  unfolding readFrom allDigits decimalFrom
-  next-digit one = rw (add-one, drop-cons bs i 0, allDigits, decimalFrom, one)
+-- Where fewer are in front than are asked for, the next byte is no digit.
+next-is-no-digit : (left : ℕ) (bs : List ℕ) → digitsAhead left bs < left → digitsAhead left bs < length bs → isDigit (getD bs (digitsAhead left bs) 0) ≡ false
+unfolding digitsAhead
+next-is-no-digit zero bs fewer inside = absurd (omega arith)
+next-is-no-digit (suc left) [] fewer inside = absurd (omega arith)
+next-is-no-digit (suc left) (b ∷ bs) fewer inside =
+    by-test (isDigit b)
+    (λ t. rw t (next-is-no-digit left bs (omega (arith, rw t at fewer)) (omega (arith, rw t at inside))))
+    (λ t. rw (t, t))
 
-  pub below-ends : getD bs i 0 < 48 → readFrom most n (drop i bs) ≡ None
-  below-ends below = no-digit (below-is-no-digit (getD bs i 0) below)
+-- Bytes of which one is no digit are no digits.
+one-is-no-digit : (bs : List ℕ) (i : ℕ) → i < length bs → isDigit (getD bs i 0) ≡ false → allDigits bs ≡ false
+unfolding allDigits
+one-is-no-digit [] i inside other = absurd (omega arith)
+one-is-no-digit (b ∷ bs) zero inside other = rw other
+one-is-no-digit (b ∷ bs) (suc i) inside other = by-test (isDigit b) (λ t. rw (t, one-is-no-digit bs i (omega arith) other)) (λ t. rw t)
 
-  pub above-ends : 57 < getD bs i 0 → readFrom most n (drop i bs) ≡ None
-  above-ends above = no-digit (above-is-no-digit (getD bs i 0) above)
+none-ahead : (left b : ℕ) (bs : List ℕ) → isDigit b ≡ false → digitsAhead left (b ∷ bs) ≡ 0
+unfolding digitsAhead
+none-ahead zero b bs other = refl
+none-ahead (suc left) b bs other = rw other
 
-  pub digit-goes-on : 48 ≤ getD bs i 0 → getD bs i 0 ≤ 57 → readFrom most n (drop i bs) ≡ readFrom most (10 * n + (getD bs i 0 - 48)) (drop (i + 1) bs)
-  digit-goes-on low high = next-digit (digit (getD bs i 0) low high)
+none-ahead-of-none : (left : ℕ) → digitsAhead left [] ≡ 0
+unfolding digitsAhead
+none-ahead-of-none zero = refl
+none-ahead-of-none (suc left) = refl
 
-  pub too-much-ends : 48 ≤ getD bs i 0 → getD bs i 0 ≤ 57 → most < 10 * n + (getD bs i 0 - 48) → readFrom most n (drop i bs) ≡ None
-  too-much-ends low high over = digit-goes-on low high ∙ too-much most (10 * n + (getD bs i 0 - 48)) (drop (i + 1) bs) over
+-- A front after which nothing follows is the one reached; a digit in front is one digit more.
+module _ (n : ℕ) (bytes : List ℕ) (i left : ℕ) where
+  pub front-full : left ≡ 0 → frontFrom n i left (drop i bytes) ≡ record { value = n; end = i }
+  unfolding digitsAhead decimalFrom
+  front-full none = rw (none, add-zero)
 
--- Past the last byte the number is the one reached.
-pub read-ends : (most n : ℕ) (bs : List ℕ) (i : ℕ) → length bs ≤ i → n ≤ most → readFrom most n (drop i bs) ≡ Some n
-unfolding readFrom allDigits decimalFrom
-read-ends most n bs i end within = rw (drop-of-length-le bs end, allDigits, decimalFrom, le-leb n most within)
+  pub front-of-all : length bytes ≤ i → frontFrom n i left (drop i bytes) ≡ record { value = n; end = i }
+  unfolding decimalFrom
+  front-of-all past = rw (drop-of-length-le bytes past, none-ahead-of-none left, add-zero)
+
+  pub front-ends : i < length bytes → isDigit (getD bytes i 0) ≡ false → frontFrom n i left (drop i bytes) ≡ record { value = n; end = i }
+  unfolding decimalFrom
+  front-ends inside other = rw (drop-cons bytes i 0, none-ahead left (getD bytes i 0) (drop (suc i) bytes) other, add-zero)
+
+  pub front-goes-on : i < length bytes → isDigit (getD bytes i 0) ≡ true
+      → frontFrom n i (suc left) (drop i bytes) ≡ frontFrom (10 * n + (getD bytes i 0 - 48)) (i + 1) left (drop (i + 1) bytes)
+  unfolding digitsAhead decimalFrom
+  front-goes-on inside one =
+      let k = digitsAhead left (drop (suc i) bytes) in
+      let further : i + suc k ≡ suc i + k = omega arith in
+      rw (add-one, drop-cons bytes i 0, one, further)
+
+-- So many digits make a number below that power of ten.
+pub one-digit-more-fits : (n k b : ℕ) → n < 10 ^ k → b ≤ 57 → 10 * n + (b - 48) < 10 ^ (k + 1)
+one-digit-more-fits n k b fits high = rw add-one (omega (arith, pow-suc 10 k))
+
+pub fewer-digits-fit : (n k m : ℕ) → n < 10 ^ k → k ≤ m → n < 10 ^ m
+fewer-digits-fit n k m fits few = omega (arith, pow-le-pow-right {n = 10} (omega arith) few)
 
 -- A number of one digit, and one of more.
 pub one-digit : (left n : ℕ) → n < 10 → digitsFrom (suc left) n ≡ (48 + n) ∷ []
@@ -201,11 +232,37 @@ module _ (all more n : ℕ) (fits : n < 10 ^ (all - more)) where
       rw (one-less (omega arith), more-digits (all - (more + 1)) n many)
       (omega (arith, length-snoc (digitsFrom (all - (more + 1)) (n / 10)) (48 + n % 10)))
 
--- Below 10 it is one digit more, and that is the last to count.
+-- Of 100 or more, its last two digits are counted next.
+module _ (all more n : ℕ) (fits : n < 10 ^ (all - more)) (many : 100 ≤ n) where
+  hundredth : n / 10 / 10 ≡ n / 100
+  hundredth = omega arith
+
+  two : more + 1 + 1 ≡ more + 2
+  two = omega arith
+
+  tenth : n / 10 < 10 ^ (all - (more + 1))
+  tenth = tenth-fits-after all more n fits (omega arith)
+
+  pub hundredth-fits : n / 100 < 10 ^ (all - (more + 2))
+  hundredth-fits = rw (← hundredth, ← two) (tenth-fits-after all (more + 1) (n / 10) tenth (omega arith))
+
+  pub two-more-counted : more + 2 + length (digitsFrom (all - (more + 2)) (n / 100)) ≡ more + length (digitsFrom (all - more) n)
+  two-more-counted = rw (← hundredth, ← two) (one-more-counted all (more + 1) (n / 10) tenth (omega arith) ∙ one-more-counted all more n fits (omega arith))
+
+-- Below 10 it is one digit more, and that is the last to count; below 100 and not below 10 it is two.
 pub last-counted : (all more n : ℕ) → more < all → n < 10 → more + length (digitsFrom (all - more) n) ≡ more + 1
 last-counted all more n inside few =
     let e : all - more ≡ suc (all - (more + 1)) = omega arith in
     rw (e, one-digit (all - (more + 1)) n few)
+
+pub last-two-counted : (all more n : ℕ) → n < 10 ^ (all - more) → 10 ≤ n → n < 100 → more + length (digitsFrom (all - more) n) ≡ more + 2
+last-two-counted all more n fits many few =
+    let front = some-left (all - (more + 1)) (n / 10) (tenth-fits-after all more n fits many) (omega arith) in
+    sym (one-more-counted all more n fits many) ∙ last-counted all (more + 1) (n / 10) (omega arith) (omega arith) ∙ (omega arith)
+
+-- A number of one digit is written as that digit.
+pub one-digit-is-written : (out : List ℕ) (place n : ℕ) → n < 10 → outcome (place + 1) (set out place (48 + n)) ≡ written place n out
+one-digit-is-written out place n few = rw (one-digit 19 n few)
 
 -- One digit more at the end.
 all-digits-but-last : (bs : List ℕ) (b : ℕ) → isDigit b ≡ true → allDigits (bs ++ (b ∷ [])) ≡ allDigits bs
@@ -217,6 +274,49 @@ decimal-with-last : (n : ℕ) (bs : List ℕ) (b : ℕ) → decimalFrom n (bs ++
 unfolding decimalFrom
 decimal-with-last n [] b = refl
 decimal-with-last n (x ∷ bs) b = decimal-with-last (10 * n + (x - 48)) bs b
+
+-- A field of 1 to 20 bytes by its front of up to 19 digits: the field is its front, or a byte follows that is no digit, or the 20th digit.
+module _ (most : ℕ) (bs : List ℕ) (some : 1 ≤ length bs) (few : length bs ≤ 20) {d : Digits} (is-front : d ≡ frontOf bs 0) where
+  ends : d .end ≡ digitsAhead 19 bs
+  ends = omega (arith, ap (λ (f : Digits). f .end) is-front)
+
+  is-value : d .value ≡ decimalFrom 0 (take (digitsAhead 19 bs) bs)
+  is-value = ap (λ (f : Digits). f .value) is-front
+
+  pub front-is-the-field : d .end ≡ length bs → atMost most (d .value) ≡ numberOf most bs
+  front-is-the-field whole =
+      let all : take (digitsAhead 19 bs) bs ≡ bs = take-all (digitsAhead 19 bs) bs (omega (arith, ends)) in
+      let digits : allDigits bs ≡ true = rw all at (ahead-are-digits 19 bs) in
+      rw (is-value, all, digits-are-a-number most bs some few digits)
+
+  module _ (more : d .end < length bs) where
+    pub no-digit-follows : isDigit (getD bs (d .end) 0) ≡ false → None ≡ numberOf most bs
+    no-digit-follows other = sym (other-is-no-number most bs some few (one-is-no-digit bs (d .end) more other))
+
+    pub digit-follows : isDigit (getD bs (d .end) 0) ≡ true → atMost most (10 * d .value + (getD bs (d .end) 0 - 48)) ≡ numberOf most bs
+    digit-follows one =
+        let k = digitsAhead 19 bs in
+        let b = getD bs (d .end) 0 in
+        let nineteen : 19 ≤ k = by-le 19 k (λ h. h) (λ fewer.
+        let other = next-is-no-digit 19 bs fewer (omega (arith, ends)) in absurd (true≢false (sym one ∙ rw (← ends) at other))) in
+        let whole : take k bs ++ (b ∷ []) ≡ bs = rw (ends) (sym (take-suc bs k 0 (omega (arith, ends))) ∙ take-all (suc k) bs (omega arith)) in
+        let digits : allDigits bs ≡ true = rw whole at (all-digits-but-last (take k bs) b one ∙ ahead-are-digits 19 bs) in
+        let number : 10 * d .value + (b - 48) ≡ decimalFrom 0 bs = rw is-value (rw whole at (sym (decimal-with-last 0 (take k bs) b))) in
+        rw (number, digits-are-a-number most bs some few digits)
+
+    pub too-much-follows : isDigit (getD bs (d .end) 0) ≡ true → most < 10 * d .value + (getD bs (d .end) 0 - 48) → None ≡ numberOf most bs
+    too-much-follows one over = rw (lt-leb _ _ over) at (digit-follows one)
+
+    pub last-digit-follows : isDigit (getD bs (d .end) 0) ≡ true → 10 * d .value + (getD bs (d .end) 0 - 48) ≤ most
+        → Some (10 * d .value + (getD bs (d .end) 0 - 48)) ≡ numberOf most bs
+    last-digit-follows one within = rw (le-leb _ _ within) at (digit-follows one)
+
+-- The front lies within the bytes.
+pub front-inside : (bytes : List ℕ) (from : ℕ) {d : Digits} → from ≤ length bytes → d ≡ frontOf bytes from → (from ≤ d .end) × (d .end ≤ length bytes)
+front-inside bytes from inside is-front =
+    let end = ap (λ (f : Digits). f .end) is-front in
+    let within = ahead-within 19 (drop from bytes) .1 in
+    (omega arith, omega (arith, length-drop from bytes))
 
 -- The digits of a number are digits, and are that number.
 pub digits-are-digits : (left n : ℕ) → allDigits (digitsFrom left n) ≡ true

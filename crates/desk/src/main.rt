@@ -1,7 +1,6 @@
 // The desk: a line of standard input is a call of the limiter, and a line of standard output its answer, as document 01 gives them.
 use libc::STDIN_FILENO;
 
-mod feed;
 mod words;
 
 // The words of the memory from which the store is lent its own.
@@ -21,5 +20,5 @@ fn main() {
     let mut input: [u8; INPUT_BYTES] = [0; INPUT_BYTES];
     let mut output = io::large_buffer();
     let mut memory: [u64; MEMORY_WORDS] = [0; MEMORY_WORDS];
-    words::tell(feed::run(&mut input, &mut output, &mut memory));
+    words::tell(desk_feed::run(&mut input, &mut output, &mut memory));
 }

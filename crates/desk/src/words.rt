@@ -1,7 +1,7 @@
 // What the desk tells a person, all of it on standard error: standard output has the answers and nothing else.
-use crate::feed::Ran;
-use crate::feed::Why;
 use desk_answers::Stage;
+use desk_feed::Ran;
+use desk_feed::Why;
 use libc::STDERR_FILENO;
 
 // Writes words. A write that fails here has nobody to be told.

@@ -8,7 +8,6 @@ use mathlib.Core.List.{List, [], _∷_}
 use lib.Dec.{eqb, leb, ltb}
 use lib.ListN.{length, getD}
 use Rattle.arith.proofs.Cases.{by-test, by-le, by-eq}
-use Rattle.rows.specs.Segments.{segment}
 use Rattle.rows.proofs.SegmentLaws.{segment-length}
 use Rattle.rows.proofs.RowLaws.{segment-word}
 use Rattle.units.specs.declared.OptionNanos.the-variants as nanos
@@ -17,7 +16,7 @@ use Rattle.decimal.specs.declared.OptionNumber.the-variants as number
 use Rattle.decimal.specs.Decimal.{numberOf, allDigits, decimalFrom}
 use Rattle.desk_lines.specs.declared.fields.Rest.{Rest}
 use Rattle.desk_lines.specs.declared.fields.NumberRead.{NumberRead}
-use Rattle.desk_lines.specs.Fields.{fieldEnd, fieldsFrom}
+use Rattle.desk_lines.specs.Fields.{fieldEnd, fieldAt, fieldsFrom}
 use Rattle.desk_lines.specs.Lines.{Reading, failed, left, Taken, takenNumber, taken, isDash, dashNext, most64, nanosOf, skipped, idleTime, takenIdle, isFinished}
 use Rattle.desk_lines.specs.Places.{readingAt, numberRead, numberAt}
 use Rattle.desk_lines.proofs.FieldLaws.{none-left, field-ends-inside, first-field}
@@ -36,10 +35,7 @@ module _ (line : List ℕ) (rest : Rest) where
   reading-ended : rest .good ≡ true → length line < rest .at → readingAt line rest ≡ left []
   reading-ended good past = reading-good good ∙ ap left (none-left line (rest .at) past)
 
-  abbrev firstFieldAt : List ℕ
-  firstFieldAt = segment (rest .at) (fieldEnd line (rest .at) - rest .at) line
-
-  reading-inside : rest .good ≡ true → rest .at ≤ length line → readingAt line rest ≡ left (firstFieldAt ∷ fieldsFrom line (fieldEnd line (rest .at) + 1))
+  reading-inside : rest .good ≡ true → rest .at ≤ length line → readingAt line rest ≡ left (fieldAt line (rest .at) ∷ fieldsFrom line (fieldEnd line (rest .at) + 1))
   reading-inside good inside = reading-good good ∙ ap left (first-field line (rest .at) inside)
 
 -- A field that was a number or not, as the code has it and as the definition has it.
@@ -49,11 +45,11 @@ read-is-taken line next number.None = refl
 read-is-taken line next (number.Some n) = refl
 
 module _ (line : List ℕ) (rest : Rest) (most : ℕ) where
-  pub number-is-taken : {end : ℕ} {o : OptionNumber} {r : NumberRead} → rest .good ≡ true → rest .at ≤ length line → end ≡ fieldEnd line (rest .at)
-      → o ≡ numberOf most (segment (rest .at) (end - rest .at) line) → r ≡ numberRead (end + 1) o → numberAt line r ≡ taken most (readingAt line rest)
+  pub number-is-taken : {r : NumberRead} → rest .good ≡ true → rest .at ≤ length line
+      → r ≡ numberRead (fieldEnd line (rest .at) + 1) (numberOf most (fieldAt line (rest .at))) → numberAt line r ≡ taken most (readingAt line rest)
   unfolding taken
-  number-is-taken good inside is-end is-number is-read =
-      rw (is-read, is-number, is-end, reading-inside line rest good inside) (read-is-taken line (fieldEnd line (rest .at) + 1) (numberOf most (firstFieldAt line rest)))
+  number-is-taken good inside is-read =
+      rw (is-read, reading-inside line rest good inside) (read-is-taken line (fieldEnd line (rest .at) + 1) (numberOf most (fieldAt line (rest .at))))
 
   pub no-number-is-taken : {r : NumberRead} → r ≡ numberRead 0 number.None → rest .good ≡ false → numberAt line r ≡ taken most (readingAt line rest)
   unfolding readingAt taken
@@ -80,7 +76,7 @@ module _ (line : List ℕ) (rest : Rest) where
 -- A dash.
 module _ (line : List ℕ) (rest : Rest) where
   abbrev field : List ℕ
-  field = firstFieldAt line rest
+  field = fieldAt line (rest .at)
 
   field-length : rest .at ≤ length line → length field ≡ fieldEnd line (rest .at) - rest .at
   field-length inside = segment-length (rest .at) (fieldEnd line (rest .at) - rest .at) line (omega (arith, field-ends-inside line (rest .at) inside))

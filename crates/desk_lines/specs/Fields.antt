@@ -1,9 +1,10 @@
 -- A line's bytes as fields, parted by one space each.
-use Prim.Native.Nat.{ℕ, _+_}
+use Prim.Native.Nat.{ℕ, _+_, _-_}
 use mathlib.Core.Bool.{cond}
 use mathlib.Core.List.{List, [], _∷_}
 use lib.Dec.{eqb, leb}
 use lib.ListN.{length, drop}
+use Rattle.rows.specs.Segments.{segment}
 use Rattle.bytes.specs.Bytes.{indexOf}
 
 -- A space.
@@ -23,6 +24,10 @@ fields (b ∷ bs) = cond (eqb b space) ([] ∷ fields bs) (onFirst b (fields bs)
 -- Where the first field from a place on ends: at the first space, or at the end of the line.
 abbrev pub fieldEnd : List ℕ → ℕ → ℕ
 fieldEnd line from = from + indexOf space (drop from line)
+
+-- The first field from a place on.
+abbrev pub fieldAt : List ℕ → ℕ → List ℕ
+fieldAt line from = segment from (fieldEnd line from - from) line
 
 -- The fields that are left from a place on: none past the end of the line, where the last field has been taken.
 unfoldable pub fieldsFrom : List ℕ → ℕ → List (List ℕ)

@@ -1,8 +1,10 @@
 // The fields of a line, taken one after the other.
 ghost use mathlib.Core.Path.{_≡_};
-ghost use Prim.Native.Nat.{_≤_};
+ghost use Prim.Native.Nat.{_+_, _≤_};
+ghost use lib.Dec.{eqb};
 ghost use lib.ListN.{length};
-ghost use Rattle.desk_lines.specs.Fields.{fieldEnd};
+ghost use Rattle.decimal.specs.Decimal.{numberOf};
+ghost use Rattle.desk_lines.specs.Fields.{fieldEnd, fieldAt};
 ghost use Rattle.desk_lines.specs.Lines as Lines;
 ghost use Rattle.desk_lines.specs.Places.{readingAt, numberRead, numberAt, idleAt};
 use decimal::OptionNumber;
@@ -54,6 +56,33 @@ fn number_read(number: OptionNumber, next: usize) -> NumberRead
     }
 }
 
+// Whether a field ends at a place: at a space, or at the end of the line.
+fn ends_at(line: &[u8], place: usize) -> bool
+    requires { ⌜ place ≤ length (now line) ⌝ }
+    ensures { λ r. ⌜ r ≡ eqb (fieldEnd (now (line .entry)) place) place ⌝ }
+{
+    if place == line.len() {
+        return true;
+    }
+    line[place] == b' '
+}
+
+// The field that begins at a place as a number of at most `most`. Up to 19 digits are read in one pass.
+fn number_at(line: &[u8], at: usize, most: u64) -> NumberRead
+    requires { ⌜ at ≤ length (now line) ⌝ }
+    ensures { λ r. ⌜ r ≡ numberRead (fieldEnd (now (line .entry)) at + 1) (numberOf most (fieldAt (now (line .entry)) at)) ⌝ }
+{
+    let front = decimal::front(line, at);
+    let stop = front.end;
+    if at < stop {
+        if ends_at(line, stop) {
+            return number_read(decimal::at_most(front.value, most), stop + 1);
+        }
+    }
+    let end = end(line, at);
+    number_read(decimal::number(&line[at..end], most), end + 1)
+}
+
 // The next field as a number of at most `most`.
 pub(crate) fn number(line: &[u8], rest: Rest, most: u64) -> NumberRead
     ensures { λ r. ⌜ numberAt (now (line .entry)) r ≡ Lines.taken most (readingAt (now (line .entry)) rest) ⌝ }
@@ -63,8 +92,7 @@ pub(crate) fn number(line: &[u8], rest: Rest, most: u64) -> NumberRead
         return number_read(OptionNumber::None, 0);
     }
     if rest.good {
-        let end = end(line, at);
-        return number_read(decimal::number(&line[at..end], most), end + 1);
+        return number_at(line, at, most);
     }
     number_read(OptionNumber::None, 0)
 }

@@ -1,115 +1,112 @@
--- `decimal::number` is the number that the field is: at each test of the loop, reading the bytes from place i on, after the value so far, gives it.
-use Prim.Native.Nat.{ℕ, _-_, _≤_}
+-- `decimal::number` is the number that the field is: its front of up to 19 digits, and a 20th digit if one follows.
+use Prim.Native.Nat.{_<_}
 use native.Mathlib.Omega.{arith}
-use mathlib.Core.List.{List}
-use mathlib.Core.Path.{_≡_, sym, _∙_}
-use lib.ListN.{length, drop}
-use Rattle.decimal.specs.Decimal.{numberOf}
-use Rattle.decimal.proofs.DecimalLaws.{readFrom, empty-is-no-number, long-is-no-number, read-from-the-first, below-ends, above-ends, digit-goes-on}
-use Rattle.decimal.proofs.DecimalLaws.{too-much-ends, read-ends}
+use mathlib.Core.Bool.{true}
+use mathlib.Core.Path.{_≡_, _∙_}
+use lib.ListN.{length, getD}
+use Rattle.decimal.specs.Decimal.{isDigit}
+use Rattle.decimal.proofs.DecimalLaws.{empty-is-no-number, long-is-no-number, digit, below-is-no-digit, above-is-no-digit}
+use Rattle.decimal.proofs.DecimalLaws.{front-inside, front-is-the-field, no-digit-follows, too-much-follows, last-digit-follows}
 use borrow.Author.Needs.{needs}
 use Rattle.decimal.proofs.number.Statement.{statement}
 use Rattle.decimal.proofs.number.Tie as tie
 
--- Reading the bytes from place i on, after the digits before it, gives the field's number.
-record Reading (bytes : List ℕ) (most value i : ℕ) : Type 0 where
-  within : i ≤ length bytes
-  small : value ≤ most
-  keeps : readFrom most value (drop i bytes) ≡ numberOf most bytes
+-- Where the call began, once the front is read; and the front, once it is known not to be all.
+abbrev start : tie.After-front → tie.Start
+start f = f .before .before .before .before
 
-abbrev Inv-loop : tie.InvT-loop
-Inv-loop bytes most value₀ i₀ i-end value i = Reading bytes most value i
+abbrev front-of : tie.Else3 → tie.After-front
+front-of e = e .before
 
-abbrev μ-loop : tie.MeasureT-loop
-μ-loop bytes most value₀ i₀ i-end value i = length bytes - i
+-- A byte follows the front.
+follows : (e : tie.Else3) → front-of e .front .result .end < length (start (front-of e) .args .bytes .now)
+follows e = let f = front-of e in omega (arith, front-inside _ 0 (omega arith) (f .front .ensures) .1, e .if3 .left)
 
-returns : tie.Need-returns Inv-loop μ-loop
+-- It is a digit, once it is known to lie between `0` and `9`.
+is-digit : (c : tie.Else5) → let e = c .before .before .before in
+    isDigit (getD (start (front-of e) .args .bytes .now) (front-of e .front .result .end) 0) ≡ true
+is-digit c = digit _ (omega arith) (omega arith)
+
+returns : tie.Need-returns
 returns c = empty-is-no-number _ _ (omega arith)
 
-returns-2 : tie.Need-returns-2 Inv-loop μ-loop
+returns-2 : tie.Need-returns-2
 returns-2 c = long-is-no-number _ _ (omega arith)
 
-loop-holds : tie.Need-loop-holds Inv-loop μ-loop
-loop-holds c = record { within = omega arith; small = omega arith; keeps = read-from-the-first _ _ (omega arith) (omega arith) }
+front-requires : tie.Need-front-requires
+front-requires c κs = search needs
 
-shared-slice-read-byte : tie.Need-shared-slice-read-byte Inv-loop μ-loop
-shared-slice-read-byte c = search needs
+at-most-requires : tie.Need-at-most-requires
+at-most-requires c κs = search needs
 
-returns-3 : tie.Need-returns-3 Inv-loop μ-loop
+returns-3 : tie.Need-returns-3
 returns-3 c =
-    let loop′ = c .before .before .before .loop in
-    sym (below-ends _ _ _ (loop′ .i) (omega arith) (omega arith)) ∙ loop′ .inv .keeps
+    let f = c .before .before in
+    c .at-most .ensures ∙ front-is-the-field _ _ (omega arith) (omega arith) (f .front .ensures) (c .before .if3 .taken)
 
-returns-4 : tie.Need-returns-4 Inv-loop μ-loop
+shared-slice-read-byte : tie.Need-shared-slice-read-byte
+shared-slice-read-byte c = omega (arith, follows (c .before))
+
+returns-4 : tie.Need-returns-4
 returns-4 c =
-    let loop′ = c .before .before .before .before .loop in
-    sym (above-ends _ _ _ (loop′ .i) (omega arith) (omega arith)) ∙ loop′ .inv .keeps
+    let e = c .before .before in
+    no-digit-follows _ _ (omega arith) (omega arith) (front-of e .front .ensures) (follows e) (below-is-no-digit _ (omega arith))
 
-cast-digit : tie.Need-cast-digit Inv-loop μ-loop
+returns-5 : tie.Need-returns-5
+returns-5 c =
+    let e = c .before .before .before in
+    no-digit-follows _ _ (omega arith) (omega arith) (front-of e .front .ensures) (follows e) (above-is-no-digit _ (omega arith))
+
+cast-digit : tie.Need-cast-digit
 cast-digit c = search needs
 
-returns-5 : tie.Need-returns-5 Inv-loop μ-loop
-returns-5 c =
-    let loop′ = c .before .before .before .before .before .loop in
-    sym (too-much-ends _ _ _ (loop′ .i) (omega arith) (omega arith) (omega arith) (omega arith)) ∙ loop′ .inv .keeps
-
-mul-if6 : tie.Need-mul-if6 Inv-loop μ-loop
-mul-if6 c = search needs
-
-sub-if6 : tie.Need-sub-if6 Inv-loop μ-loop
-sub-if6 c = search needs
-
-returns-6 : tie.Need-returns-6 Inv-loop μ-loop
+returns-6 : tie.Need-returns-6
 returns-6 c =
-    let loop′ = c .before .before .before .before .before .before .loop in
-    sym (too-much-ends _ _ _ (loop′ .i) (omega arith) (omega arith) (omega arith) (omega arith)) ∙ loop′ .inv .keeps
+    let d = c .before in
+    let e = d .before .before .before in
+    too-much-follows _ _ (omega arith) (omega arith) (front-of e .front .ensures) (follows e) (is-digit d) (omega arith)
 
-mul-value : tie.Need-mul-value Inv-loop μ-loop
-mul-value c = search needs
+mul-if7 : tie.Need-mul-if7
+mul-if7 c = search needs
 
-add-value : tie.Need-add-value Inv-loop μ-loop
-add-value c = search needs
+sub-if7 : tie.Need-sub-if7
+sub-if7 c = search needs
 
-add-i : tie.Need-add-i Inv-loop μ-loop
-add-i c = search needs
-
-loop-less : tie.Need-loop-less Inv-loop μ-loop
-loop-less c = search needs
-
-loop-again : tie.Need-loop-again Inv-loop μ-loop
-loop-again c =
-    let loop′ = c .before .before .before .before .before .before .loop in
-    record {
-      within = omega arith;
-      small = omega arith;
-      keeps = sym (digit-goes-on _ _ _ (loop′ .i) (omega arith) (omega arith) (omega arith)) ∙ loop′ .inv .keeps;
-    }
-
-returns-7 : tie.Need-returns-7 Inv-loop μ-loop
+returns-7 : tie.Need-returns-7
 returns-7 c =
-    let loop′ = c .before .loop in
-    sym (read-ends _ _ _ (loop′ .i) (omega arith) (omega arith)) ∙ loop′ .inv .keeps
+    let d = c .before .before in
+    let e = d .before .before .before in
+    too-much-follows _ _ (omega arith) (omega arith) (front-of e .front .ensures) (follows e) (is-digit d) (omega arith)
+
+mul-t12 : tie.Need-mul-t12
+mul-t12 c = search needs
+
+add-t13 : tie.Need-add-t13
+add-t13 c = search needs
+
+returns-8 : tie.Need-returns-8
+returns-8 c =
+    let d = c .before .before in
+    let e = d .before .before .before in
+    last-digit-follows _ _ (omega arith) (omega arith) (front-of e .front .ensures) (follows e) (is-digit d) (omega arith)
 
 pub number-spec : {M : Type 1} → statement M
 number-spec =
     tie.close
     (tie.spec
-    Inv-loop
-    μ-loop
     returns
     returns-2
-    loop-holds
-    shared-slice-read-byte
+    front-requires
+    at-most-requires
     returns-3
+    shared-slice-read-byte
     returns-4
-    cast-digit
     returns-5
-    mul-if6
-    sub-if6
+    cast-digit
     returns-6
-    mul-value
-    add-value
-    add-i
-    loop-less
-    loop-again
-    returns-7)
+    mul-if7
+    sub-if7
+    returns-7
+    mul-t12
+    add-t13
+    returns-8)

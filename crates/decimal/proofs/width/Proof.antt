@@ -1,10 +1,10 @@
--- `decimal::width` counts the digits, the last one first.
+-- `decimal::width` counts the digits two at a time, the last ones first.
 use Prim.Native.Nat.{ℕ, _+_, _-_, _^_, _<_}
 use native.Mathlib.Omega.{arith}
 use mathlib.Core.Path.{_≡_, sym, _∙_}
 use lib.ListN.{length}
 use Rattle.decimal.specs.Decimal.{digitsFrom, digitsOf}
-use Rattle.decimal.proofs.DecimalLaws.{some-left, tenth-fits-after, one-more-counted, last-counted}
+use Rattle.decimal.proofs.DecimalLaws.{some-left, hundredth-fits, two-more-counted, last-counted, last-two-counted}
 use borrow.Author.Needs.{needs}
 use Rattle.decimal.proofs.width.Statement.{statement}
 use Rattle.decimal.proofs.width.Tie as tie
@@ -33,11 +33,11 @@ loop-less c = search needs
 loop-again : tie.Need-loop-again Inv-loop μ-loop
 loop-again c =
     let loop′ = c .before .loop in
-    let tenth = tenth-fits-after 20 (loop′ .more) (loop′ .rest) (loop′ .inv .room) (omega arith) in
+    let hundredth = hundredth-fits 20 (loop′ .more) (loop′ .rest) (loop′ .inv .room) (omega arith) in
     record {
-      inside = omega (arith, some-left _ _ tenth (omega arith));
-      room = tenth;
-      counted = one-more-counted 20 _ _ (loop′ .inv .room) (omega arith) ∙ loop′ .inv .counted;
+      inside = omega (arith, some-left _ _ hundredth (omega arith));
+      room = hundredth;
+      counted = two-more-counted 20 _ _ (loop′ .inv .room) (omega arith) ∙ loop′ .inv .counted;
     }
 
 add-result : tie.Need-add-result Inv-loop μ-loop
@@ -45,10 +45,18 @@ add-result c = search needs
 
 returns : tie.Need-returns Inv-loop μ-loop
 returns c =
-    let loop′ = c .before .loop in
+    let loop′ = c .before .before .loop in
+    sym (last-two-counted 20 _ (loop′ .rest) (loop′ .inv .room) (omega arith) (omega arith)) ∙ loop′ .inv .counted
+
+add-result-2 : tie.Need-add-result-2 Inv-loop μ-loop
+add-result-2 c = search needs
+
+returns-2 : tie.Need-returns-2 Inv-loop μ-loop
+returns-2 c =
+    let loop′ = c .before .before .loop in
     sym (last-counted 20 _ (loop′ .rest) (omega arith) (omega arith)) ∙ loop′ .inv .counted
 
 pub width-spec : {M : Type 1} → statement M
 width-spec =
     tie.close
-    (tie.spec Inv-loop μ-loop loop-holds add-more loop-less loop-again add-result returns)
+    (tie.spec Inv-loop μ-loop loop-holds add-more loop-less loop-again add-result returns add-result-2 returns-2)

@@ -6,8 +6,8 @@ ghost use lib.ListN.{length, take};
 ghost use Rattle.desk_lines.specs.Lines.{longestLine};
 ghost use Rattle.desk_lines.specs.Printed.{longestPrinted};
 ghost use Rattle.desk_turns.specs.Run.{hasEnded};
-ghost use Rattle.desk.specs.Reads.{Grows, broughtBy, memoryWords};
-ghost use Rattle.desk.specs.Ran.{standing, atStart, RanFrom, AtEnd};
+ghost use Rattle.desk_feed.specs.Reads.{Grows, broughtBy, memoryWords};
+ghost use Rattle.desk_feed.specs.Ran.{standing, atStart, RanFrom, AtEnd};
 use desk_answers::Stage;
 use desk_turns::Feed;
 use libc::EINTR;
@@ -48,7 +48,7 @@ pub struct Ran {
 }
 
 // Answers all lines, from the first on.
-pub(crate) fn run(input: &mut [u8], output: &mut [u8], memory: &mut [u64]) -> Ran
+pub fn run(input: &mut [u8], output: &mut [u8], memory: &mut [u64]) -> Ran
     requires { ⌜ (longestLine + 1 < length (now input)) × (longestPrinted * length (now input) ≤ length (now output)) × (length (now memory) ≡ memoryWords) ⌝ }
     ensures { λ r. ⌜ RanFrom (atStart (now (memory .entry))) (length (now (input .entry))) r (now (memory .exit)) ⌝ }
 {

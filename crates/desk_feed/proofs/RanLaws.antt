@@ -15,9 +15,9 @@ use Rattle.desk_turns.specs.Feeding.{stateOf, OneTurn, LastLine}
 use Rattle.desk_turns.specs.Run.{State, Standing, hasEnded, linesAnswered, lastLine, linesOf, turned, turnedOver, joined}
 use Rattle.desk_turns.proofs.RunLaws.{none-once-ended}
 use Rattle.desk_turns.proofs.CuttingLaws.{one-turn-more, turn-is-turned, every-cutting-stands-the-same}
-use Rattle.desk.specs.declared.feed.Ran.{Ran}
-use Rattle.desk.specs.declared.feed.Why.the-variants.{Input, Refused, Read, Write, LastWrite, Turns}
-use Rattle.desk.specs.Ran.{standing, atStart, Short, TurnedTo, withLast, lastAnswered, AtEnd, RanFrom}
+use Rattle.desk_feed.specs.declared.Ran.{Ran}
+use Rattle.desk_feed.specs.declared.Why.the-variants.{Input, Refused, Read, Write, LastWrite, Turns}
+use Rattle.desk_feed.specs.Ran.{standing, atStart, Short, TurnedTo, withLast, lastAnswered, AtEnd, RanFrom}
 
 -- How the loop stands at its head.
 pub record GoingOn (input₀ : List ℕ) (pending₀ : ℕ) (output₀ memory₀ : List ℕ) (f₀ : Feed) (input : List ℕ) (pending : ℕ) (output memory : List ℕ) (f : Feed)

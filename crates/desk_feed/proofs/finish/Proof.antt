@@ -1,9 +1,9 @@
 -- `finish` answers the last line, whichever way its write goes.
-use Rattle.desk.proofs.RanLaws.{last-stands}
+use Rattle.desk_feed.proofs.RanLaws.{last-stands}
 use mathlib.Core.Path.{refl, sym, _∙_}
 use borrow.Author.Needs.{needs}
-use Rattle.desk.proofs.feed.finish.Statement.{statement}
-use Rattle.desk.proofs.feed.finish.Tie as tie
+use Rattle.desk_feed.proofs.finish.Statement.{statement}
+use Rattle.desk_feed.proofs.finish.Tie as tie
 
 -- Where the last line was answered, once the run is asked whether it has ended.
 abbrev answered : tie.After-has-ended → tie.After-last-line

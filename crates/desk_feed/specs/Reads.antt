@@ -3,8 +3,8 @@ use Prim.Native.Nat.{ℕ, _+_, _≤_}
 use mathlib.Core.Bool.{Bool, false, cond}
 use lib.Dec.{eqb}
 use lib.IntN.{ℤ, pos, negsuc}
-use Rattle.desk.specs.declared.feed.Got.{Got}
-use Rattle.desk.specs.declared.feed.Got.the-variants.{More, End, Failed}
+use Rattle.desk_feed.specs.declared.Got.{Got}
+use Rattle.desk_feed.specs.declared.Got.the-variants.{More, End, Failed}
 
 -- The program's memory holds so many words; a store that needs more is refused.
 abbrev pub memoryWords : ℕ

@@ -1,13 +1,13 @@
 -- `go_on` keeps the lengths of its buffers, holds no more than a line's beginning, and has come from where it stood over one read more with each turn; it ends
 -- since it counts its turns.
-use Rattle.desk.proofs.RanLaws.{GoingOn, none-turned, goes-on, over-by-write, over-by-line-1, over-by-read, over-by-turns, over-at-end}
+use Rattle.desk_feed.proofs.RanLaws.{GoingOn, none-turned, goes-on, over-by-write, over-by-line-1, over-by-read, over-by-turns, over-at-end}
 use mathlib.Core.Path.{refl, sym, _∙_}
 use native.Mathlib.Omega.{arith}
 use Prim.Native.Nat.{_-_, _^_, _≤_}
 use lib.ListN.{length}
 use borrow.Author.Needs.{needs}
-use Rattle.desk.proofs.feed.go_on.Statement.{statement}
-use Rattle.desk.proofs.feed.go_on.Tie as tie
+use Rattle.desk_feed.proofs.go_on.Statement.{statement}
+use Rattle.desk_feed.proofs.go_on.Tie as tie
 
 abbrev Inv-loop : tie.InvT-loop
 Inv-loop input₀ pending₀ output₀ memory₀ feed₀ turns₀ input pending output memory feed turns = GoingOn input₀ pending₀ output₀ memory₀ feed₀ input pending output memory feed turns

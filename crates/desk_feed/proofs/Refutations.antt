@@ -16,10 +16,10 @@ use Rattle.desk_answers.specs.declared.Stage.the-variants.{First, Open, Ended}
 use Rattle.desk_turns.specs.Run.{State, Standing, lineAnswered, linesAnswered, onFirst, cut, lastLine, keptOf, turnedOver, joined}
 use Rattle.desk_turns.proofs.RunLaws.{none-once-ended}
 use Rattle.desk_turns.proofs.CuttingLaws.{stands-from}
-use Rattle.desk.specs.declared.feed.Ran.{Ran}
-use Rattle.desk.specs.declared.feed.Why.{Why}
-use Rattle.desk.specs.declared.feed.Why.the-variants.{Input}
-use Rattle.desk.specs.Ran.{withLast, lastAnswered, overAt, RanFrom}
+use Rattle.desk_feed.specs.declared.Ran.{Ran}
+use Rattle.desk_feed.specs.declared.Why.{Why}
+use Rattle.desk_feed.specs.declared.Why.the-variants.{Input}
+use Rattle.desk_feed.specs.Ran.{withLast, lastAnswered, overAt, RanFrom}
 
 -- Before line 1, of which the byte `x` (120) is pending.
 abbrev beforeLine1 : List ℕ → State

@@ -9,9 +9,9 @@ use Rattle.desk_answers.specs.declared.Stage.the-variants.{First}
 use Rattle.desk_turns.specs.declared.Feed.{Feed}
 use Rattle.desk_turns.specs.Feeding.{stateOf}
 use Rattle.desk_turns.specs.Run.{State, Standing, hasEnded, linesAnswered, lastLine, turnedOver}
-use Rattle.desk.specs.declared.feed.Ran.{Ran}
-use Rattle.desk.specs.declared.feed.Why.{Why}
-use Rattle.desk.specs.declared.feed.Why.the-variants.{Input, Refused, Read, Write, LastWrite, Turns}
+use Rattle.desk_feed.specs.declared.Ran.{Ran}
+use Rattle.desk_feed.specs.declared.Why.{Why}
+use Rattle.desk_feed.specs.declared.Why.the-variants.{Input, Refused, Read, Write, LastWrite, Turns}
 
 -- How the run stands: so many bytes at the start of the input are pending.
 abbrev pub standing : ℕ → List ℕ → Feed → List ℕ → Standing

@@ -11,8 +11,8 @@ use mir.Val.{SFits, ofZ}
 use borrow.Author.Tests.{ltb-true, eq-eqb, ne-eqb}
 use Rattle.arith.proofs.Cases.{by-test}
 use Rattle.desk_turns.proofs.FeedingLaws.{told-true}
-use Rattle.desk.specs.declared.feed.Got.the-variants.{More, End, Failed}
-use Rattle.desk.specs.Reads.{isInterrupt, broughtBy, Grows}
+use Rattle.desk_feed.specs.declared.Got.the-variants.{More, End, Failed}
+use Rattle.desk_feed.specs.Reads.{isInterrupt, broughtBy, Grows}
 
 -- An error's number as the code compares it, by its bits.
 pub is-interrupt : (error : ℤ) → SFits w32 error → ofZ w32 error ≡ 4 → isInterrupt error ≡ true
