@@ -80,8 +80,8 @@ module _ {A : Type 0} (free : A) (goes : A → Bool) where
         (λ h p below passes q. (removed-sound free h p (q .0), omega (arith, q .1, total-removed free w h p (q .0) below, weightless _ passes)))
         n r (sound, refl) .1
 
--- A sweep by looks over lent words, in which a state lies (`view`): `all n` makes n looks, each of them `one`. Where no item is left a look changes nothing, and
--- words that are lent stay so after a look.
+-- A sweep by looks over lent words, in which a state lies (`view`): `all n` makes n looks, each of them `one`. Where no item is left a look changes
+-- nothing, and words that are lent stay so after a look.
 pub record ByLooks {S : Type 0} (Lent : List ℕ → Type 0) (view : List ℕ → S) (all : ℕ → S → S) (one : S → S) (count : S → ℕ) : Type 0 where
   pub none-left : (s : S) → all 0 s ≡ s
   pub one-more : (n : ℕ) (s : S) → all (suc n) s ≡ all n (one s)

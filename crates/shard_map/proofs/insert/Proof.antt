@@ -21,10 +21,9 @@ same-length c = search needs
 
 returns : tie.Need-returns
 returns c =
-    let set-count′ = c .before .before .set-count in
-    let put′ = c .before .before .before .before .before .before .put in
-    let count′ = c .before .before .before .before .before .before .before .before .count in
-    rw (set-count′ .ensures, put′ .ensures, count′ .ensures) (insert-by-stores _ _)
+    let counted = c .before .before in
+    let stored = counted .before .before .before .before in
+    rw (counted .set-count .ensures, stored .put .ensures, stored .before .before .count .ensures) (insert-by-stores _ _)
 
 pub insert-spec : {M : Type 1} → statement M
 insert-spec =
