@@ -7,11 +7,11 @@ use native.Mathlib.Omega.{arith}
 use lib.ListN.{length, length-set}
 use borrow.Author.Tests.{eqb-true}
 use Rattle.arith.proofs.Cases.{by-test, by-eq}
-use Rattle.arith.proofs.DivisionLaws.{ceilDiv-of-smaller}
+use Rattle.arith.proofs.DivisionLaws.{ceilDiv-mono, ceilDiv-of-smaller}
 use Rattle.units.specs.declared.Nanos.{Nanos}
 use Rattle.bucket.specs.declared.BucketConfig.{BucketConfig}
 use Rattle.bucket.specs.Bucket.{Accepted, shortfallAt, recoveryOf}
-use Rattle.bucket.proofs.BucketLaws.{recovery-of-shortfall}
+use Rattle.bucket.proofs.BucketLaws.{most-shortfall-fits, shortfall-most, recovery-of-shortfall}
 use Rattle.settings.specs.Eviction.{clockScan}
 use Rattle.rows.specs.declared.Place.{Place}
 use Rattle.rows.specs.declared.Place.the-variants.{At, Nowhere}
@@ -142,12 +142,17 @@ soonestFrom c at (suc left) s soonest =
     let sooner = cond (lossless c slot at) soonest (min soonest (recovery c slot at)) in
     cond (goesAtOnce c at slot) soonest (soonestFrom c at left (looked s (handOf s)) sooner)
 
--- That of the slots that an eviction looks at. No recovery is longer than the number that it starts with.
+-- That of the slots that an eviction looks at. No recovery is longer than the number that it starts with (`no-recovery-is-longer`).
 abbrev pub soonestOf : BucketConfig → Nanos → Shard → ℕ
 soonestOf c at s = soonestFrom c at (min clockScan (s .slots .count)) s (recoveryOf c (nothingNoted .least))
 
 -- It is the recovery of the least shortfall that the walk notes: the code divides once.
 module _ {c : BucketConfig} (a : Accepted c) (at : Nanos) where
+  pub no-recovery-is-longer : (slot : Slot) → recovery c slot at ≤ recoveryOf c (nothingNoted .least)
+  no-recovery-is-longer slot =
+      rw (← recovery-of-shortfall (slot .bucket) at a)
+      (ceilDiv-mono _ _ (c .amount) (a .amount-least) (omega (arith, shortfall-most c (slot .bucket) at, most-shortfall-fits a)))
+
   least-noted : (w : Walk) (p : ℕ) (slot : Slot)
       → recoveryOf c (noted c at w p slot .least) ≡ cond (lossless c slot at) (recoveryOf c (w .least)) (min (recoveryOf c (w .least)) (recovery c slot at))
   unfolding noted

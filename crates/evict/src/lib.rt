@@ -32,8 +32,8 @@ pub enum Victim {
     Owing(usize),
 }
 
-// What the walk of the hand has noted: the first full slot, the first slot neither full nor marked, and the least shortfall of those not full. The least
-// shortfall is the soonest to recover, and only a refusal divides it.
+// What the walk of the hand has noted: the first full slot, the first slot neither full nor marked, and the least shortfall of those not full. The slot
+// with the least shortfall recovers the soonest. How soon takes a division, and only a refusal makes it.
 pub struct Walk {
     pub full: Place,
     pub unmarked: Place,
