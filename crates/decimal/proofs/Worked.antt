@@ -3,7 +3,7 @@ use Prim.Native.Nat.{_-_, _^_}
 use mathlib.Core.Path.{_≡_, refl}
 use mathlib.Core.List.{[], _∷_}
 use Rattle.decimal.specs.declared.OptionNumber.the-variants.{None, Some}
-use Rattle.decimal.specs.Decimal.{isDigit, allDigits, decimalFrom, numberOf, digitsFrom, digitsOf}
+use Rattle.decimal.specs.Decimal.{isDigit, allDigits, decimalFrom, digitsAhead, frontOf, numberOf, digitsFrom, digitsOf}
 
 -- "007"
 pub zeros-in-front : numberOf (2 ^ 32 - 1) (48 ∷ 48 ∷ 55 ∷ []) ≡ Some 7
@@ -39,6 +39,16 @@ a-colon = refl
 pub no-digits : numberOf (2 ^ 64 - 1) [] ≡ None
 unfolding numberOf
 no-digits = refl
+
+-- "12 3": a front of two digits, which the space ends.
+pub front-before-a-space : frontOf (49 ∷ 50 ∷ 32 ∷ 51 ∷ []) 0 ≡ record { value = 12; end = 2 }
+unfolding isDigit decimalFrom digitsAhead
+front-before-a-space = refl
+
+-- "12 3" from the 3 on, which the end of the bytes ends.
+pub front-before-the-end : frontOf (49 ∷ 50 ∷ 32 ∷ 51 ∷ []) 3 ≡ record { value = 3; end = 4 }
+unfolding isDigit decimalFrom digitsAhead
+front-before-the-end = refl
 
 pub digits-of-zero : digitsOf 0 ≡ 48 ∷ []
 unfolding digitsFrom

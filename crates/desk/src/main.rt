@@ -1,8 +1,6 @@
 // The desk: a line of standard input is a call of the limiter, and a line of standard output its answer, as document 01 gives them.
 use libc::STDIN_FILENO;
 
-mod words;
-
 // The words of the memory from which the store is lent its own.
 const MEMORY_WORDS: usize = 8192;
 
@@ -11,14 +9,14 @@ const INPUT_BYTES: usize = 1024;
 
 fn main() {
     if 1 < os::arg_count() {
-        words::help();
+        desk_words::help();
         return;
     }
     if libc::isatty(STDIN_FILENO) == 1 {
-        words::greet();
+        desk_words::greet();
     }
     let mut input: [u8; INPUT_BYTES] = [0; INPUT_BYTES];
     let mut output = io::large_buffer();
     let mut memory: [u64; MEMORY_WORDS] = [0; MEMORY_WORDS];
-    words::tell(desk_feed::run(&mut input, &mut output, &mut memory));
+    desk_words::tell(desk_feed::run(&mut input, &mut output, &mut memory));
 }

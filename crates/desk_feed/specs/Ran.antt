@@ -13,6 +13,10 @@ use Rattle.desk_feed.specs.declared.Ran.{Ran}
 use Rattle.desk_feed.specs.declared.Why.{Why}
 use Rattle.desk_feed.specs.declared.Why.the-variants.{Input, Refused, Read, Write, LastWrite, Turns}
 
+-- The program's memory holds so many words; a store that needs more is refused.
+abbrev pub memoryWords : ℕ
+memoryWords = 8192
+
 -- How the run stands: so many bytes at the start of the input are pending.
 abbrev pub standing : ℕ → List ℕ → Feed → List ℕ → Standing
 standing pending input f memory = record { pending = take pending input; state = stateOf f memory }

@@ -1,28 +1,16 @@
 // The lines of standard input, answered turn by turn. Every whole line that has been read is answered, and its answer written, before more is read.
 ghost use mathlib.Core.Path.{_≡_};
 ghost use mathlib.Core.Bool.{false};
-ghost use Prim.Native.Nat.{_+_, _*_, _^_, _≤_, _<_};
-ghost use lib.ListN.{length, take};
+ghost use Prim.Native.Nat.{_+_, _*_, _≤_, _<_};
+ghost use lib.ListN.{length};
 ghost use Rattle.desk_lines.specs.Lines.{longestLine};
 ghost use Rattle.desk_lines.specs.Printed.{longestPrinted};
 ghost use Rattle.desk_turns.specs.Run.{hasEnded};
-ghost use Rattle.desk_feed.specs.Reads.{Grows, broughtBy, memoryWords};
-ghost use Rattle.desk_feed.specs.Ran.{standing, atStart, RanFrom, AtEnd};
+ghost use Rattle.desk_feed.specs.Ran.{memoryWords, standing, atStart, RanFrom, AtEnd};
 use desk_answers::Stage;
+use desk_reads::Got;
 use desk_turns::Feed;
-use libc::EINTR;
-use libc::STDIN_FILENO;
 use libc::STDOUT_FILENO;
-
-// What a read brought.
-pub enum Got {
-    // Bytes: with them, so many are pending. A read that a signal interrupts brings none, so that the next turn makes it again.
-    More(usize),
-    // The end of the input.
-    End,
-    // Nothing, since it failed.
-    Failed,
-}
 
 // Why a run is over.
 pub enum Why {
@@ -76,7 +64,7 @@ fn go_on(
     let mut feed = from;
     let mut turns: u64 = 0;
     while turns < u64::MAX {
-        let got = read_more(input, pending);
+        let got = desk_reads::read_more(input, pending);
         match got {
             Got::More(end) => {
                 let turned = desk_turns::turn(input, end, output, memory, feed);
@@ -136,32 +124,4 @@ fn flush(output: &[u8], feed: Feed) -> bool
 {
     let put = feed.put;
     io::write_all(STDOUT_FILENO, &output[0..put])
-}
-
-// Reads into the input after the bytes that are pending, which stay.
-fn read_more(input: &mut [u8], pending: usize) -> Got
-    requires { ⌜ pending < length (now input) ⌝ }
-    ensures { λ r. ⌜ Grows pending (length (now (input .entry))) r × (take pending (now (input .exit)) ≡ take pending (now (input .entry))) ⌝ }
-{
-    let answer = libc::read(STDIN_FILENO, &mut input[pending..]);
-    let error = os::errno();
-    let count = io::count(answer, &input[pending..]);
-    brought(answer, error, pending, count)
-}
-
-// What a read brought, by its answer, and by the number of the error where it failed. There was room, so that a read of nothing is the end of the input.
-fn brought(answer: isize, error: i32, pending: usize, count: usize) -> Got
-    requires { ⌜ pending + count < 2 ^ 64 ⌝ }
-    ensures { λ r. ⌜ r ≡ broughtBy answer error pending count ⌝ }
-{
-    if answer < 0 {
-        if error == EINTR {
-            return Got::More(pending);
-        }
-        return Got::Failed;
-    }
-    if count == 0 {
-        return Got::End;
-    }
-    Got::More(pending + count)
 }

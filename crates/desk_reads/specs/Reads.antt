@@ -1,14 +1,10 @@
--- The words of the program's memory, and what a read brings.
+-- What a read brings.
 use Prim.Native.Nat.{ℕ, _+_, _≤_}
 use mathlib.Core.Bool.{Bool, false, cond}
 use lib.Dec.{eqb}
 use lib.IntN.{ℤ, pos, negsuc}
-use Rattle.desk_feed.specs.declared.Got.{Got}
-use Rattle.desk_feed.specs.declared.Got.the-variants.{More, End, Failed}
-
--- The program's memory holds so many words; a store that needs more is refused.
-abbrev pub memoryWords : ℕ
-memoryWords = 8192
+use Rattle.desk_reads.specs.declared.Got.{Got}
+use Rattle.desk_reads.specs.declared.Got.the-variants.{More, End, Failed}
 
 -- The error of a read that a signal interrupts before it has brought a byte.
 abbrev pub isInterrupt : ℤ → Bool

@@ -15,14 +15,14 @@ fn settings_line() {
 }
 
 // How to begin, for who types at a terminal.
-pub(crate) fn greet() {
+pub fn greet() {
     say(b"desk: line 1 is ");
     settings_line();
     say(b"; desk --help tells more; Ctrl-D ends\n");
 }
 
 // Why the run is over. Nothing is told where the input has ended and all is written.
-pub(crate) fn tell(ran: Ran) {
+pub fn tell(ran: Ran) {
     let why = ran.why;
     let feed = ran.feed;
     let stage = feed.stage;
@@ -69,7 +69,7 @@ fn meaning(code: u64) {
 }
 
 // The lines and the codes.
-pub(crate) fn help() {
+pub fn help() {
     say(
         b"desk reads lines from standard input, and for each prints its number, a code and a wait. Times are in nanoseconds.\n",
     );

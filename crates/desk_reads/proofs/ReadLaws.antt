@@ -2,7 +2,7 @@
 use Prim.Native.Nat.{ℕ, _+_, _≤_}
 use native.Mathlib.Omega.{arith}
 use mathlib.Core.Path.{_≡_, refl}
-use mathlib.Core.Bool.{true, false}
+use mathlib.Core.Bool.{true, false, true≢false}
 use lib.Dec.{eqb}
 use lib.IntN.{ℤ, pos, negsuc}
 use lib.Signed.{ltZ}
@@ -10,9 +10,8 @@ use mir.Syntax.{w32}
 use mir.Val.{SFits, ofZ}
 use borrow.Author.Tests.{ltb-true, eq-eqb, ne-eqb}
 use Rattle.arith.proofs.Cases.{by-test}
-use Rattle.desk_turns.proofs.FeedingLaws.{told-true}
-use Rattle.desk_feed.specs.declared.Got.the-variants.{More, End, Failed}
-use Rattle.desk_feed.specs.Reads.{isInterrupt, broughtBy, Grows}
+use Rattle.desk_reads.specs.declared.Got.the-variants.{More, End, Failed}
+use Rattle.desk_reads.specs.Reads.{isInterrupt, broughtBy, Grows}
 
 -- An error's number as the code compares it, by its bits.
 pub is-interrupt : (error : ℤ) → SFits w32 error → ofZ w32 error ≡ 4 → isInterrupt error ≡ true
@@ -36,12 +35,12 @@ has-failed (negsuc k) error pending count negative other = rw other
 pub is-at-end : (answer error : ℤ) (pending count : ℕ) → ltZ answer (pos 0) ≡ false → count ≡ 0 → End ≡ broughtBy answer error pending count
 unfolding broughtBy
 is-at-end (pos k) error pending count counts none = rw (eq-eqb count 0 none)
-is-at-end (negsuc k) error pending count counts none = told-true counts
+is-at-end (negsuc k) error pending count counts none = absurd (true≢false counts)
 
 pub brings-more : (answer error : ℤ) (pending count : ℕ) → ltZ answer (pos 0) ≡ false → (count ≡ 0 → ⊥) → More (pending + count) ≡ broughtBy answer error pending count
 unfolding broughtBy
 brings-more (pos k) error pending count counts some = rw (ne-eqb count 0 some)
-brings-more (negsuc k) error pending count counts some = told-true counts
+brings-more (negsuc k) error pending count counts some = absurd (true≢false counts)
 
 -- It lies within the input.
 pub grows : (answer error : ℤ) (pending count size : ℕ) → pending + count ≤ size → Grows pending size (broughtBy answer error pending count)

@@ -1,12 +1,12 @@
 -- `read_more` changes the input after the bytes that are pending alone, and tells of no more bytes than there is room for.
-use Rattle.desk_feed.proofs.ReadLaws.{grows}
+use Rattle.desk_reads.proofs.ReadLaws.{grows}
 use borrow.Rule.Slice.PartMut.{take-put}
 use lib.ListN.{length}
 use native.Mathlib.Omega.{arith}
 use Prim.Native.Nat.{_≤_}
 use borrow.Author.Needs.{needs}
-use Rattle.desk_feed.proofs.read_more.Statement.{statement}
-use Rattle.desk_feed.proofs.read_more.Tie as tie
+use Rattle.desk_reads.proofs.read_more.Statement.{statement}
+use Rattle.desk_reads.proofs.read_more.Tie as tie
 
 -- Where the call began, once the input has been read.
 abbrev start : tie.After-read → tie.Start

@@ -2,10 +2,10 @@
 use lib.IntN.{pos}
 use mir.Syntax.{w64}
 use mir.Facts.{toZ-ofZ}
-use Rattle.desk_feed.proofs.ReadLaws.{is-interrupt, is-no-interrupt, brings-none-yet, has-failed, is-at-end, brings-more}
+use Rattle.desk_reads.proofs.ReadLaws.{is-interrupt, is-no-interrupt, brings-none-yet, has-failed, is-at-end, brings-more}
 use borrow.Author.Needs.{needs}
-use Rattle.desk_feed.proofs.brought.Statement.{statement}
-use Rattle.desk_feed.proofs.brought.Tie as tie
+use Rattle.desk_reads.proofs.brought.Statement.{statement}
+use Rattle.desk_reads.proofs.brought.Tie as tie
 
 returns : tie.Need-returns
 returns c = brings-none-yet _ _ _ _ (rw (toZ-ofZ {w = w64} (c .before .before .fits .answer)) at (c .before .if1 .taken)) (is-interrupt (c .before
