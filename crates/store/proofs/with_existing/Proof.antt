@@ -32,8 +32,8 @@ returns : tie.Need-returns
 returns c =
     let args′ = c .before .before .before .before .before .args in
     let existing′ = c .before .before .with-existing in
-    let asked = λ s. OneShard.withExisting (args′ .policy) (args′ .request) (args′ .cost) (args′ .at) s (args′ .pos) in
-    lent-answered (c .before .before .before .before .before .pre .0) asked _ (existing′ .kept .0) (existing′ .ensures)
+    lent-answered (c .before .before .before .before .before .pre .0)
+    (λ s. OneShard.withExisting (args′ .policy) (args′ .request) (args′ .cost) (args′ .at) s (args′ .pos)) _ (existing′ .kept .0) (existing′ .ensures)
 
 pub with-existing-spec : {M : Type 1} → statement M
 with-existing-spec =
