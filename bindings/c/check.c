@@ -1,5 +1,5 @@
-/* What limiter.h says of any caller's arguments: no words at all, every refusal with its text, the hash's vectors, and each field of the settings
- * read as the field that it is. Compiles as C99, C11 and C++. Run with bindings/c/run-example. */
+/* What limiter.h says of any caller's arguments: no words at all, every refusal with its text, the hash's vectors, each field of the settings read
+ * as the field that it is, and the moment in every answer. Compiles as C99, C11 and C++. Run with bindings/c/run-example. */
 #include <stdio.h>
 #include <stdlib.h>
 
@@ -20,6 +20,12 @@ static void check(int holds, int line)
     checks++;
 }
 #define CHECK(holds) check((holds) != 0, __LINE__)
+
+/* Whether a reply is these three numbers. */
+static int tells(limiter_reply reply, uint64_t code, uint64_t number, uint64_t moment)
+{
+    return reply.code == code && reply.number == number && reply.moment == moment;
+}
 
 /* 2 tokens a second, one key, one shard. */
 static limiter_settings small(void)
@@ -50,15 +56,15 @@ static void no_words(void)
 {
     const uint64_t refused = LIMITER_REFUSED + LIMITER_BAD_MEMORY;
     limiter_settings s = small(), bad = small();
-    CHECK(limiter_set_up(s, NULL, 0).code == refused);
-    CHECK(limiter_try(s, NULL, 0, 0, 7, 7, 1).code == refused);
-    CHECK(limiter_reserve(s, NULL, 0, 0, 7, 7, 1, 0).code == refused);
-    CHECK(limiter_peek(s, NULL, 0, 0, 7, 7, 1).code == refused);
-    CHECK(limiter_available(s, NULL, 0, 0, 7, 7).code == refused);
-    CHECK(limiter_refund(s, NULL, 0, 7, 7, 1).code == refused);
-    CHECK(limiter_remove(s, NULL, 0, 7, 7).code == refused);
-    CHECK(limiter_clear(s, NULL, 0).code == refused);
-    CHECK(limiter_length(s, NULL, 0).code == refused);
+    CHECK(tells(limiter_set_up(s, NULL, 0), refused, 0, 0));
+    CHECK(tells(limiter_try(s, NULL, 0, SECOND, 7, 7, 1), refused, 0, 0));
+    CHECK(tells(limiter_reserve(s, NULL, 0, SECOND, 7, 7, 1, 0), refused, 0, 0));
+    CHECK(tells(limiter_peek(s, NULL, 0, SECOND, 7, 7, 1), refused, 0, 0));
+    CHECK(tells(limiter_available(s, NULL, 0, SECOND, 7, 7), refused, 0, 0));
+    CHECK(tells(limiter_refund(s, NULL, 0, 7, 7, 1), refused, 0, 0));
+    CHECK(tells(limiter_remove(s, NULL, 0, 7, 7), refused, 0, 0));
+    CHECK(tells(limiter_clear(s, NULL, 0), refused, 0, 0));
+    CHECK(tells(limiter_length(s, NULL, 0), refused, 0, 0));
     bad.amount = 0;
     CHECK(limiter_length(bad, NULL, 0).code == LIMITER_REFUSED + LIMITER_BAD_AMOUNT);
 }
@@ -143,10 +149,68 @@ static void moments_and_waits(void)
     limiter_settings s = small();
     uint64_t last = UINT64_C(1) << 62, longest = UINT64_C(1) << 46;
     set_up(s);
-    CHECK(limiter_peek(s, words, 13, last, 7, 7, 1).code == LIMITER_DONE);
-    CHECK(limiter_peek(s, words, 13, last + 1, 7, 7, 1).code == LIMITER_REFUSED + LIMITER_BAD_MOMENT);
-    CHECK(limiter_reserve(s, words, 13, 0, 7, 7, 1, longest + 1).code == LIMITER_REFUSED + LIMITER_BAD_MAX_WAIT);
-    CHECK(limiter_reserve(s, words, 13, 0, 7, 7, 1, longest).code == LIMITER_DONE);
+    CHECK(tells(limiter_peek(s, words, 13, last, 7, 7, 1), LIMITER_DONE, 0, last));
+    CHECK(tells(limiter_peek(s, words, 13, last + 1, 7, 7, 1), LIMITER_REFUSED + LIMITER_BAD_MOMENT, 0, 0));
+    CHECK(tells(limiter_reserve(s, words, 13, 1, 7, 7, 1, longest + 1), LIMITER_REFUSED + LIMITER_BAD_MAX_WAIT, 0, 0));
+    CHECK(tells(limiter_reserve(s, words, 13, 1, 7, 7, 1, longest), LIMITER_DONE, 0, 1));
+    /* A wait that begins at the last moment is over after it. */
+    CHECK(limiter_try(s, words, 13, last, 7, 7, 2).code == LIMITER_DONE);
+    CHECK(tells(limiter_try(s, words, 13, last, 7, 7, 1), LIMITER_RETRY, SECOND / 2, last + SECOND / 2));
+}
+
+/* The moment of a grant is now, for a peek and a cost of 0 too, and now + the wait for a reservation; of a retry it is now + the wait. */
+static void moments_told(void)
+{
+    const uint64_t now = 5 * SECOND, later = now + SECOND / 2;
+    limiter_settings s = small();
+    set_up(s);
+    CHECK(tells(limiter_peek(s, words, 13, now, 7, 7, 2), LIMITER_DONE, 0, now));
+    CHECK(tells(limiter_try(s, words, 13, now, 7, 7, 2), LIMITER_DONE, 0, now));
+    CHECK(tells(limiter_try(s, words, 13, now, 7, 7, 0), LIMITER_DONE, 0, now));
+    CHECK(tells(limiter_peek(s, words, 13, now, 7, 7, 0), LIMITER_DONE, 0, now));
+    CHECK(tells(limiter_reserve(s, words, 13, now, 7, 7, 0, 0), LIMITER_DONE, 0, now));
+    CHECK(tells(limiter_try(s, words, 13, now, 7, 7, 1), LIMITER_RETRY, SECOND / 2, later));
+    CHECK(tells(limiter_peek(s, words, 13, now, 7, 7, 1), LIMITER_RETRY, SECOND / 2, later));
+    CHECK(tells(limiter_reserve(s, words, 13, now, 7, 7, 1, SECOND), LIMITER_DONE, SECOND / 2, later));
+    CHECK(tells(limiter_reserve(s, words, 13, now, 7, 7, 1, SECOND / 2), LIMITER_NONE, 0, 0));
+    CHECK(tells(limiter_reserve(s, words, 13, now, 7, 7, 3, SECOND), LIMITER_NONE, 0, 0));
+    CHECK(tells(limiter_try(s, words, 13, now, 7, 7, 3), LIMITER_IMPOSSIBLE, 0, 0));
+    CHECK(tells(limiter_peek(s, words, 13, now, 7, 7, 3), LIMITER_IMPOSSIBLE, 0, 0));
+    s.closed = 1;
+    CHECK(tells(limiter_try(s, words, 13, now, 7, 7, 0), LIMITER_DONE, 0, now));
+    CHECK(tells(limiter_peek(s, words, 13, now, 7, 7, 0), LIMITER_DONE, 0, now));
+    CHECK(tells(limiter_try(s, words, 13, now, 7, 7, 1), LIMITER_IMPOSSIBLE, 0, 0));
+    CHECK(tells(limiter_peek(s, words, 13, now, 7, 7, 1), LIMITER_IMPOSSIBLE, 0, 0));
+    CHECK(tells(limiter_reserve(s, words, 13, now, 7, 7, 0, 0), LIMITER_NONE, 0, 0));
+    CHECK(tells(limiter_available(s, words, 13, now, 7, 7), LIMITER_DONE, 0, 0));
+}
+
+/* A retry for want of space: modem 7 has a debt, 8 the slot, and both are settled a second after `now`. The wait is at least 1 ms. */
+static void moments_for_space(void)
+{
+    const uint64_t now = 5 * SECOND, late = now + SECOND - 1000, least = 1000000;
+    limiter_settings s = small();
+    set_up(s);
+    CHECK(tells(limiter_try(s, words, 13, now, 7, 7, 2), LIMITER_DONE, 0, now));
+    CHECK(tells(limiter_try(s, words, 13, now, 8, 8, 2), LIMITER_DONE, 0, now));
+    CHECK(tells(limiter_try(s, words, 13, now, 9, 9, 2), LIMITER_RETRY, SECOND, now + SECOND));
+    CHECK(tells(limiter_try(s, words, 13, late, 9, 9, 2), LIMITER_RETRY, least, late + least));
+    CHECK(tells(limiter_reserve(s, words, 13, late, 9, 9, 2, SECOND), LIMITER_NONE, 0, 0));
+}
+
+/* No other answer has a moment. */
+static void no_moments(void)
+{
+    limiter_settings s = small();
+    CHECK(tells(limiter_set_up(s, words, 13), LIMITER_DONE, 0, 0));
+    CHECK(tells(limiter_try(s, words, 13, SECOND, 7, 7, 1), LIMITER_DONE, 0, SECOND));
+    CHECK(tells(limiter_available(s, words, 13, SECOND, 7, 7), LIMITER_DONE, 1, 0));
+    CHECK(tells(limiter_length(s, words, 13), LIMITER_DONE, 1, 0));
+    CHECK(tells(limiter_refund(s, words, 13, 7, 7, 1), LIMITER_DONE, 0, 0));
+    CHECK(tells(limiter_refund(s, words, 13, 8, 8, 1), LIMITER_NONE, 0, 0));
+    CHECK(tells(limiter_remove(s, words, 13, 7, 7), LIMITER_DONE, 0, 0));
+    CHECK(tells(limiter_remove(s, words, 13, 7, 7), LIMITER_NONE, 0, 0));
+    CHECK(tells(limiter_clear(s, words, 13), LIMITER_DONE, 0, 0));
 }
 
 /* Every refusal has a text of its own, and so has any other code. */
@@ -167,6 +231,9 @@ int main(void)
     rate_fields();
     store_fields();
     moments_and_waits();
+    moments_told();
+    moments_for_space();
+    no_moments();
     texts();
     printf("%d checks hold\n", checks);
     return 0;

@@ -1,5 +1,6 @@
-/* A support desk's view of one modem: it asks until it is told to wait, reserves, and is looked at, paid back and forgotten. Every function of the
- * library is called, with every setting set. Compiles as C99 and as C++. Run with bindings/c/run-example. */
+/* A support desk's view of one modem: it asks until it is told to wait, reserves, and is looked at, paid back and forgotten. The technician is told
+ * at which moment to try again. Every function of the library is called, with every setting set. Compiles as C99 and as C++. Run with
+ * bindings/c/run-example. */
 #include <inttypes.h>
 #include <stdio.h>
 #include <stdlib.h>
@@ -46,7 +47,8 @@ typedef struct desk {
     uint64_t modem, hash;
 } desk;
 
-/* The modem asks until there are no tokens left, and reserves two more, if they come within two seconds. Tells when these may be used. */
+/* The modem asks until there are no tokens left, and reserves two more, if they come within two seconds. Gives the moment from which on these may
+ * be used. */
 static uint64_t spend(const desk *d, uint64_t now)
 {
     limiter_reply reply;
@@ -54,12 +56,12 @@ static uint64_t spend(const desk *d, uint64_t now)
     while ((reply = limiter_try(d->settings, d->words, d->len, now, d->hash, d->modem, 1)).code == LIMITER_DONE)
         granted++;
     stop_if_refused(reply);
-    printf("%d granted, then code %d: retry after %" PRIu64 " ns\n", granted, (int)reply.code, reply.number);
+    printf("%d granted, then code %d: retry after %" PRIu64 " ns, at %" PRIu64 "\n", granted, (int)reply.code, reply.number, reply.moment);
 
     reply = limiter_reserve(d->settings, d->words, d->len, now, d->hash, d->modem, 2, 2 * SECOND);
     stop_if_refused(reply);
-    printf("reserved, code %d: usable after %" PRIu64 " ns\n", (int)reply.code, reply.number);
-    return now + reply.number;
+    printf("reserved, code %d: usable after %" PRIu64 " ns, at %" PRIu64 "\n", (int)reply.code, reply.number, reply.moment);
+    return reply.moment;
 }
 
 /* Looks, which change nothing, and a refund of one token of the two. */
@@ -67,7 +69,7 @@ static void look_and_refund(const desk *d, uint64_t now)
 {
     limiter_reply reply = limiter_peek(d->settings, d->words, d->len, now, d->hash, d->modem, 1);
     stop_if_refused(reply);
-    printf("then the next one, code %d: after another %" PRIu64 " ns\n", (int)reply.code, reply.number);
+    printf("then the next one, code %d: after another %" PRIu64 " ns, at %" PRIu64 "\n", (int)reply.code, reply.number, reply.moment);
 
     reply = limiter_refund(d->settings, d->words, d->len, d->hash, d->modem, 1);
     stop_if_refused(reply);

@@ -17,11 +17,12 @@
 #include <stddef.h>
 #include <stdint.h>
 
-/* The version of this interface. A change that a caller has to know of raises the minor number while the major one is 0. */
+/* The version of this interface. A change that a caller has to know of raises the minor number while the major one is 0. Compile every
+ * caller with the header of the library that it links: the library cannot tell which one a caller had. */
 #define LIMITER_VERSION_MAJOR 0
-#define LIMITER_VERSION_MINOR 2
+#define LIMITER_VERSION_MINOR 3
 #define LIMITER_VERSION_PATCH 0
-#define LIMITER_VERSION "0.2.0"
+#define LIMITER_VERSION "0.3.0"
 
 #ifdef __cplusplus
 extern "C" {
@@ -48,6 +49,8 @@ typedef struct limiter_settings {
 typedef struct limiter_reply {
     uint64_t code;   /* one of the codes below, or LIMITER_REFUSED + n: refused as n */
     uint64_t number; /* a wait in ns, tokens, or a count of keys, as the call says; else 0 */
+    uint64_t moment; /* of a grant and of a retry: now + the wait, from when on the tokens may be used, or when to try again. Of all
+                        other answers 0. It can be after 2^62, the last moment at which a call is taken */
 } limiter_reply;
 
 /* The layout that the library has. */
@@ -73,16 +76,17 @@ LIMITER_OFFSET(settings, has_initial, 48);
 LIMITER_OFFSET(settings, initial, 52);
 LIMITER_OFFSET(settings, has_idle, 56);
 LIMITER_OFFSET(settings, forget_debt, 60);
-LIMITER_ASSERT(reply, sizeof(limiter_reply) == 16);
+LIMITER_ASSERT(reply, sizeof(limiter_reply) == 24);
 LIMITER_OFFSET(reply, code, 0);
 LIMITER_OFFSET(reply, number, 8);
+LIMITER_OFFSET(reply, moment, 16);
 #undef LIMITER_OFFSET
 #undef LIMITER_ASSERT
 
 enum {
     /* Codes. */
-    LIMITER_DONE = 0,       /* granted, accepted, known, counted */
-    LIMITER_RETRY = 1,      /* not now; number is the wait in ns */
+    LIMITER_DONE = 0,       /* granted, from moment on; or accepted, known, counted */
+    LIMITER_RETRY = 1,      /* not now; number is the wait in ns, and moment when it is over */
     LIMITER_IMPOSSIBLE = 2, /* never: the cost is over the burst, or the limiter is closed */
     LIMITER_NONE = 3,       /* no reservation; or the key is unknown */
     LIMITER_REFUSED = 10,   /* this and the number of a refusal */
@@ -127,15 +131,17 @@ uint64_t limiter_key_hash(uint64_t key);
 /* Makes the words an empty store. 0, or refused as 1 to 5. */
 limiter_reply limiter_set_up(limiter_settings s, uint64_t *words, size_t len);
 
-/* Takes `cost` tokens if they are there now. 0 granted; 1 retry after `number` ns; 2 impossible; or refused as 1 to 6. A retry with a
- * new key can also mean that there is no room for it: room is expected then. */
+/* Takes `cost` tokens if they are there now. 0 granted, and `moment` is now, for a cost of 0 too; 1 retry after `number` ns, at
+ * `moment`; 2 impossible; or refused as 1 to 6. A retry with a new key can also mean that there is no room for it: room is expected
+ * then. */
 limiter_reply limiter_try(limiter_settings s, uint64_t *words, size_t len, uint64_t now, uint64_t hash, uint64_t key, uint32_t cost);
 
-/* Takes `cost` tokens if they will be there within `max_wait` ns. 0 granted, to be used after `number` ns; 3 none; or refused as 1 to 7. */
+/* Takes `cost` tokens if they will be there within `max_wait` ns. 0 granted, to be used after `number` ns, at `moment`; 3 none; or refused
+ * as 1 to 7. */
 limiter_reply limiter_reserve(limiter_settings s, uint64_t *words, size_t len, uint64_t now, uint64_t hash, uint64_t key, uint32_t cost,
                               uint64_t max_wait);
 
-/* What the key's bucket would answer to a try, changing nothing. As limiter_try, but it says nothing of room. */
+/* What the key's bucket would answer to a try, changing nothing. As limiter_try, `moment` too, but it says nothing of room. */
 limiter_reply limiter_peek(limiter_settings s, const uint64_t *words, size_t len, uint64_t now, uint64_t hash, uint64_t key,
                            uint32_t cost);
 

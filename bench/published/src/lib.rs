@@ -35,7 +35,7 @@ pub fn key(number: u64) -> Key {
     }
 }
 
-/// An answer's code and number, as the library numbers them.
+/// An answer's code and number, as the library numbers them. The published limiter has no moment beside them.
 pub type Answer = (u64, u64);
 
 /// `amount` tokens every `period` nanoseconds, at most `burst`, and `initial` for a new key.

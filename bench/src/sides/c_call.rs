@@ -77,6 +77,7 @@ impl Store for CCall {
     }
 }
 
+/// The library works out and writes a moment too. Nobody reads it here: the Rust has none.
 #[inline]
 const fn answer(reply: LimiterReply) -> Answer {
     (reply.code, reply.number)

@@ -20,7 +20,7 @@ pub trait Side {
     fn ask(&mut self, call: &Call) -> Answer;
 }
 
-/// A store. The calls answer with a code and a number, as our library numbers them.
+/// A store. The calls answer with a code and a number, as our library numbers them; its moment, which the Rust lacks, is left out.
 pub trait Store {
     /// A fresh one.
     fn fresh(setup: &Setup) -> Self;

@@ -1,4 +1,4 @@
-//! Our library through the safe crate, as a server in Rust calls it: times are `Duration`s, answers enums.
+//! Our library through the safe crate, as a server in Rust calls it that waits and does not ask for moments: times are `Duration`s, answers enums.
 
 use core::time::Duration;
 

@@ -24,8 +24,10 @@ fn main() -> Result<(), Refusal> {
             answered += 1;
         };
         match told {
-            Decision::Retry { after, .. } => {
-                println!("modem {modem}: {answered} answered, ask again in {after:?}");
+            Decision::Retry { after, moment, .. } => {
+                println!(
+                    "modem {modem}: {answered} answered, ask again in {after:?}, at {moment:?}"
+                );
             }
             other => println!("modem {modem}: {answered} answered, then {other:?}"),
         }
@@ -37,8 +39,8 @@ fn main() -> Result<(), Refusal> {
     println!("modem 1 has {} tokens", store.available(now, first)?);
     match store.reserve(now, first, 2, Duration::from_secs(2))? {
         Some(reserved) => println!(
-            "modem 1: two more are reserved, to be used in {:?}",
-            reserved.wait
+            "modem 1: two more are reserved, to be used in {:?}, at {:?}",
+            reserved.wait, reserved.moment
         ),
         None => println!("modem 1: no reservation within two seconds"),
     }

@@ -9,7 +9,7 @@ use std::io::{self, Write};
 use std::path::Path;
 use std::time::{Duration, SystemTime};
 
-use limiter::{Key, OwnedStore, Rate, Settings};
+use limiter::{Decision, Key, OwnedStore, Rate, Settings};
 
 /// What the file begins with. Another number marks another form of the file.
 const MAGIC: u64 = u64::from_le_bytes(*b"limiter1");
@@ -24,18 +24,14 @@ fn main() -> Result<(), Fault> {
     let (now, modem) = (now()?, Key::fnv1a(7));
 
     let mut store = OwnedStore::new(settings)?;
-    println!(
-        "modem 7 asks for four: {:?}",
-        store.try_acquire(now, modem, 4)?
-    );
+    let granted = store.try_acquire(now, modem, 4)?;
+    println!("modem 7 asks for four: {}", told(granted, now));
     save(&store, &file)?;
 
     // The server starts again. Modem 7 still owes what it had.
     let mut store = resume(settings, &file)?;
-    println!(
-        "resumed: modem 7 asks for one: {:?}",
-        store.try_acquire(now, modem, 1)?
-    );
+    let denied = store.try_acquire(now, modem, 1)?;
+    println!("resumed: modem 7 asks for one: {}", told(denied, now));
 
     // And again, with another burst.
     let other = Settings::new(Rate::per_second(2).burst(8), 2_000).shards(64);
@@ -50,6 +46,18 @@ fn main() -> Result<(), Fault> {
 /// The time since 1970: a start that is the same when the server starts again. Moments up to the year 2116 are within bounds.
 fn now() -> Result<Duration, Fault> {
     Ok(SystemTime::now().duration_since(SystemTime::UNIX_EPOCH)?)
+}
+
+/// What a decision says. A moment is told by how far it is from now: it is a time since 1970, and another one in each run.
+fn told(decision: Decision, now: Duration) -> String {
+    match decision {
+        Decision::Acquired { .. } => "granted".to_string(),
+        Decision::Retry { moment, .. } => {
+            let from_now = moment.saturating_sub(now);
+            format!("to be tried again {from_now:?} from now")
+        }
+        _ => "never".to_string(),
+    }
 }
 
 /// Writes the mark, the settings and the words, each number as eight bytes, lowest first. The file takes its place only when it is whole.

@@ -17,12 +17,17 @@ use limiter_sys::{
 pub enum Decision {
     /// The tokens are taken; to a peek, they are there.
     #[non_exhaustive]
-    Acquired {},
+    Acquired {
+        /// The moment from which on they may be used: that of the call.
+        moment: Duration,
+    },
     /// Not now.
     #[non_exhaustive]
     Retry {
         /// How long to wait before trying again.
         after: Duration,
+        /// The moment at which to try again: that of the call, and the wait.
+        moment: Duration,
     },
     /// Never: the cost is over the burst, or the limiter is closed.
     Impossible,
@@ -49,6 +54,16 @@ impl Decision {
             Self::Acquired { .. } | Self::Impossible => None,
         }
     }
+
+    /// The moment from which on the tokens may be used, or at which to try again; none if no wait helps. It is a time since the same start as the
+    /// moment that the call was given. It can be after 2^62 ns, the last moment at which a call is taken.
+    #[must_use]
+    pub const fn moment(self) -> Option<Duration> {
+        match self {
+            Self::Acquired { moment, .. } | Self::Retry { moment, .. } => Some(moment),
+            Self::Impossible => None,
+        }
+    }
 }
 
 /// Tokens that are taken, and may be used after a wait.
@@ -57,6 +72,8 @@ impl Decision {
 pub struct Reservation {
     /// The wait after which they may be used.
     pub wait: Duration,
+    /// The moment from which on they may be used: that of the call, and the wait.
+    pub moment: Duration,
 }
 
 /// Why a call was refused. A refused call changes nothing. The first that applies is given.
@@ -144,9 +161,12 @@ impl core::error::Error for Refusal {}
 /// A try or a peek.
 pub(crate) fn decision(reply: LimiterReply) -> Result<Decision, Refusal> {
     match reply.code {
-        LIMITER_DONE => Ok(Decision::Acquired {}),
+        LIMITER_DONE => Ok(Decision::Acquired {
+            moment: Duration::from_nanos(reply.moment),
+        }),
         LIMITER_RETRY => Ok(Decision::Retry {
             after: Duration::from_nanos(reply.number),
+            moment: Duration::from_nanos(reply.moment),
         }),
         LIMITER_IMPOSSIBLE => Ok(Decision::Impossible),
         _ => Err(Refusal::told(reply)),
@@ -158,6 +178,7 @@ pub(crate) fn reservation(reply: LimiterReply) -> Result<Option<Reservation>, Re
     match reply.code {
         LIMITER_DONE => Ok(Some(Reservation {
             wait: Duration::from_nanos(reply.number),
+            moment: Duration::from_nanos(reply.moment),
         })),
         LIMITER_NONE => Ok(None),
         _ => Err(Refusal::told(reply)),
@@ -191,7 +212,34 @@ mod tests {
     use super::*;
 
     const fn reply(code: u64) -> LimiterReply {
-        LimiterReply { code, number: 9 }
+        LimiterReply {
+            code,
+            number: 9,
+            moment: u64::MAX,
+        }
+    }
+
+    #[test]
+    fn the_moment_is_that_of_the_reply() {
+        let (wait, moment) = (Duration::from_nanos(9), Duration::from_nanos(u64::MAX));
+        let decisions = [
+            Decision::Acquired { moment },
+            Decision::Retry {
+                after: wait,
+                moment,
+            },
+            Decision::Impossible,
+        ];
+        for (code, told) in (0..).zip(decisions) {
+            assert_eq!(decision(reply(code)), Ok(told));
+            assert_eq!(
+                told.moment(),
+                (code != LIMITER_IMPOSSIBLE).then_some(moment)
+            );
+        }
+        let reserved = Reservation { wait, moment };
+        assert_eq!(reservation(reply(LIMITER_DONE)), Ok(Some(reserved)));
+        assert_eq!(reservation(reply(LIMITER_NONE)), Ok(None));
     }
 
     #[test]

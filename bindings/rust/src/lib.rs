@@ -13,7 +13,9 @@
 //!
 //! let (now, modem) = (Duration::from_secs(5), Key::fnv1a(7));
 //! assert!(store.try_acquire(now, modem, 4)?.is_acquired());
-//! assert_eq!(store.try_acquire(now, modem, 1)?.retry_after(), Some(Duration::from_millis(500)));
+//! let decision = store.try_acquire(now, modem, 1)?;
+//! assert_eq!(decision.retry_after(), Some(Duration::from_millis(500)));
+//! assert_eq!(decision.moment(), Some(Duration::from_millis(5_500)));
 //! # Ok::<(), limiter::Refusal>(())
 //! ```
 //!

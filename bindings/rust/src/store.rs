@@ -14,7 +14,8 @@ use crate::{Key, Settings};
 /// A store. `W` is whose its words are; [`OwnedStore`], [`LentStore`] and [`Look`] name the usual ones.
 ///
 /// Moments are times since any start that the caller chooses, up to 2^62 ns (146 years). They may repeat and go back; before the moment of its
-/// last grant a bucket gets nothing back. The words hold moments: a store that is kept and resumed needs the same start again.
+/// last grant a bucket gets nothing back. The words hold moments: a store that is kept and resumed needs the same start again. The moment that an
+/// answer tells is a time since that start too.
 #[derive(Clone, Copy)]
 pub struct Store<W> {
     settings: Settings,
@@ -147,7 +148,7 @@ impl<W: AsRef<[u64]> + AsMut<[u64]>> Store<W> {
     }
 
     /// Takes `cost` tokens for `key` if they are there now. A retry of a new key can also mean that there is no room for it: room is
-    /// expected then.
+    /// expected then. [`Decision::moment`] is `now` for a grant, and `now` with the wait for a retry.
     ///
     /// # Errors
     ///

@@ -32,6 +32,12 @@ fn retry(answer: Result<Decision, Refusal>) -> Option<Duration> {
     answer.expect("not refused").retry_after()
 }
 
+/// The wait and the moment of a decision.
+fn told(answer: Result<Decision, Refusal>) -> (Option<Duration>, Option<Duration>) {
+    let decision = answer.expect("not refused");
+    (decision.retry_after(), decision.moment())
+}
+
 #[test]
 fn words_to_lend() {
     assert_eq!(Settings::new(R, 0).shards(0).words(), Ok(13));
@@ -90,6 +96,70 @@ fn a_modem_waits_and_reserves() {
 }
 
 #[test]
+fn a_grant_tells_its_moment() {
+    let mut store = store(Settings::new(R, 2));
+    let ([seven], now) = (modems([7]), 5 * SECOND);
+    // So do a peek, and a cost of 0.
+    for cost in [0, 4] {
+        assert_eq!(told(store.peek(now, seven, cost)), (None, Some(now)));
+    }
+    for cost in [0, 4, 0] {
+        assert_eq!(told(store.try_acquire(now, seven, cost)), (None, Some(now)));
+    }
+    let mut reserved = |cost, max_wait| {
+        let reserved = store.reserve(now, seven, cost, max_wait);
+        let reserved = reserved.expect("not refused")?;
+        Some((reserved.wait, reserved.moment))
+    };
+    assert_eq!(reserved(0, ZERO), Some((ZERO, now)));
+    assert_eq!(reserved(2, SECOND), Some((SECOND, now + SECOND)));
+    assert_eq!(reserved(2, SECOND), None);
+}
+
+#[test]
+fn a_retry_tells_its_moment() {
+    let mut store = store(Settings::new(R, 2));
+    let ([seven], now) = (modems([7]), 5 * SECOND);
+    assert!(granted(store.try_acquire(now, seven, 4)));
+    let later = (Some(HALF), Some(now + HALF));
+    assert_eq!(told(store.try_acquire(now, seven, 1)), later);
+    assert_eq!(told(store.peek(now, seven, 1)), later);
+    assert_eq!(told(store.try_acquire(now, seven, 5)), (None, None));
+    assert_eq!(told(store.peek(now, seven, 5)), (None, None));
+    // At that moment it is granted, and not a nanosecond before.
+    let before = now + Duration::from_nanos(499_999_999);
+    assert!(!granted(store.peek(before, seven, 1)));
+    assert!(granted(store.try_acquire(now + HALF, seven, 1)));
+}
+
+#[test]
+fn a_retry_for_space_tells_its_moment() {
+    let mut store = store(Settings::new(R, 1));
+    let ([seven, eight, nine], now) = (modems([7, 8, 9]), 5 * SECOND);
+    // Seven has a debt, eight the slot; both are settled in a second.
+    for modem in [seven, eight] {
+        assert!(granted(store.try_acquire(now, modem, 2)));
+    }
+    let settled = (Some(SECOND), Some(now + SECOND));
+    assert_eq!(told(store.try_acquire(now, nine, 1)), settled);
+    // The wait is at least 1 ms.
+    let late = now + Duration::from_nanos(999_999_999);
+    let least = Duration::from_millis(1);
+    let told = told(store.try_acquire(late, nine, 1));
+    assert_eq!(told, (Some(least), Some(late + least)));
+    assert_eq!(store.reserve(late, nine, 1, SECOND), Ok(None));
+}
+
+#[test]
+fn a_moment_can_be_after_the_last_one() {
+    let mut store = store(Settings::new(R, 1));
+    let ([seven], last) = (modems([7]), Duration::from_nanos(1 << 62));
+    assert_eq!(told(store.try_acquire(last, seven, 4)), (None, Some(last)));
+    let after = (Some(HALF), Some(last + HALF));
+    assert_eq!(told(store.try_acquire(last, seven, 1)), after);
+}
+
+#[test]
 fn a_forgotten_modem_keeps_its_debt() {
     let mut store = store(Settings::new(R, 1));
     let [seven, eight, nine] = modems([7, 8, 9]);
@@ -136,9 +206,10 @@ fn an_idle_modem_goes() {
 fn a_closed_limiter_grants_nothing() {
     let mut store = store(Settings::closed(1));
     let [modem] = modems([7]);
-    assert!(granted(store.try_acquire(ZERO, modem, 0)));
+    assert_eq!(told(store.try_acquire(HALF, modem, 0)), (None, Some(HALF)));
+    assert_eq!(told(store.peek(HALF, modem, 0)), (None, Some(HALF)));
     let one = store.try_acquire(ZERO, modem, 1).expect("not refused");
-    assert!(one.is_impossible());
+    assert!(one.is_impossible() && one.moment().is_none());
     assert_eq!(store.reserve(ZERO, modem, 0, ZERO), Ok(None));
     assert_eq!(store.available(ZERO, modem), Ok(0));
     assert_eq!(store.refund(modem, 1), Ok(false));

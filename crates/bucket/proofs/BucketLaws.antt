@@ -2,19 +2,20 @@
 use Prim.Native.Nat.{ℕ, _+_, _*_, _-_, _/_, _≤_, _<_, _^_}
 use mathlib.Core.Path.{_≡_, refl, ap, sym, _∙_}
 use mathlib.Core.Bool.{true}
-use native.Mathlib.Nat.{mul-comm, mul-le-mul, mul-le-mul-right, mul-pos, mul-div-cancel, div-mul-le-self, sub-zero}
+use native.Mathlib.Nat.{mul-comm, mul-le-mul, mul-le-mul-left, mul-le-mul-right, mul-pos, mul-div-cancel, div-mul-le-self, sub-zero}
 use native.Mathlib.Omega.{arith}
 use borrow.Author.Tests.{eq-eqb, ne-eqb, le-leb, lt-leb, eqb-true}
 use Rattle.arith.specs.Arith.{ceilDiv, saturated}
 use Rattle.arith.proofs.Cases.{by-eq}
-use Rattle.arith.proofs.DivisionLaws.{ceilDiv-only}
+use Rattle.arith.proofs.DivisionLaws.{ceilDiv-least, ceilDiv-only}
 use Rattle.units.specs.declared.Nanos.{Nanos}
 use Rattle.bucket.specs.declared.BucketConfig.{BucketConfig}
 use Rattle.bucket.specs.declared.BucketCore.{BucketCore}
 use Rattle.bucket.specs.declared.Request.{Request}
 use Rattle.bucket.specs.declared.BucketDecision.the-variants.{Allowed, Denied}
-use Rattle.bucket.specs.Bucket.{Accepted, partsOf, fullParts, mostShortfall, readShortfall, shortfallAt, availableAt, fullAt, waitAt, recoveryOf, recoveryAt, spent}
-use Rattle.bucket.specs.Bucket.{longestWait, asked, refunded}
+use Rattle.bucket.specs.Bucket.{Accepted, partsOf, fullParts, mostShortfall, readShortfall, shortfallAt, availableAt, fullAt, waitAt}
+use Rattle.bucket.specs.Bucket.{recoveryOf, recoveryAt, dueAfter, dueAt, spent, longestWait, asked, refunded}
+use Rattle.bucket.specs.declared.Due.{Due}
 
 -- At an accepted rate a full bucket has less than 2^62 parts, so the most shortfall is below 2^63: every sum of the bucket fits 64 bits.
 pub full-parts-most : {c : BucketConfig} → Accepted c → fullParts c ≤ 2 ^ 62 - 2 ^ 46
@@ -81,27 +82,48 @@ recovery-of-shortfall {c} b at a =
     let same : shortfallAt c b at ≡ shortfallAt c b at + fullParts c - fullParts c = omega arith in
     ap (recoveryOf c) same ∙ wait-for-lack c b (c .capacity) at (λ e. omega (arith, a .capacity-least))
 
--- A span is known by its number. (A contract gives the number of a wait, an answer holds the span.)
-pub same-nanos : (t : Nanos) {n : ℕ} → t .0 ≡ n → t ≡ record { 0 = n }
-same-nanos t e = ap (λ (n : ℕ). record { 0 = n }) e
+-- A wait is no longer than the most shortfall has parts, since at least one part comes back each nanosecond. So the moment at which it is over fits 64 bits,
+-- for every moment that a call may name.
+pub wait-most : {c : BucketConfig} (b : BucketCore) (cost : ℕ) (at : Nanos) → Accepted c → cost ≤ c .capacity → waitAt c b cost at ≤ mostShortfall c
+wait-most {c} b cost at a within =
+    by-eq cost 0
+    (λ none. omega (arith, no-cost-no-wait c b cost at none))
+    (λ some.
+    let most : ℕ = mostShortfall c in
+    let lack : shortfallAt c b at + partsOf c cost - fullParts c ≤ most * c .amount =
+    omega (arith, shortfall-most c b at, parts-within c cost within, mul-le-mul-left most (a .amount-least)) in
+    rw (← wait-for-lack c b cost at some) (ceilDiv-least _ (c .amount) most (a .amount-least) lack))
+
+pub due-fits : {c : BucketConfig} (b : BucketCore) (cost : ℕ) (at : Nanos) → Accepted c → cost ≤ c .capacity → at .0 ≤ 2 ^ 62 → at .0 + waitAt c b cost at < 2 ^ 64
+due-fits b cost at a within early = omega (arith, wait-most b cost at a within, most-shortfall-fits a)
+
+-- When something is due, by the number of the wait. (A contract gives the number of a wait, an answer tells when the cost is due.)
+pub due-by-number : (at wait : Nanos) {n : ℕ} → wait .0 ≡ n → dueAfter at wait ≡ dueAfter at (record { 0 = n })
+due-by-number at wait e = ap (λ (n : ℕ). dueAfter at (record { 0 = n })) e
 
 -- The two answers to a request: granted and charged where the wait is within its longest wait, else denied with the bucket as it was.
 pub granted-within-longest : (c : BucketConfig) (request : Request) (b : BucketCore) (cost : ℕ) (at : Nanos) → waitAt c b cost at ≤ longestWait request →
-    asked c request b cost at ≡ record { decision = Allowed (record { 0 = waitAt c b cost at }); bucket = spent c b cost at }
+    asked c request b cost at ≡ record { decision = Allowed (dueAt c b cost at); bucket = spent c b cost at }
 unfolding asked
 granted-within-longest c request b cost at h = rw (le-leb _ _ h)
 
--- The same as the code comes to it: the wait by its number, and the bucket as it was worked out before.
-pub grant-is-told : (c : BucketConfig) (request : Request) (b : BucketCore) (cost : ℕ) (at : Nanos) {wait : Nanos} {after : BucketCore}
-    → wait .0 ≡ waitAt c b cost at → after ≡ spent c b cost at → wait .0 ≤ longestWait request
-    → record { decision = Allowed wait; bucket = after } ≡ asked c request b cost at
-grant-is-told c request b cost at {wait = wait} is-wait is-after within =
-    rw (same-nanos wait is-wait, is-after) (sym (granted-within-longest c request b cost at (rw is-wait at within)))
-
 pub denied-beyond-longest : (c : BucketConfig) (request : Request) (b : BucketCore) (cost : ℕ) (at : Nanos) → longestWait request < waitAt c b cost at →
-    asked c request b cost at ≡ record { decision = Denied (record { 0 = waitAt c b cost at }); bucket = b }
+    asked c request b cost at ≡ record { decision = Denied (dueAt c b cost at); bucket = b }
 unfolding asked
 denied-beyond-longest c request b cost at h = rw (lt-leb _ _ h)
+
+-- The same as the code comes to it: the wait by its number, and the bucket as it was worked out before.
+module _ (c : BucketConfig) (request : Request) (b : BucketCore) (cost : ℕ) (at : Nanos) {wait : Nanos} {due : Due}
+    (is-wait : wait .0 ≡ waitAt c b cost at) (is-due : due ≡ dueAfter at wait) where
+  pub due-is-told : due ≡ dueAt c b cost at
+  due-is-told = is-due ∙ due-by-number at wait is-wait
+
+  pub grant-is-told : {after : BucketCore} → after ≡ spent c b cost at → wait .0 ≤ longestWait request
+      → record { decision = Allowed due; bucket = after } ≡ asked c request b cost at
+  grant-is-told is-after within = rw (due-is-told, is-after) (sym (granted-within-longest c request b cost at (rw is-wait at within)))
+
+  pub denial-is-told : longestWait request < wait .0 → record { decision = Denied due; bucket = b } ≡ asked c request b cost at
+  denial-is-told beyond = rw due-is-told (sym (denied-beyond-longest c request b cost at (rw is-wait at beyond)))
 
 -- From one moment to a later one no more comes back than the amount for each nanosecond between them. Bounds over a span of time rest on this.
 pub shortfall-falls-slowly : (c : BucketConfig) (b : BucketCore) (earlier later : Nanos) → earlier .0 ≤ later .0 →

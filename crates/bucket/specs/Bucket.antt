@@ -10,6 +10,7 @@ use Rattle.bucket.specs.declared.Request.{Request}
 use Rattle.bucket.specs.declared.Request.the-variants.{Acquire, Reserve}
 use Rattle.bucket.specs.declared.BucketDecision.the-variants.{Allowed, Denied}
 use Rattle.bucket.specs.declared.BucketOutcome.{BucketOutcome}
+use Rattle.bucket.specs.declared.Due.{Due}
 
 -- The rates that are accepted. Every function of the bucket may count on these ranges; the settings' refusals see to them.
 pub record Accepted (c : BucketConfig) : Type 0 where
@@ -59,6 +60,13 @@ fresh c at = record { shortfall = partsOf c (c .capacity - c .initial); stamp = 
 unfoldable pub waitAt : BucketConfig → BucketCore → ℕ → Nanos → ℕ
 waitAt c b cost at = cond (eqb cost 0) 0 (ceilDiv (shortfallAt c b at + partsOf c cost - fullParts c) (c .amount))
 
+-- When something is due that a moment and a wait are told of: after the wait, at the moment plus the wait. When a cost is due.
+abbrev pub dueAfter : Nanos → Nanos → Due
+dueAfter at wait = record { wait = wait; moment = record { 0 = at .0 + wait .0 } }
+
+abbrev pub dueAt : BucketConfig → BucketCore → ℕ → Nanos → Due
+dueAt c b cost at = dueAfter at (record { 0 = waitAt c b cost at })
+
 -- How long it takes until so large a shortfall has come back, rounded up.
 abbrev pub recoveryOf : BucketConfig → ℕ → ℕ
 recoveryOf c shortfall = ceilDiv shortfall (c .amount)
@@ -76,12 +84,12 @@ abbrev pub longestWait : Request → ℕ
 longestWait Acquire = 0
 longestWait (Reserve longest) = longest .0
 
--- A request is granted where its wait is within its longest wait, and then the bucket is charged. A denial tells the wait and stores nothing.
+-- A request is granted where its wait is within its longest wait, and then the bucket is charged. A denial stores nothing. Both tell when the cost is due.
 unfoldable pub asked : BucketConfig → Request → BucketCore → ℕ → Nanos → BucketOutcome
 asked c request b cost at =
     cond (leb (waitAt c b cost at) (longestWait request))
-    (record { decision = Allowed (record { 0 = waitAt c b cost at }); bucket = spent c b cost at })
-    (record { decision = Denied (record { 0 = waitAt c b cost at }); bucket = b })
+    (record { decision = Allowed (dueAt c b cost at); bucket = spent c b cost at })
+    (record { decision = Denied (dueAt c b cost at); bucket = b })
 
 -- A refund lowers the shortfall, as read, by the parts of the cost, down to 0. The stamp stays.
 abbrev pub refunded : BucketConfig → BucketCore → ℕ → BucketCore

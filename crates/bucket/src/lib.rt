@@ -1,8 +1,8 @@
 // The token bucket, by value: its shortfall in parts, and the moment at which that was the shortfall. Every function is exact for any stored words.
 ghost use mathlib.Core.Path.{_≡_};
-ghost use Prim.Native.Nat.{_≤_};
+ghost use Prim.Native.Nat.{_+_, _≤_, _<_, _^_};
 ghost use Rattle.arith.specs.Arith.{saturated};
-ghost use Rattle.bucket.specs.Bucket.{Accepted, fullParts, mostShortfall, readShortfall, shortfallAt, availableAt, fullAt, fresh, waitAt, recoveryOf, recoveryAt, spent, longestWait, asked, refunded};
+ghost use Rattle.bucket.specs.Bucket.{Accepted, fullParts, mostShortfall, readShortfall, shortfallAt, availableAt, fullAt, fresh, waitAt, dueAfter, dueAt, recoveryOf, recoveryAt, spent, longestWait, asked, refunded};
 ghost use Rattle.bucket.specs.Debt.{missingTokens, charged, takenOut, restored};
 use units::Nanos;
 
@@ -26,17 +26,35 @@ pub enum Request {
     Reserve(Nanos),
 }
 
-// What a bucket answers: the tokens are charged and usable after the wait, or nothing is charged and the same request can be met after the wait.
-// A wait is counted as if the stamp were not after the moment.
+// When tokens are due: after the wait, at the moment. A wait is counted as if the stamp were not after the moment of the call.
+pub struct Due {
+    pub wait: Nanos,
+    pub moment: Nanos,
+}
+
+// What a bucket answers: the tokens are charged and usable when they are due, or nothing is charged and the same request can be met then.
 pub enum BucketDecision {
-    Allowed(Nanos),
-    Denied(Nanos),
+    Allowed(Due),
+    Denied(Due),
 }
 
 // An answer, and the bucket after it.
 pub struct BucketOutcome {
     pub decision: BucketDecision,
     pub bucket: BucketCore,
+}
+
+impl Due {
+    // Due so long after a moment.
+    pub fn after(at: Nanos, wait: Nanos) -> Due
+        requires { ⌜ at .0 + wait .0 < 2 ^ 64 ⌝ }
+        ensures { λ r. ⌜ r ≡ dueAfter at wait ⌝ }
+    {
+        Due {
+            wait,
+            moment: Nanos(at.0 + wait.0),
+        }
+    }
 }
 
 impl BucketConfig {
@@ -133,7 +151,15 @@ impl BucketCore {
         self.wait_for(config, spent.shortfall, cost, at)
     }
 
-    // The same, from what a grant would store: it is worked out once for the wait and for the grant.
+    // When `cost` tokens are due.
+    pub fn due_at(self, config: BucketConfig, cost: u32, at: Nanos) -> Due
+        requires { ⌜ Accepted config × (cost ≤ config .capacity) × (at .0 ≤ 2 ^ 62) ⌝ }
+        ensures { λ r. ⌜ r ≡ dueAt config self cost at ⌝ }
+    {
+        Due::after(at, self.time_until_at(config, cost, at))
+    }
+
+    // The wait, from what a grant would store: that is worked out once for the wait and for the grant.
     fn wait_for(self, config: BucketConfig, wanted: u64, cost: u32, at: Nanos) -> Nanos
         requires { ⌜ Accepted config × (wanted ≡ spent config self cost at .shortfall) ⌝ }
         ensures { λ r. ⌜ r .0 ≡ waitAt config self cost at ⌝ }
@@ -175,19 +201,20 @@ impl BucketCore {
         cost: u32,
         at: Nanos,
     ) -> BucketOutcome
-        requires { ⌜ Accepted config × (cost ≤ config .capacity) ⌝ }
+        requires { ⌜ Accepted config × (cost ≤ config .capacity) × (at .0 ≤ 2 ^ 62) ⌝ }
         ensures { λ r. ⌜ r ≡ asked config request self cost at ⌝ }
     {
         let spent = self.spent_at(config, cost, at);
         let wait = self.wait_for(config, spent.shortfall, cost, at);
+        let due = Due::after(at, wait);
         if wait.0 <= request.longest().0 {
             return BucketOutcome {
-                decision: BucketDecision::Allowed(wait),
+                decision: BucketDecision::Allowed(due),
                 bucket: spent,
             };
         }
         BucketOutcome {
-            decision: BucketDecision::Denied(wait),
+            decision: BucketDecision::Denied(due),
             bucket: self,
         }
     }

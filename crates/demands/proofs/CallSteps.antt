@@ -27,7 +27,7 @@ use Rattle.perkey.specs.declared.Reply.{Reply}
 use Rattle.store.specs.Memory.{shardAt, inShard}
 use Rattle.perkey.specs.Rules.{unlessTrivial, askedBy, tooMuch, atOnce, requested, policyOf, replyTo, knownReply, keyed, refundedBy}
 use Rattle.store.proofs.RefusalLaws.{keyed-not-refused}
-use Rattle.perkey.specs.Calls.{Undo, Call, request, look, undo, len, refunds, removes, refund, remove, rules, Answered, settingsOf, momentOf, ofKey, ofUndone}
+use Rattle.perkey.specs.Calls.{Undo, Call, request, look, undo, len, refunds, removes, refund, remove, rules, Answered, settingsOf, clockAfter, ofKey, ofUndone}
 use Rattle.perkey.specs.Calls.{accepted}
 use Rattle.demands.specs.Demands.{clock}
 use Rattle.demands.proofs.LineBound.{LineBound, BoundOf}
@@ -106,7 +106,7 @@ module _ (s : Settings) (rate : Rate) (k : Identity) (B : BoundOf (configOf rate
         → Stands (at .0) (inShard s (id .hash) ws answered .after) (ifOwn k id (granting B r at cost g (replyTo r (answered .answer))) g)
     request-stands least most =
         let shard : Shard.Shard = shardAt s (id .hash) ws in
-        rw (reply-grants B r at cost g (answered .answer) (store-grants-as-asked (policyOf s rate) id r cost at shard sound))
+        rw (reply-grants B r at cost g (answered .answer) (store-grants-as-asked (policyOf s rate) id r cost at shard))
         (keyed-stands id (at .0) ws v answered (ask-same-room shard sound (policyOf s rate) id r cost at) alone _
         (λ hash key b. own-request (policyOf s rate) id r cost at shard a never sound B (k .hash) (k .key) hash key least most patient b)
         (λ differs. other-request (policyOf s rate) id r cost at shard a never sound (k .hash) (k .key) differs))
@@ -126,15 +126,15 @@ module _ (s : Settings) (rate : Rate) (k : Identity) (B : BoundOf (configOf rate
 
     -- What a request gives and leaves, whatever its cost.
     any-request-stands :
-        let o = unlessTrivial rate cost (tooMuch r) (atOnce r) ws (requested s rate id r cost at ws (replyTo r)) in
+        let o = unlessTrivial rate cost (tooMuch r) (atOnce r at) ws (requested s rate id r cost at ws (replyTo r)) in
         Stands (at .0) (o .after) (ifOwn k id (granting B r at cost g (o .answer)) g)
     any-request-stands =
         let asked = requested s rate id r cost at ws (replyTo r) in
         by-le cost (burstOf rate)
         (λ most. by-eq cost 0
-        (λ zero. rw (no-cost rate cost (tooMuch r) (atOnce r) ws asked zero, at-once-grants B r at cost g) (nothing-granted-stands zero))
-        (λ some. rw (in-range-is-asked rate cost (tooMuch r) (atOnce r) ws asked (omega (arith, some)) most) (request-stands (omega (arith, some)) most)))
-        (λ more. rw (too-much rate cost (tooMuch r) (atOnce r) ws asked more, too-much-grants-nothing B r at cost g, same-either-way k id g) v)
+        (λ zero. rw (no-cost rate cost (tooMuch r) (atOnce r at) ws asked zero, at-once-grants B r at cost g) (nothing-granted-stands zero))
+        (λ some. rw (in-range-is-asked rate cost (tooMuch r) (atOnce r at) ws asked (omega (arith, some)) most) (request-stands (omega (arith, some)) most)))
+        (λ more. rw (too-much rate cost (tooMuch r) (atOnce r at) ws asked more, too-much-grants-nothing B r at cost g, same-either-way k id g) v)
 
   -- Refunds and removals, put to the store. The key's own refund has to be allowed for, and it is not removed.
   module _ (id : Identity) (n : ℕ) (ws : List ℕ) (g : B .History) (sound : Shard.Sound (shardAt s (id .hash) ws))
@@ -165,14 +165,14 @@ module _ (s : Settings) (rate : Rate) (k : Identity) (B : BoundOf (configOf rate
     -- that key spent is undone only as the bound allows.
     pub record Fair (n : ℕ) (c : Call) : Type 0 where
       pub settings : settingsOf c ≡ s
-      pub later : n ≤ momentOf c n
+      pub later : n ≤ clockAfter c n
       pub alone : ofKey (λ id. id .hash ≡ k .hash → id .key ≡ k .key) c
       pub undone : UndoneAsAllowed B k c
 
     -- The rule of a call with the settings and the rate written in.
     asking : (r : Request) (s′ : Settings) (at : Nanos) (id : Identity) (cost : ℕ) (ws : List ℕ) → s′ ≡ s
         → askedBy r (s′ .limit) s′ at id cost ws
-        ≡ unlessTrivial rate cost (tooMuch r) (atOnce r) ws (requested s rate id r cost at ws (replyTo r))
+        ≡ unlessTrivial rate cost (tooMuch r) (atOnce r at) ws (requested s rate id r cost at ws (replyTo r))
     asking r s′ at id cost ws e = ap (λ (x : Settings). askedBy r (x .limit) x at id cost ws) e ∙ ap (λ (l : Limit). askedBy r l s at id cost ws) rated
 
     refunding : (s′ : Settings) (id : Identity) (cost : ℕ) (ws : List ℕ) → s′ ≡ s
@@ -181,7 +181,7 @@ module _ (s : Settings) (rate : Rate) (k : Identity) (B : BoundOf (configOf rate
 
     module _ (n : ℕ) (ws : List ℕ) (g : B .History) (v : Stands n ws g) where
       abbrev After : Call → Type 0
-      After c = Stands (momentOf c n) (rules c ws .after) (given B k c (rules c ws .answer) g)
+      After c = Stands (clockAfter c n) (rules c ws .after) (given B k c (rules c ws .answer) g)
 
       accepted-stands : (c : Call) → refusalOf c ws ≡ 0 → Fair n c → After c
       accepted-stands (request s′ at id r cost) none fair =

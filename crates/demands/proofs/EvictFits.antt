@@ -38,7 +38,7 @@ walk-from-fits c at (suc left) s w f =
 
 walked-fits : (c : BucketConfig) (at : Nanos) (s : Shard) → ShardFits s → ShardFits (walked c at s .after)
 unfolding walked
-walked-fits c at s f = walk-from-fits c at _ s nothingNoted f
+walked-fits c at s f = walk-from-fits c at _ s (nothingNoted c) f
 
 -- The slot at p goes, and the hand steps past it.
 evicted-at-fits : (s : Shard) (p : ℕ) → p < s .slots .count → ShardFits s → ShardFits (evictAt s p)

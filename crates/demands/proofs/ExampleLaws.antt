@@ -22,7 +22,7 @@ use Rattle.perkey.specs.Rules.{setUp, codeOf, numberOf, tryReply}
 use Rattle.perkey.specs.Calls.{Call, try, reserve, Implementation, rules, Answered, replies, accepted, Every}
 use Rattle.perkey.specs.Edges.{twoPerSecond, limited, keyOf}
 use Rattle.demands.specs.Widths.{settingsFit, fits, allFit, lendable}
-use Rattle.demands.specs.Demands.{SameSettings, TimesNeverFall, Agree, NoSharedHash, NeverRefundedOrRemoved, tokensUsable, ownAnswer}
+use Rattle.demands.specs.Demands.{SameSettings, TimesNeverFall, Agree, NoSharedHash, NeverRefundedOrRemoved, tokensUsable, ownReply}
 use Rattle.demands.specs.Demands.{answering, Demand2, WindowAdding, OwnBucket}
 use Rattle.store.specs.Memory.{memoryWords}
 
@@ -88,8 +88,8 @@ tried f keys cs id = answeredAfter f (callsOn (roomFor keys) cs) (try (roomFor k
 abbrev pub grown : ℕ → List (Settings → Call) → List ℕ
 grown keys cs = after rules (callsOn (roomFor keys) cs) (fresh (roomFor keys))
 
-abbrev pub ownReply : ℕ → List (Settings → Call) → Identity → Reply
-ownReply keys cs id = tryReply (ownAnswer (roomFor keys) twoPerSecond start id Acquire 1 (grown keys cs))
+abbrev pub ownTried : ℕ → List (Settings → Call) → Identity → Reply
+ownTried keys cs id = ownReply (roomFor keys) twoPerSecond start id Acquire 1 (grown keys cs)
 
 -- An implementation misdecides it: the rules accept it, the key holds a slot or a debt in the words that they made, and its bucket's reply is not told.
 pub record Misdecides (f : Implementation) (keys : ℕ) (cs : List (Settings → Call)) (id : Identity) : Type 0 where
@@ -97,7 +97,7 @@ pub record Misdecides (f : Implementation) (keys : ℕ) (cs : List (Settings →
   pub lent : lendable (fresh (roomFor keys)) ≡ true
   pub accepts : accepted (tried f keys cs id) ≡ true
   pub holding : holds id (shardAt (roomFor keys) (id .hash) (grown keys cs)) ≡ true
-  pub otherwise : sameTold (tried f keys cs id .reply) (ownReply keys cs id) ≡ false
+  pub otherwise : sameTold (tried f keys cs id .reply) (ownTried keys cs id) ≡ false
 
 pub misdeciding-breaks-own-bucket : {f : Implementation} {keys : ℕ} {cs : List (Settings → Call)} {id : Identity} → Misdecides f keys cs id → OwnBucket (answering f) → ⊥
 misdeciding-breaks-own-bucket {f} {keys} {cs} {id} shown own-bucket =

@@ -10,9 +10,9 @@ use lib.Dec.{eqb}
 use lib.ListN.{replicate}
 use Rattle.arith.proofs.Cases.{by-eq}
 use Rattle.rows.specs.Outcome.{Outcome, outcome}
+use Rattle.units.specs.declared.Nanos.{Nanos}
 use Rattle.bucket.specs.declared.Request.the-variants.{Acquire, Reserve}
 use Rattle.settings.specs.declared.Settings.{Settings}
-use Rattle.settings.specs.declared.decision.Decision.the-variants.{Acquired, Retry, Impossible}
 use Rattle.perkey.specs.declared.Reply.{Reply}
 use Rattle.perkey.specs.declared.Reply.the-variants.{Done, Refused}
 use Rattle.store.specs.Refusals.{setUpRefusal}
@@ -21,10 +21,12 @@ use Rattle.perkey.proofs.RefusedLaws.{unless-refused-accepts, unless-refused-re
 use Rattle.perkey.specs.Calls.{Call, try, reserve, peek, available, len, refund, remove, rules}
 use Rattle.perkey.specs.Calls.{request, look, undo, peeks, tokens, refunds, removes, Kind, decides, reserves, counts, knows, kindOf}
 use Rattle.perkey.specs.Calls as Calls
-use Rattle.perkey.proofs.CallLaws.{OfKind, decided, reserved, not-reserved, counted, known, unknown}
+use Rattle.perkey.proofs.CallLaws.{OfKind, acquired, retried, impossible, reserved, not-reserved, counted, known, unknown}
 use Rattle.perkey.proofs.CallLaws.{refusalOf, ruleOf, not-refused-is-ruled, refused-is-told, rule-answers-in-kind}
 use Rattle.limiter.specs.declared.LimiterSettings.{LimiterSettings}
-use Rattle.limiter.specs.Exported.{settingsOf, nanosOf, identityOf, replyOf, told}
+use Rattle.units.specs.Units.{nanosOf}
+use Rattle.limiter.specs.Exported.{settingsOf, identityOf}
+use Rattle.perkey.specs.Rules.{toldOf, told}
 use Rattle.demands.specs.Widths.{fits, lendable}
 use Rattle.demands.specs.Demands.{Demand2, Demand3}
 use Rattle.demands.specs.Exports.{Exports, numbersFit, through, ExportDemand2, Writer, reading, readAs, called, ExportContracts}
@@ -33,11 +35,11 @@ use Rattle.demands.proofs.Theorem.{demand2-gives-demand3}
 use Rattle.store.specs.Memory.{memoryWords}
 
 -- A reply that is told as numbers is read, by its kind, as it was.
-in-kind-comes-back : {kind : Kind} {r : Reply} → OfKind kind r → reading kind (replyOf r) ≡ r
+in-kind-comes-back : {at : Nanos} {kind : Kind} {r : Reply} → OfKind at kind r → reading kind (toldOf r) ≡ r
 unfolding reading
-in-kind-comes-back (decided Acquired) = refl
-in-kind-comes-back (decided (Retry after)) = refl
-in-kind-comes-back (decided Impossible) = refl
+in-kind-comes-back acquired = refl
+in-kind-comes-back (retried wait) = refl
+in-kind-comes-back impossible = refl
 in-kind-comes-back (reserved wait) = refl
 in-kind-comes-back not-reserved = refl
 in-kind-comes-back (counted n) = refl
@@ -51,7 +53,7 @@ no-other-code n code small = ne-eqb (10 + n) code (λ same. omega arith)
 number-comes-back : (n : ℕ) → Refused (10 + n - 10) ≡ Refused n
 number-comes-back n = ap Refused (omega arith)
 
-refusal-comes-back : (kind : Kind) (n : ℕ) → reading kind (replyOf (Refused n)) ≡ Refused n
+refusal-comes-back : (kind : Kind) (n : ℕ) → reading kind (toldOf (Refused n)) ≡ Refused n
 unfolding reading
 refusal-comes-back decides n =
     rw (no-other-code n 0 (omega arith), no-other-code n 1 (omega arith), no-other-code n 2 (omega arith)) (number-comes-back n)
@@ -71,7 +73,7 @@ unfolding setUp
 set-up-comes-back s ws =
     by-eq (setUpRefusal s ws) 0
     (λ none. rw (unless-refused-accepts (setUpRefusal s ws) ws (outcome Done (replicate (memoryWords s) 0)) none)
-    (ap (λ r. outcome r (replicate (memoryWords s) 0)) (in-kind-comes-back known)))
+    (ap (λ r. outcome r (replicate (memoryWords s) 0)) (in-kind-comes-back {at = record { 0 = 0 }} known)))
     (λ some. rw (unless-refused-refuses (setUpRefusal s ws) ws (outcome Done (replicate (memoryWords s) 0)) some)
     (ap (λ r. outcome r ws) (refusal-comes-back knows (setUpRefusal s ws))))
 

@@ -38,7 +38,7 @@ waitTold (Reserve longest) wait = wait
 -- Whether a reply to a refund tells that the key was known.
 abbrev pub toldKnown : Reply → Bool
 toldKnown (Tried decision) = false
-toldKnown (Reserved wait) = false
+toldKnown (Reserved due) = false
 toldKnown Nothing = false
 toldKnown Done = true
 toldKnown (Count n) = false
@@ -88,19 +88,19 @@ module _ {A P C : ℕ} (B : LineBound A P C) where
   -- What a reply tells is granted as the store's answer grants it.
   pub reply-grants : (r : Request) (at : Nanos) (cost : ℕ) (g : B .History) (a : Answer) → AsAsked r a
       → granting B r at cost g (replyTo r a) ≡ answerAdds B at cost a g
-  reply-grants Acquire at cost g (Decided (Allowed wait)) none = ap (λ (w : ℕ). B .grant (at .0) w cost g) (sym none)
-  reply-grants Acquire at cost g (Decided (Denied wait)) none = refl
-  reply-grants Acquire at cost g (NoSpace wait) none = refl
-  reply-grants (Reserve longest) at cost g (Decided (Allowed wait)) none = refl
-  reply-grants (Reserve longest) at cost g (Decided (Denied wait)) none = refl
-  reply-grants (Reserve longest) at cost g (NoSpace wait) none = refl
+  reply-grants Acquire at cost g (Decided (Allowed due)) none = ap (λ (w : ℕ). B .grant (at .0) w cost g) (sym none)
+  reply-grants Acquire at cost g (Decided (Denied due)) none = refl
+  reply-grants Acquire at cost g (NoSpace due) none = refl
+  reply-grants (Reserve longest) at cost g (Decided (Allowed due)) none = refl
+  reply-grants (Reserve longest) at cost g (Decided (Denied due)) none = refl
+  reply-grants (Reserve longest) at cost g (NoSpace due) none = refl
 
   -- Too large a cost is granted nothing; no cost at all is granted at once.
   pub too-much-grants-nothing : (r : Request) (at : Nanos) (cost : ℕ) (g : B .History) → granting B r at cost g (tooMuch r) ≡ g
   too-much-grants-nothing Acquire at cost g = refl
   too-much-grants-nothing (Reserve longest) at cost g = refl
 
-  pub at-once-grants : (r : Request) (at : Nanos) (cost : ℕ) (g : B .History) → granting B r at cost g (atOnce r) ≡ B .grant (at .0) 0 cost g
+  pub at-once-grants : (r : Request) (at : Nanos) (cost : ℕ) (g : B .History) → granting B r at cost g (atOnce r at) ≡ B .grant (at .0) 0 cost g
   at-once-grants Acquire at cost g = refl
   at-once-grants (Reserve longest) at cost g = refl
 
@@ -129,10 +129,11 @@ module _ (A P C : ℕ) (k : Identity) (t u : ℕ) (gs : List Grant) where
 
   request-within : (r : Request) (at : Nanos) (id : Identity) (cost : ℕ) (reply : Reply)
       → within t u (ifOwn k id (granting window r at cost gs reply) gs) ≡ ofGrant (λ wait. usable k t u id (usableFrom r at wait) cost) 0 reply + within t u gs
-  request-within r at id cost (Tried Acquired) = rw (← usable-after-the-wait r at 0) (granted-within id (at .0 + waitTold r 0) cost)
-  request-within r at id cost (Tried (Retry after)) = rw (same-either-way k id gs) (omega arith)
+  request-within r at id cost (Tried (Acquired due)) = rw (← usable-after-the-wait r at 0) (granted-within id (at .0 + waitTold r 0) cost)
+  request-within r at id cost (Tried (Retry due)) = rw (same-either-way k id gs) (omega arith)
   request-within r at id cost (Tried Impossible) = rw (same-either-way k id gs) (omega arith)
-  request-within r at id cost (Reserved wait) = rw (← usable-after-the-wait r at (wait .0)) (granted-within id (at .0 + waitTold r (wait .0)) cost)
+  request-within r at id cost (Reserved due) =
+      rw (← usable-after-the-wait r at (due .wait .0)) (granted-within id (at .0 + waitTold r (due .wait .0)) cost)
   request-within r at id cost Nothing = rw (same-either-way k id gs) (omega arith)
   request-within r at id cost Done = rw (same-either-way k id gs) (omega arith)
   request-within r at id cost (Count n) = rw (same-either-way k id gs) (omega arith)

@@ -72,7 +72,7 @@ module _ (s : Settings) (ws : List ℕ) (memory : SoundMemory s ws) where
   request-keeps-sound : (r : Request) (limit : Limit) (at : Nanos) (id : Identity) (cost : ℕ) → SoundMemory s (askedBy r limit s at id cost ws .after)
   request-keeps-sound r Closed at id cost = memory
   request-keeps-sound r (Open rate) at id cost =
-      trivial-leaves (SoundMemory s) rate cost (tooMuch r) (atOnce r) ws (requested s rate id r cost at ws (replyTo r)) memory
+      trivial-leaves (SoundMemory s) rate cost (tooMuch r) (atOnce r at) ws (requested s rate id r cost at ws (replyTo r)) memory
       (operation-keeps-sound s (id .hash) ws (OneShard.withOrInsert (policyOf s rate) id r cost at (shardAt s (id .hash) ws))
       (ask-same-room _ (memory .sound (id .hash)) (policyOf s rate) id r cost at) memory)
 

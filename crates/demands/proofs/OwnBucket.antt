@@ -51,7 +51,7 @@ decided (request s at id r cost) ws = λ taken rate rated least most holding.
     reply-of-rule (request s at id r cost) ws none
     ∙ ap (λ (limit : Limit). askedBy r limit s at id cost ws .answer) rated
     ∙ ap (λ (o : Outcome Reply (List ℕ)). o .answer)
-    (in-range-is-asked rate cost (tooMuch r) (atOnce r) ws (requested s rate id r cost at ws (replyTo r)) least most)
+    (in-range-is-asked rate cost (tooMuch r) (atOnce r at) ws (requested s rate id r cost at ws (replyTo r)) least most)
     ∙ ap (replyTo r) (own-bucket-decides (policyOf s rate) id r cost at (shardAt s (id .hash) ws) sound holding)
 decided (look s at id l) ws = tt
 decided (undo s id r) ws = tt

@@ -95,7 +95,7 @@ rules-meet-demand3 = record {
 
 -- A limiter that meets demand 2 gets through a list as the rules do: they leave words that can be lent again.
 module _ (l : Limiter) (equal : Demand2 l) where
-  same-replies : (cs : List Call) (ws law : List ℕ) → allFit cs ≡ true → lendable ws ≡ true → replies (l .answers) cs ws law ≡ replies rules cs ws law
+  pub same-replies : (cs : List Call) (ws law : List ℕ) → allFit cs ≡ true → lendable ws ≡ true → replies (l .answers) cs ws law ≡ replies rules cs ws law
   unfolding replies
   same-replies [] ws law = λ fit lent. refl
   same-replies (c ∷ cs) ws law = λ fit lent.

@@ -21,7 +21,7 @@
 -- The list starts from any words, and has any settings, moments, hashes and rule when full.
 -- A try or a reservation is not refused by number, has a rate, and costs from 1 to the burst;
 -- its key holds a slot or a debt, in the words that the rules make of the list so far.                    holds
--- Then it is answered as that slot's bucket answers it, or a fresh bucket in that debt:                   ByOwnBucket, ownAnswer
+-- Then it is answered as that slot's bucket answers it, or a fresh bucket in that debt:                   ByOwnBucket, ownReply
 -- never by want of space.
 --
 -- Theorems, in proofs/:
@@ -29,6 +29,7 @@
 -- * `contracts-meet-demand2`, `contracts-meet-demand3`: so does code that is as the contracts of `perkey` tell its callers.
 -- * `exports-meet-demand2`: what C and Rust call tells the rules' replies as numbers. `exports-meet-demand3`: so their callers have a limiter that meets it.
 -- * `window-adding-none-is-false-of-the-rules`: the + 1 cannot be left out.
+-- * `demand2-tells-moments`, `told-moments-count-alike`: the window holds by the moments that are told, too (Moments).
 -- * Impostors are refuted in ImpostorLaws. Demand 3 alone admits a limiter that turns every newcomer away at first (`turns-newcomers-away-meets-demand3`);
 --   demand 2 shuts it out (`turns-newcomers-away-fails-demand2`).
 use Prim.Native.Nat.{ℕ, _+_, _*_, _-_, _≤_}
@@ -40,22 +41,19 @@ use Rattle.rows.specs.Outcome.{Outcome}
 use Rattle.units.specs.declared.Nanos.{Nanos}
 use Rattle.bucket.specs.declared.Request.{Request}
 use Rattle.bucket.specs.declared.Request.the-variants.{Acquire, Reserve}
-use Rattle.bucket.specs.Bucket.{asked}
 use Rattle.settings.specs.declared.Limit.the-variants.{Open}
 use Rattle.settings.specs.declared.Settings.{Settings}
 use Rattle.settings.specs.declared.eviction.WhenFull.the-variants.{RefuseNew}
 use Rattle.settings.specs.declared.rate.Rate.{Rate}
 use Rattle.settings.specs.Rate.{burstOf, configOf}
 use Rattle.shard.specs.declared.Identity.{Identity}
-use Rattle.shard.specs.declared.Answer.{Answer}
-use Rattle.shard.specs.declared.Answer.the-variants.{Decided}
-use Rattle.shard.specs.Model.{holds}
+use Rattle.shard.specs.Model.{ownAnswer, holds}
 use Rattle.perkey.specs.declared.Reply.{Reply}
 use Rattle.perkey.specs.declared.Reply.the-variants.{Done}
 use Rattle.store.specs.Memory.{shardAt}
-use Rattle.perkey.specs.Rules.{setUp, clear, replyTo, bucketOf}
+use Rattle.perkey.specs.Rules.{setUp, clear, replyTo}
 use Rattle.perkey.specs.Calls.{Call, request, look, undo, len, Implementation, rules, Answered, replies}
-use Rattle.perkey.specs.Calls.{settingsOf, momentOf, ofKey, ofUndone, ofGrant, accepted, Every}
+use Rattle.perkey.specs.Calls.{settingsOf, clockAfter, ofKey, ofUndone, ofGrant, accepted, Every}
 use Rattle.demands.specs.Widths.{settingsFit, fits, allFit, lendable}
 
 -- A limiter, as its caller has it: set-up, clear, and an answer to every other call. Each gives a reply and leaves words.
@@ -80,7 +78,7 @@ SameSettings s = Every (λ a. accepted a ≡ true → settingsOf (a .call) ≡ s
 
 -- their moments never fall;
 abbrev pub clock : ℕ → Answered → ℕ
-clock before a = cond (accepted a) (momentOf (a .call) before) before
+clock before a = cond (accepted a) (clockAfter (a .call) before) before
 
 unfoldable pub TimesNeverFall : ℕ → List Answered → Type 0
 TimesNeverFall before [] = Unit {0}
@@ -140,15 +138,15 @@ abbrev pub Window : Limiter → Type 0
 Window l = WindowAdding 1 l
 
 -- What a key's own bucket answers to a request: its slot's bucket, else a fresh one in its debt.
-abbrev pub ownAnswer : Settings → Rate → Nanos → Identity → Request → ℕ → List ℕ → Answer
-ownAnswer s rate at id r cost ws = Decided (asked (configOf rate) r (bucketOf s rate id at ws) cost at .decision)
+abbrev pub ownReply : Settings → Rate → Nanos → Identity → Request → ℕ → List ℕ → Reply
+ownReply s rate at id r cost ws = replyTo r (ownAnswer (configOf rate) id r cost at (shardAt s (id .hash) ws))
 
 -- An accepted request with a rate and a cost from 1 to the burst, for a key that holds a slot or a debt, is answered so.
 abbrev pub ByOwnBucket : Answered → Settings → Nanos → Identity → Request → ℕ → Type 0
 ByOwnBucket a s at id r cost =
     accepted a ≡ true → (rate : Rate) → s .limit ≡ Open rate → 1 ≤ cost → cost ≤ burstOf rate →
     holds id (shardAt s (id .hash) (a .rulesWords)) ≡ true →
-    a .reply ≡ replyTo r (ownAnswer s rate at id r cost (a .rulesWords))
+    a .reply ≡ ownReply s rate at id r cost (a .rulesWords)
 
 abbrev pub decidedBy : Answered → Call → Type 0
 decidedBy a (request s at id r cost) = ByOwnBucket a s at id r cost

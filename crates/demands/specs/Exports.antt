@@ -10,6 +10,7 @@ use denote.Ref.{RefT}
 use Rattle.rows.specs.Outcome.{Outcome, outcome}
 use Rattle.units.specs.declared.Nanos.{Nanos}
 use Rattle.bucket.specs.declared.Request.the-variants.{Acquire, Reserve}
+use Rattle.bucket.specs.declared.Due.{Due}
 use Rattle.settings.specs.declared.Settings.{Settings}
 use Rattle.settings.specs.declared.decision.Decision.the-variants.{Acquired, Retry, Impossible}
 use Rattle.perkey.specs.declared.Reply.{Reply}
@@ -21,8 +22,9 @@ use Rattle.perkey.specs.Calls.{request, look, undo, peeks, tokens, refunds, rem
 use Rattle.perkey.specs.Calls as Calls
 use Rattle.perkey.specs.Calls.{Kind, decides, reserves, counts, knows, kindOf}
 use Rattle.limiter.specs.declared.LimiterSettings.{LimiterSettings}
-use Rattle.limiter.specs.declared.LimiterReply.{LimiterReply}
-use Rattle.limiter.specs.Exported.{settingsOf, told}
+use Rattle.perkey.specs.declared.codes.Told.{Told}
+use Rattle.limiter.specs.Exported.{settingsOf}
+use Rattle.perkey.specs.Rules.{told}
 use Rattle.limiter.proofs.limiter_set_up.Reads as SetUp
 use Rattle.limiter.proofs.limiter_clear.Reads as Clear
 use Rattle.limiter.proofs.limiter_try.Reads as Try
@@ -36,9 +38,9 @@ use Rattle.demands.specs.Widths.{fits64, fits32, settingsFit, fits, lend
 use Rattle.demands.specs.Demands.{Limiter}
 use Rattle.demands.specs.Contracts.{lentAt}
 
--- What each export gives for its numbers and words: two numbers, and words.
+-- What each export gives for its numbers and words: three numbers, and words.
 abbrev Gives : Type 0
-Gives = List ℕ → Outcome LimiterReply (List ℕ)
+Gives = List ℕ → Outcome Told (List ℕ)
 
 pub record Exports : Type 0 where
   pub set-up : LimiterSettings → Gives
@@ -67,7 +69,7 @@ through e n (undo s id (refunds cost)) = e .refund n (id .hash) (id .key) cost
 through e n (undo s id removes) = e .remove n (id .hash) (id .key)
 through e n (len s) = e .length n
 
--- Demand 2 of the exports: whatever numbers the settings are written in, both numbers of a reply are those of the rules' reply, and all words are theirs.
+-- Demand 2 of the exports: whatever numbers the settings are written in, all numbers of a reply are those of the rules' reply, and all words are theirs.
 pub record ExportDemand2 (e : Exports) : Type 0 where
   pub sets-up : (n : LimiterSettings) (ws : List ℕ) → numbersFit n ≡ true → lendable ws ≡ true → e .set-up n ws ≡ told (setUp (settingsOf n) ws)
   pub clears : (n : LimiterSettings) (ws : List ℕ) → numbersFit n ≡ true → lendable ws ≡ true → e .clear n ws ≡ told (clear (settingsOf n) ws)
@@ -81,19 +83,22 @@ pub record Writer : Type 0 where
   pub back : (s : Settings) → settingsOf (write s) ≡ s
 
 -- How a caller reads a reply, by the kind of the call: the code tells which reply of that kind it is. Any other code is read as a refusal.
-abbrev refusedBy : LimiterReply → Reply
+abbrev refusedBy : Told → Reply
 refusedBy r = Refused (r .code - 10)
 
-unfoldable pub reading : Kind → LimiterReply → Reply
+abbrev dueIn : Told → ℕ → Due
+dueIn r wait = record { wait = record { 0 = wait }; moment = record { 0 = r .moment } }
+
+unfoldable pub reading : Kind → Told → Reply
 reading decides r =
-    cond (eqb (r .code) 0) (Tried Acquired)
-    (cond (eqb (r .code) 1) (Tried (Retry (record { 0 = r .number })))
+    cond (eqb (r .code) 0) (Tried (Acquired (dueIn r 0)))
+    (cond (eqb (r .code) 1) (Tried (Retry (dueIn r (r .number))))
     (cond (eqb (r .code) 2) (Tried Impossible) (refusedBy r)))
-reading reserves r = cond (eqb (r .code) 0) (Reserved (record { 0 = r .number })) (cond (eqb (r .code) 3) Nothing (refusedBy r))
+reading reserves r = cond (eqb (r .code) 0) (Reserved (dueIn r (r .number))) (cond (eqb (r .code) 3) Nothing (refusedBy r))
 reading counts r = cond (eqb (r .code) 0) (Count (r .number)) (refusedBy r)
 reading knows r = cond (eqb (r .code) 0) Done (cond (eqb (r .code) 3) Nothing (refusedBy r))
 
-abbrev pub readAs : Kind → Outcome LimiterReply (List ℕ) → Outcome Reply (List ℕ)
+abbrev pub readAs : Kind → Outcome Told (List ℕ) → Outcome Reply (List ℕ)
 readAs kind o = outcome (reading kind (o .answer)) (o .after)
 
 -- The limiter that a caller has who writes and reads so.

@@ -5,6 +5,7 @@ use mathlib.Core.Bool.{Bool, cond}
 use mathlib.Core.List.{List}
 use Rattle.rows.specs.Outcome.{outcome}
 use Rattle.bucket.specs.declared.BucketDecision.the-variants.{Allowed}
+use Rattle.bucket.specs.Bucket.{dueAfter}
 use Rattle.ledger.specs.Model as Ledger
 use Rattle.shard_map.specs.Model.{Shard, withLedger, placeOf}
 use Rattle.evict.specs.Evict.{minRefusalWait}
@@ -16,8 +17,8 @@ use Rattle.perkey.specs.declared.Reply.{Reply}
 use Rattle.settings.specs.declared.decision.Decision.the-variants.{Impossible}
 use Rattle.perkey.specs.declared.Reply.the-variants.{Tried, Count}
 use Rattle.store.specs.Memory.{shardAt, inShard}
-use Rattle.perkey.specs.Rules.{numberOf, noWait, replyTo}
-use Rattle.perkey.specs.Calls.{Call, request, look, undo, len, Implementation, rules, settingsOf, numbered}
+use Rattle.perkey.specs.Rules.{numberOf, dueNow, replyTo}
+use Rattle.perkey.specs.Calls.{Call, request, look, undo, len, Implementation, rules, settingsOf, momentIn, numbered}
 
 -- By the kind of a call: a value for a request, given how its answer is told; for a length; and for any other call.
 abbrev byKind : {A : Type 0} → ((Answer → Reply) → A) → A → A → Call → A
@@ -38,11 +39,11 @@ abbrev ownShard : Call → List ℕ → Shard
 ownShard c ws = shardAt (settingsOf c) (identityOf c .hash) ws
 
 -- The answer to a request that is turned away for want of space, and to one that is granted at once.
-abbrev noSpace : Answer
-noSpace = NoSpace (record { 0 = minRefusalWait })
+abbrev noSpace : Call → Answer
+noSpace c = NoSpace (dueAfter (momentIn c) (record { 0 = minRefusalWait }))
 
-abbrev grantedAtOnce : Answer
-grantedAtOnce = Decided (Allowed noWait)
+abbrev grantedAtOnce : Call → Answer
+grantedAtOnce c = Decided (Allowed (dueNow (momentIn c)))
 
 -- The first: everything is impossible, and no word changes.
 abbrev pub impossibleToAll : Implementation
@@ -54,11 +55,11 @@ withRequests reply c ws = byKind (λ told. outcome (reply told c ws) ws) (rules 
 
 -- The second: a request is turned away for want of space, without a look whether there is any.
 abbrev pub retryBeforeALook : Implementation
-retryBeforeALook = withRequests (λ told c ws. told noSpace)
+retryBeforeALook = withRequests (λ told c ws. told (noSpace c))
 
 -- The third: a request is granted, whatever the bucket holds.
 abbrev pub alwaysAcquired : Implementation
-alwaysAcquired = withRequests (λ told c ws. told grantedAtOnce)
+alwaysAcquired = withRequests (λ told c ws. told (grantedAtOnce c))
 
 -- The fourth: a request is answered as the rules answer it, and nothing is stored.
 abbrev pub grantsWithoutStoring : Implementation
@@ -88,7 +89,7 @@ inventedLength = telling invented
 -- A request is turned away for want of space, unless its key is found in its shard.
 abbrev pub turnedAwayUnless : (Identity → Shard → Bool) → Call → List ℕ → Reply
 turnedAwayUnless found c ws =
-    byKind (λ told. cond (found (identityOf c) (ownShard c ws)) (rules c ws .answer) (told noSpace)) (rules c ws .answer) (rules c ws .answer) c
+    byKind (λ told. cond (found (identityOf c) (ownShard c ws)) (rules c ws .answer) (told (noSpace c))) (rules c ws .answer) (rules c ws .answer) c
 
 -- The second, finer: a key without a slot is turned away, and so is one with a debt.
 abbrev pub turnsSlotlessAway : Implementation

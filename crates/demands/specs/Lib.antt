@@ -4,3 +4,4 @@ pub mod Impostors
 pub mod Grown
 pub mod Contracts
 pub mod Exports
+pub mod Moments

@@ -17,15 +17,12 @@ use Rattle.store.specs.Refusals.{setUpRefusal}
 use Rattle.store.proofs.RefusalLaws.{other-length-is-refused}
 use Rattle.perkey.proofs.RefusedLaws.{set-up-refusal-is-told}
 use Rattle.perkey.specs.declared.Reply.{Reply}
-use Rattle.desk_answers.specs.declared.Told.{Told}
+use Rattle.perkey.specs.Rules as Rules
+use Rattle.perkey.specs.declared.codes.Told.{Told}
 use Rattle.desk_answers.specs.declared.Stage.{Stage}
 use Rattle.desk_answers.specs.declared.Stage.the-variants.{Open, Ended}
-use Rattle.desk_answers.specs.Desk.{toldOf, told, storeSize, stageAfter, inStore, setUp, servedFirst, servedNext}
+use Rattle.desk_answers.specs.Desk.{storeSize, stageAfter, inStore, setUp, servedFirst, servedNext}
 use Rattle.store.specs.Memory.{memoryWords}
-
--- An outcome of the rules, and what its reply is told as.
-pub outcome-is-told : {r : Reply} {t : Told} {ws : List ℕ} {o : Outcome Reply (List ℕ)} → outcome r ws ≡ o → t ≡ toldOf r → outcome t ws ≡ told o
-outcome-is-told gave is = rw is (ap told gave)
 
 none-fits : (b : Bool) {n words : ℕ} → n ≤ words → cond b n 0 ≤ words
 none-fits true fits = fits
@@ -71,11 +68,11 @@ next-served s gave = ap (servedNext s) gave
 
 -- Settings that need more words than the memory has are refused as 5, and the run ends.
 pub too-large-is-refused-5 : (s : Settings) (memory : List ℕ) → settingsRefusal s ≡ 0 → length memory < memoryWords s
-    → setUp s memory .answer ≡ record { told = record { code = 15; wait = 0 }; stage = Ended 15 }
+    → setUp s memory .answer ≡ record { told = record { code = 15; number = 0; moment = 0 }; stage = Ended 15 }
 too-large-is-refused-5 s memory accepted more =
     let size = storeSize s (length memory) in
     let lent = take size memory in
     let other : length lent ≡ memoryWords s → ⊥ = λ same. omega (arith, same, more, size-fits s (length memory), length-take size memory) in
     let refusal : 5 ≡ setUpRefusal s lent = sym (no-refusal-hands-on _ _ accepted ∙ other-length-is-refused (memoryWords s) lent other) in
     sym (rw (ends s 15 (λ none. omega (arith, none)))
-    (ap (λ (o : Outcome Reply (List ℕ)). servedFirst s (told o) .answer) (set-up-refusal-is-told s lent refusal (λ none. omega (arith, none)))))
+    (ap (λ (o : Outcome Reply (List ℕ)). servedFirst s (Rules.told o) .answer) (set-up-refusal-is-told s lent refusal (λ none. omega (arith, none)))))

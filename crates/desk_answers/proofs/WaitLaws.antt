@@ -5,16 +5,12 @@ use mathlib.Core.Path.{_≡_, refl}
 use mathlib.Core.List.{List}
 use Rattle.settings.specs.declared.Settings.{Settings}
 use Rattle.perkey.specs.Calls as Calls
-use Rattle.perkey.proofs.WaitLaws.{rules-are-prompt}
+use Rattle.perkey.proofs.WaitLaws.{WaitsOnRetry, rules-are-prompt}
 use Rattle.desk_lines.specs.declared.Request.{Request}
 use Rattle.desk_lines.specs.declared.Line.{Line}
 use Rattle.desk_lines.specs.declared.Line.the-variants.{SetUp, Try, Peek, Reserve, Refund, Remove, Malformed}
-use Rattle.desk_answers.specs.declared.Told.{Told}
+use Rattle.perkey.specs.declared.codes.Told.{Told}
 use Rattle.desk_answers.specs.Desk.{tried, answered, identityOf}
-
--- A wait is told with code 1 alone.
-abbrev pub WaitsOnRetry : Told → Type 0
-WaitsOnRetry t = (t .code ≡ 1 → ⊥) → t .wait ≡ 0
 
 -- Every line but a reservation.
 abbrev pub PromptLine : Line → Told → Type 0
@@ -36,5 +32,5 @@ waits-only-on-retry s (Remove key) ws = rules-are-prompt (Calls.remove s (identi
 waits-only-on-retry s Malformed ws = λ other. refl
 
 -- So a granted try tells wait 0.
-pub try-waits-nothing : (s : Settings) (q : Request) (ws : List ℕ) → tried s q ws .answer .code ≡ 0 → tried s q ws .answer .wait ≡ 0
+pub try-waits-nothing : (s : Settings) (q : Request) (ws : List ℕ) → tried s q ws .answer .code ≡ 0 → tried s q ws .answer .number ≡ 0
 try-waits-nothing s q ws granted = waits-only-on-retry s (Try q) ws (λ retry. omega (arith, granted, retry))

@@ -5,16 +5,10 @@ ghost use Rattle.perkey.specs.Rules as Rules;
 ghost use Rattle.desk_answers.specs.Desk as Desk;
 use desk_lines::Line;
 use desk_lines::Request;
-use perkey::Reply;
+use perkey::codes::Told;
 use settings::Settings;
 use shard::Identity;
 use units::Nanos;
-
-// The code and the wait that are printed for a line.
-pub struct Told {
-    pub code: u64,
-    pub wait: u64,
-}
 
 // How the run stands.
 pub enum Stage {
@@ -77,7 +71,7 @@ fn set_up(settings: Settings, memory: &mut [u64]) -> Served
     ensures { λ r. ⌜ outcome r (now (memory .exit)) ≡ Desk.setUp settings (now (memory .entry)) ⌝ }
 {
     let size = store_size(settings, memory.len());
-    let told = told_as(perkey::set_up(settings, &mut memory[0..size]));
+    let told = perkey::set_up(settings, &mut memory[0..size]).told();
     Served {
         told,
         stage: stage_after(settings, told.code),
@@ -122,8 +116,8 @@ fn answer(settings: Settings, line: Line, ws: &mut [u64]) -> Told
         Line::Try(request) => tried(settings, request, ws),
         Line::Peek(request) => peeked(settings, request, ws),
         Line::Reserve(request, max_wait) => reserved(settings, request, max_wait, ws),
-        Line::Refund(key, cost) => told_as(perkey::refund(settings, ws, identity(key), cost)),
-        Line::Remove(key) => told_as(perkey::remove(settings, ws, identity(key))),
+        Line::Refund(key, cost) => perkey::refund(settings, ws, identity(key), cost).told(),
+        Line::Remove(key) => perkey::remove(settings, ws, identity(key)).told(),
         Line::Malformed => malformed(),
     }
 }
@@ -134,7 +128,7 @@ fn tried(settings: Settings, request: Request, ws: &mut [u64]) -> Told
 {
     let at = request.at;
     let id = identity(request.key);
-    told_as(perkey::try_acquire_with_cost(settings, ws, at, id, request.cost))
+    perkey::try_acquire_with_cost(settings, ws, at, id, request.cost).told()
 }
 
 // A peek.
@@ -143,7 +137,7 @@ fn peeked(settings: Settings, request: Request, ws: &[u64]) -> Told
 {
     let at = request.at;
     let id = identity(request.key);
-    told_as(perkey::peek(settings, ws, at, id, request.cost))
+    perkey::peek(settings, ws, at, id, request.cost).told()
 }
 
 // A reservation.
@@ -152,7 +146,7 @@ fn reserved(settings: Settings, request: Request, max_wait: Nanos, ws: &mut [u64
 {
     let at = request.at;
     let id = identity(request.key);
-    told_as(perkey::reserve(settings, ws, at, id, request.cost, max_wait))
+    perkey::reserve(settings, ws, at, id, request.cost, max_wait).told()
 }
 
 // A key's identity: its hash and the key itself.
@@ -167,15 +161,9 @@ fn identity(key: u64) -> Identity
 fn malformed() -> Told
     ensures { λ r. ⌜ r ≡ Desk.malformed ⌝ }
 {
-    Told { code: 9, wait: 0 }
-}
-
-// What a reply is told as.
-fn told_as(reply: Reply) -> Told
-    ensures { λ r. ⌜ r ≡ Desk.toldOf reply ⌝ }
-{
     Told {
-        code: reply.code(),
-        wait: reply.number(),
+        code: 9,
+        number: 0,
+        moment: 0,
     }
 }

@@ -23,7 +23,8 @@ use Rattle.desk_lines.specs.declared.Line.{Line}
 use Rattle.desk_lines.specs.declared.Line.the-variants.{SetUp, Malformed}
 use Rattle.desk_lines.specs.Fields.{fields, fieldEnd, fieldsFrom}
 use Rattle.desk_lines.specs.Lines as Lines
-use Rattle.desk_lines.specs.Lines.{Reading, left, Taken, taken, takenIdle, takenRequest, takenRate, nanosOf, isFinished, finished}
+use Rattle.desk_lines.specs.Lines.{Reading, left, Taken, taken, takenIdle, takenRequest, takenRate, isFinished, finished}
+use Rattle.units.specs.Units.{nanosOf}
 use Rattle.desk_lines.specs.Lines.{most32, most64, mostRule, longestLine, lineOfLetter, lineOfFields, lineOf}
 use Rattle.desk_lines.specs.Places.{readingAt, numberAt, idleAt, rateAt}
 use Rattle.desk_lines.proofs.FieldLaws.{field-ends-inside, first-field}

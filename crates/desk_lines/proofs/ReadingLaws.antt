@@ -17,7 +17,8 @@ use Rattle.decimal.specs.Decimal.{numberOf, allDigits, decimalFrom}
 use Rattle.desk_lines.specs.declared.fields.Rest.{Rest}
 use Rattle.desk_lines.specs.declared.fields.NumberRead.{NumberRead}
 use Rattle.desk_lines.specs.Fields.{fieldEnd, fieldAt, fieldsFrom}
-use Rattle.desk_lines.specs.Lines.{Reading, failed, left, Taken, takenNumber, taken, isDash, dashNext, most64, nanosOf, skipped, idleTime, takenIdle, isFinished}
+use Rattle.desk_lines.specs.Lines.{Reading, failed, left, Taken, takenNumber, taken, isDash, dashNext, most64, skipped, idleTime, takenIdle, isFinished}
+use Rattle.units.specs.Units.{nanosOf}
 use Rattle.desk_lines.specs.Places.{readingAt, numberRead, numberAt}
 use Rattle.desk_lines.proofs.FieldLaws.{none-left, field-ends-inside, first-field}
 use borrow.Author.Tests.{le-leb, lt-leb, eq-eqb, ne-eqb, lt-ltb, le-ltb}

@@ -12,7 +12,8 @@ use Rattle.decimal.specs.Decimal.{isDigit, allDigits, decimalFrom, numberOf, di
 use Rattle.desk_lines.specs.declared.Request.{Request}
 use Rattle.desk_lines.specs.declared.Line.the-variants.{SetUp, Try, Peek, Reserve, Refund, Remove, Malformed}
 use Rattle.desk_lines.specs.Fields.{fields}
-use Rattle.desk_lines.specs.Lines.{nanosOf, taken, isDash, lineOfLetter, lineOf}
+use Rattle.desk_lines.specs.Lines.{taken, isDash, lineOfLetter, lineOf}
+use Rattle.units.specs.Units.{nanosOf}
 use Rattle.desk_lines.specs.Printed.{printed}
 
 abbrev request : ℕ → ℕ → ℕ → Request

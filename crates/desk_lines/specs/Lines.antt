@@ -5,7 +5,7 @@ use mathlib.Core.Bool.{Bool, true, false, cond}
 use mathlib.Core.List.{List, [], _∷_}
 use lib.Dec.{eqb, leb}
 use lib.ListN.{length, getD}
-use Rattle.units.specs.declared.Nanos.{Nanos}
+use Rattle.units.specs.Units.{nanosOf}
 use Rattle.units.specs.declared.OptionNanos.{OptionNanos}
 use Rattle.units.specs.declared.OptionNanos.the-variants as nanos
 use Rattle.settings.specs.declared.Limit.the-variants.{Open}
@@ -33,10 +33,6 @@ most32 = 2 ^ 32 - 1
 
 abbrev pub mostRule : ℕ
 mostRule = 1
-
--- A moment or a wait in nanoseconds.
-abbrev pub nanosOf : ℕ → Nanos
-nanosOf n = record { 0 = n }
 
 -- A line is read field by field: it has failed, or some fields are left.
 pub data Reading : Type 0 where

@@ -63,20 +63,20 @@ same-further place place′ xs ys zs near less far =
 -- A line was served and its answer printed: it is answered.
 line-is-answered : (f : Feed) (line memory output : List ℕ) {number put′ : ℕ} {told : Served} {memory′ output′ : List ℕ} → f .put + longestPrinted ≤ length output
     → number ≡ (f .number + 1) % 2 ^ 64 → outcome told memory′ ≡ served (f .stage) (lineOf line) memory
-    → outcome put′ output′ ≡ writtenOver (printed number (told .told .code) (told .told .wait)) (f .put) output
+    → outcome put′ output′ ≡ writtenOver (printed number (told .told .code) (told .told .number)) (f .put) output
     → fed (record { stage = told .stage; number = number; put = put′ }) memory′ output′ ≡ andThen (fed f memory output) (lineAnswered line)
 unfolding lineAnswered
 line-is-answered f line memory output {number} {told = told} room counts gave prints =
-    let new = printed number (told .told .code) (told .told .wait) in
-    rw (written-on new (f .put) output (omega (arith, room, printed-short number (told .told .code) (told .told .wait))) prints, counts, answer-is gave, after-is gave)
+    let new = printed number (told .told .code) (told .told .number) in
+    rw (written-on new (f .put) output (omega (arith, room, printed-short number (told .told .code) (told .told .number))) prints, counts, answer-is gave, after-is gave)
 
 pub line-is-one : (f : Feed) (line memory output : List ℕ) {number put′ : ℕ} {told : Served} {memory′ output′ : List ℕ}
     → f .put + longestPrinted ≤ length output → number ≡ (f .number + 1) % 2 ^ 64 → outcome told memory′ ≡ served (f .stage) (lineOf line) memory
-    → outcome put′ output′ ≡ writtenOver (printed number (told .told .code) (told .told .wait)) (f .put) output
+    → outcome put′ output′ ≡ writtenOver (printed number (told .told .code) (told .told .number)) (f .put) output
     → OneLine f line memory output (record { stage = told .stage; number = number; put = put′ }) memory′ output′
 line-is-one f line memory output {number} {told = told} room counts gave prints =
-    let new = printed number (told .told .code) (told .told .wait) in
-    let short = printed-short number (told .told .code) (told .told .wait) in
+    let new = printed number (told .told .code) (told .told .number) in
+    let short = printed-short number (told .told .code) (told .told .number) in
     record {
       answers = line-is-answered f line memory output room counts gave prints;
       after = omega (arith, answer-is prints);

@@ -7,7 +7,7 @@ use lib.ListN.{take}
 use Rattle.rows.specs.Outcome.{Outcome, outcome}
 use Rattle.desk_lines.specs.Lines.{longestLine, lineOf}
 use Rattle.desk_lines.specs.Printed.{lineFeed, printed}
-use Rattle.desk_answers.specs.declared.Told.{Told}
+use Rattle.perkey.specs.declared.codes.Told.{Told}
 use Rattle.desk_answers.specs.declared.Stage.{Stage}
 use Rattle.desk_answers.specs.declared.Stage.the-variants.{First, Open, Ended}
 use Rattle.desk_answers.specs.Desk.{served}
@@ -25,7 +25,7 @@ hasEnded (Open s) = false
 hasEnded (Ended code) = true
 
 abbrev pub printedFor : ℕ → Told → List ℕ
-printedFor number told = printed number (told .code) (told .wait)
+printedFor number told = printed number (told .code) (told .number)
 
 -- A line is answered: what is printed for it, and how the run stands then. Lines are counted in 64 bits.
 unfoldable pub lineAnswered : List ℕ → State → Outcome (List ℕ) State

@@ -110,7 +110,7 @@ fn answer_line(line: &[u8], output: &mut [u8], memory: &mut [u64], feed: Feed) -
     let served = desk_answers::serve(stage, desk_lines::read(line), memory);
     let stage = served.stage;
     let told = served.told;
-    let put = print::line(output, feed.put, number, told.code, told.wait);
+    let put = print::line(output, feed.put, number, told.code, told.number);
     Feed { stage, number, put }
 }
 

@@ -54,7 +54,7 @@ module _ (c : BucketConfig) (at : Nanos) (w : Walk) (p : ℕ) (slot : Slot) {n :
   noted-marked owing set = rw (ne-eqb _ _ (rw is at owing), ne-eqb _ _ set, is)
 
 -- The walk: its start, and its end where no look is left.
-pub walk-start : (c : BucketConfig) (at : Nanos) (s : Shard) → walkFrom c at (min clockScan (s .slots .count)) s nothingNoted ≡ walked c at s
+pub walk-start : (c : BucketConfig) (at : Nanos) (s : Shard) → walkFrom c at (min clockScan (s .slots .count)) s (nothingNoted c) ≡ walked c at s
 unfolding walked
 walk-start c at s = refl
 

@@ -1,16 +1,17 @@
 -- The walk of the hand, and how an eviction ends. The walk only clears marks and moves the hand, and the places that it notes hold slots; the eviction then
 -- ends in one of three ways. Laws about sums go by these cases and do not open the walk.
-use Prim.Native.Nat.{ℕ, zero, suc, _+_, _≤_, _<_, max, min}
+use Prim.Native.Nat.{ℕ, zero, suc, _+_, _≤_, _<_, _^_, max, min}
+use native.Mathlib.Nat.{mul-le-mul-left}
 use mathlib.Core.Path.{_≡_, refl, sym, _∙_, ap}
 use mathlib.Core.Bool.{Bool, true, false, cond, true≢false}
 use native.Mathlib.Omega.{arith}
 use lib.ListN.{length, length-set}
 use borrow.Author.Tests.{eqb-true}
 use Rattle.arith.proofs.Cases.{by-test, by-eq}
-use Rattle.arith.proofs.DivisionLaws.{ceilDiv-mono, ceilDiv-of-smaller}
+use Rattle.arith.proofs.DivisionLaws.{ceilDiv-least, ceilDiv-mono, ceilDiv-of-smaller}
 use Rattle.units.specs.declared.Nanos.{Nanos}
 use Rattle.bucket.specs.declared.BucketConfig.{BucketConfig}
-use Rattle.bucket.specs.Bucket.{Accepted, shortfallAt, recoveryOf}
+use Rattle.bucket.specs.Bucket.{Accepted, mostShortfall, shortfallAt, recoveryOf}
 use Rattle.bucket.proofs.BucketLaws.{most-shortfall-fits, shortfall-most, recovery-of-shortfall}
 use Rattle.settings.specs.Eviction.{clockScan}
 use Rattle.rows.specs.declared.Place.{Place}
@@ -132,7 +133,7 @@ module _ (c : BucketConfig) (at : Nanos) (s : Shard) where
   pub walk-kept : Sound s → 0 < s .slots .count → WalkKept c at s (walked c at s)
   unfolding walked
   walk-kept u some =
-      walkFrom-kept _ s nothingNoted u some (record { count = refl; cap = refl; sweep = refl; ledger = refl; slots = λ i. refl }) (record { full = tt; unmarked = tt })
+      walkFrom-kept _ s (nothingNoted c) u some (record { count = refl; cap = refl; sweep = refl; ledger = refl; slots = λ i. refl }) (record { full = tt; unmarked = tt })
 
 -- The soonest recovery of the slots that a walk looks at and that are not full, worked out at each look, with so many looks left.
 unfoldable pub soonestFrom : BucketConfig → Nanos → ℕ → Shard → ℕ → ℕ
@@ -144,11 +145,11 @@ soonestFrom c at (suc left) s soonest =
 
 -- That of the slots that an eviction looks at. No recovery is longer than the number that it starts with (`no-recovery-is-longer`).
 abbrev pub soonestOf : BucketConfig → Nanos → Shard → ℕ
-soonestOf c at s = soonestFrom c at (min clockScan (s .slots .count)) s (recoveryOf c (nothingNoted .least))
+soonestOf c at s = soonestFrom c at (min clockScan (s .slots .count)) s (recoveryOf c (nothingNoted c .least))
 
 -- It is the recovery of the least shortfall that the walk notes: the code divides once.
 module _ {c : BucketConfig} (a : Accepted c) (at : Nanos) where
-  pub no-recovery-is-longer : (slot : Slot) → recovery c slot at ≤ recoveryOf c (nothingNoted .least)
+  pub no-recovery-is-longer : (slot : Slot) → recovery c slot at ≤ recoveryOf c (nothingNoted c .least)
   no-recovery-is-longer slot =
       rw (← recovery-of-shortfall (slot .bucket) at a)
       (ceilDiv-mono _ _ (c .amount) (a .amount-least) (omega (arith, shortfall-most c (slot .bucket) at, most-shortfall-fits a)))
@@ -172,7 +173,30 @@ module _ {c : BucketConfig} (a : Accepted c) (at : Nanos) where
 
   pub least-shortfall-recovers-soonest : (s : Shard) → recoveryOf c (walked c at s .walk .least) ≡ soonestOf c at s
   unfolding walked
-  least-shortfall-recovers-soonest s = least-from _ s nothingNoted
+  least-shortfall-recovers-soonest s = least-from _ s (nothingNoted c)
+
+-- The least shortfall that a walk notes only falls, from the largest that is read.
+module _ (c : BucketConfig) (at : Nanos) where
+  noted-least-falls : (w : Walk) (p : ℕ) (slot : Slot) → noted c at w p slot .least ≤ w .least
+  unfolding noted
+  noted-least-falls w p slot = by-test (lossless c slot at) (λ full. rw (full, noted) (omega arith)) (λ owing. rw (owing, noted) (omega arith))
+
+  least-falls : (left : ℕ) (s : Shard) (w : Walk) → walkFrom c at left s w .walk .least ≤ w .least
+  unfolding walkFrom
+  least-falls zero s w = omega arith
+  least-falls (suc left) s w =
+      let p : ℕ = handOf s in
+      by-test (goesAtOnce c at (slotAt s p))
+      (λ goes. rw (goes, walkFrom) (omega arith))
+      (λ stays. rw (stays, walkFrom) (omega (arith, least-falls left (looked s p) (noted c at w p (slotAt s p)), noted-least-falls w p (slotAt s p))))
+
+  walk-least-most : (s : Shard) → walked c at s .walk .least ≤ mostShortfall c
+  unfolding walked
+  walk-least-most s = least-falls _ s (nothingNoted c)
+
+-- A shortfall recovers in no more nanoseconds than it has parts.
+recovery-at-most-parts : {c : BucketConfig} → Accepted c → (shortfall : ℕ) → recoveryOf c shortfall ≤ shortfall
+recovery-at-most-parts {c} a shortfall = ceilDiv-least shortfall (c .amount) shortfall (a .amount-least) (omega (arith, mul-le-mul-left shortfall (a .amount-least)))
 
 -- A slot that is full before the walk is full after it.
 remarked-full : (c : BucketConfig) (at : Nanos) (s t : Shard) (p : ℕ) → Remarked s t → FullSlot c at s p → FullSlot c at t p
@@ -341,6 +365,17 @@ module _ (c : BucketConfig) (at : Nanos) (forget : Bool) (s : Shard) (u : Sound 
             same = record { count = r .count; cap = r .cap; sweep = r .sweep; ledger = refl; slots = r .slots };
             debts = q .debts ∙ ap (λ (l : Ledger.Ledger). l .debts) (r .ledger);
           }
+
+  -- The wait is short enough that the moment at which it is over fits 64 bits.
+  pub refusal-wait-fits : Accepted c → (wait : Nanos) → evicted c at forget s .answer ≡ Refused wait → wait .0 < 2 ^ 63
+  refusal-wait-fits a wait = go (walk-least-most c at s) (evict-cases c at forget s u some)
+    where
+      go : {least : ℕ} {t : Shard} {o : Outcome Room Shard} → least ≤ mostShortfall c → Evicting c at forget least t o → o .answer ≡ Refused wait → wait .0 < 2 ^ 63
+      go most (full-goes p f) e = made-is-no-refusal e
+      go most (owing-goes p below done) e = made-is-no-refusal e
+      go {least} most (none-goes p w below told) e =
+          let same : refusalWait c least w .0 ≡ wait .0 = cc in
+          omega (arith, recovery-at-most-parts a least, most-shortfall-fits a)
 
   -- The wait that a refusal tells is the shorter of the soonest recovery of the slots looked at and the ledger's wait, but at least a millisecond.
   pub refusal-waits-for-the-soonest : Accepted c → (wait : Nanos) → evicted c at forget s .answer ≡ Refused wait → RefusalWait c at forget s wait

@@ -1,9 +1,9 @@
 -- Eviction of one slot from a full shard: the walk of the hand, and who goes.
-use Prim.Native.Nat.{ℕ, zero, suc, _+_, _-_, _^_, min, max}
+use Prim.Native.Nat.{ℕ, zero, suc, _+_, min, max}
 use mathlib.Core.Bool.{Bool, false, cond, not}
 use Rattle.units.specs.declared.Nanos.{Nanos}
 use Rattle.bucket.specs.declared.BucketConfig.{BucketConfig}
-use Rattle.bucket.specs.Bucket.{shortfallAt, recoveryOf}
+use Rattle.bucket.specs.Bucket.{mostShortfall, shortfallAt, recoveryOf}
 use Rattle.settings.specs.Eviction.{clockScan}
 use Rattle.rows.specs.declared.Place.{Place}
 use Rattle.rows.specs.declared.Place.the-variants.{At, Nowhere}
@@ -35,9 +35,9 @@ abbrev pub placeOr : Place → ℕ → ℕ
 placeOr (At p) other = p
 placeOr Nowhere other = other
 
--- What the walk has noted before its first look: nothing. Every shortfall is less than the number that it starts with.
-abbrev pub nothingNoted : Walk
-nothingNoted = record { full = Nowhere; unmarked = Nowhere; least = 2 ^ 64 - 1 }
+-- What the walk has noted before its first look: nothing. No shortfall is read as more than the number that it starts with.
+abbrev pub nothingNoted : BucketConfig → Walk
+nothingNoted c = record { full = Nowhere; unmarked = Nowhere; least = mostShortfall c }
 
 -- A look notes the first full slot, the first slot that is neither full nor marked, and the least shortfall of those not full: that slot recovers the
 -- soonest (`least-shortfall-recovers-soonest`).
@@ -75,7 +75,7 @@ walkFrom c at (suc left) s w =
 
 -- At most `clockScan` looks, and no more than there are slots.
 unfoldable pub walked : BucketConfig → Nanos → Shard → Walked
-walked c at s = walkFrom c at (min clockScan (s .slots .count)) s nothingNoted
+walked c at s = walkFrom c at (min clockScan (s .slots .count)) s (nothingNoted c)
 
 -- Who goes: the slot at which the walk ended; else the first full one; else the first unmarked one, or the first looked at, which owes.
 abbrev pub freeOr : Place → ℕ → Victim

@@ -42,13 +42,14 @@ pub struct Walk {
 
 impl Walk {
     // Before the first look.
-    pub fn new() -> Walk
-        ensures { λ r. ⌜ r ≡ Evict.nothingNoted ⌝ }
+    pub fn new(config: BucketConfig) -> Walk
+        requires { ⌜ Accepted config ⌝ }
+        ensures { λ r. ⌜ r ≡ Evict.nothingNoted config ⌝ }
     {
         Walk {
             full: Place::Nowhere,
             unmarked: Place::Nowhere,
-            least: u64::MAX,
+            least: config.most_shortfall(),
         }
     }
 
@@ -145,7 +146,7 @@ pub fn evict_one(ws: &mut [u64], cap: usize, config: BucketConfig, at: Nanos, fo
 {
     let first = words::hand(ws, cap);
     let mut left = arith::fewer(Eviction::hand_looks(), shard_map::len(ws, cap));
-    let mut walk = Walk::new();
+    let mut walk = Walk::new(config);
     let victim = loop {
         if left == 0 {
             break Place::Nowhere;

@@ -1,18 +1,15 @@
 -- What the flags of a settings struct say, off and on, how an outcome of the rules is told, and the words to lend.
 use Prim.Native.Nat.{ℕ}
-use mathlib.Core.Path.{_≡_, ap}
-use mathlib.Core.List.{List}
+use mathlib.Core.Path.{_≡_}
 use borrow.Author.Tests.{eq-eqb, ne-eqb}
-use Rattle.rows.specs.Outcome.{Outcome, outcome}
 use Rattle.units.specs.declared.OptionNanos.the-variants as nanos
+use Rattle.units.specs.Units.{nanosOf}
 use Rattle.settings.specs.declared.Limit.the-variants.{Closed, Open}
 use Rattle.settings.specs.declared.Settings.{Settings}
 use Rattle.settings.specs.declared.rate.OptionTokens.the-variants as tokens
 use Rattle.settings.specs.Settings.{sizeRefusal}
-use Rattle.perkey.specs.declared.Reply.{Reply}
 use Rattle.limiter.specs.declared.LimiterSettings.{LimiterSettings}
-use Rattle.limiter.specs.declared.LimiterReply.{LimiterReply}
-use Rattle.limiter.specs.Exported.{tokensOf, idleOf, rateOf, limitOf, nanosOf, replyOf, told, wordsToLend}
+use Rattle.limiter.specs.Exported.{tokensOf, idleOf, rateOf, limitOf, wordsToLend}
 use Rattle.store.specs.Memory.{memoryWords}
 
 module _ (flag n : ℕ) where
@@ -40,10 +37,6 @@ module _ (s : LimiterSettings) where
   pub has-no-rate : (s .closed ≡ 0 → ⊥) → Closed ≡ limitOf s
   unfolding limitOf
   has-no-rate on = rw (ne-eqb _ _ on)
-
--- An outcome of the rules, and the reply's code and number in its place.
-pub outcome-is-told : {r : Reply} {l : LimiterReply} {ws : List ℕ} {o : Outcome Reply (List ℕ)} → outcome r ws ≡ o → l ≡ replyOf r → outcome l ws ≡ told o
-outcome-is-told gave is = rw is (ap told gave)
 
 -- The words to lend where the sizes are refused, and where they are not.
 module _ (s : Settings) where

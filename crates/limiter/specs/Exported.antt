@@ -1,11 +1,8 @@
--- The limiter on plain numbers, as C and Rust call it: which settings the numbers of a settings struct are, the two numbers that a reply is, the words
--- to lend, and the hash of a key.
+-- The limiter on plain numbers, as C and Rust call it: which settings the numbers of a settings struct are, the words to lend, and
+-- the hash of a key.
 use Prim.Native.Nat.{ℕ}
 use mathlib.Core.Bool.{cond}
-use mathlib.Core.List.{List}
 use lib.Dec.{eqb}
-use Rattle.rows.specs.Outcome.{Outcome, outcome}
-use Rattle.units.specs.declared.Nanos.{Nanos}
 use Rattle.units.specs.declared.OptionNanos.{OptionNanos}
 use Rattle.units.specs.declared.OptionNanos.the-variants as nanos
 use Rattle.settings.specs.declared.Limit.{Limit}
@@ -20,10 +17,7 @@ use Rattle.settings.specs.Eviction.{bounds, whenFullOf, withWhenFull}
 use Rattle.settings.specs.Settings.{sizeRefusal}
 use Rattle.hash.specs.Fnv.{fnv1a, lowestFirst}
 use Rattle.shard.specs.declared.Identity.{Identity}
-use Rattle.perkey.specs.declared.Reply.{Reply}
-use Rattle.perkey.specs.Rules.{codeOf, numberOf}
 use Rattle.limiter.specs.declared.LimiterSettings.{LimiterSettings}
-use Rattle.limiter.specs.declared.LimiterReply.{LimiterReply}
 use Rattle.store.specs.Memory.{memoryWords}
 
 -- A flag of 0 means unset, RefuseNew, or a rate; any other number means set, ForgetDebt, or no rate.
@@ -55,19 +49,9 @@ evictionOf s = withWhenFull (boundsOf s) (whenFullOf (s .«forget_debt»))
 abbrev pub settingsOf : LimiterSettings → Settings
 settingsOf s = record { limit = limitOf s; eviction = evictionOf s; shards = s .shards }
 
--- A moment or a wait in nanoseconds, and a key's identity.
-abbrev pub nanosOf : ℕ → Nanos
-nanosOf n = record { 0 = n }
-
+-- A key's identity.
 abbrev pub identityOf : ℕ → ℕ → Identity
 identityOf hash key = record { hash = hash; key = key }
-
--- A reply is told as its code and the number beside it; the words are those that the rule leaves.
-abbrev pub replyOf : Reply → LimiterReply
-replyOf r = record { code = codeOf r; number = numberOf r }
-
-abbrev pub told : Outcome Reply (List ℕ) → Outcome LimiterReply (List ℕ)
-told o = outcome (replyOf (o .answer)) (o .after)
 
 -- The words to lend: those of the whole store, and 0 for sizes that are refused.
 unfoldable pub wordsToLend : Settings → ℕ

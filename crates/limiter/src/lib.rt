@@ -2,10 +2,11 @@
 // caller gives, a call ends and answers. What each operation does is the rule of `perkey` that its contract names; its reply is told as numbers.
 ghost use mathlib.Core.Path.{_≡_};
 ghost use Rattle.rows.specs.Outcome.{outcome};
+ghost use Rattle.units.specs.Units.{nanosOf};
 ghost use Rattle.perkey.specs.Rules as Rules;
-ghost use Rattle.limiter.specs.Exported.{nanosOf, identityOf, told, replyOf, wordsToLend, hashOf};
+ghost use Rattle.limiter.specs.Exported.{identityOf, wordsToLend, hashOf};
 ghost use Rattle.limiter.specs.Exported.{settingsOf, limitOf, rateOf, tokensOf, boundsOf, evictionOf};
-use perkey::Reply;
+use perkey::codes::Told;
 use settings::Limit;
 use settings::Settings;
 use settings::eviction::Eviction;
@@ -38,19 +39,12 @@ pub struct LimiterSettings {
     pub forget_debt: u32,
 }
 
-// The code of a reply and the number beside it: a wait in nanoseconds, tokens, or keys.
-#[repr(C)]
-pub struct LimiterReply {
-    pub code: u64,
-    pub number: u64,
-}
-
 // Makes the words an empty store of these settings. Where it is accepted every word is written; what stood in them does not matter.
 #[no_mangle]
-pub extern "C" fn limiter_set_up(settings: LimiterSettings, ws: &mut [u64]) -> LimiterReply
-    ensures { λ r. ⌜ outcome r (now (ws .exit)) ≡ told (Rules.setUp (settingsOf settings) (now (ws .entry))) ⌝ }
+pub extern "C" fn limiter_set_up(settings: LimiterSettings, ws: &mut [u64]) -> Told
+    ensures { λ r. ⌜ outcome r (now (ws .exit)) ≡ Rules.told (Rules.setUp (settingsOf settings) (now (ws .entry))) ⌝ }
 {
-    reply(perkey::set_up(settings_of(settings), ws))
+    perkey::set_up(settings_of(settings), ws).told()
 }
 
 // Takes `cost` tokens for a key at the moment `at`, if its bucket has them: granted, to be tried again after a wait, or impossible.
@@ -62,16 +56,16 @@ pub extern "C" fn limiter_try(
     hash: u64,
     key: u64,
     cost: u32,
-) -> LimiterReply
-    ensures { λ r. ⌜ outcome r (now (ws .exit)) ≡ told (Rules.tryAcquire (settingsOf settings) (nanosOf at) (identityOf hash key) cost (now (ws .entry))) ⌝ }
+) -> Told
+    ensures { λ r. ⌜ outcome r (now (ws .exit)) ≡ Rules.told (Rules.tryAcquire (settingsOf settings) (nanosOf at) (identityOf hash key) cost (now (ws .entry))) ⌝ }
 {
-    reply(perkey::try_acquire_with_cost(
+    perkey::try_acquire_with_cost(
         settings_of(settings),
         ws,
         Nanos(at),
         Identity { hash, key },
         cost,
-    ))
+    ).told()
 }
 
 // Takes `cost` tokens for a key that become usable after a wait, if that wait is at most `max_wait`. The number is the wait.
@@ -84,18 +78,18 @@ pub extern "C" fn limiter_reserve(
     key: u64,
     cost: u32,
     max_wait: u64,
-) -> LimiterReply
+) -> Told
     ensures { λ r. ⌜ outcome r (now (ws .exit)) ≡
-        told (Rules.reserve (settingsOf settings) (nanosOf at) (identityOf hash key) cost (nanosOf «max_wait») (now (ws .entry))) ⌝ }
+        Rules.told (Rules.reserve (settingsOf settings) (nanosOf at) (identityOf hash key) cost (nanosOf «max_wait») (now (ws .entry))) ⌝ }
 {
-    reply(perkey::reserve(
+    perkey::reserve(
         settings_of(settings),
         ws,
         Nanos(at),
         Identity { hash, key },
         cost,
         Nanos(max_wait),
-    ))
+    ).told()
 }
 
 // What the key's bucket would answer to a try at the moment `at`. It takes nothing, and says nothing of room for a new key.
@@ -107,16 +101,16 @@ pub extern "C" fn limiter_peek(
     hash: u64,
     key: u64,
     cost: u32,
-) -> LimiterReply
-    ensures { λ r. ⌜ outcome r (now (ws .exit)) ≡ told (Rules.peek (settingsOf settings) (nanosOf at) (identityOf hash key) cost (now (ws .entry))) ⌝ }
+) -> Told
+    ensures { λ r. ⌜ outcome r (now (ws .exit)) ≡ Rules.told (Rules.peek (settingsOf settings) (nanosOf at) (identityOf hash key) cost (now (ws .entry))) ⌝ }
 {
-    reply(perkey::peek(
+    perkey::peek(
         settings_of(settings),
         ws,
         Nanos(at),
         Identity { hash, key },
         cost,
-    ))
+    ).told()
 }
 
 // The tokens that a key has at the moment `at`.
@@ -127,10 +121,10 @@ pub extern "C" fn limiter_available(
     at: u64,
     hash: u64,
     key: u64,
-) -> LimiterReply
-    ensures { λ r. ⌜ outcome r (now (ws .exit)) ≡ told (Rules.available (settingsOf settings) (nanosOf at) (identityOf hash key) (now (ws .entry))) ⌝ }
+) -> Told
+    ensures { λ r. ⌜ outcome r (now (ws .exit)) ≡ Rules.told (Rules.available (settingsOf settings) (nanosOf at) (identityOf hash key) (now (ws .entry))) ⌝ }
 {
-    reply(perkey::available(settings_of(settings), ws, Nanos(at), Identity { hash, key }))
+    perkey::available(settings_of(settings), ws, Nanos(at), Identity { hash, key }).told()
 }
 
 // Gives `cost` tokens back to a key, or to the debt that is remembered for its hash; unknown if there is neither.
@@ -141,10 +135,10 @@ pub extern "C" fn limiter_refund(
     hash: u64,
     key: u64,
     cost: u32,
-) -> LimiterReply
-    ensures { λ r. ⌜ outcome r (now (ws .exit)) ≡ told (Rules.refund (settingsOf settings) (identityOf hash key) cost (now (ws .entry))) ⌝ }
+) -> Told
+    ensures { λ r. ⌜ outcome r (now (ws .exit)) ≡ Rules.told (Rules.refund (settingsOf settings) (identityOf hash key) cost (now (ws .entry))) ⌝ }
 {
-    reply(perkey::refund(settings_of(settings), ws, Identity { hash, key }, cost))
+    perkey::refund(settings_of(settings), ws, Identity { hash, key }, cost).told()
 }
 
 // Forgets a key, and the debt that is remembered for its hash; unknown if there is neither.
@@ -154,26 +148,26 @@ pub extern "C" fn limiter_remove(
     ws: &mut [u64],
     hash: u64,
     key: u64,
-) -> LimiterReply
-    ensures { λ r. ⌜ outcome r (now (ws .exit)) ≡ told (Rules.remove (settingsOf settings) (identityOf hash key) (now (ws .entry))) ⌝ }
+) -> Told
+    ensures { λ r. ⌜ outcome r (now (ws .exit)) ≡ Rules.told (Rules.remove (settingsOf settings) (identityOf hash key) (now (ws .entry))) ⌝ }
 {
-    reply(perkey::remove(settings_of(settings), ws, Identity { hash, key }))
+    perkey::remove(settings_of(settings), ws, Identity { hash, key }).told()
 }
 
 // Forgets all keys and debts.
 #[no_mangle]
-pub extern "C" fn limiter_clear(settings: LimiterSettings, ws: &mut [u64]) -> LimiterReply
-    ensures { λ r. ⌜ outcome r (now (ws .exit)) ≡ told (Rules.clear (settingsOf settings) (now (ws .entry))) ⌝ }
+pub extern "C" fn limiter_clear(settings: LimiterSettings, ws: &mut [u64]) -> Told
+    ensures { λ r. ⌜ outcome r (now (ws .exit)) ≡ Rules.told (Rules.clear (settingsOf settings) (now (ws .entry))) ⌝ }
 {
-    reply(perkey::clear(settings_of(settings), ws))
+    perkey::clear(settings_of(settings), ws).told()
 }
 
 // The number of keys that have a slot.
 #[no_mangle]
-pub extern "C" fn limiter_length(settings: LimiterSettings, ws: &[u64]) -> LimiterReply
-    ensures { λ r. ⌜ outcome r (now (ws .exit)) ≡ told (Rules.len (settingsOf settings) (now (ws .entry))) ⌝ }
+pub extern "C" fn limiter_length(settings: LimiterSettings, ws: &[u64]) -> Told
+    ensures { λ r. ⌜ outcome r (now (ws .exit)) ≡ Rules.told (Rules.len (settingsOf settings) (now (ws .entry))) ⌝ }
 {
-    reply(perkey::len(settings_of(settings), ws))
+    perkey::len(settings_of(settings), ws).told()
 }
 
 // The words to lend for these settings: the length that every operation asks of `ws`. It follows from the sizes alone, so where only the rate is
@@ -196,16 +190,6 @@ pub extern "C" fn limiter_key_hash(key: u64) -> u64
     ensures { λ r. ⌜ r ≡ hashOf key ⌝ }
 {
     hash::key_hash(key)
-}
-
-// The code and the number of a reply.
-fn reply(reply: Reply) -> LimiterReply
-    ensures { λ r. ⌜ r ≡ replyOf reply ⌝ }
-{
-    LimiterReply {
-        code: reply.code(),
-        number: reply.number(),
-    }
 }
 
 // The settings that the numbers are.

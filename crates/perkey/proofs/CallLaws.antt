@@ -5,6 +5,8 @@ use mathlib.Core.Path.{_≡_, refl, sym, ap, _∙_}
 use mathlib.Core.Bool.{Bool, true, false, not, true≢false}
 use mathlib.Core.List.{List}
 use lib.Dec.{ltb, eqb}
+use native.Mathlib.Omega.{arith}
+use borrow.Author.Tests.{eqb-true}
 use Rattle.arith.proofs.Cases.{by-test, by-eq}
 use Rattle.rows.specs.Outcome.{Outcome, outcome}
 use Rattle.bucket.specs.declared.BucketDecision.the-variants.{Allowed, Denied}
@@ -38,7 +40,10 @@ use Rattle.perkey.specs.Rules as Rules
 use Rattle.perkey.proofs.RefusedLaws.{unless-refused-accepts, unless-refused-refuses}
 use Rattle.rows.specs.Held.{sum}
 use Rattle.perkey.specs.Calls.{Look, Call, request, look, undo, len, peeks, tokens, refunds, removes, rules, Answered, numbered, accepted}
-use Rattle.perkey.specs.Calls.{Kind, decides, reserves, counts, knows, kindOf}
+use Rattle.perkey.specs.Calls.{Kind, decides, reserves, counts, knows, kindOf, momentIn}
+use Rattle.bucket.specs.Bucket.{dueAfter}
+use Rattle.bucket.proofs.BucketLaws.{due-by-number}
+use Rattle.shard.proofs.DueLaws.{TellsItsMoment, granted, denied, no-space, every-answer-tells-its-moment}
 use Rattle.store.specs.Memory.{memoryWords}
 
 -- The number by which a call is refused, 0 if it is not.
@@ -119,11 +124,11 @@ module _ (c : Call) (s : Settings) (hash : ℕ) (ws : List ℕ) {refusal further
 
 -- The rules of a closed limiter: a request, a peek, the tokens, a refund.
 module _ (s : Settings) (closed : s .limit ≡ Closed) where
-  closed-request : (r : Request) (at : Nanos) (id : Identity) (cost : ℕ) (ws : List ℕ) {reply : Reply} → reply ≡ Rules.closedTo r cost
+  closed-request : (r : Request) (at : Nanos) (id : Identity) (cost : ℕ) (ws : List ℕ) {reply : Reply} → reply ≡ Rules.closedTo r at cost
       → outcome reply ws ≡ ruleOf (request s at id r cost) ws
   closed-request r at id cost ws is = rw (closed, is)
 
-  pub closed-peek : (at : Nanos) (id : Identity) (ws : List ℕ) (cost : ℕ) {decision : Decision} → decision ≡ Rules.closed cost
+  pub closed-peek : (at : Nanos) (id : Identity) (ws : List ℕ) (cost : ℕ) {decision : Decision} → decision ≡ Rules.closed at cost
       → outcome (Tried decision) ws ≡ ruleOf (look s at id (peeks cost)) ws
   closed-peek at id ws cost is = rw (closed, is)
 
@@ -134,7 +139,7 @@ module _ (s : Settings) (closed : s .limit ≡ Closed) where
   closed-refund id ws cost = rw closed
 
 module _ (r : Request) (s : Settings) (at : Nanos) (id : Identity) (cost : ℕ) (ws : List ℕ) {refusal further : ℕ} {shape : Shape} {reply : Reply} where
-  pub closed-request-is-told : {o : Outcome Reply (List ℕ)} → s .limit ≡ Closed → reply ≡ Rules.closedTo r cost
+  pub closed-request-is-told : {o : Outcome Reply (List ℕ)} → s .limit ≡ Closed → reply ≡ Rules.closedTo r at cost
       → refusal ≡ settingsRefusal s → shape ≡ shapeOf s → further ≡ furtherTo r at
       → o ≡ Rules.unlessRefused (firstRefusal refusal (firstRefusal (shapeRefusal shape (id .hash) ws) further)) ws (outcome reply ws)
       → o ≡ rules (request s at id r cost) ws
@@ -142,34 +147,30 @@ module _ (r : Request) (s : Settings) (at : Nanos) (id : Identity) (cost : ℕ) 
       let ruled = closed-request s closed r at id cost ws is-reply in
       closed-is-told (request s at id r cost) s (id .hash) ws (furtherTo r at) is-refusal is-shape is-further (request-number r s at id cost ws) ruled gave
 
--- A reply of each kind.
-pub data OfKind : Kind → Reply → Type 0 where
-  decided : (decision : Decision) → OfKind decides (Tried decision)
-  reserved : (wait : Nanos) → OfKind reserves (Reserved wait)
-  not-reserved : OfKind reserves Nothing
-  counted : (n : ℕ) → OfKind counts (Count n)
-  known : OfKind knows Done
-  unknown : OfKind knows Nothing
+-- A reply of each kind, to a call at a moment. A grant and a retry tell that moment plus their wait; Acquired has no wait.
+pub data OfKind (at : Nanos) : Kind → Reply → Type 0 where
+  acquired : OfKind at decides (Tried (Acquired (Rules.dueNow at)))
+  retried : (wait : Nanos) → OfKind at decides (Tried (Retry (dueAfter at wait)))
+  impossible : OfKind at decides (Tried Impossible)
+  reserved : (wait : Nanos) → OfKind at reserves (Reserved (dueAfter at wait))
+  not-reserved : OfKind at reserves Nothing
+  counted : (n : ℕ) → OfKind at counts (Count n)
+  known : OfKind at knows Done
+  unknown : OfKind at knows Nothing
 
 -- Every rule answers in the kind of its call.
-try-decides : (a : Answer) → OfKind decides (Rules.tryReply a)
-try-decides (Decided decision) = decided (Rules.mapDecision decision)
-try-decides (NoSpace wait) = decided (Retry wait)
+no-wait-is-now : (at wait : Nanos) → wait .0 ≡ 0 → OfKind at decides (Tried (Acquired (dueAfter at wait)))
+no-wait-is-now at wait none = rw (due-by-number at wait none) acquired
 
-reserve-reserves : (a : Answer) → OfKind reserves (Rules.reserveReply a)
-reserve-reserves (Decided (Allowed wait)) = reserved wait
-reserve-reserves (Decided (Denied wait)) = not-reserved
-reserve-reserves (NoSpace wait) = not-reserved
+key-is-known-or-not : (at : Nanos) (b : Bool) → OfKind at knows (Rules.knownReply b)
+key-is-known-or-not at true = known
+key-is-known-or-not at false = unknown
 
-key-is-known-or-not : (b : Bool) → OfKind knows (Rules.knownReply b)
-key-is-known-or-not true = known
-key-is-known-or-not false = unknown
-
-trivial-in-kind : (kind : Kind) (rate : Rate) (cost : ℕ) {tooMuch atOnce : Reply} (ws : List ℕ) (asked : Outcome Reply (List ℕ))
-    → OfKind kind tooMuch → OfKind kind atOnce → OfKind kind (asked .answer)
-    → OfKind kind (Rules.unlessTrivial rate cost tooMuch atOnce ws asked .answer)
+trivial-in-kind : (at : Nanos) (kind : Kind) (rate : Rate) (cost : ℕ) {tooMuch atOnce : Reply} (ws : List ℕ) (asked : Outcome Reply (List ℕ))
+    → OfKind at kind tooMuch → OfKind at kind atOnce → OfKind at kind (asked .answer)
+    → OfKind at kind (Rules.unlessTrivial rate cost tooMuch atOnce ws asked .answer)
 unfolding Rules.unlessTrivial
-trivial-in-kind kind rate cost ws asked a b c =
+trivial-in-kind at kind rate cost ws asked a b c =
     by-test (ltb (configOf rate .capacity) cost) (λ t. rw t a) (λ t. by-test (eqb cost 0) (λ u. rw (t, u) b) (λ u. rw (t, u) c))
 
 -- The kind of a request.
@@ -177,54 +178,65 @@ abbrev asKind : Request → Kind
 asKind Acquire = decides
 asKind (Reserve longest) = reserves
 
-reply-in-kind : (r : Request) (a : Answer) → OfKind (asKind r) (Rules.replyTo r a)
-reply-in-kind Acquire a = try-decides a
-reply-in-kind (Reserve longest) a = reserve-reserves a
+reply-in-kind : (r : Request) {at : Nanos} {a : Answer} → TellsItsMoment r at a → OfKind at (asKind r) (Rules.replyTo r a)
+reply-in-kind Acquire {at} (granted wait within) = no-wait-is-now at wait (omega arith)
+reply-in-kind Acquire (denied wait) = retried wait
+reply-in-kind Acquire (no-space wait) = retried wait
+reply-in-kind (Reserve longest) (granted wait within) = reserved wait
+reply-in-kind (Reserve longest) (denied wait) = not-reserved
+reply-in-kind (Reserve longest) (no-space wait) = not-reserved
 
-too-much-in-kind : (r : Request) → OfKind (asKind r) (Rules.tooMuch r)
-too-much-in-kind Acquire = decided Impossible
-too-much-in-kind (Reserve longest) = not-reserved
+too-much-in-kind : (at : Nanos) (r : Request) → OfKind at (asKind r) (Rules.tooMuch r)
+too-much-in-kind at Acquire = impossible
+too-much-in-kind at (Reserve longest) = not-reserved
 
-at-once-in-kind : (r : Request) → OfKind (asKind r) (Rules.atOnce r)
-at-once-in-kind Acquire = decided Acquired
-at-once-in-kind (Reserve longest) = reserved Rules.noWait
+at-once-in-kind : (at : Nanos) (r : Request) → OfKind at (asKind r) (Rules.atOnce r at)
+at-once-in-kind at Acquire = acquired
+at-once-in-kind at (Reserve longest) = reserved _
 
-closed-in-kind : (r : Request) (cost : ℕ) → OfKind (asKind r) (Rules.closedTo r cost)
-closed-in-kind Acquire cost = decided (Rules.closed cost)
-closed-in-kind (Reserve longest) cost = not-reserved
+closed-decides : (at : Nanos) (cost : ℕ) → OfKind at decides (Tried (Rules.closed at cost))
+unfolding Rules.closed
+closed-decides at cost = by-test (eqb cost 0) (λ t. rw t acquired) (λ t. rw t impossible)
+
+closed-in-kind : (at : Nanos) (r : Request) (cost : ℕ) → OfKind at (asKind r) (Rules.closedTo r at cost)
+closed-in-kind at Acquire cost = closed-decides at cost
+closed-in-kind at (Reserve longest) cost = not-reserved
 
 asked-in-kind : (r : Request) (c : Limit) (s : Settings) (at : Nanos) (id : Identity) (cost : ℕ) (ws : List ℕ)
-    → OfKind (asKind r) (Rules.askedBy r c s at id cost ws .answer)
-asked-in-kind r Closed s at id cost ws = closed-in-kind r cost
+    → OfKind at (asKind r) (Rules.askedBy r c s at id cost ws .answer)
+asked-in-kind r Closed s at id cost ws = closed-in-kind at r cost
 asked-in-kind r (Open rate) s at id cost ws =
-    trivial-in-kind (asKind r) rate cost ws _ (too-much-in-kind r) (at-once-in-kind r) (reply-in-kind r _)
+    trivial-in-kind at (asKind r) rate cost ws _ (too-much-in-kind at r) (at-once-in-kind at r)
+    (reply-in-kind r (every-answer-tells-its-moment (Rules.policyOf s rate) id r cost at (shardAt s (id .hash) ws)))
 
-wait-decides : (wait : Nanos) → OfKind decides (Rules.waitReply wait)
-unfolding Rules.waitReply
-wait-decides wait = by-test (eqb (wait .0) 0) (λ t. rw t (decided Acquired)) (λ t. rw t (decided (Retry wait)))
+due-decides : (at wait : Nanos) → OfKind at decides (Rules.dueReply (dueAfter at wait))
+unfolding Rules.dueReply
+due-decides at wait = by-test (eqb (wait .0) 0) (λ t. rw t (no-wait-is-now at wait (eqb-true _ _ t))) (λ t. rw t (retried wait))
 
-peeked-in-kind : (c : Limit) (s : Settings) (at : Nanos) (id : Identity) (cost : ℕ) (ws : List ℕ) → OfKind decides (Rules.peekedBy c s at id cost ws)
+peeked-in-kind : (c : Limit) (s : Settings) (at : Nanos) (id : Identity) (cost : ℕ) (ws : List ℕ) → OfKind at decides (Rules.peekedBy c s at id cost ws)
 unfolding Rules.peekedAt
-peeked-in-kind Closed s at id cost ws = decided (Rules.closed cost)
+peeked-in-kind Closed s at id cost ws = closed-decides at cost
 peeked-in-kind (Open rate) s at id cost ws =
-    by-test (ltb (configOf rate .capacity) cost) (λ t. rw t (decided Impossible)) (λ t. rw t (wait-decides _))
+    by-test (ltb (configOf rate .capacity) cost) (λ t. rw t impossible) (λ t. rw t (due-decides at _))
 
-refunded-in-kind : (c : Limit) (s : Settings) (id : Identity) (cost : ℕ) (ws : List ℕ) → OfKind knows (Rules.refundedBy c s id cost ws .answer)
-refunded-in-kind Closed s id cost ws = unknown
-refunded-in-kind (Open rate) s id cost ws = key-is-known-or-not (OneShard.refunded (configOf rate) id cost (shardAt s (id .hash) ws) .answer)
+refunded-in-kind : (at : Nanos) (c : Limit) (s : Settings) (id : Identity) (cost : ℕ) (ws : List ℕ) → OfKind at knows (Rules.refundedBy c s id cost ws .answer)
+refunded-in-kind at Closed s id cost ws = unknown
+refunded-in-kind at (Open rate) s id cost ws = key-is-known-or-not at (OneShard.refunded (configOf rate) id cost (shardAt s (id .hash) ws) .answer)
 
-pub rule-answers-in-kind : (c : Call) (ws : List ℕ) → OfKind (kindOf c) (ruleOf c ws .answer)
+pub rule-answers-in-kind : (c : Call) (ws : List ℕ) → OfKind (momentIn c) (kindOf c) (ruleOf c ws .answer)
 rule-answers-in-kind (request s at id Acquire cost) ws = asked-in-kind Acquire (s .limit) s at id cost ws
 rule-answers-in-kind (request s at id (Reserve longest) cost) ws = asked-in-kind (Reserve longest) (s .limit) s at id cost ws
 rule-answers-in-kind (look s at id (peeks cost)) ws = peeked-in-kind (s .limit) s at id cost ws
 rule-answers-in-kind (look s at id tokens) ws = counted _
 rule-answers-in-kind (len s) ws = counted _
-rule-answers-in-kind (undo s id (refunds cost)) ws = refunded-in-kind (s .limit) s id cost ws
-rule-answers-in-kind (undo s id removes) ws = key-is-known-or-not (OneShard.removed id (shardAt s (id .hash) ws) .answer)
+rule-answers-in-kind (undo s id (refunds cost)) ws = refunded-in-kind _ (s .limit) s id cost ws
+rule-answers-in-kind (undo s id removes) ws = key-is-known-or-not _ (OneShard.removed id (shardAt s (id .hash) ws) .answer)
 
 -- So no rule answers with a number of a refusal.
-in-kind-not-numbered : {kind : Kind} {r : Reply} → OfKind kind r → numbered r ≡ false
-in-kind-not-numbered (decided decision) = refl
+in-kind-not-numbered : {at : Nanos} {kind : Kind} {r : Reply} → OfKind at kind r → numbered r ≡ false
+in-kind-not-numbered acquired = refl
+in-kind-not-numbered (retried wait) = refl
+in-kind-not-numbered impossible = refl
 in-kind-not-numbered (reserved wait) = refl
 in-kind-not-numbered not-reserved = refl
 in-kind-not-numbered (counted n) = refl

@@ -35,9 +35,9 @@ module _ (r : Request) (s : Settings) (at : Nanos) (id : Identity) (cost : ℕ) 
   unfolding unlessTrivial
   too-much-is-told more = rw (is-limit, lt-ltb _ _ more)
 
-  pub nothing-is-granted : cost ≤ burstOf rate → cost ≡ 0 → outcome (atOnce r) ws ≡ askedBy r limit s at id cost ws
+  pub nothing-is-granted : {told : Reply} → cost ≤ burstOf rate → cost ≡ 0 → told ≡ atOnce r at → outcome told ws ≡ askedBy r limit s at id cost ws
   unfolding unlessTrivial
-  nothing-is-granted within none = rw (is-limit, le-ltb _ _ within, eq-eqb _ _ none)
+  nothing-is-granted within none is-told = rw (is-told, is-limit, le-ltb _ _ within, eq-eqb _ _ none)
 
   bucket-is-asked : cost ≤ burstOf rate → (cost ≡ 0 → ⊥) → requested s rate id r cost at ws (replyTo r) ≡ askedBy r limit s at id cost ws
   unfolding unlessTrivial
@@ -64,10 +64,10 @@ module _ {s : Settings} {at : Nanos} {id : Identity} {cost : ℕ} {ws : List ℕ
 
   module _ {policy : Policy} {place : Place} (is-policy : policy ≡ policyOf s rate) (is-place : place ≡ placeOf (shardIn part′ ws) (id .hash) (id .key)) where
     pub known-may-be-asked : (i : ℕ) → place ≡ At i
-        → Placed part′ ws × Sound (shardIn part′ ws) × Accepted (policy .config) × (cost ≤ policy .config .capacity) × (i < part′ .cap)
+        → Placed part′ ws × Sound (shardIn part′ ws) × Accepted (policy .config) × (cost ≤ policy .config .capacity) × (at .0 ≤ 2 ^ 62) × (i < part′ .cap)
     known-may-be-asked i found =
         let asked = new-may-be-asked is-policy in
-        (asked .0, asked .1, asked .2, asked .3, found-place-below (asked .0) (id .hash) (id .key) i (asked .1) (sym is-place ∙ found))
+        (asked .0, asked .1, asked .2, asked .3, asked .4, found-place-below (asked .0) (id .hash) (id .key) i (asked .1) (sym is-place ∙ found))
 
     -- What the store's answer, in the shard of the key, makes of the reply and of all words.
     module _ (r : Request) {answer : Answer} {told : Reply} {ws′ : List ℕ} (is-reply : told ≡ replyTo r answer) where

@@ -1,5 +1,5 @@
 -- The rules case by case, as the code comes to them, and what a call that is not refused may ask of its shard.
-use Prim.Native.Nat.{ℕ, _≤_, _<_}
+use Prim.Native.Nat.{ℕ, _≤_, _<_, _^_}
 use mathlib.Core.Path.{_≡_, ap, _∙_}
 use mathlib.Core.Bool.{Bool}
 use mathlib.Core.List.{List}
@@ -7,7 +7,8 @@ use Rattle.rows.specs.Outcome.{Outcome, outcome}
 use Rattle.units.specs.declared.Nanos.{Nanos}
 use Rattle.bucket.specs.declared.BucketConfig.{BucketConfig}
 use Rattle.bucket.specs.declared.BucketCore.{BucketCore}
-use Rattle.bucket.specs.Bucket.{Accepted, waitAt, availableAt}
+use Rattle.bucket.specs.declared.Due.{Due}
+use Rattle.bucket.specs.Bucket.{Accepted, dueAt, availableAt}
 use Rattle.settings.specs.declared.Limit.{Limit}
 use Rattle.settings.specs.declared.Limit.the-variants.{Open}
 use Rattle.settings.specs.declared.Settings.{Settings}
@@ -24,30 +25,35 @@ use Rattle.store.specs.declared.Part.{Part}
 use Rattle.store.specs.Memory.{Placed, partOf, shardIn, inShard}
 use Rattle.store.specs.Refusals.{keyedRefusal, momentRefusal, timedRefusal, waitRefusal, reserveRefusal}
 use Rattle.store.proofs.LendingLaws.{accepted-part}
-use Rattle.store.proofs.RefusalLaws.{keyed-not-refused}
+use Rattle.store.proofs.RefusalLaws.{keyed-not-refused, timed-not-refused}
 use Rattle.perkey.specs.declared.Reply.{Reply}
+use Rattle.perkey.specs.declared.codes.Told.{Told}
 use Rattle.perkey.specs.declared.Reply.the-variants.{Tried}
-use Rattle.perkey.specs.Rules.{closed, waitReply, policyOf, bucketOf, peekedAt, peekedBy, availableBy, knownReply, keyed}
+use Rattle.perkey.specs.Rules.{toldOf, told, dueNow, closed, dueReply, policyOf, bucketOf, peekedAt, peekedBy, availableBy, knownReply, keyed}
 use borrow.Author.Tests.{le-ltb, lt-ltb, eq-eqb, ne-eqb}
 
--- A limiter without a rate.
-module _ (cost : ℕ) where
-  pub closed-grants-none : cost ≡ 0 → Acquired ≡ closed cost
-  unfolding closed
-  closed-grants-none none = rw (eq-eqb _ _ none)
+-- An outcome of the rules, and the reply's numbers in its place.
+pub outcome-is-told : {r : Reply} {t : Told} {ws : List ℕ} {o : Outcome Reply (List ℕ)} → outcome r ws ≡ o → t ≡ toldOf r → outcome t ws ≡ told o
+outcome-is-told gave is = rw is (ap told gave)
 
-  pub closed-grants-nothing-else : (cost ≡ 0 → ⊥) → Impossible ≡ closed cost
+-- A limiter without a rate.
+module _ (at : Nanos) (cost : ℕ) where
+  pub closed-grants-none : {due : Due} → due ≡ dueNow at → cost ≡ 0 → Acquired due ≡ closed at cost
+  unfolding closed
+  closed-grants-none is none = rw (is, eq-eqb _ _ none)
+
+  pub closed-grants-nothing-else : (cost ≡ 0 → ⊥) → Impossible ≡ closed at cost
   unfolding closed
   closed-grants-nothing-else some = rw (ne-eqb _ _ some)
 
--- The wait of a bucket that is looked at.
-module _ (wait : Nanos) where
-  pub no-wait-is-granted : wait .0 ≡ 0 → Tried Acquired ≡ waitReply wait
-  unfolding waitReply
+-- When a bucket that is looked at has the cost.
+module _ (due : Due) where
+  pub no-wait-is-granted : due .wait .0 ≡ 0 → Tried (Acquired due) ≡ dueReply due
+  unfolding dueReply
   no-wait-is-granted none = rw (eq-eqb _ _ none)
 
-  pub wait-is-told : (wait .0 ≡ 0 → ⊥) → Tried (Retry wait) ≡ waitReply wait
-  unfolding waitReply
+  pub wait-is-told : (due .wait .0 ≡ 0 → ⊥) → Tried (Retry due) ≡ dueReply due
+  unfolding dueReply
   wait-is-told some = rw (ne-eqb _ _ some)
 
 pub key-is-told : (s : Settings) (id : Identity) (ws : List ℕ) (o : Outcome Bool Shard) {known : Bool} {told : Reply} {ws′ : List ℕ}
@@ -61,19 +67,19 @@ module _ (s : Settings) (rate : Rate) (at : Nanos) (id : Identity) (cost : ℕ) 
   peek-of-too-much more = rw (lt-ltb _ _ more)
 
   pub peek-of-bucket : cost ≤ burstOf rate
-      → waitReply (record { 0 = waitAt (configOf rate) (bucketOf s rate id at ws) cost at }) ≡ peekedAt s rate at id cost ws
+      → dueReply (dueAt (configOf rate) (bucketOf s rate id at ws) cost at) ≡ peekedAt s rate at id cost ws
   unfolding peekedAt
   peek-of-bucket within = rw (le-ltb _ _ within)
 
--- What is told of the bucket that is viewed in the key's part, at a rate: its wait for a cost, and its tokens.
+-- What is told of the bucket that is viewed in the key's part, at a rate: when it has a cost, and its tokens.
 module _ (s : Settings) (rate : Rate) (at : Nanos) (id : Identity) (ws : List ℕ) {limit : Limit} {part′ : Part} {config : BucketConfig} {bucket : BucketCore}
     (is-limit : limit ≡ Open rate) (is-part : part′ ≡ partOf s (id .hash)) (is-config : config ≡ configOf rate)
     (is-bucket : bucket ≡ OneShard.viewed config id at (shardIn part′ ws)) where
-  pub viewed-wait-is-told : (cost : ℕ) {wait : Nanos} {told : Reply} → cost ≤ burstOf rate → wait .0 ≡ waitAt config bucket cost at → told ≡ waitReply wait
+  pub viewed-due-is-told : (cost : ℕ) {due : Due} {told : Reply} → cost ≤ burstOf rate → due ≡ dueAt config bucket cost at → told ≡ dueReply due
       → told ≡ peekedBy limit s at id cost ws
-  viewed-wait-is-told cost within is-wait is-reply =
-      let waits = rw (is-bucket, is-config, is-part) at is-wait in
-      rw is-limit (is-reply ∙ ap (λ (n : ℕ). waitReply (record { 0 = n })) waits ∙ peek-of-bucket s rate at id cost ws within)
+  viewed-due-is-told cost within is-due is-reply =
+      let dues = rw (is-bucket, is-config, is-part) at is-due in
+      rw is-limit (is-reply ∙ ap dueReply dues ∙ peek-of-bucket s rate at id cost ws within)
 
   pub viewed-tokens-are-told : {told : ℕ} → told ≡ availableAt config bucket at → told ≡ availableBy limit s at id ws
   viewed-tokens-are-told are = rw is-limit (rw (is-bucket, is-config, is-part) at are)
@@ -96,6 +102,9 @@ module _ (s : Settings) (hash : ℕ) (ws : List ℕ) {part′ : Part} (is-part :
 
   -- At a moment, which is not too late either.
   module _ (at : Nanos) (none : timedRefusal s hash at ws ≡ 0) (rate : Rate) (is : s .limit ≡ Open rate) where
+    pub moment-is-early : at .0 ≤ 2 ^ 62
+    moment-is-early = timed-not-refused s hash ws at none .1
+
     pub bucket-may-be-viewed : {config : BucketConfig} → config ≡ configOf rate → Placed part′ ws × Sound (shardIn part′ ws) × Accepted config
     bucket-may-be-viewed is-config = refund-may-be-asked rate (neither-refuses (keyedRefusal s hash ws) (momentRefusal at) none .0) is is-config
 

@@ -3,29 +3,30 @@ use Prim.Native.Nat.{ℕ}
 use mathlib.Core.Path.{_≡_, refl}
 use mathlib.Core.List.{List}
 use Rattle.arith.proofs.Cases.{by-eq}
-use Rattle.settings.specs.declared.decision.Decision.the-variants.{Acquired, Retry, Impossible}
+use Rattle.units.specs.declared.Nanos.{Nanos}
 use Rattle.perkey.specs.declared.Reply.{Reply}
 use Rattle.perkey.specs.declared.Reply.the-variants.{Refused}
-use Rattle.perkey.specs.Rules.{codeOf, numberOf}
+use Rattle.perkey.specs.declared.codes.Told.{Told}
+use Rattle.perkey.specs.Rules.{toldOf}
 use Rattle.perkey.specs.Calls.{Call, rules, Kind, decides, reserves, counts, knows, kindOf}
-use Rattle.perkey.proofs.CallLaws.{OfKind, decided, reserved, not-reserved, counted, known, unknown}
+use Rattle.perkey.proofs.CallLaws.{OfKind, acquired, retried, impossible, reserved, not-reserved, counted, known, unknown}
 use Rattle.perkey.proofs.CallLaws.{refusalOf, not-refused-is-ruled, refused-is-told, rule-answers-in-kind}
 
 -- A number other than 0 is told with code 1 alone.
-abbrev pub WaitsOnRetry : Reply → Type 0
-WaitsOnRetry r = (codeOf r ≡ 1 → ⊥) → numberOf r ≡ 0
+abbrev pub WaitsOnRetry : Told → Type 0
+WaitsOnRetry t = (t .code ≡ 1 → ⊥) → t .number ≡ 0
 
 -- So it is for every kind of reply but a reservation's, whose grant has a wait, and a count.
 abbrev pub Prompt : Kind → Reply → Type 0
-Prompt decides r = WaitsOnRetry r
+Prompt decides r = WaitsOnRetry (toldOf r)
 Prompt reserves r = Unit {0}
 Prompt counts r = Unit {0}
-Prompt knows r = WaitsOnRetry r
+Prompt knows r = WaitsOnRetry (toldOf r)
 
-in-kind-is-prompt : {kind : Kind} {r : Reply} → OfKind kind r → Prompt kind r
-in-kind-is-prompt (decided Acquired) = λ other. refl
-in-kind-is-prompt (decided (Retry after)) = λ other. absurd (other refl)
-in-kind-is-prompt (decided Impossible) = λ other. refl
+in-kind-is-prompt : {at : Nanos} {kind : Kind} {r : Reply} → OfKind at kind r → Prompt kind r
+in-kind-is-prompt acquired = λ other. refl
+in-kind-is-prompt (retried wait) = λ other. absurd (other refl)
+in-kind-is-prompt impossible = λ other. refl
 in-kind-is-prompt (reserved wait) = tt
 in-kind-is-prompt not-reserved = tt
 in-kind-is-prompt (counted n) = tt

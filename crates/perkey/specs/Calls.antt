@@ -82,11 +82,15 @@ settingsOf (look s at id l) = s
 settingsOf (undo s id r) = s
 settingsOf (len s) = s
 
-abbrev pub momentOf : Call → ℕ → ℕ
-momentOf (request s at id r cost) before = at .0
-momentOf (look s at id l) before = at .0
-momentOf (undo s id r) before = before
-momentOf (len s) before = before
+abbrev pub clockAfter : Call → ℕ → ℕ
+clockAfter (request s at id r cost) before = at .0
+clockAfter (look s at id l) before = at .0
+clockAfter (undo s id r) before = before
+clockAfter (len s) before = before
+
+-- Its moment; 0 for a call that names none.
+abbrev pub momentIn : Call → Nanos
+momentIn c = record { 0 = clockAfter c 0 }
 
 abbrev pub ofKey : (Identity → Type 0) → Call → Type 0
 ofKey Q (request s at id r cost) = Q id
@@ -104,10 +108,10 @@ ofUndone Q (len s) = Unit {0}
 -- `f` of the wait if the reply grants, else the other value. Acquired and a reservation both grant, whichever request is answered so: no grant of a try is
 -- hidden in a reservation's reply, nor the other way round.
 abbrev pub ofGrant : {A : Type 0} → (ℕ → A) → A → Reply → A
-ofGrant f other (Tried Acquired) = f 0
-ofGrant f other (Tried (Retry after)) = other
+ofGrant f other (Tried (Acquired due)) = f 0
+ofGrant f other (Tried (Retry due)) = other
 ofGrant f other (Tried Impossible) = other
-ofGrant f other (Reserved wait) = f (wait .0)
+ofGrant f other (Reserved due) = f (due .wait .0)
 ofGrant f other Nothing = other
 ofGrant f other Done = other
 ofGrant f other (Count n) = other
@@ -132,7 +136,7 @@ kindOf (len s) = counts
 -- Whether a reply is a refusal by number.
 abbrev pub numbered : Reply → Bool
 numbered (Tried decision) = false
-numbered (Reserved wait) = false
+numbered (Reserved due) = false
 numbered Nothing = false
 numbered Done = false
 numbered (Count n) = false

@@ -12,7 +12,8 @@ use Rattle.bucket.specs.declared.BucketDecision.{BucketDecision}
 use Rattle.bucket.specs.declared.BucketDecision.the-variants.{Allowed, Denied}
 use Rattle.bucket.specs.declared.Request.{Request}
 use Rattle.bucket.specs.declared.Request.the-variants.{Acquire, Reserve}
-use Rattle.bucket.specs.Bucket.{waitAt, availableAt}
+use Rattle.bucket.specs.declared.Due.{Due}
+use Rattle.bucket.specs.Bucket.{dueAfter, dueAt, availableAt}
 use Rattle.settings.specs.declared.Limit.{Limit}
 use Rattle.settings.specs.declared.Limit.the-variants.{Closed, Open}
 use Rattle.settings.specs.declared.Settings.{Settings}
@@ -30,6 +31,7 @@ use Rattle.shard.specs.declared.Answer.the-variants.{Decided, NoSpace}
 use Rattle.shard_map.specs.Model.{Shard}
 use Rattle.shard.specs.Model as OneShard
 use Rattle.perkey.specs.declared.Reply.{Reply}
+use Rattle.perkey.specs.declared.codes.Told.{Told}
 use Rattle.perkey.specs.declared.Reply.the-variants.{Tried, Reserved, Nothing, Done, Count, Refused}
 use Rattle.store.specs.Memory.{shardAt, inShard, slotCount}
 use Rattle.store.specs.Refusals.{setUpRefusal, keyedRefusal, timedRefusal, reserveRefusal, lenRefusal}
@@ -37,10 +39,10 @@ use Rattle.store.specs.Memory.{memoryWords}
 
 -- The desk's code of a reply: 0 granted, accepted, known or counted, 1 to be tried again, 2 impossible, 3 none or unknown, 10 + n refused as n.
 abbrev pub codeOf : Reply → ℕ
-codeOf (Tried Acquired) = 0
-codeOf (Tried (Retry after)) = 1
+codeOf (Tried (Acquired due)) = 0
+codeOf (Tried (Retry due)) = 1
 codeOf (Tried Impossible) = 2
-codeOf (Reserved wait) = 0
+codeOf (Reserved due) = 0
 codeOf Nothing = 3
 codeOf Done = 0
 codeOf (Count n) = 0
@@ -48,14 +50,32 @@ codeOf (Refused n) = 10 + n
 
 -- The number beside the code: the wait of a retry or a reservation, the number counted, else 0.
 abbrev pub numberOf : Reply → ℕ
-numberOf (Tried Acquired) = 0
-numberOf (Tried (Retry after)) = after .0
+numberOf (Tried (Acquired due)) = 0
+numberOf (Tried (Retry due)) = due .wait .0
 numberOf (Tried Impossible) = 0
-numberOf (Reserved wait) = wait .0
+numberOf (Reserved due) = due .wait .0
 numberOf Nothing = 0
 numberOf Done = 0
 numberOf (Count n) = n
 numberOf (Refused n) = 0
+
+-- The moment at which a grant is usable, or at which to try again: now plus the wait. All other replies tell 0.
+abbrev pub momentOf : Reply → ℕ
+momentOf (Tried (Acquired due)) = due .moment .0
+momentOf (Tried (Retry due)) = due .moment .0
+momentOf (Tried Impossible) = 0
+momentOf (Reserved due) = due .moment .0
+momentOf Nothing = 0
+momentOf Done = 0
+momentOf (Count n) = 0
+momentOf (Refused n) = 0
+
+-- A reply is told as these three numbers; the words are those that the rule leaves.
+abbrev pub toldOf : Reply → Told
+toldOf r = record { code = codeOf r; number = numberOf r; moment = momentOf r }
+
+abbrev pub told : Outcome Reply (List ℕ) → Outcome Told (List ℕ)
+told o = outcome (toldOf (o .answer)) (o .after)
 
 -- A call that is refused by number changes no word.
 unfoldable pub unlessRefused : ℕ → List ℕ → Outcome Reply (List ℕ) → Outcome Reply (List ℕ)
@@ -75,28 +95,28 @@ setUp s ws = unlessRefused (setUpRefusal s ws) ws (outcome Done (replicate (memo
 
 -- What a bucket decided, as a try is told it: a try is granted without a wait.
 abbrev pub mapDecision : BucketDecision → Decision
-mapDecision (Allowed wait) = Acquired
-mapDecision (Denied wait) = Retry wait
+mapDecision (Allowed due) = Acquired due
+mapDecision (Denied due) = Retry due
 
 -- The answer to a try: granted, or to be tried again, by its bucket or for want of space.
 abbrev pub tryReply : Answer → Reply
 tryReply (Decided decision) = Tried (mapDecision decision)
-tryReply (NoSpace wait) = Tried (Retry wait)
+tryReply (NoSpace due) = Tried (Retry due)
 
 -- The answer to a reservation: granted with its wait, else none.
 abbrev pub reserveReply : Answer → Reply
-reserveReply (Decided (Allowed wait)) = Reserved wait
-reserveReply (Decided (Denied wait)) = Nothing
-reserveReply (NoSpace wait) = Nothing
+reserveReply (Decided (Allowed due)) = Reserved due
+reserveReply (Decided (Denied due)) = Nothing
+reserveReply (NoSpace due) = Nothing
 
 -- The answer to a request.
 abbrev pub replyTo : Request → Answer → Reply
 replyTo Acquire answer = tryReply answer
 replyTo (Reserve longest) answer = reserveReply answer
 
--- No wait at all.
-abbrev pub noWait : Nanos
-noWait = record { 0 = 0 }
+-- Due at the moment itself, without a wait.
+abbrev pub dueNow : Nanos → Due
+dueNow at = dueAfter at (record { 0 = 0 })
 
 -- What a request does in its shard, and its answer.
 abbrev pub requested : Settings → Rate → Identity → Request → ℕ → Nanos → List ℕ → (Answer → Reply) → Outcome Reply (List ℕ)
@@ -111,26 +131,26 @@ unlessTrivial rate cost tooMuch atOnce ws asked =
     (cond (eqb cost 0) (outcome atOnce ws) asked)
 
 -- A closed limiter grants only cost 0.
-unfoldable pub closed : ℕ → Decision
-closed cost = cond (eqb cost 0) Acquired Impossible
+unfoldable pub closed : Nanos → ℕ → Decision
+closed at cost = cond (eqb cost 0) (Acquired (dueNow at)) Impossible
 
 -- What a request is told without a look at the store: on a closed limiter; for more tokens than a full bucket holds; and for none, which are granted.
-abbrev pub closedTo : Request → ℕ → Reply
-closedTo Acquire cost = Tried (closed cost)
-closedTo (Reserve longest) cost = Nothing
+abbrev pub closedTo : Request → Nanos → ℕ → Reply
+closedTo Acquire at cost = Tried (closed at cost)
+closedTo (Reserve longest) at cost = Nothing
 
 abbrev pub tooMuch : Request → Reply
 tooMuch Acquire = Tried Impossible
 tooMuch (Reserve longest) = Nothing
 
-abbrev pub atOnce : Request → Reply
-atOnce Acquire = Tried Acquired
-atOnce (Reserve longest) = Reserved noWait
+abbrev pub atOnce : Request → Nanos → Reply
+atOnce Acquire at = Tried (Acquired (dueNow at))
+atOnce (Reserve longest) at = Reserved (dueNow at)
 
 -- A request: a try or a reservation.
 abbrev pub askedBy : Request → Limit → Settings → Nanos → Identity → ℕ → List ℕ → Outcome Reply (List ℕ)
-askedBy r Closed s at id cost ws = outcome (closedTo r cost) ws
-askedBy r (Open rate) s at id cost ws = unlessTrivial rate cost (tooMuch r) (atOnce r) ws (requested s rate id r cost at ws (replyTo r))
+askedBy r Closed s at id cost ws = outcome (closedTo r at cost) ws
+askedBy r (Open rate) s at id cost ws = unlessTrivial rate cost (tooMuch r) (atOnce r at) ws (requested s rate id r cost at ws (replyTo r))
 
 -- A try.
 abbrev pub triedBy : Limit → Settings → Nanos → Identity → ℕ → List ℕ → Outcome Reply (List ℕ)
@@ -150,17 +170,17 @@ reserve s at id cost longest ws = unlessRefused (reserveRefusal s (id .hash) at 
 abbrev pub bucketOf : Settings → Rate → Identity → Nanos → List ℕ → BucketCore
 bucketOf s rate id at ws = OneShard.viewed (configOf rate) id at (shardAt s (id .hash) ws)
 
--- A peek: the wait of that bucket. It changes no word.
-unfoldable pub waitReply : Nanos → Reply
-waitReply wait = cond (eqb (wait .0) 0) (Tried Acquired) (Tried (Retry wait))
+-- A peek: when that bucket has the cost. It changes no word.
+unfoldable pub dueReply : Due → Reply
+dueReply due = cond (eqb (due .wait .0) 0) (Tried (Acquired due)) (Tried (Retry due))
 
 unfoldable pub peekedAt : Settings → Rate → Nanos → Identity → ℕ → List ℕ → Reply
 peekedAt s rate at id cost ws =
     cond (ltb (configOf rate .capacity) cost) (Tried Impossible)
-    (waitReply (record { 0 = waitAt (configOf rate) (bucketOf s rate id at ws) cost at }))
+    (dueReply (dueAt (configOf rate) (bucketOf s rate id at ws) cost at))
 
 abbrev pub peekedBy : Limit → Settings → Nanos → Identity → ℕ → List ℕ → Reply
-peekedBy Closed s at id cost ws = Tried (closed cost)
+peekedBy Closed s at id cost ws = Tried (closed at cost)
 peekedBy (Open rate) s at id cost ws = peekedAt s rate at id cost ws
 
 unfoldable pub peek : Settings → Nanos → Identity → ℕ → List ℕ → Outcome Reply (List ℕ)

@@ -7,6 +7,7 @@ ghost use Rattle.store.specs.Memory.{partOf};
 ghost use Rattle.store.specs.Refusals.{shapeRefusal, keyedRefusal, momentRefusal, timedRefusal, waitRefusal};
 ghost use Rattle.perkey.specs.Rules as Rules;
 use bucket::BucketDecision;
+use bucket::Due;
 use bucket::Request;
 use rows::Place;
 use settings::Limit;
@@ -30,8 +31,8 @@ pub mod codes;
 pub enum Reply {
     // What a try or a peek is told.
     Tried(Decision),
-    // A reservation that is granted: usable after the wait.
-    Reserved(Nanos),
+    // A reservation that is granted: usable when it is due.
+    Reserved(Due),
     // No reservation, or an unknown key.
     Nothing,
     // Accepted, or a known key.
@@ -69,7 +70,7 @@ pub fn try_acquire_with_cost(
     match limit {
         Limit::Closed => {
             let late = refusals::moment_refusal(at);
-            let told = Reply::Tried(closed(cost));
+            let told = Reply::Tried(closed(at, cost));
             unless_refused(
                 settings.refusal(),
                 settings.shape(),
@@ -124,7 +125,7 @@ fn decide(
         return Reply::Tried(Decision::Impossible);
     }
     if cost == 0 {
-        return Reply::Tried(Decision::Acquired);
+        return Reply::Tried(Decision::Acquired(due_now(at)));
     }
     match store::position(ws, part, id) {
         Place::At(pos) => {
@@ -236,7 +237,7 @@ fn reserve_within(
         return Reply::Nothing;
     }
     if cost == 0 {
-        return Reply::Reserved(Nanos(0));
+        return Reply::Reserved(due_now(at));
     }
     match store::position(ws, part, id) {
         Place::At(pos) => {
@@ -275,7 +276,7 @@ pub fn peek(settings: Settings, ws: &[u64], at: Nanos, id: Identity, cost: u32) 
     match limit {
         Limit::Closed => {
             let late = refusals::moment_refusal(at);
-            let told = Reply::Tried(closed(cost));
+            let told = Reply::Tried(closed(at, cost));
             unless_refused(
                 settings.refusal(),
                 settings.shape(),
@@ -329,7 +330,7 @@ fn peek_bucket(
         return Reply::Tried(Decision::Impossible);
     }
     let bucket = store::view(ws, part, config, id, at);
-    wait_reply(bucket.time_until_at(config, cost, at))
+    due_reply(bucket.due_at(config, cost, at))
 }
 
 // The whole tokens that a key has; none where there is no rate.
@@ -478,12 +479,19 @@ fn unless_refused(
     }
 }
 
+// Due at the moment itself, without a wait.
+fn due_now(at: Nanos) -> Due
+    ensures { λ r. ⌜ r ≡ Rules.dueNow at ⌝ }
+{
+    Due::after(at, Nanos(0))
+}
+
 // The answer of a limiter without a rate: it grants only cost 0.
-fn closed(cost: u32) -> Decision
-    ensures { λ r. ⌜ r ≡ Rules.closed cost ⌝ }
+fn closed(at: Nanos, cost: u32) -> Decision
+    ensures { λ r. ⌜ r ≡ Rules.closed at cost ⌝ }
 {
     if cost == 0 {
-        Decision::Acquired
+        Decision::Acquired(due_now(at))
     } else {
         Decision::Impossible
     }
@@ -524,12 +532,12 @@ fn try_reply(answer: Answer) -> Reply
     }
 }
 
-// What a bucket decided, as a try is told it. A try is granted without a wait, so a grant tells none.
+// What a bucket decided, as a try is told it.
 fn map_decision(decision: BucketDecision) -> Decision
     ensures { λ r. ⌜ r ≡ Rules.mapDecision decision ⌝ }
 {
     match decision {
-        BucketDecision::Allowed(_) => Decision::Acquired,
+        BucketDecision::Allowed(due) => Decision::Acquired(due),
         BucketDecision::Denied(after) => Decision::Retry { after },
     }
 }
@@ -540,21 +548,21 @@ fn reserve_reply(answer: Answer) -> Reply
 {
     match answer {
         Answer::Decided(decision) => match decision {
-            BucketDecision::Allowed(wait) => Reply::Reserved(wait),
+            BucketDecision::Allowed(due) => Reply::Reserved(due),
             BucketDecision::Denied(_) => Reply::Nothing,
         },
         Answer::NoSpace(_) => Reply::Nothing,
     }
 }
 
-// A bucket's wait as the reply to a peek.
-fn wait_reply(wait: Nanos) -> Reply
-    ensures { λ r. ⌜ r ≡ Rules.waitReply wait ⌝ }
+// When a bucket has the cost, as the reply to a peek.
+fn due_reply(due: Due) -> Reply
+    ensures { λ r. ⌜ r ≡ Rules.dueReply due ⌝ }
 {
-    if wait.0 == 0 {
-        Reply::Tried(Decision::Acquired)
+    if due.wait.0 == 0 {
+        Reply::Tried(Decision::Acquired(due))
     } else {
-        Reply::Tried(Decision::Retry { after: wait })
+        Reply::Tried(Decision::Retry { after: due })
     }
 }
 

@@ -7,12 +7,12 @@ use Rattle.settings.specs.declared.decision.Decision.the-variants.{Acqui
 
 -- Whether the tokens were granted.
 abbrev pub acquired : Decision → Bool
-acquired Acquired = true
-acquired (Retry after) = false
+acquired (Acquired due) = true
+acquired (Retry due) = false
 acquired Impossible = false
 
 -- The wait that a retry is told, and none otherwise.
 abbrev pub retryAfter : Decision → OptionNanos
-retryAfter Acquired = None
-retryAfter (Retry after) = Some after
+retryAfter (Acquired due) = None
+retryAfter (Retry due) = Some (due .wait)
 retryAfter Impossible = None

@@ -1,13 +1,13 @@
 // The outcome of asking for tokens without waiting.
 ghost use mathlib.Core.Path.{_≡_};
 ghost use Rattle.settings.specs.Decision.{acquired, retryAfter};
-use units::Nanos;
+use bucket::Due;
 use units::OptionNanos;
 
-// Granted; to be asked for again after the wait; or never to be granted, since the cost is more than a full bucket or the limiter is closed.
+// Granted, due at once; to be asked for again when it is due; or never to be granted, since the cost is more than a full bucket or the limiter is closed.
 pub enum Decision {
-    Acquired,
-    Retry { after: Nanos },
+    Acquired(Due),
+    Retry { after: Due },
     Impossible,
 }
 
@@ -17,7 +17,7 @@ impl Decision {
         ensures { λ r. ⌜ r ≡ acquired self ⌝ }
     {
         match self {
-            Decision::Acquired => true,
+            Decision::Acquired(_) => true,
             Decision::Retry { after: _ } => false,
             Decision::Impossible => false,
         }
@@ -28,8 +28,11 @@ impl Decision {
         ensures { λ r. ⌜ r ≡ retryAfter self ⌝ }
     {
         match self {
-            Decision::Acquired => OptionNanos::None,
-            Decision::Retry { after } => OptionNanos::Some(after),
+            Decision::Acquired(_) => OptionNanos::None,
+            Decision::Retry { after } => {
+                let wait = after.wait;
+                OptionNanos::Some(wait)
+            }
             Decision::Impossible => OptionNanos::None,
         }
     }

@@ -2,3 +2,4 @@ pub mod RoomLaws
 pub mod ShardLaws
 pub mod OwnBucketLaws
 pub mod ModelLaws
+pub mod DueLaws

@@ -1,6 +1,6 @@
 -- Laws of the store's operations that their functions go by: what a definition is in each case that the code goes through, and that words which are
 -- lent stay so from step to step.
-use Prim.Native.Nat.{ℕ, _≤_, _<_}
+use Prim.Native.Nat.{ℕ, _+_, _≤_, _<_, _^_}
 use native.Mathlib.Omega.{arith}
 use mathlib.Core.Path.{_≡_, sym, _∙_}
 use mathlib.Core.Bool.{true}
@@ -11,7 +11,8 @@ use Rattle.units.specs.declared.Nanos.{Nanos}
 use Rattle.units.specs.declared.OptionNanos.{OptionNanos}
 use Rattle.bucket.specs.declared.BucketConfig.{BucketConfig}
 use Rattle.bucket.specs.declared.Request.{Request}
-use Rattle.bucket.specs.Bucket.{refunded as refundedBucket}
+use Rattle.bucket.specs.declared.Due.{Due}
+use Rattle.bucket.specs.Bucket.{Accepted, dueAfter, refunded as refundedBucket}
 use Rattle.rows.specs.declared.Place.the-variants.{At, Nowhere}
 use Rattle.rows.specs.Outcome.{outcome}
 use Rattle.rows.proofs.OutcomeLaws.{answer-is, after-is}
@@ -29,7 +30,7 @@ use Rattle.shard.specs.declared.Identity.{Identity}
 use Rattle.shard.specs.declared.Policy.{Policy}
 use Rattle.shard.specs.declared.Answer.the-variants.{Decided, NoSpace}
 use Rattle.shard.specs.Model.{tracks, idleLimitIn, askedAt, withExisting, sweptIdle, swept, makeRoom, joined, admit, withOrInsert, hasDebt, refunded, removed}
-use Rattle.shard.proofs.RoomLaws.{swept-idle-sound, swept-sound, room-sound, room-made-leaves-room}
+use Rattle.shard.proofs.RoomLaws.{swept-idle-sound, swept-sound, room-sound, room-made-leaves-room, room-refusal-fits}
 use Rattle.shard.proofs.ShardLaws.{roomFor, debt-taken-sound, refused-took-nothing}
 
 -- A place that lookup found holds a slot, and stands below the cap.
@@ -76,6 +77,11 @@ module _ {cap : ℕ} {ws ws′ : List ℕ} (intact : Intact cap ws) (same : leng
       let fits = rw (← after-is gave) at (room-made-leaves-room p at (shard cap ws) (intact .sound) (sym (answer-is gave) ∙ made)) in
       (after, omega (arith, fits, intact-cap after))
 
+-- Where room is refused in t, the moment at which it is expected fits 64 bits.
+pub refusal-is-due-in-time : (p : Policy) (at : Nanos) (t : Shard) {v : Shard} {room : Room} → outcome room v ≡ makeRoom p at t → Accepted (p .config) → Sound t
+    → at .0 ≤ 2 ^ 62 → (wait : Nanos) → room ≡ Refused wait → at .0 + wait .0 < 2 ^ 64
+refusal-is-due-in-time p at t gave a u early wait is = omega (arith, room-refusal-fits p at t u a wait (sym (answer-is gave) ∙ is))
+
 -- A new key, once its debt was taken out, which left t, and room was made in t or not, which left v. Where room was refused there was no debt to take
 -- out, so none has to be put back.
 module _ (p : Policy) (id : Identity) (request : Request) (cost : ℕ) (at : Nanos) (s : Shard) {owed : OptionNanos} {t v : Shard} {room : Room}
@@ -87,11 +93,11 @@ module _ (p : Policy) (id : Identity) (request : Request) (cost : ℕ) (at : Nan
   unfolding admit
   new-joins made = rw (after-is gave, after-is took, answer-is took, room-told made)
 
-  pub new-refused : (wait : Nanos) → Sound s → room ≡ Refused wait → outcome (NoSpace wait) v ≡ admit p id request cost at s
+  pub new-refused : (wait : Nanos) → Sound s → room ≡ Refused wait → {due : Due} → due ≡ dueAfter at wait → outcome (NoSpace due) v ≡ admit p id request cost at s
   unfolding admit
-  new-refused wait u refused =
+  new-refused wait u refused is-due =
       let told = room-told refused in
-      rw (after-is gave, after-is took, told, refused-took-nothing p id at s wait u told)
+      rw (is-due, after-is gave, after-is took, told, refused-took-nothing p id at s wait u told)
 
 -- A request, by the place of the key.
 module _ (p : Policy) (id : Identity) (request : Request) (cost : ℕ) (at : Nanos) (s : Shard) where

@@ -9,6 +9,7 @@ use Rattle.units.specs.declared.OptionNanos.{OptionNanos}
 use Rattle.units.specs.declared.OptionNanos.the-variants as nanos
 use Rattle.bucket.specs.declared.BucketConfig.{BucketConfig}
 use Rattle.bucket.specs.declared.BucketDecision.{BucketDecision}
+use Rattle.bucket.specs.declared.Due.{Due}
 use Rattle.bucket.specs.declared.Request.{Request}
 use Rattle.bucket.specs.Bucket as Bucket
 use Rattle.rows.specs.declared.Place.the-variants.{At, Nowhere}
@@ -23,7 +24,7 @@ use Rattle.shard.specs.declared.Identity.{Identity}
 use Rattle.shard.specs.declared.Policy.{Policy}
 use Rattle.shard.specs.declared.Answer.{Answer}
 use Rattle.shard.specs.declared.Answer.the-variants.{Decided, NoSpace}
-use Rattle.shard.specs.Model.{returning, withOrInsert, viewed, hasDebt, holds}
+use Rattle.shard.specs.Model.{ownAnswer, returning, withOrInsert, viewed, hasDebt, holds}
 use Rattle.shard.proofs.RoomLaws.{RoomRefusal, room-refusal}
 use Rattle.shard.proofs.ShardLaws.{Asking, slot-asked, key-joins, no-space, ask-cases}
 
@@ -42,44 +43,45 @@ pub without-slot-holds-debt : (id : Identity) (s : Shard) → placeOf s (id .has
 unfolding holds
 without-slot-holds-debt id s e = rw e
 
--- What a key's own bucket answers.
-abbrev pub ownAnswer : Policy → Identity → Request → ℕ → Nanos → Shard → Answer
-ownAnswer p id request cost at s = Decided (Bucket.asked (p .config) request (viewed (p .config) id at s) cost at .decision)
-
 -- What a refusal for space says: the key has neither a slot nor a debt, and no room could be made for it.
 pub record SpaceRefusal (p : Policy) (id : Identity) (s : Shard) (wait : Nanos) : Type 0 where
   pub no-slot : placeOf s (id .hash) (id .key) ≡ Nowhere
   pub no-debt : Ledger.owedBy (s .ledger) (id .hash) ≡ nanos.None
   pub room : RoomRefusal p s wait
 
+-- The wait for space that an answer tells; none where the bucket decides.
+abbrev waitTold : Answer → Nanos
+waitTold (Decided decision) = record { 0 = 0 }
+waitTold (NoSpace due) = due .wait
+
 -- The two answers are not one.
-pub decided-is-no-refusal : {Q : Type 0} {decision : BucketDecision} {wait : Nanos} → Decided decision ≡ NoSpace wait → Q
+pub decided-is-no-refusal : {Q : Type 0} {decision : BucketDecision} {due : Due} → Decided decision ≡ NoSpace due → Q
 decided-is-no-refusal e = let z : _≡_ {A = ℕ} 0 1 = cc in absurd (omega arith)
 
 module _ (p : Policy) (id : Identity) (request : Request) (cost : ℕ) (at : Nanos) (s : Shard) (u : Sound s) where
   -- A key that holds a slot or a debt is decided by its own bucket.
-  pub own-bucket-decides : holds id s ≡ true → withOrInsert p id request cost at s .answer ≡ ownAnswer p id request cost at s
+  pub own-bucket-decides : holds id s ≡ true → withOrInsert p id request cost at s .answer ≡ ownAnswer (p .config) id request cost at s
   own-bucket-decides holding = go (ask-cases p id request cost at s u)
     where
-      go : {o : Outcome Answer Shard} → Asking p id request cost at s o → o .answer ≡ ownAnswer p id request cost at s
+      go : {o : Outcome Answer Shard} → Asking p id request cost at s o → o .answer ≡ ownAnswer (p .config) id request cost at s
       go (slot-asked i slot e f r) = rw (view-of-slot (p .config) id at s i e)
       go (key-joins e made) = rw (view-without-slot (p .config) id at s e, taken-tells (s .ledger) (id .hash))
       go (no-space wait e no-debt told) = absurd (true≢false (sym holding ∙ without-slot-holds-debt id s e ∙ ap hasDebt no-debt))
 
-  pub space-refusal : (wait : Nanos) → withOrInsert p id request cost at s .answer ≡ NoSpace wait → SpaceRefusal p id s wait
-  space-refusal wait = go (ask-cases p id request cost at s u)
+  pub space-refusal : (due : Due) → withOrInsert p id request cost at s .answer ≡ NoSpace due → SpaceRefusal p id s (due .wait)
+  space-refusal due = go (ask-cases p id request cost at s u)
     where
-      go : {o : Outcome Answer Shard} → Asking p id request cost at s o → o .answer ≡ NoSpace wait → SpaceRefusal p id s wait
+      go : {o : Outcome Answer Shard} → Asking p id request cost at s o → o .answer ≡ NoSpace due → SpaceRefusal p id s (due .wait)
       go (slot-asked i slot e f r) q = decided-is-no-refusal q
       go (key-joins e made) q = decided-is-no-refusal q
-      go (no-space w e no-debt told) q = let same : w ≡ wait = cc in record { no-slot = e; no-debt = no-debt; room = rw same at (room-refusal p at s u w told) }
+      go (no-space w e no-debt told) q = let same : w ≡ due .wait = ap waitTold q in record { no-slot = e; no-debt = no-debt; room = rw same at (room-refusal p at s u w told) }
 
   -- So a debt that was taken out is never put back; and the wait is at least a millisecond.
-  pub space-refusal-follows-no-debt : (wait : Nanos) → withOrInsert p id request cost at s .answer ≡ NoSpace wait → Ledger.owedBy (s .ledger) (id .hash) ≡ nanos.None
-  space-refusal-follows-no-debt wait told = space-refusal wait told .no-debt
+  pub space-refusal-follows-no-debt : (due : Due) → withOrInsert p id request cost at s .answer ≡ NoSpace due → Ledger.owedBy (s .ledger) (id .hash) ≡ nanos.None
+  space-refusal-follows-no-debt due told = space-refusal due told .no-debt
 
-  pub space-refusal-waits-a-millisecond : (wait : Nanos) → withOrInsert p id request cost at s .answer ≡ NoSpace wait → minRefusalWait ≤ wait .0
-  space-refusal-waits-a-millisecond wait told = space-refusal wait told .room .least
+  pub space-refusal-waits-a-millisecond : (due : Due) → withOrInsert p id request cost at s .answer ≡ NoSpace due → minRefusalWait ≤ due .wait .0
+  space-refusal-waits-a-millisecond due told = space-refusal due told .room .least
 
 -- The bucket with which a key comes in lacks at least what its debt lacks.
 pub returning-lacks-the-debt : (c : BucketConfig) (at : Nanos) → Bucket.Accepted c → (owed : OptionNanos) → worth (unpaid c at) owed ≤ Bucket.shortfallAt c (returning c at owed) at

@@ -1,7 +1,7 @@
 -- Making room for a new key: an idle sweep where an idle time is set, the ledger's sweep, and an eviction if the shard is full all the same. What these
 -- three steps keep, making room keeps; and it is refused only where the ledger is full and nothing may be forgotten. Laws above go by this and open none
 -- of the steps.
-use Prim.Native.Nat.{ℕ, _≤_, _<_}
+use Prim.Native.Nat.{ℕ, _≤_, _<_, _^_}
 use mathlib.Core.Path.{_≡_, refl, sym, _∙_}
 use mathlib.Core.Bool.{true, false, true≢false}
 use native.Mathlib.Omega.{arith}
@@ -24,7 +24,7 @@ use Rattle.shard_map.proofs.KeptLaws.{Keeps, keeps-refl, keeps-trans, sweep-idl
 use Rattle.evict.specs.declared.Room.{Room}
 use Rattle.evict.specs.declared.Room.the-variants.{Made, Refused}
 use Rattle.evict.specs.Evict.{minRefusalWait, evicted}
-use Rattle.evict.proofs.WalkLaws.{made-is-no-refusal, never-refused-is-made, evict-cap, evict-ledger-cap, evict-sound, evict-made-leaves-room, evict-refusal}
+use Rattle.evict.proofs.WalkLaws.{made-is-no-refusal, never-refused-is-made, evict-cap, evict-ledger-cap, evict-sound, evict-made-leaves-room, evict-refusal, refusal-wait-fits}
 use Rattle.evict.proofs.KeptLaws.{evict-keeps-shortage}
 use Rattle.shard.specs.declared.Policy.{Policy}
 use Rattle.shard.specs.Model.{idleLimitIn, sweptIdle, swept, makeRoom}
@@ -149,6 +149,12 @@ module _ (p : Policy) (at : Nanos) (s : Shard) (u : Sound s) where
       (λ some e.
       let r = evict-refusal (p .config) at (p .«forget_debt») (swept p at s) swept-sound some wait e in
       record { full = omega (arith, r .full, swept-ledger-cap, swept-ledger-count); never = r .never; least = r .least })
+
+  pub room-refusal-fits : Accepted (p .config) → (wait : Nanos) → makeRoom p at s .answer ≡ Refused wait → wait .0 < 2 ^ 63
+  room-refusal-fits a wait =
+      room-cases (λ o. o .answer ≡ Refused wait → wait .0 < 2 ^ 63)
+      (λ free e. made-is-no-refusal e)
+      (λ some e. refusal-wait-fits (p .config) at (p .«forget_debt») (swept p at s) swept-sound some a wait e)
 
   -- So room is made while the ledger is below its cap, and wherever debts may be forgotten.
   pub room-below-ledger-cap-never-refuses : s .ledger .debts .count < Ledger.capOf (s .ledger) → makeRoom p at s .answer ≡ Made

@@ -56,7 +56,7 @@ pub data Asking (p : Policy) (id : Identity) (request : Request) (cost : ℕ) (a
   key-joins : placeOf s (id .hash) (id .key) ≡ Nowhere → roomFor p id at s .answer ≡ Made
       → Asking p id request cost at s (joined p id request cost at (Ledger.taken (s .ledger) (id .hash) .answer) (roomFor p id at s .after))
   no-space : (wait : Nanos) → placeOf s (id .hash) (id .key) ≡ Nowhere → Ledger.owedBy (s .ledger) (id .hash) ≡ nanos.None → makeRoom p at s .answer ≡ Refused wait
-      → Asking p id request cost at s (outcome (NoSpace wait) (makeRoom p at s .after))
+      → Asking p id request cost at s (outcome (NoSpace (Bucket.dueAfter at wait)) (makeRoom p at s .after))
 
 -- Where room is refused no debt was taken out: one that was taken out would have left the ledger below its cap.
 pub refused-took-nothing : (p : Policy) (id : Identity) (at : Nanos) (s : Shard) (wait : Nanos) → Sound s → roomFor p id at s .answer ≡ Refused wait

@@ -86,7 +86,7 @@ putBack hash at (nanos.Some settles) s = withLedger s (Ledger.recorded (s .ledge
 -- No room: the key is turned away for want of space, and its debt put back; what was swept, cleared or moved stays so.
 abbrev pub admitted : Policy → Identity → Request → ℕ → Nanos → OptionNanos → Shard → Room → Outcome Answer Shard
 admitted p id request cost at owed s Made = joined p id request cost at owed s
-admitted p id request cost at owed s (Refused wait) = outcome (NoSpace wait) (putBack (id .hash) at owed s)
+admitted p id request cost at owed s (Refused wait) = outcome (NoSpace (Bucket.dueAfter at wait)) (putBack (id .hash) at owed s)
 
 -- A new key's own debt is taken out first: its place in the ledger is then free for the debt of a slot that has to go.
 unfoldable pub admit : Policy → Identity → Request → ℕ → Nanos → Shard → Outcome Answer Shard
@@ -110,6 +110,10 @@ viewedFrom c id at s Nowhere = returning c at (Ledger.owedBy (s .ledger) (id .ha
 
 unfoldable pub viewed : BucketConfig → Identity → Nanos → Shard → BucketCore
 viewed c id at s = viewedFrom c id at s (placeOf s (id .hash) (id .key))
+
+-- What a key's own bucket answers to a request.
+abbrev pub ownAnswer : BucketConfig → Identity → Request → ℕ → Nanos → Shard → Answer
+ownAnswer c id request cost at s = Decided (Bucket.asked c request (viewed c id at s) cost at .decision)
 
 -- Whether there is a debt, and a slot.
 abbrev pub hasDebt : OptionNanos → Bool

@@ -9,6 +9,7 @@ ghost use Rattle.shard.specs.Model as Model;
 use bucket::BucketConfig;
 use bucket::BucketCore;
 use bucket::BucketDecision;
+use bucket::Due;
 use bucket::Request;
 use evict::Room;
 use rows::Place;
@@ -31,10 +32,10 @@ pub struct Policy {
     pub forget_debt: bool,
 }
 
-// The answer to a request: the bucket's, or a wait for space.
+// The answer to a request: the bucket's, or when space is expected.
 pub enum Answer {
     Decided(BucketDecision),
-    NoSpace(Nanos),
+    NoSpace(Due),
 }
 
 impl Policy {
@@ -60,7 +61,7 @@ pub fn with_existing(
     cost: u32,
     at: Nanos,
 ) -> Answer
-    requires { ⌜ Intact cap (now ws) × Accepted (policy .config) × (cost ≤ policy .config .capacity) × (pos < cap) ⌝ }
+    requires { ⌜ Intact cap (now ws) × Accepted (policy .config) × (cost ≤ policy .config .capacity) × (at .0 ≤ 2 ^ 62) × (pos < cap) ⌝ }
     ensures { λ r. ⌜ outcome r (shard cap (now (ws .exit))) ≡ Model.withExisting policy request cost at (shard cap (now (ws .entry))) pos ⌝ }
 {
     let stored = shard_map::get(ws, cap, pos);
@@ -105,7 +106,7 @@ pub fn admit(
     let owed = debts::take(ws, cap, id.hash);
     match make_room(ws, cap, policy, at) {
         Room::Made => join(ws, cap, policy, id, request, cost, at, owed),
-        Room::Refused(wait) => Answer::NoSpace(wait),
+        Room::Refused(wait) => Answer::NoSpace(Due::after(at, wait)),
     }
 }
 
@@ -120,7 +121,7 @@ fn join(
     at: Nanos,
     owed: OptionNanos,
 ) -> Answer
-    requires { ⌜ Intact cap (now ws) × Accepted (policy .config) × (cost ≤ policy .config .capacity) × (shard cap (now ws) .slots .count < cap) ⌝ }
+    requires { ⌜ Intact cap (now ws) × Accepted (policy .config) × (cost ≤ policy .config .capacity) × (at .0 ≤ 2 ^ 62) × (shard cap (now ws) .slots .count < cap) ⌝ }
     ensures { λ r. ⌜ outcome r (shard cap (now (ws .exit))) ≡ Model.joined policy id request cost at owed (shard cap (now (ws .entry))) ⌝ }
 {
     let config = policy.config;

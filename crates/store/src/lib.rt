@@ -65,7 +65,7 @@ pub fn with_existing(
     cost: u32,
     at: Nanos,
 ) -> Answer
-    requires { ⌜ Placed part (now ws) × Sound (shardIn part (now ws)) × Accepted (policy .config) × (cost ≤ policy .config .capacity) × (pos < part .cap) ⌝ }
+    requires { ⌜ Placed part (now ws) × Sound (shardIn part (now ws)) × Accepted (policy .config) × (cost ≤ policy .config .capacity) × (at .0 ≤ 2 ^ 62) × (pos < part .cap) ⌝ }
     ensures { λ r. ⌜ outcome r (now (ws .exit)) ≡ inPart part (now (ws .entry)) (OneShard.withExisting policy request cost at (shardIn part (now (ws .entry))) pos) ⌝ }
 {
     let start = part.start;

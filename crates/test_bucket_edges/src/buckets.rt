@@ -27,6 +27,9 @@ fn ask(bucket: BucketCore, request: Request, cost: u32, at: u64) -> BucketCore {
     if 4 < cost {
         return bucket;
     }
+    if 0x4000_0000_0000_0000 < at {
+        return bucket;
+    }
     let outcome = bucket.ask_at(config, request, cost, Nanos(at));
     let decision = outcome.decision;
     told(decision);
@@ -35,8 +38,8 @@ fn ask(bucket: BucketCore, request: Request, cost: u32, at: u64) -> BucketCore {
 
 fn told(decision: BucketDecision) {
     match decision {
-        BucketDecision::Allowed(wait) => shapes::line(b"allowed", wait.0),
-        BucketDecision::Denied(wait) => shapes::line(b"denied", wait.0),
+        BucketDecision::Allowed(due) => shapes::line(b"allowed", due.wait.0),
+        BucketDecision::Denied(due) => shapes::line(b"denied", due.wait.0),
     }
 }
 

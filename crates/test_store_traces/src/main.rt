@@ -5,9 +5,9 @@
 // The gate compares what is printed with the file `stdout`, whose replies and words are those of the Rust oracle (oracle/record-store-traces).
 use libc::STDIN_FILENO;
 use libc::STDOUT_FILENO;
-use limiter::LimiterReply;
 use line::Call;
 use line::Store;
+use perkey::codes::Told;
 use shard_map::words;
 
 mod digest;
@@ -63,7 +63,7 @@ fn lend(operation: u64, words: &mut [u64], store: Store, call: Call) {
 }
 
 // The code and the number of a reply.
-fn print(reply: LimiterReply) {
+fn print(reply: Told) {
     io::print_decimal(STDOUT_FILENO, reply.code);
     io::write_all(STDOUT_FILENO, b" ");
     io::print_decimal(STDOUT_FILENO, reply.number);

@@ -1,7 +1,7 @@
 // The operations, by their numbers in the traces.
 use crate::line::Call;
-use limiter::LimiterReply;
 use limiter::LimiterSettings;
+use perkey::codes::Told;
 
 // No operation: the line has the store that the next calls are on.
 pub(crate) const STORE: u64 = 0;
@@ -25,7 +25,7 @@ const CLEAR: u64 = 8;
 // 9, and any other number, is a look at the length.
 
 // Runs a call that changes words; the others are passed on.
-pub(crate) fn run(operation: u64, ws: &mut [u64], s: LimiterSettings, c: Call) -> LimiterReply {
+pub(crate) fn run(operation: u64, ws: &mut [u64], s: LimiterSettings, c: Call) -> Told {
     if operation == SET_UP {
         return limiter::limiter_set_up(s, ws);
     }
@@ -48,7 +48,7 @@ pub(crate) fn run(operation: u64, ws: &mut [u64], s: LimiterSettings, c: Call) -
 }
 
 // Runs a look.
-fn look(operation: u64, ws: &[u64], s: LimiterSettings, c: Call) -> LimiterReply {
+fn look(operation: u64, ws: &[u64], s: LimiterSettings, c: Call) -> Told {
     if operation == PEEK {
         return limiter::limiter_peek(s, ws, c.at, c.hash, c.key, c.cost);
     }

@@ -3,6 +3,10 @@ use Prim.Native.Nat.{ℕ, _/_}
 use Rattle.units.specs.declared.Nanos.{Nanos}
 use Rattle.units.specs.declared.Millis.{Millis}
 
+-- So many nanoseconds.
+abbrev pub nanosOf : ℕ → Nanos
+nanosOf n = record { 0 = n }
+
 -- How many nanoseconds a millisecond has.
 abbrev pub nanosPerMilli : ℕ
 nanosPerMilli = 1000000

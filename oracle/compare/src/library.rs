@@ -5,6 +5,7 @@ use oracle::{Answer, Rate, Settings, WhenFull};
 
 use crate::call::Call;
 use crate::random::Random;
+use crate::reply::Reply;
 
 /// The settings as the library takes them.
 pub type RawSettings = LimiterSettings;
@@ -83,7 +84,7 @@ pub fn words(s: &RawSettings) -> u64 {
 }
 
 /// The library's answer to `call` on `words`. A code past 8 bits becomes 255, which is no code.
-pub fn ask(s: RawSettings, words: &mut [u64], call: &Call) -> Answer {
+pub fn ask(s: RawSettings, words: &mut [u64], call: &Call) -> Reply {
     let reply = match *call {
         Call::SetUp => slices::set_up(s, words),
         Call::Try { now, key, cost } => slices::try_acquire(s, words, now, key.hash, key.key, cost),
@@ -100,8 +101,12 @@ pub fn ask(s: RawSettings, words: &mut [u64], call: &Call) -> Answer {
         Call::Clear => slices::clear(s, words),
         Call::Length => slices::length(s, words),
     };
-    Answer {
+    let answer = Answer {
         code: u8::try_from(reply.code).unwrap_or(u8::MAX),
         number: reply.number,
+    };
+    Reply {
+        answer,
+        moment: reply.moment,
     }
 }

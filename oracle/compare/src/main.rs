@@ -10,6 +10,7 @@ mod lent;
 mod library;
 mod options;
 mod random;
+mod reply;
 mod rules;
 mod run;
 

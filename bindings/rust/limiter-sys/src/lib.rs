@@ -46,6 +46,8 @@ pub struct LimiterReply {
     pub code: u64,
     /// A wait in nanoseconds, tokens, or a count of keys, as the call says; else 0.
     pub number: u64,
+    /// `now` and the wait: from when on granted tokens may be used, or when to try again; else 0.
+    pub moment: u64,
 }
 
 // The layout that crates/limiter/src/lib.rt declares and the header asserts.
@@ -65,14 +67,15 @@ const _: () = {
     assert!(offset_of!(LimiterSettings, initial) == 52);
     assert!(offset_of!(LimiterSettings, has_idle) == 56);
     assert!(offset_of!(LimiterSettings, forget_debt) == 60);
-    assert!(size_of::<LimiterReply>() == 16 && align_of::<LimiterReply>() == 8);
+    assert!(size_of::<LimiterReply>() == 24 && align_of::<LimiterReply>() == 8);
     assert!(offset_of!(LimiterReply, code) == 0);
     assert!(offset_of!(LimiterReply, number) == 8);
+    assert!(offset_of!(LimiterReply, moment) == 16);
 };
 
-/// Granted, accepted, known, counted.
+/// Granted, from the moment on; or accepted, known, counted.
 pub const LIMITER_DONE: u64 = 0;
-/// Not now; the number is the wait in nanoseconds.
+/// Not now; the number is the wait in nanoseconds, and the moment when it is over.
 pub const LIMITER_RETRY: u64 = 1;
 /// Never: the cost is over the burst, or the limiter is closed.
 pub const LIMITER_IMPOSSIBLE: u64 = 2;

@@ -22,6 +22,17 @@ const SMALL: LimiterSettings = LimiterSettings {
     forget_debt: 0,
 };
 
+/// The nanoseconds of a token.
+const HALF: u64 = 500_000_000;
+
+const fn reply(code: u64, number: u64, moment: u64) -> LimiterReply {
+    LimiterReply {
+        code,
+        number,
+        moment,
+    }
+}
+
 #[test]
 fn no_words_may_be_null() {
     // SAFETY: no words are lent.
@@ -38,11 +49,21 @@ fn no_words_may_be_null() {
             limiter_length(SMALL, null(), 0),
         ]
     };
-    let refused = LimiterReply {
-        code: LIMITER_REFUSED + LIMITER_BAD_MEMORY,
-        number: 0,
-    };
+    let refused = reply(LIMITER_REFUSED + LIMITER_BAD_MEMORY, 0, 0);
     assert_eq!(replies, [refused; 9]);
+}
+
+#[test]
+fn a_reply_is_three_numbers() {
+    let (mut words, now) = ([0; 13], 5_000_000_000);
+    assert_eq!(slices::set_up(SMALL, &mut words), reply(LIMITER_DONE, 0, 0));
+    let granted = slices::try_acquire(SMALL, &mut words, now, 7, 7, 2);
+    assert_eq!(granted, reply(LIMITER_DONE, 0, now));
+    let retry = slices::peek(SMALL, &words, now, 7, 7, 1);
+    assert_eq!(retry, reply(LIMITER_RETRY, HALF, now + HALF));
+    let reserved = slices::reserve(SMALL, &mut words, now, 7, 7, 1, HALF);
+    assert_eq!(reserved, reply(LIMITER_DONE, HALF, now + HALF));
+    assert_eq!(slices::length(SMALL, &words), reply(LIMITER_DONE, 1, 0));
 }
 
 #[test]
@@ -93,13 +114,15 @@ fn the_header_has_the_same_fields_and_version() {
         .filter_map(|line| line.split_once("_t ")?.1.split_once(';'))
         .map(|(name, _)| name)
         .collect();
-    let ours = format!("{SMALL:?} {:?}", LimiterReply { code: 0, number: 0 });
+    let ours = format!("{SMALL:?} {:?}", reply(0, 0, 0));
     let ours: Vec<&str> = ours
         .split(['{', ',', '}'])
         .filter_map(|part| part.split_once(": "))
         .map(|(name, _)| name.trim())
         .collect();
     assert_eq!(fields, ours);
+    let size = format!("sizeof(limiter_reply) == {})", size_of::<LimiterReply>());
+    assert!(HEADER.contains(&size), "{size}");
     let version = format!("#define LIMITER_VERSION \"{}\"", env!("CARGO_PKG_VERSION"));
     assert!(HEADER.contains(&version), "{version}");
 }

@@ -1,5 +1,5 @@
 -- `answer` has a case for each line, and each is the rule's outcome, told.
-use Rattle.desk_answers.proofs.DeskLaws.{outcome-is-told}
+use Rattle.perkey.proofs.RuleLaws.{outcome-is-told}
 use borrow.Author.Needs.{needs}
 use Rattle.desk_answers.proofs.answer.Statement.{statement}
 use Rattle.desk_answers.proofs.answer.Tie as tie
@@ -37,8 +37,8 @@ identity-requires c κs = search needs
 refund-requires : tie.Need-refund-requires
 refund-requires c κs = search needs
 
-told-as-requires : tie.Need-told-as-requires
-told-as-requires c κs = search needs
+told-requires : tie.Need-told-requires
+told-requires c κs = search needs
 
 enum-known-line-5 : tie.Need-enum-known-line-5
 enum-known-line-5 c = search needs
@@ -49,8 +49,8 @@ identity-requires-2 c κs = search needs
 remove-requires : tie.Need-remove-requires
 remove-requires c κs = search needs
 
-told-as-requires-2 : tie.Need-told-as-requires-2
-told-as-requires-2 c κs = search needs
+told-requires-2 : tie.Need-told-requires-2
+told-requires-2 c κs = search needs
 
 enum-told-2 : tie.Need-enum-told-2
 enum-told-2 c = search needs
@@ -86,7 +86,7 @@ returns-5 : tie.Need-returns-5
 returns-5 c =
     let r = c .before .before .before in
     rw (r .before .before .before .before .line4 .given .1)
-    (outcome-is-told (rw (r .before .identity .ensures) at (r .refund .ensures)) (c .told-as .ensures))
+    (outcome-is-told (rw (r .before .identity .ensures) at (r .refund .ensures)) (c .told .ensures))
 
 same-length-5 : tie.Need-same-length-5
 same-length-5 c = search needs
@@ -95,7 +95,7 @@ returns-6 : tie.Need-returns-6
 returns-6 c =
     let r = c .before .before .before in
     rw (r .before .before .before .before .line5 .given .1)
-    (outcome-is-told (rw (r .before .identity2 .ensures) at (r .remove .ensures)) (c .told-as2 .ensures))
+    (outcome-is-told (rw (r .before .identity2 .ensures) at (r .remove .ensures)) (c .told2 .ensures))
 
 returns-7 : tie.Need-returns-7
 returns-7 c = rw (c .before .enum-told2 .given .1, c .malformed2 .ensures)
@@ -115,11 +115,11 @@ answer-spec =
     enum-known-line-4
     identity-requires
     refund-requires
-    told-as-requires
+    told-requires
     enum-known-line-5
     identity-requires-2
     remove-requires
-    told-as-requires-2
+    told-requires-2
     enum-told-2
     malformed-requires-2
     returns

@@ -1,5 +1,5 @@
 -- `peeked` tells the outcome of the rule that perkey's peek gives.
-use Rattle.desk_answers.proofs.DeskLaws.{outcome-is-told}
+use Rattle.perkey.proofs.RuleLaws.{outcome-is-told}
 use borrow.Author.Needs.{needs}
 use Rattle.desk_answers.proofs.peeked.Statement.{statement}
 use Rattle.desk_answers.proofs.peeked.Tie as tie
@@ -10,11 +10,11 @@ identity-requires c κs = search needs
 peek-requires : tie.Need-peek-requires
 peek-requires c κs = search needs
 
-told-as-requires : tie.Need-told-as-requires
-told-as-requires c κs = search needs
+told-requires : tie.Need-told-requires
+told-requires c κs = search needs
 
 returns : tie.Need-returns
-returns c = outcome-is-told (rw (c .before .before .identity .ensures) at (c .before .peek .ensures)) (c .told-as .ensures)
+returns c = outcome-is-told (rw (c .before .before .identity .ensures) at (c .before .peek .ensures)) (c .told .ensures)
 
 pub peeked-spec : {M : Type 1} → statement M
-peeked-spec = tie.close (tie.spec identity-requires peek-requires told-as-requires returns)
+peeked-spec = tie.close (tie.spec identity-requires peek-requires told-requires returns)

@@ -1,5 +1,6 @@
 -- `set_up` lends the words of the store to perkey's set-up, and the run goes on if that accepts.
-use Rattle.desk_answers.proofs.DeskLaws.{size-fits, lent-answered, outcome-is-told, first-served}
+use Rattle.desk_answers.proofs.DeskLaws.{size-fits, lent-answered, first-served}
+use Rattle.perkey.proofs.RuleLaws.{outcome-is-told}
 use Rattle.perkey.specs.Rules as Rules
 use borrow.Author.Needs.{needs}
 use Rattle.desk_answers.proofs.set_up.Statement.{statement}
@@ -24,8 +25,8 @@ part-set-up-end c = rw (c .store-size .ensures) (size-fits _ _)
 set-up-requires : tie.Need-set-up-requires
 set-up-requires c κs = search needs
 
-told-as-requires : tie.Need-told-as-requires
-told-as-requires c κs = search needs
+told-requires : tie.Need-told-requires
+told-requires c κs = search needs
 
 stage-after-requires : tie.Need-stage-after-requires
 stage-after-requires c κs = search needs
@@ -39,7 +40,7 @@ returns c =
     let z = u .before .before in
     let a = start z .args in
     let gave = lent-answered (a .settings) (a .memory .now) _ (Rules.setUp (a .settings)) (z .store-size .ensures) (u .set-up .ensures) in
-    first-served (a .settings) (outcome-is-told gave (c .before .told-as .ensures)) (c .stage-after .ensures)
+    first-served (a .settings) (outcome-is-told gave (c .before .told .ensures)) (c .stage-after .ensures)
 
 pub set-up-spec : {M : Type 1} → statement M
 set-up-spec =
@@ -50,7 +51,7 @@ set-up-spec =
     part-set-up-start
     part-set-up-end
     set-up-requires
-    told-as-requires
+    told-requires
     stage-after-requires
     same-length
     returns)

@@ -1,5 +1,5 @@
 -- `tried` tells the outcome of the rule that perkey's try gives.
-use Rattle.desk_answers.proofs.DeskLaws.{outcome-is-told}
+use Rattle.perkey.proofs.RuleLaws.{outcome-is-told}
 use borrow.Author.Needs.{needs}
 use Rattle.desk_answers.proofs.tried.Statement.{statement}
 use Rattle.desk_answers.proofs.tried.Tie as tie
@@ -10,14 +10,14 @@ identity-requires c κs = search needs
 try-acquire-with-cost-requires : tie.Need-try-acquire-with-cost-requires
 try-acquire-with-cost-requires c κs = search needs
 
-told-as-requires : tie.Need-told-as-requires
-told-as-requires c κs = search needs
+told-requires : tie.Need-told-requires
+told-requires c κs = search needs
 
 same-length : tie.Need-same-length
 same-length c = search needs
 
 returns : tie.Need-returns
-returns c = outcome-is-told (rw (c .before .before .before .before .before .identity .ensures) at (c .before .before .before .try-acquire-with-cost .ensures)) (c .told-as .ensures)
+returns c = outcome-is-told (rw (c .before .before .before .before .before .identity .ensures) at (c .before .before .before .try-acquire-with-cost .ensures)) (c .told .ensures)
 
 pub tried-spec : {M : Type 1} → statement M
 tried-spec =
@@ -25,6 +25,6 @@ tried-spec =
     (tie.spec
     identity-requires
     try-acquire-with-cost-requires
-    told-as-requires
+    told-requires
     same-length
     returns)

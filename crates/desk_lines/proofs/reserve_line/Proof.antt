@@ -1,5 +1,6 @@
 -- `reserve_line` is finished after a request and a wait.
-use Rattle.desk_lines.specs.Lines.{most64, nanosOf}
+use Rattle.desk_lines.specs.Lines.{most64}
+use Rattle.units.specs.Units.{nanosOf}
 use Rattle.desk_lines.specs.declared.Line.the-variants.{Reserve}
 use Rattle.desk_lines.proofs.LineLaws.{finished-line, unfinished-line, restOf, taken-after}
 use borrow.Author.Needs.{needs}

@@ -1,5 +1,5 @@
 -- `limiter_available` tells the outcome of the rule that perkey's operation gives.
-use Rattle.limiter.proofs.ExportedLaws.{outcome-is-told}
+use Rattle.perkey.proofs.RuleLaws.{outcome-is-told}
 use borrow.Author.Needs.{needs}
 use Rattle.limiter.proofs.limiter_available.Statement.{statement}
 use Rattle.limiter.proofs.limiter_available.Tie as tie
@@ -10,12 +10,12 @@ settings-of-requires c κs = search needs
 available-requires : tie.Need-available-requires
 available-requires c κs = search needs
 
-reply-requires : tie.Need-reply-requires
-reply-requires c κs = search needs
+told-requires : tie.Need-told-requires
+told-requires c κs = search needs
 
 returns : tie.Need-returns
-returns c = outcome-is-told (rw (c .before .before .settings-of .ensures) at (c .before .available .ensures)) (c .reply .ensures)
+returns c = outcome-is-told (rw (c .before .before .settings-of .ensures) at (c .before .available .ensures)) (c .told .ensures)
 
 pub limiter-available-spec : {M : Type 1} → statement M
 limiter-available-spec =
-    tie.close (tie.spec settings-of-requires available-requires reply-requires returns)
+    tie.close (tie.spec settings-of-requires available-requires told-requires returns)

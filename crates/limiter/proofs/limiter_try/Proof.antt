@@ -1,5 +1,5 @@
 -- `limiter_try` tells the outcome of the rule that perkey's operation gives.
-use Rattle.limiter.proofs.ExportedLaws.{outcome-is-told}
+use Rattle.perkey.proofs.RuleLaws.{outcome-is-told}
 use borrow.Author.Needs.{needs}
 use Rattle.limiter.proofs.limiter_try.Statement.{statement}
 use Rattle.limiter.proofs.limiter_try.Tie as tie
@@ -10,16 +10,16 @@ settings-of-requires c κs = search needs
 try-acquire-with-cost-requires : tie.Need-try-acquire-with-cost-requires
 try-acquire-with-cost-requires c κs = search needs
 
-reply-requires : tie.Need-reply-requires
-reply-requires c κs = search needs
+told-requires : tie.Need-told-requires
+told-requires c κs = search needs
 
 same-length : tie.Need-same-length
 same-length c = search needs
 
 returns : tie.Need-returns
-returns c = outcome-is-told (rw (c .before .before .before .before .before .settings-of .ensures) at (c .before .before .before .try-acquire-with-cost .ensures)) (c .reply .ensures)
+returns c = outcome-is-told (rw (c .before .before .before .before .before .settings-of .ensures) at (c .before .before .before .try-acquire-with-cost .ensures)) (c .told .ensures)
 
 pub limiter-try-spec : {M : Type 1} → statement M
 limiter-try-spec =
     tie.close
-    (tie.spec settings-of-requires try-acquire-with-cost-requires reply-requires same-length returns)
+    (tie.spec settings-of-requires try-acquire-with-cost-requires told-requires same-length returns)

@@ -1,8 +1,8 @@
--- `peek_bucket` goes by the cost, as the rule does, and else tells the wait of the bucket that it views.
+-- `peek_bucket` goes by the cost, as the rule does, and else tells when the bucket that it views has the cost.
 use Rattle.bucket.specs.Bucket.{Accepted}
 use Rattle.shard_map.specs.Model.{Sound}
 use Rattle.store.specs.Memory.{Placed, shardIn}
-use Rattle.perkey.proofs.RuleLaws.{peek-of-too-much, bucket-may-be-viewed, viewed-wait-is-told}
+use Rattle.perkey.proofs.RuleLaws.{peek-of-too-much, bucket-may-be-viewed, moment-is-early, viewed-due-is-told}
 use borrow.Author.Needs.{needs}
 use Rattle.perkey.proofs.peek_bucket.Statement.{statement}
 use Rattle.perkey.proofs.peek_bucket.Tie as tie
@@ -28,11 +28,16 @@ returns c =
 view-requires : tie.Need-view-requires
 view-requires c κs = viewed (c .before .before)
 
-time-until-at-requires : tie.Need-time-until-at-requires
-time-until-at-requires c κs = (viewed (c .before .before .before) .2, c .before .if1 .left)
+due-at-requires : tie.Need-due-at-requires
+due-at-requires c κs =
+    let k = c .before .before .before in
+    let a = start k .args in
+    let pre′ = start k .pre in
+    let early = moment-is-early (a .settings) (a .id .hash) (a .ws .now) (pre′ .1) (a .at) (pre′ .0) (a .rate) (pre′ .2) in
+    (viewed k .2, c .before .if1 .left, early)
 
-wait-reply-requires : tie.Need-wait-reply-requires
-wait-reply-requires c κs = search needs
+due-reply-requires : tie.Need-due-reply-requires
+due-reply-requires c κs = search needs
 
 returns-2 : tie.Need-returns-2
 returns-2 c =
@@ -41,8 +46,8 @@ returns-2 c =
     let a = start k .args in
     let pre′ = start k .pre in
     let within = rw (k .config .ensures) at (e .if1 .left) in
-    viewed-wait-is-told (a .settings) (a .rate) (a .at) (a .id) (a .ws .now) (pre′ .2) (pre′ .1) (k .config .ensures) (c .before .before .view .ensures)
-    (a .cost) within (c .before .time-until-at .ensures) (c .wait-reply .ensures)
+    viewed-due-is-told (a .settings) (a .rate) (a .at) (a .id) (a .ws .now) (pre′ .2) (pre′ .1) (k .config .ensures) (c .before .before .view .ensures)
+    (a .cost) within (c .before .due-at .ensures) (c .due-reply .ensures)
 
 pub peek-bucket-spec : {M : Type 1} → statement M
 peek-bucket-spec =
@@ -51,6 +56,6 @@ peek-bucket-spec =
     config-requires
     returns
     view-requires
-    time-until-at-requires
-    wait-reply-requires
+    due-at-requires
+    due-reply-requires
     returns-2)

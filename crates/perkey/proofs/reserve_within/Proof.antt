@@ -1,4 +1,7 @@
 -- `reserve_within` goes by the cost, as the rule does, and else asks the store in the key's shard, by the key's place.
+use mathlib.Core.Path.{ap}
+use Rattle.bucket.specs.declared.Due.{Due}
+use Rattle.perkey.specs.declared.Reply.the-variants.{Reserved}
 use Rattle.bucket.specs.declared.Request.{Request}
 use Rattle.bucket.specs.declared.Request.the-variants.{Reserve}
 use Rattle.perkey.proofs.RequestLaws.{Asks, too-much-is-told, nothing-is-granted, place-may-be-asked, known-may-be-asked, new-may-be-asked}
@@ -37,12 +40,17 @@ returns c =
     let a = s .args in
     too-much-is-told (request s) (a .settings) (a .at) (a .id) (a .cost) (a .ws .now) (s .pre .2) (rw (c .before .capacity .ensures) at (c .if1 .taken))
 
+due-now-requires : tie.Need-due-now-requires
+due-now-requires c κs = search needs
+
 returns-2 : tie.Need-returns-2
 returns-2 c =
-    let s = c .before .before .before .before in
+    let t = c .before in
+    let s = t .before .before .before .before in
     let a = s .args in
-    let within = rw (c .before .before .capacity .ensures) at (c .before .if1 .left) in
-    nothing-is-granted (request s) (a .settings) (a .at) (a .id) (a .cost) (a .ws .now) (s .pre .2) within (c .if2 .taken)
+    let within = rw (t .before .before .capacity .ensures) at (t .before .if1 .left) in
+    let told = ap (λ (due : Due). Reserved due) (c .due-now .ensures) in
+    nothing-is-granted (request s) (a .settings) (a .at) (a .id) (a .cost) (a .ws .now) (s .pre .2) within (t .if2 .taken) told
 
 position-requires : tie.Need-position-requires
 position-requires c κs = place-may-be-asked (asks (c .before))
@@ -101,6 +109,7 @@ reserve-within-spec =
     (tie.spec
     capacity-requires
     returns
+    due-now-requires
     returns-2
     position-requires
     enum-known-pos

@@ -8,6 +8,7 @@ use super::{Bench, Step, compare_words};
 use crate::branches::Origin;
 use crate::call::Call;
 use crate::generate::Aside;
+use crate::reply::{Reply, Said};
 use crate::{library, rules};
 
 /// Codes over this one are refusals by number.
@@ -27,25 +28,25 @@ impl Bench {
         let ruled = rules::answer(&settings, &mut words, &aside.call, &mut self.hits);
         self.scratch.fill(&aside.words);
         let ours = library::ask(aside.raw, self.scratch.words(), &aside.call);
-        let answers = vec![("library", ours), ("01's rules", ruled)];
-        if ruled.code > REFUSED && words != aside.words {
-            let sides = "01's rules and a refused call's words";
+        let answers = vec![Said::library(ours), Said::rules(ruled)];
+        if ruled.answer.code > REFUSED && words != aside.words {
+            let sides = "the rules and a refused call's words";
             return Err(differing(sides, &step, answers, &words, &aside.words));
         }
         let lent = self.scratch.words();
         if ours != ruled || lent != words || !self.scratch.guarded() {
-            let (sides, lent) = ("the library and 01's rules", self.scratch.words());
+            let (sides, lent) = ("the library and the rules", self.scratch.words());
             return Err(differing(sides, &step, answers, lent, &words));
         }
         compare_the_rust(&settings, aside, ruled, words)
     }
 }
 
-/// Holds the Rust against the rules, where it can hold the words.
+/// Holds the Rust against the rules, where it can hold the words: but for the moment, which it lacks.
 fn compare_the_rust(
     settings: &Settings,
     aside: &Aside,
-    ruled: Answer,
+    ruled: Reply,
     mut words: Vec<u64>,
 ) -> Checked<()> {
     let Some((rust, its_words)) = the_rust_on(settings, aside) else {
@@ -55,16 +56,16 @@ fn compare_the_rust(
         normalise_marks(settings, &mut words);
         its_words != words
     });
-    if rust == ruled && !differ {
+    if rust == ruled.answer && !differ {
         return Ok(());
     }
     let step = Step {
         raw: aside.raw,
         call: aside.call,
     };
-    let answers = vec![("Rust", rust), ("01's rules", ruled)];
+    let answers = vec![Said::rust(rust), Said::rules(ruled)];
     Err(differing(
-        "the Rust and 01's rules",
+        "the Rust and the rules",
         &step,
         answers,
         &[],

@@ -4,17 +4,18 @@ use core::fmt;
 
 use oracle::layout::{self, Items, debt, slot};
 use oracle::refusals::MOST_KEYS;
-use oracle::{Answer, Settings, Shape};
+use oracle::{Settings, Shape};
 
 use super::Step;
 use crate::library;
+use crate::reply::Said;
 
 /// Two of the three that do not agree.
 pub struct Difference {
     pub sides: &'static str,
     pub step: Step,
     /// Who answered what.
-    pub answers: Vec<(&'static str, Answer)>,
+    pub answers: Vec<Said>,
     /// A word's place, and what it is on the two sides.
     pub words: Vec<(usize, u64, u64)>,
 }
@@ -26,7 +27,7 @@ pub type Checked<T> = Result<T, Box<Difference>>;
 pub(super) fn differing(
     sides: &'static str,
     step: &Step,
-    answers: Vec<(&'static str, Answer)>,
+    answers: Vec<Said>,
     ones: &[u64],
     others: &[u64],
 ) -> Box<Difference> {
@@ -50,8 +51,8 @@ impl fmt::Display for Difference {
         writeln!(f, "  {settings:?}")?;
         writeln!(f, "  given as {:?}", self.step.raw)?;
         writeln!(f, "  call: {}", self.step.call)?;
-        for (who, answer) in &self.answers {
-            writeln!(f, "  {who}: code {} number {}", answer.code, answer.number)?;
+        for said in &self.answers {
+            writeln!(f, "  {said}")?;
         }
         for &(at, one, other) in self.words.iter().take(40) {
             writeln!(

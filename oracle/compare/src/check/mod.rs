@@ -1,4 +1,4 @@
-//! Our library, the Rust and 01's rules on words, side by side.
+//! Our library, the Rust and the rules on words, side by side.
 
 mod aside;
 mod difference;
@@ -13,10 +13,12 @@ use crate::branches::{Hits, Origin};
 use crate::call::Call;
 use crate::lent::Lent;
 use crate::library::{self, RawSettings};
+use crate::reply::{Reply, Said};
 use crate::rules;
 use difference::differing;
 pub use difference::{Checked, Difference};
 pub use trace::trace_head;
+use trio::Replies;
 pub use trio::Trio;
 
 /// More words than any shape has, and some to lend too many.
@@ -71,7 +73,7 @@ impl Bench {
         let ruled = rules::answer(&settings, &mut words, &step.call, &mut self.hits);
         let ours = library::ask(step.raw, self.lent.words(), &step.call);
         let mut trio = Trio::new(limiter, shape, words);
-        trio.compare(&mut self.lent, &step, [ours, rust, ruled])?;
+        trio.compare(&mut self.lent, &step, Replies { ours, rust, ruled })?;
         if let Some(loaded) = &start.loaded {
             trio.limiter
                 .load(loaded)
@@ -92,7 +94,7 @@ impl Bench {
             &mut self.hits,
         );
         let ours = library::ask(step.raw, self.lent.words(), &step.call);
-        trio.compare(&mut self.lent, step, [ours, rust, ruled])
+        trio.compare(&mut self.lent, step, Replies { ours, rust, ruled })
     }
 }
 
@@ -108,8 +110,11 @@ fn compare_words(settings: &Settings, step: &Step) -> Checked<()> {
     if ours == ruled {
         return Ok(());
     }
-    let asked = |number| Answer { code: 0, number };
-    let answers = vec![("library", asked(ours)), ("01's rules", asked(ruled))];
+    let asked = |number| Reply {
+        answer: Answer { code: 0, number },
+        moment: 0,
+    };
+    let answers = vec![Said::library(asked(ours)), Said::rules(asked(ruled))];
     let sides = "the words that the library asks for and 01's";
     Err(differing(sides, step, answers, &[], &[]))
 }

@@ -5,13 +5,33 @@ use oracle::{Answer, Limiter, Shape};
 use super::Step;
 use super::difference::{Checked, differing};
 use crate::lent::Lent;
+use crate::reply::{Reply, Said};
 
 /// Memories up to this many words are compared with the Rust as a whole at every call.
 const SMALL_MEMORY: usize = 1_200;
 /// In larger ones the Rust's other shards are looked at once in so many calls.
 const ALL_SHARDS_EVERY: u32 = 128;
 
-/// A store three times: in the Rust, in the library's lent words, and in words that 01's rules work on.
+/// What the three answer to one call.
+#[derive(Clone, Copy)]
+pub(super) struct Replies {
+    pub ours: Reply,
+    /// It has no moment.
+    pub rust: Answer,
+    pub ruled: Reply,
+}
+
+impl Replies {
+    fn said(self) -> Vec<Said> {
+        vec![
+            Said::library(self.ours),
+            Said::rust(self.rust),
+            Said::rules(self.ruled),
+        ]
+    }
+}
+
+/// A store three times: in the Rust, in the library's lent words, and in words that the rules work on.
 pub struct Trio {
     pub(super) limiter: Limiter,
     shape: Shape,
@@ -34,36 +54,16 @@ impl Trio {
         &self.words
     }
 
-    /// Holds the three answers together, and the words: the library's as a whole, the Rust's of the touched shard, or as a whole.
+    /// Holds the three answers together, and the words: the library's as a whole, the Rust's of the touched shard, or as a whole. The moment, which the
+    /// Rust lacks, is held against the rules' alone.
     pub(super) fn compare(
         &mut self,
         lent: &mut Lent,
         step: &Step,
-        [ours, rust, ruled]: [Answer; 3],
+        replies: Replies,
     ) -> Checked<()> {
         self.calls += 1;
-        let answers = || vec![("library", ours), ("Rust", rust), ("01's rules", ruled)];
-        let same = lent.words() == self.words;
-        if ours != rust || !same && lent.words() != self.limiter.words() || !lent.guarded() {
-            let its = self.limiter.words();
-            return Err(differing(
-                "the library and the Rust",
-                step,
-                answers(),
-                lent.words(),
-                &its,
-            ));
-        }
-        if rust != ruled || !same {
-            let its = self.limiter.words();
-            return Err(differing(
-                "01's rules and the Rust",
-                step,
-                answers(),
-                &self.words,
-                &its,
-            ));
-        }
+        self.compare_replies(lent, step, replies)?;
         match step.call.key() {
             Some(key)
                 if self.shape.words() > SMALL_MEMORY
@@ -73,6 +73,27 @@ impl Trio {
             }
             Some(_) | None => self.compare_all(step),
         }
+    }
+
+    /// The code and the number of all three; all three numbers, and all words, of the library and the rules.
+    fn compare_replies(&self, lent: &mut Lent, step: &Step, replies: Replies) -> Checked<()> {
+        let Replies { ours, rust, ruled } = replies;
+        let differ = |sides, ones: &[u64], others: &[u64]| {
+            Err(differing(sides, step, replies.said(), ones, others))
+        };
+        let same = lent.words() == self.words;
+        if ours.answer != rust || !same && lent.words() != self.limiter.words() || !lent.guarded() {
+            let its = self.limiter.words();
+            return differ("the library and the Rust", lent.words(), &its);
+        }
+        if ruled.answer != rust || !same {
+            let its = self.limiter.words();
+            return differ("the rules and the Rust", &self.words, &its);
+        }
+        if ours != ruled {
+            return differ("the library and the rules", lent.words(), &self.words);
+        }
+        Ok(())
     }
 
     /// The Rust's words of one shard against the rules'.
@@ -87,7 +108,7 @@ impl Trio {
             return Ok(());
         }
         Err(differing(
-            "01's rules and the Rust",
+            "the rules and the Rust",
             step,
             Vec::new(),
             ruled,

@@ -1,6 +1,8 @@
-//! 01's rules on lent words, written from 01 (and docs/DECISIONS.md, "How 01 is read"): a third account beside the library and the Rust.
-//! It says which branch each call takes, and what is right on words that the Rust cannot hold. It shares nothing with the Rust but the
-//! numbered refusals, the layout of the words, and its names.
+//! The rules on lent words, written from 01 (and docs/DECISIONS.md, "How 01 is read") and from the requests of 02 that are landed: a third
+//! account beside the library and the Rust. It says which branch each call takes, what is right on words that the Rust cannot hold, and what
+//! the Rust has no answer to. It shares nothing with the Rust but the numbered refusals, the layout of the words, and its names.
+//!
+//! Of 02 it has request 1, the moment: now + the wait of every grant and every retry (`Wait::moment`).
 //!
 //! The layers, from below: `bucket` (numbers), `rows` (items in words), `entry` (a slot), `ledger` (the debts), `shard_map` and
 //! `evict_one` (a shard), `restore_debt`, `store` (what a key holds), `perkey` (the calls). `settings` and `decision` are what goes in and
@@ -19,14 +21,15 @@ mod shard_map;
 mod store;
 mod whole;
 
+use oracle::Settings;
 use oracle::refusals;
-use oracle::{Answer, Settings};
 
 use crate::branches::Hits;
 use crate::call::Call;
+use crate::reply::Reply;
 
 /// What `call` answers, and what it makes of `words`: the refusals come before all else.
-pub fn answer(settings: &Settings, words: &mut [u64], call: &Call, hits: &mut Hits) -> Answer {
+pub fn answer(settings: &Settings, words: &mut [u64], call: &Call, hits: &mut Hits) -> Reply {
     hits.call(call);
     if let Some(number) = refusal(settings, words, call) {
         hits.refused(settings, words, call, number);

@@ -1,6 +1,6 @@
 //! The calls with a key, each lent the part of its key's shard alone.
 
-use oracle::{Answer, Key, Settings, Shape};
+use oracle::{Key, Settings, Shape};
 
 use super::bucket::Wait;
 use super::decision::{IMPOSSIBLE, NONE, acquired, counted, known, retry};
@@ -9,6 +9,7 @@ use super::shard_map::ShardMap;
 use super::store::{Held, Outcome, Request, Store};
 use crate::branches::{Branch, Hits};
 use crate::call::Call;
+use crate::reply::Reply;
 
 /// A call with a key. Remove asks nothing of the rate; all others ask whether there is one.
 pub fn answer(
@@ -17,7 +18,7 @@ pub fn answer(
     call: &Call,
     key: Key,
     hits: &mut Hits,
-) -> Answer {
+) -> Reply {
     let shape = Shape::of(settings);
     let map = ShardMap {
         words: &mut words[shape.shard(shape.shard_of(key.hash))],
@@ -48,7 +49,7 @@ pub fn answer(
 }
 
 /// Remove forgets the key, also of a closed limiter.
-fn remove(mut map: ShardMap, key: Key, closed: bool) -> Answer {
+fn remove(mut map: ShardMap, key: Key, closed: bool) -> Reply {
     let gone = map.remove(key);
     if closed {
         map.hits
@@ -58,7 +59,7 @@ fn remove(mut map: ShardMap, key: Key, closed: bool) -> Answer {
 }
 
 /// A closed limiter grants a cost of 0 alone, and no reservation; it has no tokens and knows nobody.
-fn closed(call: &Call, hits: &mut Hits) -> Answer {
+fn closed(call: &Call, hits: &mut Hits) -> Reply {
     use Branch::*;
     let (branch, answer) = match *call {
         Call::Try { now, cost: 0, .. } => (ClosedTryZero, acquired(Wait::none(now))),
@@ -81,7 +82,7 @@ impl Store<'_> {
     }
 
     /// Try: a cost over the burst is impossible and a cost of 0 is met, and neither touches the memory; any other is asked of the store.
-    fn try_(&mut self, now: u64, key: Key, cost: u32) -> Answer {
+    fn try_(&mut self, now: u64, key: Key, cost: u32) -> Reply {
         if self.over(cost) {
             self.hit(Branch::TryOver);
             return IMPOSSIBLE;
@@ -101,7 +102,7 @@ impl Store<'_> {
     }
 
     /// Reserve: as try, with none in place of impossible, of a denial and of a refusal for space.
-    fn reserve(&mut self, now: u64, key: Key, request: Request) -> Answer {
+    fn reserve(&mut self, now: u64, key: Key, request: Request) -> Reply {
         if self.over(request.cost) {
             self.hit(Branch::ReserveOver);
             return NONE;
@@ -126,7 +127,7 @@ impl Store<'_> {
     }
 
     /// Peek: what the bucket that the key has, or would be given, says to the cost.
-    fn peek(&mut self, now: u64, key: Key, cost: u32) -> Answer {
+    fn peek(&mut self, now: u64, key: Key, cost: u32) -> Reply {
         use Branch::*;
         if self.over(cost) {
             self.hit(PeekOver);
@@ -150,7 +151,7 @@ impl Store<'_> {
     }
 
     /// Available: the tokens in that bucket.
-    fn available(&mut self, now: u64, key: Key) -> Answer {
+    fn available(&mut self, now: u64, key: Key) -> Reply {
         let (bucket, held) = self.view(now, key);
         self.hit(match held {
             Held::Slot => Branch::AvailableSlot,

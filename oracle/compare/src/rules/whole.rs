@@ -1,13 +1,14 @@
 //! The calls on the whole memory: set-up, clear, length.
 
-use oracle::{Answer, Settings, Shape, layout};
+use oracle::{Settings, Shape, layout};
 
 use super::decision::counted;
 use crate::branches::{Branch, Hits};
 use crate::call::Call;
+use crate::reply::Reply;
 
 /// A call without a key.
-pub fn answer(settings: &Settings, words: &mut [u64], call: &Call, hits: &mut Hits) -> Answer {
+pub fn answer(settings: &Settings, words: &mut [u64], call: &Call, hits: &mut Hits) -> Reply {
     let closed = settings.rate.is_none();
     match call {
         Call::Length => len(Shape::of(settings), words, closed, hits),
@@ -17,14 +18,14 @@ pub fn answer(settings: &Settings, words: &mut [u64], call: &Call, hits: &mut Hi
 }
 
 /// Set-up: every word becomes 0, whatever it was.
-fn set_up(words: &mut [u64], hits: &mut Hits) -> Answer {
+fn set_up(words: &mut [u64], hits: &mut Hits) -> Reply {
     hits.hit(Branch::SetUp);
     words.fill(0);
     counted(0)
 }
 
 /// Clear: the same.
-fn clear(words: &mut [u64], closed: bool, hits: &mut Hits) -> Answer {
+fn clear(words: &mut [u64], closed: bool, hits: &mut Hits) -> Reply {
     let empty = words.iter().all(|&word| word == 0);
     hits.either(empty, (Branch::ClearEmpty, Branch::ClearHeld));
     if closed {
@@ -35,7 +36,7 @@ fn clear(words: &mut [u64], closed: bool, hits: &mut Hits) -> Answer {
 }
 
 /// Length: the slots of all shards.
-fn len(shape: Shape, words: &[u64], closed: bool, hits: &mut Hits) -> Answer {
+fn len(shape: Shape, words: &[u64], closed: bool, hits: &mut Hits) -> Reply {
     let slots = |shard| words[shape.shard(shard)][layout::SLOTS.count];
     let length = (0..shape.shards).map(slots).sum();
     hits.either(length == 0, (Branch::LengthNone, Branch::LengthSome));

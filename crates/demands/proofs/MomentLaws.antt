@@ -1,0 +1,82 @@
+-- Every grant of the rules tells the moment from which its tokens are usable; so does every limiter that meets demand 2; and counted by the moments told, the
+-- tokens of a window are those that demand 3 counts.
+use Prim.Native.Nat.{ℕ, _+_}
+use mathlib.Core.Path.{_≡_, refl, ap, sym}
+use mathlib.Core.List.{List, [], _∷_}
+use native.Mathlib.Omega.{arith}
+use Rattle.arith.proofs.Cases.{by-eq}
+use Rattle.units.specs.declared.Nanos.{Nanos}
+use Rattle.bucket.specs.declared.Request.{Request}
+use Rattle.bucket.specs.declared.Request.the-variants.{Acquire, Reserve}
+use Rattle.settings.specs.declared.decision.Decision.the-variants.{Acquired, Retry, Impossible}
+use Rattle.shard.specs.declared.Identity.{Identity}
+use Rattle.perkey.specs.declared.Reply.{Reply}
+use Rattle.perkey.specs.declared.Reply.the-variants.{Tried, Reserved, Nothing, Done, Count, Refused}
+use Rattle.perkey.specs.Calls.{Call, request, look, undo, len, rules, Answered, replies, Every}
+use Rattle.perkey.specs.Calls.{Kind, decides, reserves, kindOf}
+use Rattle.perkey.proofs.CallLaws.{OfKind, acquired, retried, impossible, reserved, not-reserved}
+use Rattle.perkey.proofs.CallLaws.{refusalOf, ruleOf, not-refused-is-ruled, refused-is-told, rule-answers-in-kind}
+use Rattle.demands.specs.Demands.{Limiter, answering, Demand2, tokensOf, tokensUsable}
+use Rattle.demands.specs.Moments.{grantTells, tellsItsMoment, TellsMoments, tokensToldOf, tokensTold}
+use Rattle.demands.proofs.Theorem.{same-replies}
+
+-- A reply in the kind of its request, to a call at a moment.
+try-tells : {at : Nanos} {reply : Reply} → OfKind at decides reply → grantTells Acquire at reply
+try-tells acquired = omega arith
+try-tells (retried wait) = tt
+try-tells impossible = tt
+
+reservation-tells : (longest : Nanos) {at : Nanos} {reply : Reply} → OfKind at reserves reply → grantTells (Reserve longest) at reply
+reservation-tells longest (reserved wait) = refl
+reservation-tells longest not-reserved = tt
+
+rule-tells : (c : Call) (ws : List ℕ) → tellsItsMoment c (ruleOf c ws .answer)
+rule-tells (request s at id Acquire cost) ws = try-tells (rule-answers-in-kind (request s at id Acquire cost) ws)
+rule-tells (request s at id (Reserve longest) cost) ws = reservation-tells longest (rule-answers-in-kind (request s at id (Reserve longest) cost) ws)
+rule-tells (look s at id l) ws = tt
+rule-tells (undo s id r) ws = tt
+rule-tells (len s) ws = tt
+
+refusal-tells : (c : Call) (n : ℕ) → tellsItsMoment c (Refused n)
+refusal-tells (request s at id r cost) n = tt
+refusal-tells (look s at id l) n = tt
+refusal-tells (undo s id r) n = tt
+refusal-tells (len s) n = tt
+
+call-tells : (c : Call) (ws : List ℕ) → tellsItsMoment c (rules c ws .answer)
+call-tells c ws =
+    by-eq (refusalOf c ws) 0
+    (λ none. rw (not-refused-is-ruled c ws none) (rule-tells c ws))
+    (λ some. rw (refused-is-told c ws some) (refusal-tells c (refusalOf c ws)))
+
+every-call-tells : (cs : List Call) (ws : List ℕ) → Every (λ a. tellsItsMoment (a .call) (a .reply)) (replies rules cs ws ws)
+unfolding replies
+every-call-tells [] ws = tt
+every-call-tells (c ∷ cs) ws = (call-tells c ws, every-call-tells cs (rules c ws .after))
+
+pub rules-tell-moments : TellsMoments (answering rules)
+rules-tell-moments ws cs lent fit = every-call-tells cs ws
+
+pub demand2-tells-moments : (l : Limiter) → Demand2 l → TellsMoments l
+demand2-tells-moments l equal ws cs lent fit = rw (same-replies l equal cs ws ws fit lent) (every-call-tells cs ws)
+
+-- One grant counts alike, by the moment told and by the moment from which it is usable.
+grant-counts-alike : (k : Identity) (t u : ℕ) (c : Call) (reply : Reply) → tellsItsMoment c reply → tokensToldOf k t u c reply ≡ tokensOf k t u c reply
+grant-counts-alike k t u (request s at id r cost) (Tried (Acquired due)) told = rw told
+grant-counts-alike k t u (request s at id r cost) (Tried (Retry due)) told = refl
+grant-counts-alike k t u (request s at id r cost) (Tried Impossible) told = refl
+grant-counts-alike k t u (request s at id r cost) (Reserved due) told = rw told
+grant-counts-alike k t u (request s at id r cost) Nothing told = refl
+grant-counts-alike k t u (request s at id r cost) Done told = refl
+grant-counts-alike k t u (request s at id r cost) (Count n) told = refl
+grant-counts-alike k t u (request s at id r cost) (Refused n) told = refl
+grant-counts-alike k t u (look s at id l) reply told = refl
+grant-counts-alike k t u (undo s id r) reply told = refl
+grant-counts-alike k t u (len s) reply told = refl
+
+pub told-moments-count-alike : (k : Identity) (t u : ℕ) (answered : List Answered) → Every (λ a. tellsItsMoment (a .call) (a .reply)) answered
+    → tokensTold k t u answered ≡ tokensUsable k t u answered
+unfolding tokensTold tokensUsable
+told-moments-count-alike k t u [] every = refl
+told-moments-count-alike k t u (a ∷ rest) every =
+    rw (grant-counts-alike k t u (a .call) (a .reply) (every .0), told-moments-count-alike k t u rest (every .1))

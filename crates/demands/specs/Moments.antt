@@ -1,0 +1,50 @@
+-- The moment beside the wait (request 1 of document 02). A grant tells the moment from which its tokens are usable; so the window of demand 3 may be read
+-- by the moments that are told: `tokensTold` counts as `tokensUsable` does (`told-moments-count-alike`).
+use Prim.Native.Nat.{ℕ, _+_}
+use mathlib.Core.Path.{_≡_}
+use mathlib.Core.Bool.{true}
+use mathlib.Core.List.{List, [], _∷_}
+use Rattle.units.specs.declared.Nanos.{Nanos}
+use Rattle.bucket.specs.declared.Request.{Request}
+use Rattle.settings.specs.declared.decision.Decision.the-variants.{Acquired, Retry, Impossible}
+use Rattle.shard.specs.declared.Identity.{Identity}
+use Rattle.perkey.specs.declared.Reply.{Reply}
+use Rattle.perkey.specs.declared.Reply.the-variants.{Tried, Reserved, Nothing, Done, Count, Refused}
+use Rattle.perkey.specs.Rules.{momentOf}
+use Rattle.perkey.specs.Calls.{Call, request, look, undo, len, Answered, replies, ofGrant, Every}
+use Rattle.demands.specs.Widths.{allFit, lendable}
+use Rattle.demands.specs.Demands.{Limiter, usable, usableFrom}
+
+-- A reply that grants a request tells the call's moment, of a reservation plus the wait. A peek grants no tokens.
+abbrev pub grantTells : Request → Nanos → Reply → Type 0
+grantTells r at (Tried (Acquired due)) = due .moment .0 ≡ usableFrom r at 0
+grantTells r at (Tried (Retry due)) = Unit {0}
+grantTells r at (Tried Impossible) = Unit {0}
+grantTells r at (Reserved due) = due .moment .0 ≡ usableFrom r at (due .wait .0)
+grantTells r at Nothing = Unit {0}
+grantTells r at Done = Unit {0}
+grantTells r at (Count n) = Unit {0}
+grantTells r at (Refused n) = Unit {0}
+
+abbrev pub tellsItsMoment : Call → Reply → Type 0
+tellsItsMoment (request s at id r cost) reply = grantTells r at reply
+tellsItsMoment (look s at id l) reply = Unit {0}
+tellsItsMoment (undo s id r) reply = Unit {0}
+tellsItsMoment (len s) reply = Unit {0}
+
+-- So does every grant of a limiter, in every list of calls, from any words.
+abbrev pub TellsMoments : Limiter → Type 0
+TellsMoments l =
+    (ws : List ℕ) (cs : List Call) → lendable ws ≡ true → allFit cs ≡ true
+    → Every (λ a. tellsItsMoment (a .call) (a .reply)) (replies (l .answers) cs ws ws)
+
+-- The tokens granted to a key for which a moment from t to u is told.
+abbrev pub tokensToldOf : Identity → ℕ → ℕ → Call → Reply → ℕ
+tokensToldOf k t u (request s at id r cost) reply = ofGrant (λ wait. usable k t u id (momentOf reply) cost) 0 reply
+tokensToldOf k t u (look s at id l) reply = 0
+tokensToldOf k t u (undo s id r) reply = 0
+tokensToldOf k t u (len s) reply = 0
+
+unfoldable pub tokensTold : Identity → ℕ → ℕ → List Answered → ℕ
+tokensTold k t u [] = 0
+tokensTold k t u (a ∷ rest) = tokensToldOf k t u (a .call) (a .reply) + tokensTold k t u rest

@@ -1,0 +1,53 @@
+-- Every answer to a request tells the moment of the call plus its wait, on any shard.
+use Prim.Native.Nat.{ℕ, _≤_}
+use mathlib.Core.Path.{_≡_, refl}
+use Rattle.arith.proofs.Cases.{by-le}
+use Rattle.units.specs.declared.Nanos.{Nanos}
+use Rattle.bucket.specs.declared.BucketConfig.{BucketConfig}
+use Rattle.bucket.specs.declared.BucketCore.{BucketCore}
+use Rattle.bucket.specs.declared.BucketDecision.the-variants.{Allowed, Denied}
+use Rattle.bucket.specs.declared.Request.{Request}
+use Rattle.bucket.specs.Bucket.{dueAfter, longestWait, waitAt, asked}
+use Rattle.bucket.proofs.BucketLaws.{granted-within-longest, denied-beyond-longest}
+use Rattle.rows.specs.declared.Place.{Place}
+use Rattle.rows.specs.declared.Place.the-variants.{At, Nowhere}
+use Rattle.shard_map.specs.Model.{Shard, placeOf, withLedger}
+use Rattle.ledger.specs.Model as Ledger
+use Rattle.evict.specs.declared.Room.{Room}
+use Rattle.evict.specs.declared.Room.the-variants.{Made, Refused}
+use Rattle.units.specs.declared.OptionNanos.{OptionNanos}
+use Rattle.shard.specs.declared.Identity.{Identity}
+use Rattle.shard.specs.declared.Policy.{Policy}
+use Rattle.shard.specs.declared.Answer.{Answer}
+use Rattle.shard.specs.declared.Answer.the-variants.{Decided, NoSpace}
+use Rattle.shard.specs.Model.{withExisting, makeRoom, admitted, admit, askedFrom, withOrInsert}
+
+-- An answer at a moment: a grant within the longest wait of the request, a denial, or no space. Each is due after its wait.
+pub data TellsItsMoment (request : Request) (at : Nanos) : Answer → Type 0 where
+  granted : (wait : Nanos) → wait .0 ≤ longestWait request → TellsItsMoment request at (Decided (Allowed (dueAfter at wait)))
+  denied : (wait : Nanos) → TellsItsMoment request at (Decided (Denied (dueAfter at wait)))
+  no-space : (wait : Nanos) → TellsItsMoment request at (NoSpace (dueAfter at wait))
+
+bucket-tells-its-moment : (c : BucketConfig) (request : Request) (b : BucketCore) (cost : ℕ) (at : Nanos)
+    → TellsItsMoment request at (Decided (asked c request b cost at .decision))
+bucket-tells-its-moment c request b cost at =
+    by-le (waitAt c b cost at) (longestWait request)
+    (λ soon. rw (granted-within-longest c request b cost at soon) (granted (record { 0 = waitAt c b cost at }) soon))
+    (λ late. rw (denied-beyond-longest c request b cost at late) (denied (record { 0 = waitAt c b cost at })))
+
+module _ (p : Policy) (id : Identity) (request : Request) (cost : ℕ) (at : Nanos) where
+  room-tells-its-moment : (owed : OptionNanos) (s : Shard) (room : Room) → TellsItsMoment request at (admitted p id request cost at owed s room .answer)
+  room-tells-its-moment owed s Made = bucket-tells-its-moment (p .config) request _ cost at
+  room-tells-its-moment owed s (Refused wait) = no-space wait
+
+  place-tells-its-moment : (s : Shard) (place : Place) → TellsItsMoment request at (askedFrom p id request cost at s place .answer)
+  unfolding withExisting admit
+  place-tells-its-moment s (At i) = bucket-tells-its-moment (p .config) request _ cost at
+  place-tells-its-moment s Nowhere =
+      let own = Ledger.taken (s .ledger) (id .hash) in
+      let room = makeRoom p at (withLedger s (own .after)) in
+      room-tells-its-moment (own .answer) (room .after) (room .answer)
+
+  pub every-answer-tells-its-moment : (s : Shard) → TellsItsMoment request at (withOrInsert p id request cost at s .answer)
+  unfolding withOrInsert
+  every-answer-tells-its-moment s = place-tells-its-moment s (placeOf s (id .hash) (id .key))
