@@ -10,6 +10,7 @@ use Rattle.rows.specs.Round as Round
 use Rattle.bucket.specs.Bucket.{shortfallAt, availableAt, waitAt, asked}
 use Rattle.bucket.specs.Debt.{takenOut, lacking, restored}
 use Rattle.settings.specs.declared.rate.Rate.{Rate}
+use Rattle.settings.specs.Powers.{exponentFrom, exponentFor}
 use Rattle.settings.specs.Rate as Rate
 use Rattle.settings.specs.Settings as Settings
 use Rattle.ledger.specs.Layout as Debts
@@ -54,7 +55,7 @@ pub record Computed : Type 0 where
 
 pub computed : Computed
 unfolding ceilDiv rows unrow heldIn lowestFrom removed sum Round.lookAt Round.look Round.sweep shortfallAt availableAt waitAt asked takenOut lacking restored
-    Rate.unlessWithin Rate.rateRefusal Settings.sizeRefusal Settings.firstRefusal Settings.doubledUpTo
+    Rate.unlessWithin Rate.rateRefusal Settings.sizeRefusal Settings.firstRefusal exponentFrom exponentFor
     Debts.ledger Debts.wordsOf Ledger.placeOf Ledger.removeAt Ledger.append Ledger.owedBy Ledger.taken Ledger.sweep
     Ledger.scanFrom Ledger.scan Ledger.dropChosen Ledger.makeRoom Ledger.recordedAt Ledger.recorded
     Layout.shard Layout.wordsOf Shard.placeOf Shard.removeAt Shard.insert

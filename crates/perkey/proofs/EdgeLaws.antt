@@ -8,6 +8,7 @@ use Rattle.rows.specs.Held.{lowestFrom, removed}
 use Rattle.rows.specs.Round as Round
 use Rattle.bucket.specs.Bucket.{shortfallAt, availableAt, waitAt, asked}
 use Rattle.bucket.specs.Debt.{takenOut, lacking, restored}
+use Rattle.settings.specs.Powers.{exponentFrom, exponentFor}
 use Rattle.settings.specs.Rate as Rate
 use Rattle.settings.specs.Settings as Settings
 use Rattle.hash.specs.Fnv.{hashFrom}
@@ -23,7 +24,7 @@ use Rattle.perkey.specs.Edges.{allHold, edges}
 
 pub every-edge-holds : allHold edges ≡ true
 unfolding ceilDiv rows unrow heldIn lowestFrom removed Round.lookAt Round.look Round.sweep shortfallAt availableAt waitAt asked takenOut lacking restored
-    Rate.unlessWithin Rate.rateRefusal Settings.sizeRefusal Settings.firstRefusal Settings.doubledUpTo hashFrom
+    Rate.unlessWithin Rate.rateRefusal Settings.sizeRefusal Settings.firstRefusal exponentFrom exponentFor hashFrom
     Debts.ledger Debts.wordsOf Ledger.placeOf Ledger.removeAt Ledger.append Ledger.owedBy Ledger.taken Ledger.sweep
     Ledger.scanFrom Ledger.scan Ledger.dropChosen Ledger.makeRoom Ledger.recordedAt Ledger.recorded Ledger.paidDown
     Layout.shard Layout.wordsOf Shard.placeOf Shard.removeAt Shard.insert Shard.sweepIdle

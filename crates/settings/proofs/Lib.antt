@@ -1,4 +1,4 @@
+pub mod PowerLaws
 pub mod RateLaws
-pub mod ShardLaws
 pub mod SettingsLaws
 pub mod Worked

@@ -1,19 +1,19 @@
 -- What the settings come to, for the layers above: the refusals, and the bounds on shards, places per shard and the shard of a hash.
-use Prim.Native.Nat.{ℕ, _+_, _*_, _-_, _/_, _%_, _≤_, _<_, _^_}
+use Prim.Native.Nat.{ℕ, zero, suc, _+_, _*_, _-_, _/_, _%_, _≤_, _<_, _^_, max}
 use mathlib.Core.Path.{_≡_, refl, sym, _∙_}
 use lib.Bits.{and-mask, mask-lt}
-use lib.Pow.{pow-pos, pow-mono}
+use lib.Pow.{pow-pos, pow-mono, shl-exact}
 use native.Mathlib.Omega.{arith}
-use native.Mathlib.Nat.{le-max-right, max-le, mul-le-mul-left}
+use native.Mathlib.Nat.{le-max-right, max-le, max-eq-left, min-le-right, mul-le-mul-left, one-mul, zero-div, mod-lt, div-add-mod'}
 use borrow.Author.Tests.{lt-ltb, le-ltb, eq-eqb, ne-eqb}
 use Rattle.arith.specs.Arith.{ceilDiv}
 use Rattle.arith.proofs.Cases.{by-le, by-eq}
-use Rattle.arith.proofs.DivisionLaws.{ceilDiv-least}
+use Rattle.arith.proofs.DivisionLaws.{ceilDiv-least, ceilDiv-only}
 use Rattle.settings.specs.declared.Settings.{Settings}
 use Rattle.settings.specs.declared.Shape.{Shape}
-use Rattle.settings.specs.Settings.{mostKeys, mostShards, limitRefusal, sizeRefusal, firstRefusal, settingsRefusal, shardCount, capOf}
+use Rattle.settings.specs.Settings.{mostKeys, mostShards, limitRefusal, sizeRefusal, firstRefusal, settingsRefusal, shardCount, shardExponent, capOf}
 use Rattle.settings.specs.Settings.{shapeOf, shardOf, ShapeOfAccepted, idleLimitMillis}
-use Rattle.settings.proofs.ShardLaws.{PowerOfTwo, doubled-is-power}
+use Rattle.settings.proofs.PowerLaws.{PowerOfTwo, exponent-is-least}
 
 -- The check of the size, outcome by outcome.
 module _ (s : Settings) where
@@ -57,14 +57,21 @@ accepted-parts s accepted = neither-refuses (limitRefusal (s .limit)) (sizeRefus
 
 -- The number of shards is a power of two, at least 1 and at most 64, whatever number is asked for.
 module _ (s : Settings) where
+  pub shard-exponent-most : shardExponent s ≤ 6
+  shard-exponent-most = exponent-is-least _ .least 6 (min-le-right _ _)
+
   pub shards-power : PowerOfTwo 6 (shardCount s)
-  shards-power = doubled-is-power 6 0 (s .shards)
+  shards-power = record { exponent = shardExponent s; within = shard-exponent-most; is = refl }
 
   pub shards-least : 1 ≤ shardCount s
   shards-least = rw (shards-power .is) (pow-pos (shards-power .exponent))
 
   pub shards-most : shardCount s ≤ mostShards
   shards-most = rw (shards-power .is) (pow-mono (shards-power .within))
+
+  -- A 1 that is shifted by the exponent loses no bit.
+  pub shards-by-shift : 1 * 2 ^ shardExponent s % 2 ^ 64 ≡ shardCount s
+  shards-by-shift = shl-exact 1 (shardExponent s) 64 (omega arith) (omega (arith, shard-exponent-most)) ∙ one-mul (shardCount s)
 
 -- The shard of a hash.
 module _ (s : Settings) (hash : ℕ) where
@@ -75,6 +82,15 @@ module _ (s : Settings) (hash : ℕ) where
   -- So it is one of the shards that there are.
   pub shard-below : shardOf s hash < shardCount s
   shard-below = rw (shards-power s .is) (mask-lt (hash / 2 ^ 40) (shards-power s .exponent))
+
+-- A share rounded up, and at least 1, is the share of one less, rounded down, and 1 more.
+share-of-one-less : (n d : ℕ) → 0 < d → (n - 1) / d + 1 ≡ max (ceilDiv n d) 1
+share-of-one-less zero d some = rw (ceilDiv-only 0 d 0 some (omega arith) (omega arith), zero-div d)
+share-of-one-less (suc n) d some =
+    let one-less = suc n - 1 in
+    let whole = div-add-mod' one-less d in
+    let is = ceilDiv-only (suc n) d (one-less / d + 1) some (omega (arith, whole, mod-lt one-less some)) (omega (arith, whole)) in
+    rw is (sym (max-eq-left (omega arith)))
 
 -- The size of a shard.
 module _ (s : Settings) where
@@ -88,6 +104,10 @@ module _ (s : Settings) where
       max-le
       (ceilDiv-least _ _ mostKeys (shards-least s) (omega (arith, accepted-keys s accepted, mul-le-mul-left mostKeys (shards-least s))))
       (omega arith)
+
+  -- The code comes to it without a division: the share of one key less, rounded down by a shift, and 1 more.
+  pub cap-by-shift : (s .eviction .«max_keys» - 1) / 2 ^ shardExponent s + 1 ≡ capOf s
+  cap-by-shift = share-of-one-less (s .eviction .«max_keys») (shardCount s) (shards-least s)
 
 -- The shape of settings of an accepted size.
 pub shape-of-accepted : (s : Settings) {shape : Shape} → sizeRefusal s ≡ 0 → shape ≡ shapeOf s → ShapeOfAccepted shape

@@ -1,6 +1,8 @@
 -- Worked settings, each computed from the definitions.
-use Prim.Native.Nat.{ℕ}
+use Prim.Native.Nat.{ℕ, zero, suc}
 use mathlib.Core.Path.{_≡_, refl}
+use mathlib.Core.List.{List, [], _∷_, _++_}
+use lib.ListN.{replicate}
 use Rattle.arith.specs.Arith.{ceilDiv}
 use Rattle.units.specs.declared.OptionNanos.the-variants as nanos
 use Rattle.units.specs.declared.OptionMillis.the-variants as millis
@@ -11,8 +13,9 @@ use Rattle.settings.specs.declared.Limit.{Limit}
 use Rattle.settings.specs.declared.Limit.the-variants.{Closed, Open}
 use Rattle.settings.specs.declared.Settings.{Settings}
 use Rattle.settings.specs.Eviction.{bounds}
+use Rattle.settings.specs.Powers.{exponentFrom, exponentFor}
 use Rattle.settings.specs.Rate.{unlessWithin, rateRefusal}
-use Rattle.settings.specs.Settings.{sizeRefusal, firstRefusal, settingsRefusal, doubledUpTo, shardCount, capOf, idleLimit}
+use Rattle.settings.specs.Settings.{sizeRefusal, firstRefusal, settingsRefusal, shardCount, capOf, idleLimit}
 
 -- Two tokens a second, up to four.
 abbrev twoASecond : Rate
@@ -26,12 +29,24 @@ idleFor ttl = record { limit = Open twoASecond; eviction = bounds 4 (nanos.Some 
 
 -- Shards and places per shard.
 pub nothing-asked-for : (shardCount (sized Closed 0 0) ≡ 1) × (capOf (sized Closed 0 0) ≡ 1)
-unfolding doubledUpTo ceilDiv
+unfolding exponentFrom exponentFor ceilDiv
 nothing-asked-for = (refl, refl)
 
 pub five-keys-three-shards : (shardCount (sized Closed 5 3) ≡ 4) × (capOf (sized Closed 5 3) ≡ 2)
-unfolding doubledUpTo ceilDiv
+unfolding exponentFrom exponentFor ceilDiv
 five-keys-three-shards = (refl, refl)
+
+-- What a rule gives for so many numbers from n on.
+abbrev listed : (ℕ → ℕ) → ℕ → ℕ → List ℕ
+listed rule n zero = []
+listed rule n (suc more) = rule n ∷ listed rule (suc n) more
+
+-- The shards for each number that may be asked for, 0 to 64 in this order: what the table of seven counts gave.
+pub shards-from-0-to-64 :
+    listed (λ asked. shardCount (sized Closed 0 asked)) 0 65
+    ≡ replicate 2 1 ++ replicate 1 2 ++ replicate 2 4 ++ replicate 4 8 ++ replicate 8 16 ++ replicate 16 32 ++ replicate 32 64
+unfolding exponentFrom exponentFor
+shards-from-0-to-64 = refl
 
 -- The idle limit: the time to be full where the idle time is shorter, the idle time where it is longer.
 pub idle-shorter-than-full : idleLimit (idleFor 1) ≡ millis.Some (record { 0 = 2001 })

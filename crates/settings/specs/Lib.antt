@@ -1,4 +1,5 @@
 pub mod Decision
 pub mod Eviction
+pub mod Powers
 pub mod Rate
 pub mod Settings

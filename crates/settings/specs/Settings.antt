@@ -1,8 +1,8 @@
 -- The settings of a whole store: refusals, shards, places per shard, words, and the idle limit.
-use Prim.Native.Nat.{ℕ, zero, suc, _+_, _*_, _-_, _/_, _^_, max}
+use Prim.Native.Nat.{ℕ, _+_, _-_, _/_, _^_, min, max}
 use mathlib.Core.Path.{_≡_}
 use mathlib.Core.Bool.{cond}
-use lib.Dec.{leb, ltb, eqb}
+use lib.Dec.{ltb, eqb}
 use lib.Bits.{bitAnd}
 use Rattle.arith.specs.Arith.{ceilDiv}
 use Rattle.units.specs.Units.{nanosPerMilli}
@@ -16,6 +16,7 @@ use Rattle.settings.specs.declared.Limit.{Limit}
 use Rattle.settings.specs.declared.Limit.the-variants.{Closed, Open}
 use Rattle.settings.specs.declared.Settings.{Settings}
 use Rattle.settings.specs.declared.Shape.{Shape}
+use Rattle.settings.specs.Powers.{exponentFor, nextPowerOfTwo}
 use Rattle.settings.specs.Rate.{rateRefusal, configOf, timeToFull}
 
 -- The most keys and shards that may be asked for.
@@ -42,14 +43,17 @@ firstRefusal first second = cond (eqb first 0) second first
 abbrev pub settingsRefusal : Settings → ℕ
 settingsRefusal s = firstRefusal (limitRefusal (s .limit)) (sizeRefusal s)
 
--- A count is doubled until it is at least n, but no more than so many times.
-unfoldable pub doubledUpTo : ℕ → ℕ → ℕ → ℕ
-doubledUpTo zero count n = count
-doubledUpTo (suc left) count n = cond (leb n count) count (doubledUpTo left (2 * count) n)
+-- The number of shards asked for, which counts as no more than there may be.
+abbrev pub askedShards : Settings → ℕ
+askedShards s = min (s .shards) mostShards
 
--- The shards: the number asked for, raised to the next power of two; 0 counts as 1. The largest number that is accepted is 2 ^ 6.
+-- The shards: the number asked for, raised to the next power of two. So 0 counts as 1.
 abbrev pub shardCount : Settings → ℕ
-shardCount s = doubledUpTo 6 1 (s .shards)
+shardCount s = nextPowerOfTwo (askedShards s)
+
+-- The exponent of that power of two.
+abbrev pub shardExponent : Settings → ℕ
+shardExponent s = exponentFor (askedShards s)
 
 -- The keys that a shard holds: an equal share of `max_keys`, rounded up, and at least 1.
 abbrev pub capOf : Settings → ℕ

@@ -2,8 +2,9 @@
 // each holds, and after how long an idle key may go. A settings record may hold anything; `refusal` says whether it is accepted.
 ghost use mathlib.Core.Path.{_≡_};
 ghost use Rattle.bucket.specs.Bucket.{Accepted};
+ghost use Rattle.settings.specs.Powers.{exponentFor};
 ghost use Rattle.settings.specs.Rate.{timeToFull};
-ghost use Rattle.settings.specs.Settings.{limitRefusal, sizeRefusal, settingsRefusal, shardCount, shapeOf, ShapeOfAccepted, indexIn, idleLimitFor, idleLimitMillis};
+ghost use Rattle.settings.specs.Settings.{limitRefusal, sizeRefusal, settingsRefusal, shardExponent, shapeOf, ShapeOfAccepted, indexIn, idleLimitFor, idleLimitMillis};
 use crate::eviction::Eviction;
 use crate::rate::Rate;
 use bucket::BucketConfig;
@@ -13,9 +14,6 @@ use units::Nanos;
 pub mod decision;
 pub mod eviction;
 pub mod rate;
-
-// The shard counts that there are: the powers of two up to the largest number of shards that may be asked for.
-pub const SHARD_COUNTS: [usize; 7] = [1, 2, 4, 8, 16, 32, 64];
 
 // The rate, if there is one. A closed limiter has none, and grants cost 0 alone.
 pub enum Limit {
@@ -74,29 +72,25 @@ impl Settings {
         0
     }
 
-    // The number of shards: the first count of the table that is at least the number asked for, else the last.
-    fn shard_count(self) -> usize
-        ensures { λ r. ⌜ r ≡ shardCount self ⌝ }
+    // The exponent of the number of shards, which is a power of two. More than 64 that are asked for count as 64.
+    fn shard_exponent(self) -> u32
+        ensures { λ r. ⌜ r ≡ shardExponent self ⌝ }
     {
-        let asked = self.shards;
-        let mut i: usize = 0;
-        while i < 6 {
-            if asked <= SHARD_COUNTS[i] {
-                return SHARD_COUNTS[i];
-            }
-            i += 1;
-        }
-        SHARD_COUNTS[6]
+        exponent_for(arith::smaller(self.shards as u64, 64))
     }
 
-    // The shards, and an equal share of the keys for each. This takes a division, so a call on a key works it out once.
+    // The shards, and an equal share of the keys for each. A division by a power of two is a shift. The share is rounded up, and at least 1: the
+    // share of one key less, rounded down, and 1 more.
     pub fn shape(self) -> Shape
         ensures { λ r. ⌜ r ≡ shapeOf self ⌝ }
     {
-        let shards = self.shard_count();
-        let share = arith::div_ceil(self.eviction.max_keys as u64, shards as u64);
-        let cap = arith::larger(share, 1) as usize;
-        Shape { shards, cap }
+        let exponent = self.shard_exponent();
+        let one_less = arith::saturating_sub(self.eviction.max_keys as u64, 1);
+        let cap = ((one_less >> exponent) + 1) as usize;
+        Shape {
+            shards: 1 << exponent,
+            cap,
+        }
     }
 }
 
@@ -108,6 +102,13 @@ impl Shape {
     {
         ((hash >> 40) & ((self.shards - 1) as u64)) as usize
     }
+}
+
+// The least exponent whose power of two is not below n: the length of n - 1 in bits, and 0 where n is 0. No loop and no table is needed.
+fn exponent_for(n: u64) -> u32
+    ensures { λ r. ⌜ r ≡ exponentFor n ⌝ }
+{
+    64 - u64::leading_zeros(arith::saturating_sub(n, 1))
 }
 
 // The idle limit for an idle time: that time or the time to be full, whichever is longer, rounded up to milliseconds, and 1 more.

@@ -5,6 +5,7 @@ use std::process::ExitCode;
 use std::time::{Duration, Instant};
 
 use oracle::Shape;
+use oracle::refusals::MOST_SHARDS;
 
 use crate::check::{self, Bench, Difference, Start, Step};
 use crate::generate::{Aside, LARGE, Plan};
@@ -24,16 +25,21 @@ enum Kind {
     LargeLoaded,
     /// Any settings, words and arguments.
     Any,
+    /// Grown from set-up, with so many shards asked for.
+    Asked(u64),
 }
 
-/// The traces of a round.
-const ROUND: u64 = 452;
+/// The traces of a round: the small ones, one for each number of shards that may be asked for, and two large ones.
+const ROUND: u64 = SMALL_TRACES + MOST_SHARDS + 3;
+const SMALL_TRACES: u64 = 450;
+const FIRST_LARGE: u64 = ROUND - 2;
 
 /// The large ones come last in a round, so that a difference shows in a small store first.
 fn kind(trace: u64) -> Kind {
     match trace % ROUND {
-        450 => Kind::LargeGrown,
-        451 => Kind::LargeLoaded,
+        FIRST_LARGE => Kind::LargeGrown,
+        place if place > FIRST_LARGE => Kind::LargeLoaded,
+        place if place >= SMALL_TRACES => Kind::Asked(place - SMALL_TRACES),
         place => match place % 9 {
             0 => Kind::Grown,
             1 => Kind::Any,
@@ -89,6 +95,11 @@ impl Run {
         let round = (trace / ROUND) as usize;
         match kind(trace) {
             Kind::Any => self.asides(&mut random, 250),
+            Kind::Asked(shards) => {
+                let keys = random.pick(&[0, 1, 64, 65, 130, 200]);
+                let plan = Plan::new(&mut random, (keys, shards), false);
+                self.steps(&mut random, plan, false, 40)
+            }
             Kind::Grown => {
                 let plan = match random.below(10) {
                     0..3 => Plan::crowded(&mut random),
