@@ -35,14 +35,15 @@ typedef struct limiter_settings {
                              on the shards unevenly, so a shard can be full while the store is not: ask for more than there are modems */
     uint64_t shards;      /* the shards asked for: 0 to 64; 0 is taken as 1 and all others are rounded up to a power of two */
     uint64_t idle;        /* a full bucket that was idle for this long may be forgotten; read only if has_idle is set */
-    uint32_t closed;      /* set: there is no rate and only a cost of 0 is granted; amount, period, burst and initial are not read */
+    uint32_t closed;      /* set: there is no rate and only tries of cost 0 are granted; amount, period, burst and initial are not read */
     uint32_t amount;      /* tokens that come back in a period: 1 to 65,535 */
     uint32_t has_burst;   /* not set: the burst is the amount */
     uint32_t burst;       /* the most tokens in a bucket: 1 to 65,535 */
     uint32_t has_initial; /* not set: a new bucket is full */
     uint32_t initial;     /* the tokens in a new bucket, cut to the burst */
     uint32_t has_idle;    /* not set: no key is forgotten for being idle */
-    uint32_t forget_debt; /* when a shard finds no room for a new key and its debts: not set, the key is turned away; set, a debt is forgotten */
+    uint32_t forget_debt; /* when a new key needs a slot and its shard cannot keep the debt of the key that would go: not set, the new key is turned away;
+                             set, a debt is forgotten */
 } limiter_settings;
 
 /* An answer. */
@@ -96,8 +97,8 @@ enum {
     LIMITER_BAD_PERIOD = 2,   /* not 1 to 2^46 ns */
     LIMITER_BAD_BURST = 3,    /* not 1 to 65,535 */
     LIMITER_BAD_SIZES = 4,    /* max_keys over 4,096 or shards over 64 */
-    LIMITER_BAD_MEMORY = 5,   /* another length than limiter_words(s); or a count in the words is more than the shard can hold,
-                                 at which set-up and clear do not look */
+    LIMITER_BAD_MEMORY = 5,   /* another length than limiter_words(s); or a count of the key's shard (for limiter_length, of any shard)
+                                 is more than the shard can hold. Set-up and clear look at no count */
     LIMITER_BAD_MOMENT = 6,   /* now is after 2^62 ns */
     LIMITER_BAD_MAX_WAIT = 7  /* max_wait is over 2^46 ns */
 };
@@ -136,8 +137,8 @@ limiter_reply limiter_set_up(limiter_settings s, uint64_t *words, size_t len);
  * then. */
 limiter_reply limiter_try(limiter_settings s, uint64_t *words, size_t len, uint64_t now, uint64_t hash, uint64_t key, uint32_t cost);
 
-/* Takes `cost` tokens if they will be there within `max_wait` ns. 0 granted, to be used after `number` ns, at `moment`; 3 none; or refused
- * as 1 to 7. */
+/* Takes `cost` tokens if they will be there within `max_wait` ns. 0 granted, to be used after `number` ns, at `moment`; 3 none, on a closed
+ * limiter for a cost of 0 too; or refused as 1 to 7. */
 limiter_reply limiter_reserve(limiter_settings s, uint64_t *words, size_t len, uint64_t now, uint64_t hash, uint64_t key, uint32_t cost,
                               uint64_t max_wait);
 

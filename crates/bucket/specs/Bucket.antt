@@ -60,7 +60,7 @@ fresh c at = record { shortfall = partsOf c (c .capacity - c .initial); stamp = 
 unfoldable pub waitAt : BucketConfig → BucketCore → ℕ → Nanos → ℕ
 waitAt c b cost at = cond (eqb cost 0) 0 (ceilDiv (shortfallAt c b at + partsOf c cost - fullParts c) (c .amount))
 
--- When something is due that a moment and a wait are told of: after the wait, at the moment plus the wait. When a cost is due.
+-- What is due after a wait: its wait and its moment, which is the moment of the call plus the wait. And when the tokens of a cost are due.
 abbrev pub dueAfter : Nanos → Nanos → Due
 dueAfter at wait = record { wait = wait; moment = record { 0 = at .0 + wait .0 } }
 

@@ -26,13 +26,13 @@ pub enum Request {
     Reserve(Nanos),
 }
 
-// When tokens are due: after the wait, at the moment. A wait is counted as if the stamp were not after the moment of the call.
+// When tokens or room are due: after the wait, at the moment. A wait is counted as if the stamp were not after the moment of the call.
 pub struct Due {
     pub wait: Nanos,
     pub moment: Nanos,
 }
 
-// What a bucket answers: the tokens are charged and usable when they are due, or nothing is charged and the same request can be met then.
+// What a bucket answers: the tokens are charged and usable when they are due, or nothing is charged and the request may be made again then.
 pub enum BucketDecision {
     Allowed(Due),
     Denied(Due),

@@ -1,4 +1,5 @@
--- What is promised of a limiter, as two claims about any limiter: demand 2, that it does what the rules say; demand 3, the window and the own bucket.
+-- What is promised of a limiter, as two claims about any limiter: demand 2, that it does what the rules say; demand 3, the window and the own bucket. Demand 1,
+-- that no call faults, overflows or fails to end, is what `rt` proves of every function; that no operation has a `requires` is in the contracts of `perkey`.
 --
 -- Demand 3 in plain English. Behind each clause stands the name that states it.
 --
@@ -29,7 +30,7 @@
 -- * `contracts-meet-demand2`, `contracts-meet-demand3`: so does code that is as the contracts of `perkey` tell its callers.
 -- * `exports-meet-demand2`: what C and Rust call tells the rules' replies as numbers. `exports-meet-demand3`: so their callers have a limiter that meets it.
 -- * `window-adding-none-is-false-of-the-rules`: the + 1 cannot be left out.
--- * `demand2-tells-moments`, `told-moments-count-alike`: the window holds by the moments that are told, too (Moments).
+-- * `demand2-tells-moments`, `told-moments-count-alike`: the tokens that the window counts are those counted by the moments that grants tell (Moments).
 -- * Impostors are refuted in ImpostorLaws. Demand 3 alone admits a limiter that turns every newcomer away at first (`turns-newcomers-away-meets-demand3`);
 --   demand 2 shuts it out (`turns-newcomers-away-fails-demand2`).
 use Prim.Native.Nat.{ℕ, _+_, _*_, _-_, _≤_}
@@ -62,7 +63,7 @@ pub record Limiter : Type 0 where
   pub clears : Settings → List ℕ → Outcome Reply (List ℕ)
   pub answers : Implementation
 
--- A limiter that is set up and cleared as the rules say, and answers calls in a way of its own. The rules are one.
+-- A limiter that is set up and cleared as the rules say, and answers calls in a way of its own. The rules are such a limiter.
 abbrev pub answering : Implementation → Limiter
 answering f = record { sets-up = setUp; clears = clear; answers = f }
 

@@ -1,4 +1,4 @@
--- The words of a store that has grown from fresh: left by an accepted set-up, then by accepted calls of one settings record, clear among them.
+-- The words of a store that has grown from fresh: left by an accepted set-up, then by accepted calls and clears of one settings record.
 use Prim.Native.Nat.{ℕ}
 use mathlib.Core.Path.{_≡_}
 use mathlib.Core.Bool.{false}

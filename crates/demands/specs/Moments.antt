@@ -1,5 +1,5 @@
--- The moment beside the wait (request 1 of document 02). A grant tells the moment from which its tokens are usable; so the window of demand 3 may be read
--- by the moments that are told: `tokensTold` counts as `tokensUsable` does (`told-moments-count-alike`).
+-- The moment of a grant (request 1 of document 02). A grant tells the moment from which its tokens are usable. So the tokens counted by the moments that are
+-- told are those that the window of demand 3 counts (`told-moments-count-alike`). The moments of retries and peeks are demand 2's: it fixes all of a reply.
 use Prim.Native.Nat.{ℕ, _+_}
 use mathlib.Core.Path.{_≡_}
 use mathlib.Core.Bool.{true}
@@ -15,7 +15,7 @@ use Rattle.perkey.specs.Calls.{Call, request, look, undo, len, Answered, replie
 use Rattle.demands.specs.Widths.{allFit, lendable}
 use Rattle.demands.specs.Demands.{Limiter, usable, usableFrom}
 
--- A reply that grants a request tells the call's moment, of a reservation plus the wait. A peek grants no tokens.
+-- A try that is granted tells the moment of the call. A reservation tells that moment plus its wait. Of other replies nothing is asked here.
 abbrev pub grantTells : Request → Nanos → Reply → Type 0
 grantTells r at (Tried (Acquired due)) = due .moment .0 ≡ usableFrom r at 0
 grantTells r at (Tried (Retry due)) = Unit {0}

@@ -50,7 +50,7 @@ refund s id cost = undo s id (refunds cost)
 abbrev pub remove : Settings → Identity → Call
 remove s id = undo s id removes
 
--- An implementation answers a call and leaves words. The rules are one.
+-- An implementation answers a call and leaves words. The rules are such an implementation.
 abbrev pub Implementation : Type 0
 Implementation = Call → List ℕ → Outcome Reply (List ℕ)
 

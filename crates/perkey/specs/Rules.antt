@@ -81,7 +81,7 @@ told o = outcome (toldOf (o .answer)) (o .after)
 unfoldable pub unlessRefused : ℕ → List ℕ → Outcome Reply (List ℕ) → Outcome Reply (List ℕ)
 unlessRefused refusal ws accepted = cond (eqb refusal 0) accepted (outcome (Refused refusal) ws)
 
--- Whether a full ledger forgets a debt rather than turning a new key away; and the settings that the store on one shard needs.
+-- Whether a full ledger forgets a debt rather than turning a new key away; and the settings that a shard needs.
 abbrev pub forgets : WhenFull → Bool
 forgets RefuseNew = false
 forgets ForgetDebt = true
@@ -134,7 +134,8 @@ unlessTrivial rate cost tooMuch atOnce ws asked =
 unfoldable pub closed : Nanos → ℕ → Decision
 closed at cost = cond (eqb cost 0) (Acquired (dueNow at)) Impossible
 
--- What a request is told without a look at the store: on a closed limiter; for more tokens than a full bucket holds; and for none, which are granted.
+-- What a request is told without a look at the store: on a closed limiter, where a reservation is told none even of cost 0; for more tokens than a full bucket
+-- holds; and, where there is a rate, for cost 0, which is granted.
 abbrev pub closedTo : Request → Nanos → ℕ → Reply
 closedTo Acquire at cost = Tried (closed at cost)
 closedTo (Reserve longest) at cost = Nothing

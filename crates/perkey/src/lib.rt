@@ -55,8 +55,8 @@ pub fn set_up(settings: Settings, ws: &mut [u64]) -> Reply
     Reply::Done
 }
 
-// Takes tokens for a key without waiting: granted, to be tried again after a wait, or impossible. Each operation on a key asks first whether there is a
-// rate, so that all that follows is compiled for a limiter that has one (docs/DECISIONS.md).
+// Takes tokens for a key without waiting: granted, to be tried again after a wait, or impossible. Each operation that asks a bucket asks first whether there is
+// a rate, so that all that follows is compiled for a limiter that has one (docs/DECISIONS.md).
 pub fn try_acquire_with_cost(
     settings: Settings,
     ws: &mut [u64],
@@ -107,8 +107,8 @@ fn try_open(
 }
 
 // A try that is not refused. No state is made for a cost that can never be granted, nor for cost 0. The key's place is found here and not in the
-// store, so that a known key's request is compiled into the call (docs/DECISIONS.md); a new key's gets copies, so that a known key's part need not be
-// in memory.
+// store, so that a known key's request is compiled into the call (docs/DECISIONS.md); a new key's is lent copies of the
+// settings and the part, so that those of a known key stay in registers.
 fn decide(
     settings: Settings,
     rate: Rate,
@@ -497,7 +497,7 @@ fn closed(at: Nanos, cost: u32) -> Decision
     }
 }
 
-// The settings that the store on one shard needs.
+// The settings that a shard needs.
 fn policy(settings: Settings, rate: Rate) -> Policy
     ensures { λ r. ⌜ r ≡ Rules.policyOf settings rate ⌝ }
 {
@@ -522,7 +522,7 @@ fn forgets(when_full: WhenFull) -> bool
     }
 }
 
-// A store's answer as the reply to a try: want of space is a wait too.
+// A shard's answer as the reply to a try: want of space is a wait too.
 fn try_reply(answer: Answer) -> Reply
     ensures { λ r. ⌜ r ≡ Rules.tryReply answer ⌝ }
 {
@@ -542,7 +542,7 @@ fn map_decision(decision: BucketDecision) -> Decision
     }
 }
 
-// A store's answer as the reply to a reservation.
+// A shard's answer as the reply to a reservation.
 fn reserve_reply(answer: Answer) -> Reply
     ensures { λ r. ⌜ r ≡ Rules.reserveReply answer ⌝ }
 {

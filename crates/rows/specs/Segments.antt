@@ -1,4 +1,4 @@
--- A part of a list, in the form in which a part of a slice is lent.
+-- A segment of a list, in the form in which a segment of a slice is lent.
 use Prim.Native.Nat.{ℕ}
 use mathlib.Core.List.{List}
 use lib.ListN.{take, drop}

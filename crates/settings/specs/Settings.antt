@@ -85,10 +85,11 @@ leastIdle (Open rate) = timeToFull (configOf rate)
 abbrev pub idleLimitMillis : ℕ → ℕ
 idleLimitMillis span = ceilDiv span nanosPerMilli + 1
 
--- The idle limit for an idle time and the least that counts; none where no idle time is set.
+-- The idle limit for an idle time and the least that counts.
 abbrev pub idleLimitFor : Nanos → ℕ → Millis
 idleLimitFor ttl least = record { 0 = idleLimitMillis (max (ttl .0) least) }
 
+-- There is none where no idle time is set.
 abbrev pub idleLimitOf : OptionNanos → ℕ → OptionMillis
 idleLimitOf nanos.None least = millis.None
 idleLimitOf (nanos.Some ttl) least = millis.Some (idleLimitFor ttl least)

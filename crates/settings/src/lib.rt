@@ -15,7 +15,7 @@ pub mod decision;
 pub mod eviction;
 pub mod rate;
 
-// The rate, if there is one. A closed limiter has none, and grants cost 0 alone.
+// The rate, if there is one. A closed limiter has none: it grants tries of cost 0, and nothing else.
 pub enum Limit {
     Closed,
     Open(Rate),

@@ -1,4 +1,4 @@
--- The operations of the store on the one shard that a key belongs to: a request, a view, a refund and a removal.
+-- The operations on the one shard that a key belongs to: a request, a view, a refund and a removal.
 use Prim.Native.Nat.{ℕ}
 use mathlib.Core.Bool.{Bool, true, false, cond}
 use lib.Dec.{ltb}
@@ -37,7 +37,7 @@ abbrev pub tracks : OptionNanos → Bool
 tracks nanos.None = false
 tracks (nanos.Some ttl) = true
 
--- A known key's slot is touched, and its bucket is asked.
+-- A known key's bucket is asked; then its slot is touched.
 abbrev pub askedAt : Policy → Slot → Request → ℕ → Nanos → BucketOutcome
 askedAt p slot request cost at = Bucket.asked (p .config) request (slot .bucket) cost at
 
@@ -83,7 +83,8 @@ abbrev pub putBack : ℕ → Nanos → OptionNanos → Shard → Shard
 putBack hash at nanos.None s = s
 putBack hash at (nanos.Some settles) s = withLedger s (Ledger.recorded (s .ledger) (record { hash = hash; settles = settles }) at false .after)
 
--- No room: the key is turned away for want of space, and its debt put back; what was swept, cleared or moved stays so.
+-- No room: the key is turned away for want of space, and its debt put back, if it had one; what was swept, cleared or moved stays so. A key that had a debt is
+-- never turned away (`admit` says why), so the code puts nothing back.
 abbrev pub admitted : Policy → Identity → Request → ℕ → Nanos → OptionNanos → Shard → Room → Outcome Answer Shard
 admitted p id request cost at owed s Made = joined p id request cost at owed s
 admitted p id request cost at owed s (Refused wait) = outcome (NoSpace (Bucket.dueAfter at wait)) (putBack (id .hash) at owed s)

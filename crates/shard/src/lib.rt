@@ -1,4 +1,4 @@
-// The operations of the store on the one shard that a key belongs to.
+// The operations on the one shard that a key belongs to.
 ghost use mathlib.Core.Path.{_≡_};
 ghost use Prim.Native.Nat.{_≤_, _<_, _^_};
 ghost use Rattle.rows.specs.Outcome.{outcome};
@@ -25,7 +25,7 @@ pub struct Identity {
     pub key: u64,
 }
 
-// The settings that the store on one shard needs.
+// The settings that a shard needs.
 pub struct Policy {
     pub config: BucketConfig,
     pub idle_ttl: OptionNanos,

@@ -1,4 +1,4 @@
-// The ledger of a shard: the ledger's functions, lent the part of the shard's words that is its own.
+// The ledger of a shard: the ledger's functions, lent the segment of the shard's words that is its own.
 ghost use mathlib.Core.Path.{_≡_};
 ghost use lib.ListN.{length};
 ghost use Rattle.rows.specs.Outcome.{outcome};

@@ -1,4 +1,4 @@
-// The words of a shard, read and stored. No other function of the crate knows where a word lies, except those of `debts`, which lend the ledger's part.
+// The words of a shard, read and stored. No other function of the crate knows where a word lies, except those of `debts`, which lend the ledger's segment.
 // What is `pub` here is for `evict`, which does not know where a word lies either.
 ghost use mathlib.Core.Path.{_≡_};
 ghost use Prim.Native.Nat.{_<_, _^_};

@@ -12,7 +12,7 @@ use Rattle.shard_map.specs.Model.{Shard}
 use Rattle.shard_map.specs.Layout.{shardWords, shard, wordsOf}
 use Rattle.store.specs.declared.Part.{Part}
 
--- The words with other words in the place of a part.
+-- The words with other words in the place of a segment.
 abbrev pub withSegment : ℕ → ℕ → List ℕ → List ℕ → List ℕ
 withSegment a n ws new = take a ws ++ (new ++ drop n (drop a ws))
 

@@ -9,7 +9,7 @@ pub struct Nanos(pub u64);
 // A moment or a span in whole milliseconds: what the idle stamps count.
 pub struct Millis(pub u64);
 
-// A span that may be missing.
+// A span or a moment that may be missing.
 pub enum OptionNanos {
     None,
     Some(Nanos),
