@@ -13,7 +13,7 @@ use Rattle.units.specs.declared.Nanos.{Nanos}
 use Rattle.settings.specs.Eviction.{clockScan}
 use Rattle.bucket.specs.declared.BucketConfig.{BucketConfig}
 use Rattle.bucket.specs.declared.BucketCore.{BucketCore}
-use Rattle.bucket.specs.Bucket.{Accepted, mostShortfall, shortfallAt, recoveryAt}
+use Rattle.bucket.specs.Bucket.{Accepted, mostShortfall, shortfallAt, recoveryAt, dueAfter}
 use Rattle.bucket.proofs.BucketLaws.{most-shortfall-fits, shortfall-most, recovery-of-shortfall}
 use Rattle.rows.specs.declared.Place.{Place}
 use Rattle.rows.specs.declared.Place.the-variants.{At, Nowhere}
@@ -136,7 +136,7 @@ module _ (c : BucketConfig) (at : Nanos) (forget : Bool) (p least : ℕ) (s : Sh
   pub owing-goes-out : r ≡ Done → outcome Made (evictAt t p) ≡ evictVictim c at forget s least (Owing p)
   owing-goes-out is = rw (after-is gave, sym (answer-is gave) ∙ is)
 
-  pub owing-stays : {wait : Nanos} → r ≡ NoRoom wait → outcome (Refused (refusalWait c least wait)) t ≡ evictVictim c at forget s least (Owing p)
+  pub owing-stays : {wait : Nanos} → r ≡ NoRoom wait → outcome (Refused (dueAfter at (refusalWait c least wait))) t ≡ evictVictim c at forget s least (Owing p)
   owing-stays is = rw (after-is gave, sym (answer-is gave) ∙ is)
 
 -- A recovery takes no longer than the largest shortfall has parts, so the moment at which a debt settles fits 64 bits.

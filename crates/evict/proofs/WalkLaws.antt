@@ -11,7 +11,8 @@ use Rattle.arith.proofs.Cases.{by-test, by-eq}
 use Rattle.arith.proofs.DivisionLaws.{ceilDiv-least, ceilDiv-mono, ceilDiv-of-smaller}
 use Rattle.units.specs.declared.Nanos.{Nanos}
 use Rattle.bucket.specs.declared.BucketConfig.{BucketConfig}
-use Rattle.bucket.specs.Bucket.{Accepted, mostShortfall, shortfallAt, recoveryOf}
+use Rattle.bucket.specs.declared.Due.{Due}
+use Rattle.bucket.specs.Bucket.{Accepted, mostShortfall, shortfallAt, recoveryOf, dueAfter}
 use Rattle.bucket.proofs.BucketLaws.{most-shortfall-fits, shortfall-most, recovery-of-shortfall}
 use Rattle.settings.specs.Eviction.{clockScan}
 use Rattle.rows.specs.declared.Place.{Place}
@@ -190,13 +191,18 @@ module _ (c : BucketConfig) (at : Nanos) where
       (λ goes. rw (goes, walkFrom) (omega arith))
       (λ stays. rw (stays, walkFrom) (omega (arith, least-falls left (looked s p) (noted c at w p (slotAt s p)), noted-least-falls w p (slotAt s p))))
 
-  walk-least-most : (s : Shard) → walked c at s .walk .least ≤ mostShortfall c
+  pub walk-least-most : (s : Shard) → walked c at s .walk .least ≤ mostShortfall c
   unfolding walked
   walk-least-most s = least-falls _ s (nothingNoted c)
 
 -- A shortfall recovers in no more nanoseconds than it has parts.
 recovery-at-most-parts : {c : BucketConfig} → Accepted c → (shortfall : ℕ) → recoveryOf c shortfall ≤ shortfall
 recovery-at-most-parts {c} a shortfall = ceilDiv-least shortfall (c .amount) shortfall (a .amount-least) (omega (arith, mul-le-mul-left shortfall (a .amount-least)))
+
+-- The wait of a refusal is short enough that the moment at which it is over fits 64 bits.
+pub refusal-is-due-in-time : {c : BucketConfig} (at : Nanos) {least : ℕ} (wait : Nanos) → Accepted c → at .0 ≤ 2 ^ 62 → least ≤ mostShortfall c
+    → at .0 + refusalWait c least wait .0 < 2 ^ 64
+refusal-is-due-in-time at {least} wait a early most = omega (arith, recovery-at-most-parts a least, most-shortfall-fits a)
 
 -- A slot that is full before the walk is full after it.
 remarked-full : (c : BucketConfig) (at : Nanos) (s t : Shard) (p : ℕ) → Remarked s t → FullSlot c at s p → FullSlot c at t p
@@ -245,7 +251,7 @@ pub data Evicting (c : BucketConfig) (at : Nanos) (forget : Bool) (least : ℕ) 
   owing-goes : (p : ℕ) → p < s .slots .count → debtRecorded c at forget s p .answer ≡ Done
       → Evicting c at forget least s (outcome Made (evictAt (withLedger s (debtRecorded c at forget s p .after)) p))
   none-goes : (p : ℕ) (wait : Nanos) → p < s .slots .count → debtRecorded c at forget s p .answer ≡ NoRoom wait
-      → Evicting c at forget least s (outcome (Refused (refusalWait c least wait)) (withLedger s (debtRecorded c at forget s p .after)))
+      → Evicting c at forget least s (outcome (Refused (dueAfter at (refusalWait c least wait))) (withLedger s (debtRecorded c at forget s p .after)))
 
 victim-cases : (c : BucketConfig) (at : Nanos) (forget : Bool) (s : Shard) (least : ℕ) (v : Victim) → victimIs c at s v
     → Evicting c at forget least s (evictVictim c at forget s least v)
@@ -253,7 +259,7 @@ victim-cases c at forget s least (Free p) full = full-goes p full
 victim-cases c at forget s least (Owing p) below = go (debtRecorded c at forget s p .answer) refl
   where
     go : (answer : Recorded) → debtRecorded c at forget s p .answer ≡ answer
-        → Evicting c at forget least s (afterRecording c s p least (debtRecorded c at forget s p .after) answer)
+        → Evicting c at forget least s (afterRecording c at s p least (debtRecorded c at forget s p .after) answer)
     go Done e = owing-goes p below e
     go (NoRoom wait) e = none-goes p wait below e
 
@@ -264,13 +270,39 @@ evict-cases c at forget s u some =
     let w : Walked = walked c at s in
     victim-cases c at forget (w .after) (w .walk .least) (victimOf (w .ended) (w .walk) (handOf s)) (walk-chooses c at s u some)
 
+-- Whether room was made or not; where it was not, it is due after a wait, and told so.
+pub data TellsRoom (at : Nanos) : Room → Type 0 where
+  room-made : TellsRoom at Made
+  room-refused : (wait : Nanos) → TellsRoom at (Refused (dueAfter at wait))
+
+-- A refusal tells the moment of the call plus its wait, on any shard.
+pub eviction-tells-its-moment : (c : BucketConfig) (at : Nanos) (forget : Bool) (s : Shard) → TellsRoom at (evicted c at forget s .answer)
+unfolding evicted
+eviction-tells-its-moment c at forget s = by-victim (w .after) (w .walk .least) (victimOf (w .ended) (w .walk) (handOf s))
+  where
+    w : Walked
+    w = walked c at s
+
+    by-record : (t : Shard) (p least : ℕ) (l : Ledger.Ledger) (r : Recorded) → TellsRoom at (afterRecording c at t p least l r .answer)
+    by-record t p least l Done = room-made
+    by-record t p least l (NoRoom wait) = room-refused (refusalWait c least wait)
+
+    by-victim : (t : Shard) (least : ℕ) (v : Victim) → TellsRoom at (evictVictim c at forget t least v .answer)
+    by-victim t least (Free p) = room-made
+    by-victim t least (Owing p) = by-record t p least (debtRecorded c at forget t p .after) (debtRecorded c at forget t p .answer)
+
 -- The two answers are not one, and there is no third.
-pub made-is-no-refusal : {Q : Type 0} {wait : Nanos} → Made ≡ Refused wait → Q
+pub made-is-no-refusal : {Q : Type 0} {due : Due} → Made ≡ Refused due → Q
 made-is-no-refusal e = let z : _≡_ {A = ℕ} 0 1 = cc in absurd (omega arith)
 
-pub never-refused-is-made : (answer : Room) → ((wait : Nanos) → answer ≡ Refused wait → ⊥) → answer ≡ Made
+-- The wait that a refusal tells; 0 where room was made.
+abbrev waitForRoom : Room → ℕ
+waitForRoom Made = 0
+waitForRoom (Refused due) = due .wait .0
+
+pub never-refused-is-made : (answer : Room) → ((due : Due) → answer ≡ Refused due → ⊥) → answer ≡ Made
 never-refused-is-made Made never = refl
-never-refused-is-made (Refused wait) never = absurd (never wait refl)
+never-refused-is-made (Refused due) never = absurd (never due refl)
 
 -- What a refusal says: the ledger is full, nothing may be forgotten, the wait is at least a millisecond, and no slot and no debt has come or gone.
 pub record EvictRefusal (forget : Bool) (s : Shard) (wait : Nanos) (after : Shard) : Type 0 where
@@ -349,15 +381,16 @@ module _ (c : BucketConfig) (at : Nanos) (forget : Bool) (s : Shard) (u : Sound 
   pub evict-made-leaves-room : evicted c at forget s .answer ≡ Made → evicted c at forget s .after .slots .count < capOf (evicted c at forget s .after)
   evict-made-leaves-room made = omega (arith, evict-made-count made, evict-cap, u .count-fits)
 
-  pub evict-refusal : (wait : Nanos) → evicted c at forget s .answer ≡ Refused wait → EvictRefusal forget s wait (evicted c at forget s .after)
-  evict-refusal wait = go walk-remarks walk-sound (evict-cases c at forget s u some)
+  pub evict-refusal : (due : Due) → evicted c at forget s .answer ≡ Refused due → EvictRefusal forget s (due .wait) (evicted c at forget s .after)
+  evict-refusal due = go walk-remarks walk-sound (evict-cases c at forget s u some)
     where
-      go : {least : ℕ} {t : Shard} {o : Outcome Room Shard} → Remarked s t → Sound t → Evicting c at forget least t o → o .answer ≡ Refused wait → EvictRefusal forget s wait (o .after)
+      go : {least : ℕ} {t : Shard} {o : Outcome Room Shard} → Remarked s t → Sound t → Evicting c at forget least t o → o .answer ≡ Refused due
+          → EvictRefusal forget s (due .wait) (o .after)
       go r v (full-goes p f) e = made-is-no-refusal e
       go r v (owing-goes p below done) e = made-is-no-refusal e
       go {least} {t} r v (none-goes p w below told) e =
           let q : Refusal (t .ledger) forget w (debtRecorded c at forget t p .after) = refusal (t .ledger) _ at forget w (v .ledger) told in
-          let same : refusalWait c least w .0 ≡ wait .0 = cc in
+          let same : refusalWait c least w .0 ≡ due .wait .0 = ap waitForRoom e in
           record {
             full = rw (← r .ledger) (q .full);
             never = q .never;
@@ -366,32 +399,21 @@ module _ (c : BucketConfig) (at : Nanos) (forget : Bool) (s : Shard) (u : Sound 
             debts = q .debts ∙ ap (λ (l : Ledger.Ledger). l .debts) (r .ledger);
           }
 
-  -- The wait is short enough that the moment at which it is over fits 64 bits.
-  pub refusal-wait-fits : Accepted c → (wait : Nanos) → evicted c at forget s .answer ≡ Refused wait → wait .0 < 2 ^ 63
-  refusal-wait-fits a wait = go (walk-least-most c at s) (evict-cases c at forget s u some)
-    where
-      go : {least : ℕ} {t : Shard} {o : Outcome Room Shard} → least ≤ mostShortfall c → Evicting c at forget least t o → o .answer ≡ Refused wait → wait .0 < 2 ^ 63
-      go most (full-goes p f) e = made-is-no-refusal e
-      go most (owing-goes p below done) e = made-is-no-refusal e
-      go {least} most (none-goes p w below told) e =
-          let same : refusalWait c least w .0 ≡ wait .0 = cc in
-          omega (arith, recovery-at-most-parts a least, most-shortfall-fits a)
-
   -- The wait that a refusal tells is the shorter of the soonest recovery of the slots looked at and the ledger's wait, but at least a millisecond.
-  pub refusal-waits-for-the-soonest : Accepted c → (wait : Nanos) → evicted c at forget s .answer ≡ Refused wait → RefusalWait c at forget s wait
-  refusal-waits-for-the-soonest a wait = go (least-shortfall-recovers-soonest a at s) (evict-cases c at forget s u some)
+  pub refusal-waits-for-the-soonest : Accepted c → (due : Due) → evicted c at forget s .answer ≡ Refused due → RefusalWait c at forget s (due .wait)
+  refusal-waits-for-the-soonest a due = go (least-shortfall-recovers-soonest a at s) (evict-cases c at forget s u some)
     where
       go : {least : ℕ} {o : Outcome Room Shard} → recoveryOf c least ≡ soonestOf c at s → Evicting c at forget least (walked c at s .after) o
-          → o .answer ≡ Refused wait → RefusalWait c at forget s wait
+          → o .answer ≡ Refused due → RefusalWait c at forget s (due .wait)
       go is (full-goes p f) e = made-is-no-refusal e
       go is (owing-goes p below done) e = made-is-no-refusal e
       go {least} is (none-goes p w below told) e =
-          let same : refusalWait c least w .0 ≡ wait .0 = cc in
+          let same : refusalWait c least w .0 ≡ due .wait .0 = ap waitForRoom e in
           record { place = p; ledger-wait = w; told = told; shorter = rw (← is) (sym same) }
 
   -- So it is never refused while the ledger is below its cap, nor where debts may be forgotten.
   pub evict-below-ledger-cap-never-refuses : s .ledger .debts .count < Ledger.capOf (s .ledger) → evicted c at forget s .answer ≡ Made
-  evict-below-ledger-cap-never-refuses room = never-refused-is-made _ (λ wait e. omega (arith, evict-refusal wait e .full))
+  evict-below-ledger-cap-never-refuses room = never-refused-is-made _ (λ due e. omega (arith, evict-refusal due e .full))
 
   pub evict-forgetting-never-refuses : forget ≡ true → evicted c at forget s .answer ≡ Made
-  evict-forgetting-never-refuses forgets = never-refused-is-made _ (λ wait e. true≢false (sym forgets ∙ evict-refusal wait e .never))
+  evict-forgetting-never-refuses forgets = never-refused-is-made _ (λ due e. true≢false (sym forgets ∙ evict-refusal due e .never))

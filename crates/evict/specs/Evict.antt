@@ -3,7 +3,7 @@ use Prim.Native.Nat.{ℕ, zero, suc, _+_, min, max}
 use mathlib.Core.Bool.{Bool, false, cond, not}
 use Rattle.units.specs.declared.Nanos.{Nanos}
 use Rattle.bucket.specs.declared.BucketConfig.{BucketConfig}
-use Rattle.bucket.specs.Bucket.{mostShortfall, shortfallAt, recoveryOf}
+use Rattle.bucket.specs.Bucket.{mostShortfall, shortfallAt, recoveryOf, dueAfter}
 use Rattle.settings.specs.Eviction.{clockScan}
 use Rattle.rows.specs.declared.Place.{Place}
 use Rattle.rows.specs.declared.Place.the-variants.{At, Nowhere}
@@ -102,17 +102,18 @@ debtLeft c at slot = record { hash = slot .hash; settles = record { 0 = at .0 + 
 abbrev pub refusalWait : BucketConfig → ℕ → Nanos → Nanos
 refusalWait c least wait = record { 0 = max (min (recoveryOf c least) (wait .0)) minRefusalWait }
 
--- A slot that owes goes where its debt was recorded, and the ledger is then l. Where the ledger had no room for the debt the slot stays.
-abbrev pub afterRecording : BucketConfig → Shard → ℕ → ℕ → Ledger.Ledger → Recorded → Outcome Room Shard
-afterRecording c s p least l Done = outcome Made (evictAt (withLedger s l) p)
-afterRecording c s p least l (NoRoom wait) = outcome (Refused (refusalWait c least wait)) (withLedger s l)
+-- A slot that owes goes where its debt was recorded, and the ledger is then l. Where the ledger had no room for the debt the slot stays, and room is due after
+-- that wait.
+abbrev pub afterRecording : BucketConfig → Nanos → Shard → ℕ → ℕ → Ledger.Ledger → Recorded → Outcome Room Shard
+afterRecording c at s p least l Done = outcome Made (evictAt (withLedger s l) p)
+afterRecording c at s p least l (NoRoom wait) = outcome (Refused (dueAfter at (refusalWait c least wait))) (withLedger s l)
 
 -- What happens to the victim: a free slot goes; one that owes goes once its debt is recorded.
 abbrev pub evictVictim : BucketConfig → Nanos → Bool → Shard → ℕ → Victim → Outcome Room Shard
 evictVictim c at forget s least (Free p) = outcome Made (evictAt s p)
 evictVictim c at forget s least (Owing p) =
     let recording = Ledger.recorded (s .ledger) (debtLeft c at (slotAt s p)) at forget in
-    afterRecording c s p least (recording .after) (recording .answer)
+    afterRecording c at s p least (recording .after) (recording .answer)
 
 unfoldable pub evicted : BucketConfig → Nanos → Bool → Shard → Outcome Room Shard
 evicted c at forget s =

@@ -2,12 +2,13 @@
 ghost use mathlib.Core.Path.{_≡_};
 ghost use Prim.Native.Nat.{_≤_, _<_, _^_};
 ghost use Rattle.rows.specs.Outcome.{outcome};
-ghost use Rattle.bucket.specs.Bucket.{Accepted};
+ghost use Rattle.bucket.specs.Bucket.{Accepted, mostShortfall};
 ghost use Rattle.shard_map.specs.Model as Model;
 ghost use Rattle.shard_map.specs.Layout.{shard, Intact};
 ghost use Rattle.evict.specs.declared.Victim.the-variants.{Owing};
 ghost use Rattle.evict.specs.Evict as Evict;
 use bucket::BucketConfig;
+use bucket::Due;
 use ledger::Debt;
 use ledger::Recorded;
 use rows::Place;
@@ -20,10 +21,10 @@ use units::Nanos;
 // The shortest wait that a key refused for space is told, in nanoseconds, so that it does not ask again at once.
 const MIN_REFUSAL_WAIT: u64 = 1000000;
 
-// Whether a slot was evicted; if none could be, how long until room is expected.
+// Whether a slot was evicted; if none could be, when room is expected.
 pub enum Room {
     Made,
-    Refused(Nanos),
+    Refused(Due),
 }
 
 // Who goes in an eviction, by its place: a free slot is full and goes without loss; one that owes goes once its debt is recorded.
@@ -181,7 +182,7 @@ fn evict_victim(
     victim: Victim,
     least: u64,
 ) -> Room
-    requires { ⌜ Intact cap (now ws) × Accepted config × (at .0 ≤ 2 ^ 62) × (Evict.placeOfVictim victim < shard cap (now ws) .slots .count) ⌝ }
+    requires { ⌜ Intact cap (now ws) × Accepted config × (at .0 ≤ 2 ^ 62) × (Evict.placeOfVictim victim < shard cap (now ws) .slots .count) × (least ≤ mostShortfall config) ⌝ }
     ensures { λ r. ⌜ outcome r (shard cap (now (ws .exit))) ≡ Evict.evictVictim config at forget (shard cap (now (ws .entry))) least victim ⌝ }
 {
     match victim {
@@ -202,7 +203,7 @@ fn evict_at(ws: &mut [u64], cap: usize, pos: usize)
     words::set_hand(ws, cap, pos + 1);
 }
 
-// The slot at a place goes once its debt is recorded. If there is no room for the debt, the wait until room is expected is told.
+// The slot at a place goes once its debt is recorded. If there is no room for the debt, it is told when room is expected.
 fn evict_owing(
     ws: &mut [u64],
     cap: usize,
@@ -212,7 +213,7 @@ fn evict_owing(
     pos: usize,
     least: u64,
 ) -> Room
-    requires { ⌜ Intact cap (now ws) × Accepted config × (at .0 ≤ 2 ^ 62) × (pos < shard cap (now ws) .slots .count) ⌝ }
+    requires { ⌜ Intact cap (now ws) × Accepted config × (at .0 ≤ 2 ^ 62) × (pos < shard cap (now ws) .slots .count) × (least ≤ mostShortfall config) ⌝ }
     ensures { λ r. ⌜ outcome r (shard cap (now (ws .exit))) ≡ Evict.evictVictim config at forget (shard cap (now (ws .entry))) least (Owing pos) ⌝ }
 {
     let slot = shard_map::get(ws, cap, pos);
@@ -229,7 +230,7 @@ fn evict_owing(
         Recorded::NoRoom(wait) => {
             let soonest = config.recovery_of(least);
             let sooner = arith::smaller(soonest.0, wait.0);
-            Room::Refused(Nanos(arith::larger(sooner, MIN_REFUSAL_WAIT)))
+            Room::Refused(Due::after(at, Nanos(arith::larger(sooner, MIN_REFUSAL_WAIT))))
         }
     }
 }

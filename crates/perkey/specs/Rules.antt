@@ -103,10 +103,14 @@ abbrev pub tryReply : Answer → Reply
 tryReply (Decided decision) = Tried (mapDecision decision)
 tryReply (NoSpace due) = Tried (Retry due)
 
--- The answer to a reservation: granted with its wait, else none.
+-- What a bucket decided, as a reservation is told it: granted with its wait, else none.
+abbrev pub reservedReply : BucketDecision → Reply
+reservedReply (Allowed due) = Reserved due
+reservedReply (Denied due) = Nothing
+
+-- The answer to a reservation: by its bucket, or none for want of space.
 abbrev pub reserveReply : Answer → Reply
-reserveReply (Decided (Allowed due)) = Reserved due
-reserveReply (Decided (Denied due)) = Nothing
+reserveReply (Decided decision) = reservedReply decision
 reserveReply (NoSpace due) = Nothing
 
 -- The answer to a request.

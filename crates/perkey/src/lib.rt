@@ -130,7 +130,7 @@ fn decide(
     match store::position(ws, part, id) {
         Place::At(pos) => {
             let request = Request::Acquire;
-            try_reply(store::with_existing(
+            let decision = store::with_existing(
                 ws,
                 part,
                 policy(settings, rate),
@@ -138,7 +138,8 @@ fn decide(
                 request,
                 cost,
                 at,
-            ))
+            );
+            Reply::Tried(map_decision(decision))
         }
         Place::Nowhere => {
             let own = part;
@@ -242,7 +243,7 @@ fn reserve_within(
     match store::position(ws, part, id) {
         Place::At(pos) => {
             let request = Request::Reserve(max_wait);
-            reserve_reply(store::with_existing(
+            let decision = store::with_existing(
                 ws,
                 part,
                 policy(settings, rate),
@@ -250,7 +251,8 @@ fn reserve_within(
                 request,
                 cost,
                 at,
-            ))
+            );
+            reserved_reply(decision)
         }
         Place::Nowhere => {
             let own = part;
@@ -547,11 +549,18 @@ fn reserve_reply(answer: Answer) -> Reply
     ensures { λ r. ⌜ r ≡ Rules.reserveReply answer ⌝ }
 {
     match answer {
-        Answer::Decided(decision) => match decision {
-            BucketDecision::Allowed(due) => Reply::Reserved(due),
-            BucketDecision::Denied(_) => Reply::Nothing,
-        },
+        Answer::Decided(decision) => reserved_reply(decision),
         Answer::NoSpace(_) => Reply::Nothing,
+    }
+}
+
+// What a bucket decided, as a reservation is told it.
+fn reserved_reply(decision: BucketDecision) -> Reply
+    ensures { λ r. ⌜ r ≡ Rules.reservedReply decision ⌝ }
+{
+    match decision {
+        BucketDecision::Allowed(due) => Reply::Reserved(due),
+        BucketDecision::Denied(_) => Reply::Nothing,
     }
 }
 

@@ -1,6 +1,7 @@
 -- Every answer to a request tells the moment of the call plus its wait, on any shard.
 use Prim.Native.Nat.{ℕ, _≤_}
 use mathlib.Core.Path.{_≡_, refl}
+use borrow.Author.Tests.{lt-ltb, le-ltb}
 use Rattle.arith.proofs.Cases.{by-le}
 use Rattle.units.specs.declared.Nanos.{Nanos}
 use Rattle.bucket.specs.declared.BucketConfig.{BucketConfig}
@@ -11,16 +12,16 @@ use Rattle.bucket.specs.Bucket.{dueAfter, longestWait, waitAt, asked}
 use Rattle.bucket.proofs.BucketLaws.{granted-within-longest, denied-beyond-longest}
 use Rattle.rows.specs.declared.Place.{Place}
 use Rattle.rows.specs.declared.Place.the-variants.{At, Nowhere}
-use Rattle.shard_map.specs.Model.{Shard, placeOf, withLedger}
+use Rattle.shard_map.specs.Model.{Shard, capOf, placeOf, withLedger}
 use Rattle.ledger.specs.Model as Ledger
 use Rattle.evict.specs.declared.Room.{Room}
-use Rattle.evict.specs.declared.Room.the-variants.{Made, Refused}
+use Rattle.evict.proofs.WalkLaws.{TellsRoom, room-made, room-refused, eviction-tells-its-moment}
 use Rattle.units.specs.declared.OptionNanos.{OptionNanos}
 use Rattle.shard.specs.declared.Identity.{Identity}
 use Rattle.shard.specs.declared.Policy.{Policy}
 use Rattle.shard.specs.declared.Answer.{Answer}
 use Rattle.shard.specs.declared.Answer.the-variants.{Decided, NoSpace}
-use Rattle.shard.specs.Model.{withExisting, makeRoom, admitted, admit, askedFrom, withOrInsert}
+use Rattle.shard.specs.Model.{withExisting, swept, makeRoom, admitted, admit, askedFrom, withOrInsert}
 
 -- An answer at a moment: a grant within the longest wait of the request, a denial, or no space. Each is due after its wait.
 pub data TellsItsMoment (request : Request) (at : Nanos) : Answer → Type 0 where
@@ -35,10 +36,17 @@ bucket-tells-its-moment c request b cost at =
     (λ soon. rw (granted-within-longest c request b cost at soon) (granted (record { 0 = waitAt c b cost at }) soon))
     (λ late. rw (denied-beyond-longest c request b cost at late) (denied (record { 0 = waitAt c b cost at })))
 
+making-room-tells-its-moment : (p : Policy) (at : Nanos) (s : Shard) → TellsRoom at (makeRoom p at s .answer)
+unfolding makeRoom
+making-room-tells-its-moment p at s =
+    by-le (capOf (swept p at s)) (swept p at s .slots .count)
+    (λ full. rw (le-ltb _ _ full) (eviction-tells-its-moment (p .config) at (p .«forget_debt») (swept p at s)))
+    (λ below. rw (lt-ltb _ _ below) room-made)
+
 module _ (p : Policy) (id : Identity) (request : Request) (cost : ℕ) (at : Nanos) where
-  room-tells-its-moment : (owed : OptionNanos) (s : Shard) (room : Room) → TellsItsMoment request at (admitted p id request cost at owed s room .answer)
-  room-tells-its-moment owed s Made = bucket-tells-its-moment (p .config) request _ cost at
-  room-tells-its-moment owed s (Refused wait) = no-space wait
+  room-tells-its-moment : (owed : OptionNanos) (s : Shard) {room : Room} → TellsRoom at room → TellsItsMoment request at (admitted p id request cost at owed s room .answer)
+  room-tells-its-moment owed s room-made = bucket-tells-its-moment (p .config) request _ cost at
+  room-tells-its-moment owed s (room-refused wait) = no-space wait
 
   place-tells-its-moment : (s : Shard) (place : Place) → TellsItsMoment request at (askedFrom p id request cost at s place .answer)
   unfolding withExisting admit
@@ -46,7 +54,7 @@ module _ (p : Policy) (id : Identity) (request : Request) (cost : ℕ) (at : Nan
   place-tells-its-moment s Nowhere =
       let own = Ledger.taken (s .ledger) (id .hash) in
       let room = makeRoom p at (withLedger s (own .after)) in
-      room-tells-its-moment (own .answer) (room .after) (room .answer)
+      room-tells-its-moment (own .answer) (room .after) (making-room-tells-its-moment p at (withLedger s (own .after)))
 
   pub every-answer-tells-its-moment : (s : Shard) → TellsItsMoment request at (withOrInsert p id request cost at s .answer)
   unfolding withOrInsert

@@ -12,7 +12,7 @@ use Rattle.units.specs.declared.OptionNanos.{OptionNanos}
 use Rattle.bucket.specs.declared.BucketConfig.{BucketConfig}
 use Rattle.bucket.specs.declared.Request.{Request}
 use Rattle.bucket.specs.declared.Due.{Due}
-use Rattle.bucket.specs.Bucket.{Accepted, dueAfter, refunded as refundedBucket}
+use Rattle.bucket.specs.Bucket.{refunded as refundedBucket}
 use Rattle.rows.specs.declared.Place.the-variants.{At, Nowhere}
 use Rattle.rows.specs.Outcome.{outcome}
 use Rattle.rows.proofs.OutcomeLaws.{answer-is, after-is}
@@ -28,9 +28,9 @@ use Rattle.evict.specs.declared.Room.the-variants.{Made, Refused}
 use Rattle.evict.specs.Evict.{evicted}
 use Rattle.shard.specs.declared.Identity.{Identity}
 use Rattle.shard.specs.declared.Policy.{Policy}
-use Rattle.shard.specs.declared.Answer.the-variants.{Decided, NoSpace}
-use Rattle.shard.specs.Model.{tracks, idleLimitIn, askedAt, withExisting, sweptIdle, swept, makeRoom, joined, admit, withOrInsert, hasDebt, refunded, removed}
-use Rattle.shard.proofs.RoomLaws.{swept-idle-sound, swept-sound, room-sound, room-made-leaves-room, room-refusal-fits}
+use Rattle.shard.specs.declared.Answer.the-variants.{NoSpace}
+use Rattle.shard.specs.Model.{tracks, idleLimitIn, askedAt, withExisting, sweptIdle, swept, makeRoom, joined, admit, decided, withOrInsert, hasDebt, refunded, removed}
+use Rattle.shard.proofs.RoomLaws.{swept-idle-sound, swept-sound, room-sound, room-made-leaves-room}
 use Rattle.shard.proofs.ShardLaws.{roomFor, debt-taken-sound, refused-took-nothing}
 
 -- A place that lookup found holds a slot, and stands below the cap.
@@ -43,7 +43,7 @@ found-below-cap {cap} {ws} h k i intact e = intact-below intact (found-held (sha
 -- A known key: the slot that was read is touched, and is put back with the bucket that was asked.
 pub known-by-store : (p : Policy) (request : Request) (cost : ℕ) (at : Nanos) (s : Shard) (i : ℕ) {slot : Slot}
     → slot ≡ touched (slotAt s i) at (tracks (p .«idle_ttl»))
-    → outcome (Decided (askedAt p slot request cost at .decision)) (withSlot s i (withBucket slot (askedAt p slot request cost at .bucket)))
+    → outcome (askedAt p slot request cost at .decision) (withSlot s i (withBucket slot (askedAt p slot request cost at .bucket)))
     ≡ withExisting p request cost at s i
 unfolding withExisting
 known-by-store p request cost at s i is = rw is
@@ -77,11 +77,6 @@ module _ {cap : ℕ} {ws ws′ : List ℕ} (intact : Intact cap ws) (same : leng
       let fits = rw (← after-is gave) at (room-made-leaves-room p at (shard cap ws) (intact .sound) (sym (answer-is gave) ∙ made)) in
       (after, omega (arith, fits, intact-cap after))
 
--- Where room is refused in t, the moment at which it is expected fits 64 bits.
-pub refusal-is-due-in-time : (p : Policy) (at : Nanos) (t : Shard) {v : Shard} {room : Room} → outcome room v ≡ makeRoom p at t → Accepted (p .config) → Sound t
-    → at .0 ≤ 2 ^ 62 → (wait : Nanos) → room ≡ Refused wait → at .0 + wait .0 < 2 ^ 64
-refusal-is-due-in-time p at t gave a u early wait is = omega (arith, room-refusal-fits p at t u a wait (sym (answer-is gave) ∙ is))
-
 -- A new key, once its debt was taken out, which left t, and room was made in t or not, which left v. Where room was refused there was no debt to take
 -- out, so none has to be put back.
 module _ (p : Policy) (id : Identity) (request : Request) (cost : ℕ) (at : Nanos) (s : Shard) {owed : OptionNanos} {t v : Shard} {room : Room}
@@ -93,15 +88,15 @@ module _ (p : Policy) (id : Identity) (request : Request) (cost : ℕ) (at : Nan
   unfolding admit
   new-joins made = rw (after-is gave, after-is took, answer-is took, room-told made)
 
-  pub new-refused : (wait : Nanos) → Sound s → room ≡ Refused wait → {due : Due} → due ≡ dueAfter at wait → outcome (NoSpace due) v ≡ admit p id request cost at s
+  pub new-refused : (due : Due) → Sound s → room ≡ Refused due → outcome (NoSpace due) v ≡ admit p id request cost at s
   unfolding admit
-  new-refused wait u refused is-due =
+  new-refused due u refused =
       let told = room-told refused in
-      rw (is-due, after-is gave, after-is took, told, refused-took-nothing p id at s wait u told)
+      rw (after-is gave, after-is took, told, refused-took-nothing p id at s due u told)
 
 -- A request, by the place of the key.
 module _ (p : Policy) (id : Identity) (request : Request) (cost : ℕ) (at : Nanos) (s : Shard) where
-  pub ask-with-slot : (i : ℕ) → placeOf s (id .hash) (id .key) ≡ At i → withExisting p request cost at s i ≡ withOrInsert p id request cost at s
+  pub ask-with-slot : (i : ℕ) → placeOf s (id .hash) (id .key) ≡ At i → decided (withExisting p request cost at s i) ≡ withOrInsert p id request cost at s
   unfolding withOrInsert
   ask-with-slot i e = rw e
 

@@ -66,7 +66,7 @@ module _ (p : Policy) (id : Identity) (request : Request) (cost : ℕ) (at : Nan
       go : {o : Outcome Answer Shard} → Asking p id request cost at s o → o .answer ≡ ownAnswer (p .config) id request cost at s
       go (slot-asked i slot e f r) = rw (view-of-slot (p .config) id at s i e)
       go (key-joins e made) = rw (view-without-slot (p .config) id at s e, taken-tells (s .ledger) (id .hash))
-      go (no-space wait e no-debt told) = absurd (true≢false (sym holding ∙ without-slot-holds-debt id s e ∙ ap hasDebt no-debt))
+      go (no-space due e no-debt told) = absurd (true≢false (sym holding ∙ without-slot-holds-debt id s e ∙ ap hasDebt no-debt))
 
   pub space-refusal : (due : Due) → withOrInsert p id request cost at s .answer ≡ NoSpace due → SpaceRefusal p id s (due .wait)
   space-refusal due = go (ask-cases p id request cost at s u)
@@ -74,7 +74,9 @@ module _ (p : Policy) (id : Identity) (request : Request) (cost : ℕ) (at : Nan
       go : {o : Outcome Answer Shard} → Asking p id request cost at s o → o .answer ≡ NoSpace due → SpaceRefusal p id s (due .wait)
       go (slot-asked i slot e f r) q = decided-is-no-refusal q
       go (key-joins e made) q = decided-is-no-refusal q
-      go (no-space w e no-debt told) q = let same : w ≡ due .wait = ap waitTold q in record { no-slot = e; no-debt = no-debt; room = rw same at (room-refusal p at s u w told) }
+      go (no-space d e no-debt told) q =
+          let same : d .wait ≡ due .wait = ap waitTold q in
+          record { no-slot = e; no-debt = no-debt; room = rw same at (room-refusal p at s u d told) }
 
   -- So a debt that was taken out is never put back; and the wait is at least a millisecond.
   pub space-refusal-follows-no-debt : (due : Due) → withOrInsert p id request cost at s .answer ≡ NoSpace due → Ledger.owedBy (s .ledger) (id .hash) ≡ nanos.None

@@ -13,6 +13,7 @@ use Rattle.units.specs.declared.Millis.{Millis}
 use Rattle.units.specs.declared.OptionMillis.{OptionMillis}
 use Rattle.units.specs.declared.OptionMillis.the-variants as millis
 use Rattle.bucket.specs.declared.BucketConfig.{BucketConfig}
+use Rattle.bucket.specs.declared.Due.{Due}
 use Rattle.bucket.specs.Bucket.{Accepted}
 use Rattle.rows.specs.Outcome.{Outcome, outcome}
 use Rattle.settings.specs.Eviction.{ttlSweep, ledgerScan}
@@ -24,7 +25,7 @@ use Rattle.shard_map.proofs.KeptLaws.{Keeps, keeps-refl, keeps-trans, sweep-idl
 use Rattle.evict.specs.declared.Room.{Room}
 use Rattle.evict.specs.declared.Room.the-variants.{Made, Refused}
 use Rattle.evict.specs.Evict.{minRefusalWait, evicted}
-use Rattle.evict.proofs.WalkLaws.{made-is-no-refusal, never-refused-is-made, evict-cap, evict-ledger-cap, evict-sound, evict-made-leaves-room, evict-refusal, refusal-wait-fits}
+use Rattle.evict.proofs.WalkLaws.{made-is-no-refusal, never-refused-is-made, evict-cap, evict-ledger-cap, evict-sound, evict-made-leaves-room, evict-refusal}
 use Rattle.evict.proofs.KeptLaws.{evict-keeps-shortage}
 use Rattle.shard.specs.declared.Policy.{Policy}
 use Rattle.shard.specs.Model.{idleLimitIn, sweptIdle, swept, makeRoom}
@@ -142,23 +143,17 @@ module _ (p : Policy) (at : Nanos) (s : Shard) (u : Sound s) where
       (λ free made. free)
       (λ some made. evict-made-leaves-room (p .config) at (p .«forget_debt») (swept p at s) swept-sound some made)
 
-  pub room-refusal : (wait : Nanos) → makeRoom p at s .answer ≡ Refused wait → RoomRefusal p s wait
-  room-refusal wait =
-      room-cases (λ o. o .answer ≡ Refused wait → RoomRefusal p s wait)
+  pub room-refusal : (due : Due) → makeRoom p at s .answer ≡ Refused due → RoomRefusal p s (due .wait)
+  room-refusal due =
+      room-cases (λ o. o .answer ≡ Refused due → RoomRefusal p s (due .wait))
       (λ free e. made-is-no-refusal e)
       (λ some e.
-      let r = evict-refusal (p .config) at (p .«forget_debt») (swept p at s) swept-sound some wait e in
+      let r = evict-refusal (p .config) at (p .«forget_debt») (swept p at s) swept-sound some due e in
       record { full = omega (arith, r .full, swept-ledger-cap, swept-ledger-count); never = r .never; least = r .least })
-
-  pub room-refusal-fits : Accepted (p .config) → (wait : Nanos) → makeRoom p at s .answer ≡ Refused wait → wait .0 < 2 ^ 63
-  room-refusal-fits a wait =
-      room-cases (λ o. o .answer ≡ Refused wait → wait .0 < 2 ^ 63)
-      (λ free e. made-is-no-refusal e)
-      (λ some e. refusal-wait-fits (p .config) at (p .«forget_debt») (swept p at s) swept-sound some a wait e)
 
   -- So room is made while the ledger is below its cap, and wherever debts may be forgotten.
   pub room-below-ledger-cap-never-refuses : s .ledger .debts .count < Ledger.capOf (s .ledger) → makeRoom p at s .answer ≡ Made
-  room-below-ledger-cap-never-refuses below = never-refused-is-made _ (λ wait e. omega (arith, room-refusal wait e .full))
+  room-below-ledger-cap-never-refuses below = never-refused-is-made _ (λ due e. omega (arith, room-refusal due e .full))
 
   pub room-forgetting-never-refuses : p .«forget_debt» ≡ true → makeRoom p at s .answer ≡ Made
-  room-forgetting-never-refuses forgets = never-refused-is-made _ (λ wait e. true≢false (sym forgets ∙ room-refusal wait e .never))
+  room-forgetting-never-refuses forgets = never-refused-is-made _ (λ due e. true≢false (sym forgets ∙ room-refusal due e .never))

@@ -7,6 +7,7 @@ use Rattle.units.specs.declared.Nanos.{Nanos}
 use Rattle.units.specs.declared.OptionNanos.{OptionNanos}
 use Rattle.units.specs.declared.OptionNanos.the-variants as nanos
 use Rattle.bucket.specs.declared.BucketConfig.{BucketConfig}
+use Rattle.bucket.specs.declared.Due.{Due}
 use Rattle.bucket.specs.declared.BucketCore.{BucketCore}
 use Rattle.bucket.specs.declared.Request.{Request}
 use Rattle.bucket.specs.Bucket as Bucket
@@ -28,7 +29,7 @@ use Rattle.shard.specs.declared.Identity.{Identity}
 use Rattle.shard.specs.declared.Policy.{Policy}
 use Rattle.shard.specs.declared.Answer.{Answer}
 use Rattle.shard.specs.declared.Answer.the-variants.{Decided, NoSpace}
-use Rattle.shard.specs.Model.{withExisting, makeRoom, joined, admitted, admit, askedFrom, withOrInsert, hasDebt, refundedFrom, refunded, removedFrom, removed}
+use Rattle.shard.specs.Model.{withExisting, makeRoom, joined, admitted, admit, decided, askedFrom, withOrInsert, hasDebt, refundedFrom, refunded, removedFrom, removed}
 use Rattle.shard.proofs.RoomLaws.{room-sound, room-cap, room-ledger-cap, room-made-leaves-room, room-below-ledger-cap-never-refuses}
 
 -- A slot of the same key, with a bucket that is given. Its mark and its last-seen may be any.
@@ -55,14 +56,14 @@ pub data Asking (p : Policy) (id : Identity) (request : Request) (cost : ℕ) (a
       → Asking p id request cost at s (outcome (Decided (Bucket.asked (p .config) request (slotAt s i .bucket) cost at .decision)) (withSlot s i slot))
   key-joins : placeOf s (id .hash) (id .key) ≡ Nowhere → roomFor p id at s .answer ≡ Made
       → Asking p id request cost at s (joined p id request cost at (Ledger.taken (s .ledger) (id .hash) .answer) (roomFor p id at s .after))
-  no-space : (wait : Nanos) → placeOf s (id .hash) (id .key) ≡ Nowhere → Ledger.owedBy (s .ledger) (id .hash) ≡ nanos.None → makeRoom p at s .answer ≡ Refused wait
-      → Asking p id request cost at s (outcome (NoSpace (Bucket.dueAfter at wait)) (makeRoom p at s .after))
+  no-space : (due : Due) → placeOf s (id .hash) (id .key) ≡ Nowhere → Ledger.owedBy (s .ledger) (id .hash) ≡ nanos.None → makeRoom p at s .answer ≡ Refused due
+      → Asking p id request cost at s (outcome (NoSpace due) (makeRoom p at s .after))
 
 -- Where room is refused no debt was taken out: one that was taken out would have left the ledger below its cap.
-pub refused-took-nothing : (p : Policy) (id : Identity) (at : Nanos) (s : Shard) (wait : Nanos) → Sound s → roomFor p id at s .answer ≡ Refused wait
+pub refused-took-nothing : (p : Policy) (id : Identity) (at : Nanos) (s : Shard) (due : Due) → Sound s → roomFor p id at s .answer ≡ Refused due
     → Ledger.taken (s .ledger) (id .hash) ≡ outcome nanos.None (s .ledger)
-refused-took-nothing p id at s wait u =
-    taken-cases (s .ledger) (id .hash) (λ o. makeRoom p at (withLedger s (o .after)) .answer ≡ Refused wait → o ≡ outcome nanos.None (s .ledger))
+refused-took-nothing p id at s due u =
+    taken-cases (s .ledger) (id .hash) (λ o. makeRoom p at (withLedger s (o .after)) .answer ≡ Refused due → o ≡ outcome nanos.None (s .ledger))
     (λ q e told.
     let l : Ledger.Ledger = Ledger.removeAt (s .ledger) q in
     let below : l .debts .count < Ledger.capOf l = LedgerSteps.removal-leaves-room (s .ledger) q (u .ledger .count-fits) (found-owes (s .ledger) (id .hash) q e .below) in
@@ -72,7 +73,7 @@ refused-took-nothing p id at s wait u =
 
 module _ (p : Policy) (id : Identity) (request : Request) (cost : ℕ) (at : Nanos) (s : Shard) (u : Sound s) where
   -- The touch of a known key alters neither its identity nor its bucket.
-  known-cases : (i : ℕ) → placeOf s (id .hash) (id .key) ≡ At i → Asking p id request cost at s (withExisting p request cost at s i)
+  known-cases : (i : ℕ) → placeOf s (id .hash) (id .key) ≡ At i → Asking p id request cost at s (decided (withExisting p request cost at s i))
   unfolding withExisting
   known-cases i e = slot-asked i _ e (found-holds s (id .hash) (id .key) i e) (record { hash = refl; key = refl; bucket = refl })
 
@@ -83,10 +84,10 @@ module _ (p : Policy) (id : Identity) (request : Request) (cost : ℕ) (at : Nan
       go : (answer : Room) → roomFor p id at s .answer ≡ answer
           → Asking p id request cost at s (admitted p id request cost at (Ledger.taken (s .ledger) (id .hash) .answer) (roomFor p id at s .after) answer)
       go Made made = key-joins e made
-      go (Refused wait) told =
-          let nothing : Ledger.taken (s .ledger) (id .hash) ≡ outcome nanos.None (s .ledger) = refused-took-nothing p id at s wait u told in
+      go (Refused due) told =
+          let nothing : Ledger.taken (s .ledger) (id .hash) ≡ outcome nanos.None (s .ledger) = refused-took-nothing p id at s due u told in
           let no-debt : Ledger.owedBy (s .ledger) (id .hash) ≡ nanos.None = sym (taken-tells (s .ledger) (id .hash)) ∙ ap (λ (o : Outcome OptionNanos Ledger.Ledger). o .answer) nothing in
-          rw nothing (no-space wait e no-debt (rw nothing at told))
+          rw nothing (no-space due e no-debt (rw nothing at told))
 
   -- The cases of a request.
   pub ask-cases : Asking p id request cost at s (withOrInsert p id request cost at s)
@@ -152,7 +153,7 @@ module _ (s : Shard) (u : Sound s) where
         cap = insert-cap t _ ∙ room-cap p at (debtTaken id s) v;
         ledger-cap = ap Ledger.capOf (insert-ledger t _) ∙ room-ledger-cap p at (debtTaken id s) v ∙ taken-cap (s .ledger) (id .hash);
       }
-      go (no-space wait e no-debt told) = record { sound = room-sound p at s u; cap = room-cap p at s u; ledger-cap = room-ledger-cap p at s u }
+      go (no-space due e no-debt told) = record { sound = room-sound p at s u; cap = room-cap p at s u; ledger-cap = room-ledger-cap p at s u }
 
   pub refund-same-room : (c : BucketConfig) (id : Identity) (cost : ℕ) → SameRoom s (refunded c id cost s .after)
   refund-same-room c id cost = go (refund-cases c id cost s)

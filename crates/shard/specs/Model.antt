@@ -10,6 +10,7 @@ use Rattle.units.specs.declared.OptionMillis.the-variants as millis
 use Rattle.units.specs.Units.{millisOf}
 use Rattle.bucket.specs.declared.BucketConfig.{BucketConfig}
 use Rattle.bucket.specs.declared.BucketCore.{BucketCore}
+use Rattle.bucket.specs.declared.BucketDecision.{BucketDecision}
 use Rattle.bucket.specs.declared.BucketOutcome.{BucketOutcome}
 use Rattle.bucket.specs.declared.Request.{Request}
 use Rattle.bucket.specs.Bucket as Bucket
@@ -37,14 +38,14 @@ abbrev pub tracks : OptionNanos → Bool
 tracks nanos.None = false
 tracks (nanos.Some ttl) = true
 
--- A known key's bucket is asked; then its slot is touched.
+-- A known key's bucket is asked; then its slot is touched. It is never refused for space.
 abbrev pub askedAt : Policy → Slot → Request → ℕ → Nanos → BucketOutcome
 askedAt p slot request cost at = Bucket.asked (p .config) request (slot .bucket) cost at
 
-unfoldable pub withExisting : Policy → Request → ℕ → Nanos → Shard → ℕ → Outcome Answer Shard
+unfoldable pub withExisting : Policy → Request → ℕ → Nanos → Shard → ℕ → Outcome BucketDecision Shard
 withExisting p request cost at s i =
     let slot = touched (slotAt s i) at (tracks (p .«idle_ttl»)) in
-    outcome (Decided (askedAt p slot request cost at .decision)) (withSlot s i (withBucket slot (askedAt p slot request cost at .bucket)))
+    outcome (askedAt p slot request cost at .decision) (withSlot s i (withBucket slot (askedAt p slot request cost at .bucket)))
 
 -- The idle limit, by the idle time and the time in which a bucket is full.
 abbrev pub idleLimitIn : Policy → OptionMillis
@@ -87,7 +88,7 @@ putBack hash at (nanos.Some settles) s = withLedger s (Ledger.recorded (s .ledge
 -- never turned away (`admit` says why), so the code puts nothing back.
 abbrev pub admitted : Policy → Identity → Request → ℕ → Nanos → OptionNanos → Shard → Room → Outcome Answer Shard
 admitted p id request cost at owed s Made = joined p id request cost at owed s
-admitted p id request cost at owed s (Refused wait) = outcome (NoSpace (Bucket.dueAfter at wait)) (putBack (id .hash) at owed s)
+admitted p id request cost at owed s (Refused due) = outcome (NoSpace due) (putBack (id .hash) at owed s)
 
 -- A new key's own debt is taken out first: its place in the ledger is then free for the debt of a slot that has to go.
 unfoldable pub admit : Policy → Identity → Request → ℕ → Nanos → Shard → Outcome Answer Shard
@@ -96,9 +97,13 @@ admit p id request cost at s =
     let room = makeRoom p at (withLedger s (own .after)) in
     admitted p id request cost at (own .answer) (room .after) (room .answer)
 
+-- What a bucket decided, as an answer.
+abbrev pub decided : Outcome BucketDecision Shard → Outcome Answer Shard
+decided o = outcome (Decided (o .answer)) (o .after)
+
 -- A request for a key.
 abbrev pub askedFrom : Policy → Identity → Request → ℕ → Nanos → Shard → Place → Outcome Answer Shard
-askedFrom p id request cost at s (At i) = withExisting p request cost at s i
+askedFrom p id request cost at s (At i) = decided (withExisting p request cost at s i)
 askedFrom p id request cost at s Nowhere = admit p id request cost at s
 
 unfoldable pub withOrInsert : Policy → Identity → Request → ℕ → Nanos → Shard → Outcome Answer Shard

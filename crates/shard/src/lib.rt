@@ -32,7 +32,7 @@ pub struct Policy {
     pub forget_debt: bool,
 }
 
-// The answer to a request: the bucket's, or when space is expected.
+// The answer to a new key's request: its bucket's, or when space is expected.
 pub enum Answer {
     Decided(BucketDecision),
     NoSpace(Due),
@@ -60,7 +60,7 @@ pub fn with_existing(
     request: Request,
     cost: u32,
     at: Nanos,
-) -> Answer
+) -> BucketDecision
     requires { ⌜ Intact cap (now ws) × Accepted (policy .config) × (cost ≤ policy .config .capacity) × (at .0 ≤ 2 ^ 62) × (pos < cap) ⌝ }
     ensures { λ r. ⌜ outcome r (shard cap (now (ws .exit))) ≡ Model.withExisting policy request cost at (shard cap (now (ws .entry))) pos ⌝ }
 {
@@ -72,7 +72,7 @@ pub fn with_existing(
     let decision = asked.decision;
     let after = asked.bucket;
     shard_map::set(ws, cap, pos, with_bucket(slot, after));
-    Answer::Decided(decision)
+    decision
 }
 
 // The slot with another bucket.
@@ -106,7 +106,7 @@ pub fn admit(
     let owed = debts::take(ws, cap, id.hash);
     match make_room(ws, cap, policy, at) {
         Room::Made => join(ws, cap, policy, id, request, cost, at, owed),
-        Room::Refused(wait) => Answer::NoSpace(Due::after(at, wait)),
+        Room::Refused(due) => Answer::NoSpace(due),
     }
 }
 

@@ -12,6 +12,7 @@ ghost use Rattle.store.specs.Memory.{Placed, shardIn, partIn, inPart, sh
 ghost use Rattle.store.specs.Refusals.{lenRefusal};
 use bucket::BucketConfig;
 use bucket::BucketCore;
+use bucket::BucketDecision;
 use bucket::Request;
 use rows::Place;
 use settings::Settings;
@@ -64,7 +65,7 @@ pub fn with_existing(
     request: Request,
     cost: u32,
     at: Nanos,
-) -> Answer
+) -> BucketDecision
     requires { ⌜ Placed part (now ws) × Sound (shardIn part (now ws)) × Accepted (policy .config) × (cost ≤ policy .config .capacity) × (at .0 ≤ 2 ^ 62) × (pos < part .cap) ⌝ }
     ensures { λ r. ⌜ outcome r (now (ws .exit)) ≡ inPart part (now (ws .entry)) (OneShard.withExisting policy request cost at (shardIn part (now (ws .entry))) pos) ⌝ }
 {

@@ -5,7 +5,7 @@ use Rattle.rows.specs.Outcome.{outcome}
 use Rattle.shard_map.specs.Model.{inLedger}
 use Rattle.shard_map.specs.Layout.{shard}
 use Rattle.shard_map.proofs.ModelLaws.{intact-below}
-use Rattle.evict.proofs.WalkLaws.{debtRecorded}
+use Rattle.evict.proofs.WalkLaws.{debtRecorded, refusal-is-due-in-time}
 use Rattle.evict.proofs.ModelLaws.{after-record, debt-fits, debt-recorded, owing-goes-out, owing-stays}
 use borrow.Author.Needs.{needs}
 use Rattle.evict.proofs.evict_owing.Statement.{statement}
@@ -17,6 +17,16 @@ start known = known .before .before .before .before
 
 abbrev recovery : tie.After-record → tie.After-recovers-in
 recovery told = told .before .before .before .before
+
+-- Once the wait of a refusal is worked out: the soonest recovery, the ledger's wait, and where the ledger had answered.
+abbrev soonest : tie.After-larger → tie.After-recovery-of
+soonest told = told .before .before
+
+abbrev ledger-wait : tie.After-larger → tie.After-wait
+ledger-wait told = soonest told .before .before
+
+abbrev recording : tie.After-larger → tie.After-record
+recording told = ledger-wait told .before .before .before .before
 
 gave : (r : tie.After-record) → let a = start (recovery r) .args in
     outcome (r .«record» .result) (shard (a .cap) (r .«record» .last .0))
@@ -61,6 +71,12 @@ smaller-requires c κs = search needs
 larger-requires : tie.Need-larger-requires
 larger-requires c κs = search needs
 
+after-requires : tie.Need-after-requires
+after-requires c κs =
+    let s = start (recovery (recording c)) in
+    let fits = refusal-is-due-in-time (s .args .at) _ (s .pre .1) (s .pre .2) (s .pre .4) in
+    rw (c .larger .ensures, c .before .smaller .ensures, soonest c .recovery-of .ensures) fits
+
 same-length : tie.Need-same-length
 same-length c = search needs
 
@@ -76,12 +92,10 @@ same-length-2 c = search needs
 
 returns-2 : tie.Need-returns-2
 returns-2 c =
-    let soonest = c .before .before in
-    let wait = soonest .before .before in
-    let told = wait .before .before .before .before in
-    let a = start (recovery told) .args in
-    let stays = owing-stays (a .config) (a .at) (a .forget) (a .pos) (a .least) _ (gave told) (wait .wait .given .1) in
-    rw (c .larger .ensures, c .before .smaller .ensures, soonest .recovery-of .ensures) stays
+    let told = c .before in
+    let a = start (recovery (recording told)) .args in
+    let stays = owing-stays (a .config) (a .at) (a .forget) (a .pos) (a .least) _ (gave (recording told)) (ledger-wait told .wait .given .1) in
+    rw (c .after .ensures, told .larger .ensures, told .before .smaller .ensures, soonest told .recovery-of .ensures) stays
 
 pub evict-owing-spec : {M : Type 1} → statement M
 evict-owing-spec =
@@ -97,6 +111,7 @@ evict-owing-spec =
     recovery-of-requires
     smaller-requires
     larger-requires
+    after-requires
     same-length
     returns
     same-length-2

@@ -27,7 +27,7 @@ evict-owing-requires : tie.Need-evict-owing-requires
 evict-owing-requires c κs =
     let v = c .before .before in
     let pre′ = start-owing v .pre in
-    (pre′ .0, pre′ .1, pre′ .2, rw (← ap placeOfVictim (v .victim2 .given .1)) (pre′ .3))
+    (pre′ .0, pre′ .1, pre′ .2, rw (← ap placeOfVictim (v .victim2 .given .1)) (pre′ .3), pre′ .4)
 
 same-length : tie.Need-same-length
 same-length c = search needs

@@ -1,6 +1,7 @@
 -- `decide` goes by the cost, as the rule does, and else asks the store in the key's shard, by the key's place.
 use mathlib.Core.Path.{ap}
 use Rattle.bucket.specs.declared.Due.{Due}
+use Rattle.settings.specs.declared.decision.Decision.{Decision}
 use Rattle.settings.specs.declared.decision.Decision.the-variants.{Acquired}
 use Rattle.perkey.specs.declared.Reply.the-variants.{Tried}
 use Rattle.bucket.specs.declared.Request.{Request}
@@ -67,8 +68,8 @@ with-existing-requires c κs =
     let p = found c in
     known-may-be-asked (asks (p .before .before)) (c .policy .ensures) (p .position .ensures) _ (c .before .before .before .pos .given .1)
 
-try-reply-requires : tie.Need-try-reply-requires
-try-reply-requires c κs = search needs
+map-decision-requires : tie.Need-map-decision-requires
+map-decision-requires c κs = search needs
 
 enum-told : tie.Need-enum-told
 enum-told c = search needs
@@ -79,8 +80,8 @@ policy-requires-2 c κs = search needs
 admit-requires : tie.Need-admit-requires
 admit-requires c κs = new-may-be-asked (asks (missed c .before .before)) (c .policy2 .ensures)
 
-try-reply-requires-2 : tie.Need-try-reply-requires-2
-try-reply-requires-2 c κs = search needs
+try-reply-requires : tie.Need-try-reply-requires
+try-reply-requires c κs = search needs
 
 same-length : tie.Need-same-length
 same-length c = search needs
@@ -90,7 +91,7 @@ returns-3 c =
     let k = c .before .before .before .before in
     let p = found k in
     let e = p .before .before in
-    let known = known-is-told (asks e) (k .policy .ensures) (p .position .ensures) (request (start e)) (c .try-reply .ensures) in
+    let known = known-is-told (asks e) (k .policy .ensures) (p .position .ensures) (request (start e)) (ap (λ (d : Decision). Tried d) (c .map-decision .ensures)) in
     known _ (k .before .before .before .pos .given .1) (c .before .before .before .with-existing .ensures)
 
 same-length-2 : tie.Need-same-length-2
@@ -101,7 +102,7 @@ returns-4 c =
     let k = c .before .before .before .before in
     let p = missed k in
     let e = p .before .before in
-    let new = new-is-told (asks e) (k .policy2 .ensures) (p .position .ensures) (request (start e)) (c .try-reply2 .ensures) in
+    let new = new-is-told (asks e) (k .policy2 .ensures) (p .position .ensures) (request (start e)) (c .try-reply .ensures) in
     new (k .before .before .enum-told .given .1) (c .before .before .before .admit .ensures)
 
 pub decide-spec : {M : Type 1} → statement M
@@ -116,11 +117,11 @@ decide-spec =
     enum-known-pos
     policy-requires
     with-existing-requires
-    try-reply-requires
+    map-decision-requires
     enum-told
     policy-requires-2
     admit-requires
-    try-reply-requires-2
+    try-reply-requires
     same-length
     returns-3
     same-length-2

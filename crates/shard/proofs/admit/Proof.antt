@@ -1,7 +1,7 @@
 -- `admit` goes by the answer of `make_room`. Where that refuses, no debt was taken out, so the definition puts none back.
 use mathlib.Core.Path.{_∙_}
 use Rattle.shard_map.specs.Layout.{Intact}
-use Rattle.shard.proofs.ModelLaws.{intact-after-taking, room-made-fits-a-slot, refusal-is-due-in-time, new-joins, new-refused}
+use Rattle.shard.proofs.ModelLaws.{intact-after-taking, room-made-fits-a-slot, new-joins, new-refused}
 use borrow.Author.Needs.{needs}
 use Rattle.shard.proofs.admit.Statement.{statement}
 use Rattle.shard.proofs.admit.Tie as tie
@@ -16,10 +16,6 @@ still-intact t = intact-after-taking (start t .pre .0) (t .take .kept .0) (start
 -- The taking out, as seen once `make_room` has answered.
 abbrev taking : tie.After-make-room → tie.After-take
 taking m = m .before .before .before .before
-
--- What `make_room` answered, as seen once its refusal is known by its wait.
-abbrev refused : tie.After-wait → tie.After-make-room
-refused w = w .before .before .before .before
 
 take-requires : tie.Need-take-requires
 take-requires c κs = search needs
@@ -40,16 +36,8 @@ join-requires c κs =
     let made = room-made-fits-a-slot (still-intact (taking m)) (m .make-room .kept .0) (s .args .policy) (s .args .at) (m .make-room .ensures) told in
     (made .0, s .pre .1, s .pre .2, s .pre .3, made .1)
 
-enum-known-wait : tie.Need-enum-known-wait
-enum-known-wait c = search needs
-
-after-requires : tie.Need-after-requires
-after-requires c κs =
-    let w = c .before in
-    let m = refused w in
-    let t = taking m in
-    let s = start t in
-    refusal-is-due-in-time _ _ _ (m .make-room .ensures) (s .pre .1) (still-intact t .sound) (s .pre .3) _ (w .wait .given .1)
+enum-known-due : tie.Need-enum-known-due
+enum-known-due c = search needs
 
 same-length : tie.Need-same-length
 same-length c = search needs
@@ -65,10 +53,10 @@ same-length-2 c = search needs
 
 returns-2 : tie.Need-returns-2
 returns-2 c =
-    let w = c .before .before in
-    let m = refused w in
+    let refused = c .before in
+    let m = refused .before .before .before .before in
     let t = taking m in
-    new-refused _ _ _ _ _ _ (t .take .ensures) (m .make-room .ensures) _ (start t .pre .0 .sound) (w .wait .given .1) (c .after .ensures)
+    new-refused _ _ _ _ _ _ (t .take .ensures) (m .make-room .ensures) _ (start t .pre .0 .sound) (refused .due .given .1)
 
 pub admit-spec : {M : Type 1} → statement M
 admit-spec =
@@ -78,8 +66,7 @@ admit-spec =
     make-room-requires
     enum-told
     join-requires
-    enum-known-wait
-    after-requires
+    enum-known-due
     same-length
     returns
     same-length-2
