@@ -147,7 +147,7 @@ fn evict_one(ws: &mut [u64], cap: usize, config: BucketConfig, line: Line)
     }
     match evict::evict_one(ws, cap, config, Nanos(line.a), line.b != 0) {
         Room::Made => print::answer(0, 0),
-        Room::Refused(wait) => print::answer(1, wait.0),
+        Room::Refused(due) => print::answer(1, due.wait.0),
     }
 }
 
