@@ -14,18 +14,12 @@ use Rattle.bucket.specs.declared.BucketDecision.the-variants.{Allowed, Denied}
 use Rattle.bucket.specs.declared.Request.{Request}
 use Rattle.bucket.specs.Bucket.{Accepted, partsOf, fullParts, mostShortfall, shortfallAt, waitAt, spent, longestWait, asked, refunded}
 use Rattle.bucket.proofs.BucketLaws.{wait-for-lack, granted-within-longest, denied-beyond-longest}
-use Rattle.shard.specs.declared.Answer.{Answer}
-use Rattle.shard.specs.declared.Answer.the-variants.{Decided, NoSpace}
 use Rattle.demands.proofs.LineBound.{Soonest, LineBound, BoundOf}
 
--- What happened to the key after a bucket's decision on a cost at a moment, and after the store's answer. A key refused for space is granted nothing.
+-- What happened to the key after a decision on a cost at a moment. A key that is denied, by its bucket or for want of space, is granted nothing.
 abbrev pub decisionAdds : {A P C : ℕ} (B : LineBound A P C) → Nanos → ℕ → BucketDecision → B .History → B .History
 decisionAdds B at cost (Allowed due) g = B .grant (at .0) (due .wait .0) cost g
 decisionAdds B at cost (Denied due) g = g
-
-abbrev pub answerAdds : {A P C : ℕ} (B : LineBound A P C) → Nanos → ℕ → Answer → B .History → B .History
-answerAdds B at cost (Decided decision) g = decisionAdds B at cost decision g
-answerAdds B at cost (NoSpace due) g = g
 
 -- The bound holds of the line of a bucket that lacks so many parts at a moment.
 abbrev pub HoldsAt : (c : BucketConfig) (B : BoundOf c) → Nanos → ℕ → B .History → Type 0

@@ -20,7 +20,7 @@ use Rattle.settings.specs.Settings.{shardOf}
 use Rattle.shard_map.specs.Model as Shard
 use Rattle.shard_map.proofs.KeptLaws.{Keeps}
 use Rattle.shard.specs.declared.Identity.{Identity}
-use Rattle.shard.specs.declared.Answer.{Answer}
+use Rattle.bucket.specs.declared.BucketDecision.{BucketDecision}
 use Rattle.shard.specs.Model as OneShard
 use Rattle.shard.proofs.ShardLaws.{SameRoom, ask-same-room, refund-same-room, remove-same-room}
 use Rattle.perkey.specs.declared.Reply.{Reply}
@@ -99,7 +99,7 @@ module _ (s : Settings) (rate : Rate) (k : Identity) (B : BoundOf (configOf rate
   module _ (r : Request) (at : Nanos) (id : Identity) (cost : ℕ) (ws : List ℕ) (g : B .History) (patient : longestWait r ≤ 2 ^ 46)
       (sound : Shard.Sound (shardAt s (id .hash) ws)) (alone : id .hash ≡ k .hash → id .key ≡ k .key) (v : Stands (at .0) ws g) where
     -- What the store gives in the shard of the call's key.
-    abbrev answered : Outcome Answer Shard.Shard
+    abbrev answered : Outcome BucketDecision Shard.Shard
     answered = OneShard.withOrInsert (policyOf s rate) id r cost at (shardAt s (id .hash) ws)
 
     request-stands : 1 ≤ cost → cost ≤ burstOf rate

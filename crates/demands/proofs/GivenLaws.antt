@@ -13,8 +13,6 @@ use Rattle.bucket.specs.declared.Request.{Request}
 use Rattle.bucket.specs.declared.Request.the-variants.{Acquire, Reserve}
 use Rattle.settings.specs.declared.decision.Decision.the-variants.{Acquired, Retry, Impossible}
 use Rattle.shard.specs.declared.Identity.{Identity}
-use Rattle.shard.specs.declared.Answer.{Answer}
-use Rattle.shard.specs.declared.Answer.the-variants.{Decided, NoSpace}
 use Rattle.perkey.specs.declared.Reply.{Reply}
 use Rattle.perkey.specs.declared.Reply.the-variants.{Tried, Reserved, Nothing, Done, Count, Refused}
 use Rattle.perkey.specs.Rules.{replyTo, tooMuch, atOnce, knownReply}
@@ -23,7 +21,7 @@ use Rattle.demands.specs.Demands.{usable, usableFrom, tokensOf, tokensUs
 use Rattle.demands.proofs.TryLaws.{AsAsked}
 use Rattle.demands.proofs.LineBound.{LineBound}
 use Rattle.demands.proofs.GrantLaws.{Grant, within, windowBound}
-use Rattle.demands.proofs.BucketKept.{answerAdds}
+use Rattle.demands.proofs.BucketKept.{decisionAdds}
 use Rattle.demands.proofs.RefundLaws.{refundAdds}
 
 -- One value for the key's own calls, another for other keys'.
@@ -86,14 +84,12 @@ module _ {A P C : ℕ} (B : LineBound A P C) where
   refusal-gives-nothing k (len s) n g = refl
 
   -- What a reply tells is granted as the store's answer grants it.
-  pub reply-grants : (r : Request) (at : Nanos) (cost : ℕ) (g : B .History) (a : Answer) → AsAsked r a
-      → granting B r at cost g (replyTo r a) ≡ answerAdds B at cost a g
-  reply-grants Acquire at cost g (Decided (Allowed due)) none = ap (λ (w : ℕ). B .grant (at .0) w cost g) (sym none)
-  reply-grants Acquire at cost g (Decided (Denied due)) none = refl
-  reply-grants Acquire at cost g (NoSpace due) none = refl
-  reply-grants (Reserve longest) at cost g (Decided (Allowed due)) none = refl
-  reply-grants (Reserve longest) at cost g (Decided (Denied due)) none = refl
-  reply-grants (Reserve longest) at cost g (NoSpace due) none = refl
+  pub reply-grants : (r : Request) (at : Nanos) (cost : ℕ) (g : B .History) (d : BucketDecision) → AsAsked r d
+      → granting B r at cost g (replyTo r d) ≡ decisionAdds B at cost d g
+  reply-grants Acquire at cost g (Allowed due) none = ap (λ (w : ℕ). B .grant (at .0) w cost g) (sym none)
+  reply-grants Acquire at cost g (Denied due) none = refl
+  reply-grants (Reserve longest) at cost g (Allowed due) none = refl
+  reply-grants (Reserve longest) at cost g (Denied due) none = refl
 
   -- Too large a cost is granted nothing; no cost at all is granted at once.
   pub too-much-grants-nothing : (r : Request) (at : Nanos) (cost : ℕ) (g : B .History) → granting B r at cost g (tooMuch r) ≡ g

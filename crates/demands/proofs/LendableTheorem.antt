@@ -21,7 +21,7 @@ use Rattle.settings.proofs.RateLaws.{accepted-rate}
 use Rattle.settings.proofs.SettingsLaws.{accepted-parts, cap-most}
 use Rattle.shard_map.specs.Model.{Shard}
 use Rattle.shard_map.specs.Layout as Layout
-use Rattle.shard.specs.declared.Answer.{Answer}
+use Rattle.bucket.specs.declared.BucketDecision.{BucketDecision}
 use Rattle.shard.specs.declared.Identity.{Identity}
 use Rattle.shard.specs.Model as OneShard
 use Rattle.shard.proofs.ShardLaws.{SameRoom, ask-same-room, refund-same-room, remove-same-room}
@@ -84,7 +84,7 @@ module _ (s : Settings) (id : Identity) (ws : List ℕ) (lent : lendable ws ≡ 
 
   -- A request by a key that fits, at a moment that is not too late.
   module _ (at : Nanos) (cost : ℕ) (early : at .0 ≤ 2 ^ 62) (key : keyFits id ≡ true) where
-    shard-leaves-lendable : (rate : Rate) → limitRefusal (Open rate) ≡ 0 → (r : Request) (reply : Answer → Reply) → cost ≤ burstOf rate
+    shard-leaves-lendable : (rate : Rate) → limitRefusal (Open rate) ≡ 0 → (r : Request) (reply : BucketDecision → Reply) → cost ≤ burstOf rate
         → lendable (requested s rate id r cost at ws reply .after) ≡ true
     shard-leaves-lendable rate passed r reply within =
         let sound = accepted .sound in

@@ -22,7 +22,7 @@ use Rattle.shard_map.proofs.KeptLaws.{weight, unpaid, count, shortage, weight-o
 use Rattle.shard_map.proofs.KeptLaws.{shortage-removed, count-inserted, shortage-inserted, count-stored, shortage-stored, Keeps, keeps-trans, later-keeps-line}
 use Rattle.shard_map.proofs.KeptLaws.{nowhere-weighs-nothing, nowhere-holds-the-debt, OneSlot, one-slot-is-all}
 use Rattle.evict.specs.declared.Room.the-variants.{Made}
-use Rattle.shard.specs.declared.Answer.{Answer}
+use Rattle.bucket.specs.declared.BucketDecision.{BucketDecision}
 use Rattle.shard.specs.declared.Identity.{Identity}
 use Rattle.shard.specs.declared.Policy.{Policy}
 use Rattle.shard.specs.Model.{returning, withOrInsert, refunded, removed}
@@ -31,7 +31,7 @@ use Rattle.shard.proofs.RoomLaws.{room-keeps-shortage, room-made-leaves-room}
 use Rattle.shard.proofs.ShardLaws.{Rebucketed, debtTaken, roomFor, debt-taken-sound, Asking, slot-asked, key-joins, no-space, ask-cases, Refunding}
 use Rattle.shard.proofs.ShardLaws.{slot-refunded, debt-paid, refund-cases, Removing, slot-removed, no-slot, remove-cases}
 use Rattle.demands.proofs.LineBound.{BoundOf}
-use Rattle.demands.proofs.BucketKept.{decisionAdds, answerAdds, HoldsAt, holds-of-more, asked-keeps-bound}
+use Rattle.demands.proofs.BucketKept.{decisionAdds, HoldsAt, holds-of-more, asked-keeps-bound}
 
 -- The invariant, of any bound by the line, after calls up to a moment: g is what happened to the key in them.
 pub record Invariant (c : BucketConfig) (B : BoundOf c) (h k : ℕ) (at : Nanos) (s : Shard) (g : B .History) : Type 0 where
@@ -150,7 +150,7 @@ module _ (p : Policy) (id : Identity) (request : Request) (cost : ℕ) (at : Nan
       kept : Keeps c h k at s (roomFor p id at s .after)
       kept = keeps-trans c h k at s (debtTaken id s) (roomFor p id at s .after) (other-debt-taken c h k at s u (id .hash) other) (room-loses-nothing h k)
 
-      go : {o : Outcome Answer Shard} → Asking p id request cost at s o → Keeps c h k at s (o .after)
+      go : {o : Outcome BucketDecision Shard} → Asking p id request cost at s o → Keeps c h k at s (o .after)
       go (slot-asked i slot e f r) = other-slot-changed c h k at s u r f other
       go (key-joins e made) = keeps-trans c h k at s (roomFor p id at s .after) _ kept (other-slot-inserted c h k at (roomFor p id at s .after) _ (room-for-slot made) other)
       go (no-space wait e no-debt told) = room-keeps-shortage p at s u a never h k
@@ -160,7 +160,7 @@ module _ (p : Policy) (id : Identity) (request : Request) (cost : ℕ) (at : Nan
   own-request-of-identity : (B : BoundOf (p .config)) {g : B .History} → 1 ≤ cost → cost ≤ p .config .capacity → longestWait request ≤ 2 ^ 46
       → Invariant (p .config) B (id .hash) (id .key) at s g
       → Invariant (p .config) B (id .hash) (id .key) at (withOrInsert p id request cost at s .after)
-      (answerAdds B at cost (withOrInsert p id request cost at s .answer) g)
+      (decisionAdds B at cost (withOrInsert p id request cost at s .answer) g)
   own-request-of-identity B {g} some within-burst longest v = go (ask-cases p id request cost at s u)
     where
       c : BucketConfig
@@ -179,7 +179,7 @@ module _ (p : Policy) (id : Identity) (request : Request) (cost : ℕ) (at : Nan
           → HoldsAt c B at (shortfallAt c (asked c request b cost at .bucket) at) (decisionAdds B at cost (asked c request b cost at .decision) g)
       asked-bounds b lacks = asked-keeps-bound c B request b cost at a some within-burst longest (holds-of-more c B at lacks (v .bound))
 
-      go : {o : Outcome Answer Shard} → Asking p id request cost at s o → Invariant c B h k at (o .after) (answerAdds B at cost (o .answer) g)
+      go : {o : Outcome BucketDecision Shard} → Asking p id request cost at s o → Invariant c B h k at (o .after) (decisionAdds B at cost (o .answer) g)
       go (slot-asked i slot e f r) =
           let all : OneSlot c h k at s i = one-slot-is-all c h k at s i u f (v .one) in
           own-slot-changed c h k at s u r B f (v .one) (asked-bounds (slotAt s i .bucket) (omega (arith, all .all)))
@@ -193,7 +193,7 @@ module _ (p : Policy) (id : Identity) (request : Request) (cost : ℕ) (at : Nan
 pub own-request : (p : Policy) (id : Identity) (request : Request) (cost : ℕ) (at : Nanos) (s : Shard) → Accepted (p .config) → p .«forget_debt» ≡ false → Sound s
     → (B : BoundOf (p .config)) (h k : ℕ) → id .hash ≡ h → id .key ≡ k → 1 ≤ cost → cost ≤ p .config .capacity → longestWait request ≤ 2 ^ 46 → {g : B .History}
     → Invariant (p .config) B h k at s g
-    → Invariant (p .config) B h k at (withOrInsert p id request cost at s .after) (answerAdds B at cost (withOrInsert p id request cost at s .answer) g)
+    → Invariant (p .config) B h k at (withOrInsert p id request cost at s .after) (decisionAdds B at cost (withOrInsert p id request cost at s .answer) g)
 own-request p id request cost at s a never u B h k hash key some within-burst longest v =
     rw (← hash, ← key) (own-request-of-identity p id request cost at s a never u B some within-burst longest (rw (← hash, ← key) at v))
 

@@ -13,7 +13,6 @@ use Rattle.bucket.specs.Bucket.{dueAfter}
 use Rattle.bucket.specs.declared.Request.{Request}
 use Rattle.bucket.specs.declared.Request.the-variants.{Acquire, Reserve}
 use Rattle.evict.specs.Evict.{minRefusalWait}
-use Rattle.shard.specs.declared.Answer.the-variants.{NoSpace}
 use Rattle.shard.specs.declared.Identity.{Identity}
 use Rattle.shard.specs.Model.{holds}
 use Rattle.perkey.specs.declared.Reply.{Reply}
@@ -93,16 +92,16 @@ ruled-is-cautious : (c : Call) (ws : List ℕ) → Cautious c ws (rules c ws .an
 ruled-is-cautious c ws = record { grants-no-more = λ k t u. omega arith; tells-holders = λ d. d }
 
 -- So is turning a newcomer away: it holds nothing, and is granted nothing.
-no-space-is-no-grant : (r : Request) (f : ℕ → ℕ) (due : Due) → ofGrant f 0 (replyTo r (NoSpace due)) ≡ 0
-no-space-is-no-grant Acquire f due = refl
-no-space-is-no-grant (Reserve longest) f due = refl
+denial-is-no-grant : (r : Request) (f : ℕ → ℕ) (due : Due) → ofGrant f 0 (replyTo r (Denied due)) ≡ 0
+denial-is-no-grant Acquire f due = refl
+denial-is-no-grant (Reserve longest) f due = refl
 
 newcomers-turned-away-cautiously : (c : Call) (ws : List ℕ) → Cautious c ws (turnedAwayUnless holds c ws)
 newcomers-turned-away-cautiously (request s at id r cost) ws =
     by-test (holds id (shardAt s (id .hash) ws))
     (λ h. rw h (ruled-is-cautious (request s at id r cost) ws))
     (λ h. rw h (record {
-      grants-no-more = λ k t u. omega (arith, no-space-is-no-grant r (λ wait. usable k t u id (usableFrom r at wait) cost) (dueAfter at (record { 0 = minRefusalWait })));
+      grants-no-more = λ k t u. omega (arith, denial-is-no-grant r (λ wait. usable k t u id (usableFrom r at wait) cost) (dueAfter at (record { 0 = minRefusalWait })));
       tells-holders = λ d _ _ _ _ _ holding. absurd (true≢false (sym holding ∙ h));
     }))
 newcomers-turned-away-cautiously (look s at id l) ws = ruled-is-cautious (look s at id l) ws

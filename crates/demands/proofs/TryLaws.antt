@@ -3,31 +3,28 @@ use Prim.Native.Nat.{ℕ}
 use mathlib.Core.Path.{_≡_}
 use native.Mathlib.Omega.{arith}
 use Rattle.units.specs.declared.Nanos.{Nanos}
+use Rattle.bucket.specs.declared.BucketDecision.{BucketDecision}
 use Rattle.bucket.specs.declared.BucketDecision.the-variants.{Allowed, Denied}
 use Rattle.bucket.specs.declared.Request.{Request}
 use Rattle.bucket.specs.declared.Request.the-variants.{Acquire, Reserve}
 use Rattle.shard_map.specs.Model.{Shard}
-use Rattle.shard.specs.declared.Answer.{Answer}
-use Rattle.shard.specs.declared.Answer.the-variants.{Decided, NoSpace}
 use Rattle.shard.specs.declared.Identity.{Identity}
 use Rattle.shard.specs.declared.Policy.{Policy}
 use Rattle.shard.specs.Model.{withOrInsert}
-use Rattle.shard.proofs.DueLaws.{TellsItsMoment, granted, denied, no-space, every-answer-tells-its-moment}
+use Rattle.shard.proofs.DueLaws.{TellsItsMoment, granted, denied, every-answer-tells-its-moment}
 
 -- An answer as its request asks for it: where a try is granted, there is no wait.
-abbrev AtOnce : Answer → Type 0
-AtOnce (Decided (Allowed due)) = due .wait .0 ≡ 0
-AtOnce (Decided (Denied due)) = Unit {0}
-AtOnce (NoSpace due) = Unit {0}
+abbrev AtOnce : BucketDecision → Type 0
+AtOnce (Allowed due) = due .wait .0 ≡ 0
+AtOnce (Denied due) = Unit {0}
 
-abbrev pub AsAsked : Request → Answer → Type 0
-AsAsked Acquire answer = AtOnce answer
-AsAsked (Reserve longest) answer = Unit {0}
+abbrev pub AsAsked : Request → BucketDecision → Type 0
+AsAsked Acquire decision = AtOnce decision
+AsAsked (Reserve longest) decision = Unit {0}
 
-try-grants-at-once : {at : Nanos} {a : Answer} → TellsItsMoment Acquire at a → AtOnce a
+try-grants-at-once : {at : Nanos} {d : BucketDecision} → TellsItsMoment Acquire at d → AtOnce d
 try-grants-at-once (granted wait within) = omega arith
 try-grants-at-once (denied wait) = tt
-try-grants-at-once (no-space wait) = tt
 
 pub store-grants-as-asked : (p : Policy) (id : Identity) (r : Request) (cost : ℕ) (at : Nanos) (s : Shard) → AsAsked r (withOrInsert p id r cost at s .answer)
 store-grants-as-asked p id (Reserve longest) cost at s = tt

@@ -48,7 +48,7 @@ use Rattle.settings.specs.declared.eviction.WhenFull.the-variants.{RefuseNew}
 use Rattle.settings.specs.declared.rate.Rate.{Rate}
 use Rattle.settings.specs.Rate.{burstOf, configOf}
 use Rattle.shard.specs.declared.Identity.{Identity}
-use Rattle.shard.specs.Model.{ownAnswer, holds}
+use Rattle.shard.specs.Model.{ownDecision, holds}
 use Rattle.perkey.specs.declared.Reply.{Reply}
 use Rattle.perkey.specs.declared.Reply.the-variants.{Done}
 use Rattle.store.specs.Memory.{shardAt}
@@ -140,7 +140,7 @@ Window l = WindowAdding 1 l
 
 -- What a key's own bucket answers to a request: its slot's bucket, else a fresh one in its debt.
 abbrev pub ownReply : Settings → Rate → Nanos → Identity → Request → ℕ → List ℕ → Reply
-ownReply s rate at id r cost ws = replyTo r (ownAnswer (configOf rate) id r cost at (shardAt s (id .hash) ws))
+ownReply s rate at id r cost ws = replyTo r (ownDecision (configOf rate) id r cost at (shardAt s (id .hash) ws))
 
 -- An accepted request with a rate and a cost from 1 to the burst, for a key that holds a slot or a debt, is answered so.
 abbrev pub ByOwnBucket : Answered → Settings → Nanos → Identity → Request → ℕ → Type 0

@@ -9,8 +9,6 @@ use Rattle.bucket.specs.Bucket.{dueAfter}
 use Rattle.ledger.specs.Model as Ledger
 use Rattle.shard_map.specs.Model.{Shard, withLedger, placeOf}
 use Rattle.evict.specs.Evict.{minRefusalWait}
-use Rattle.shard.specs.declared.Answer.{Answer}
-use Rattle.shard.specs.declared.Answer.the-variants.{Decided, NoSpace}
 use Rattle.shard.specs.declared.Identity.{Identity}
 use Rattle.shard.specs.Model.{hasSlot, holds}
 use Rattle.perkey.specs.declared.Reply.{Reply}
@@ -21,7 +19,7 @@ use Rattle.perkey.specs.Rules.{numberOf, dueNow, replyTo}
 use Rattle.perkey.specs.Calls.{Call, request, look, undo, len, Implementation, rules, settingsOf, momentIn, numbered}
 
 -- By the kind of a call: a value for a request, given how its answer is told; for a length; and for any other call.
-abbrev byKind : {A : Type 0} → ((Answer → Reply) → A) → A → A → Call → A
+abbrev byKind : {A : Type 0} → ((BucketDecision → Reply) → A) → A → A → Call → A
 byKind requested length other (request s at id r cost) = requested (replyTo r)
 byKind requested length other (look s at id l) = other
 byKind requested length other (undo s id r) = other
@@ -39,18 +37,18 @@ abbrev ownShard : Call → List ℕ → Shard
 ownShard c ws = shardAt (settingsOf c) (identityOf c .hash) ws
 
 -- The answer to a request that is turned away for want of space, and to one that is granted at once.
-abbrev noSpace : Call → Answer
-noSpace c = NoSpace (dueAfter (momentIn c) (record { 0 = minRefusalWait }))
+abbrev noSpace : Call → BucketDecision
+noSpace c = Denied (dueAfter (momentIn c) (record { 0 = minRefusalWait }))
 
-abbrev grantedAtOnce : Call → Answer
-grantedAtOnce c = Decided (Allowed (dueNow (momentIn c)))
+abbrev grantedAtOnce : Call → BucketDecision
+grantedAtOnce c = Allowed (dueNow (momentIn c))
 
 -- The first: everything is impossible, and no word changes.
 abbrev pub impossibleToAll : Implementation
 impossibleToAll c ws = outcome (Tried Impossible) ws
 
 -- The next three answer a request in their own way and change no word by it; they leave the other calls to the rules.
-abbrev withRequests : ((Answer → Reply) → Call → List ℕ → Reply) → Implementation
+abbrev withRequests : ((BucketDecision → Reply) → Call → List ℕ → Reply) → Implementation
 withRequests reply c ws = byKind (λ told. outcome (reply told c ws) ws) (rules c ws) (rules c ws) c
 
 -- The second: a request is turned away for want of space, without a look whether there is any.

@@ -10,6 +10,7 @@ use borrow.Author.Tests.{eqb-true}
 use Rattle.arith.proofs.Cases.{by-test, by-eq}
 use Rattle.rows.specs.Outcome.{Outcome, outcome}
 use Rattle.bucket.specs.declared.BucketDecision.the-variants.{Allowed, Denied}
+use Rattle.bucket.specs.declared.BucketDecision.{BucketDecision}
 use Rattle.bucket.specs.declared.Request.{Request}
 use Rattle.bucket.specs.declared.Request.the-variants.{Acquire, Reserve}
 use Rattle.units.specs.declared.Nanos.{Nanos}
@@ -23,8 +24,6 @@ use Rattle.settings.specs.declared.rate.Rate.{Rate}
 use Rattle.settings.specs.Rate.{configOf}
 use Rattle.settings.specs.declared.Shape.{Shape}
 use Rattle.settings.specs.Settings.{capOf, shardCount, shapeOf, firstRefusal, settingsRefusal}
-use Rattle.shard.specs.declared.Answer.{Answer}
-use Rattle.shard.specs.declared.Answer.the-variants.{Decided, NoSpace}
 use Rattle.shard.specs.Model as OneShard
 use Rattle.perkey.specs.declared.Reply.{Reply}
 use Rattle.perkey.specs.declared.Reply.the-variants.{Tried, Reserved, Nothing, Done, Count, Refused}
@@ -43,7 +42,7 @@ use Rattle.perkey.specs.Calls.{Look, Call, request, look, undo, len, pee
 use Rattle.perkey.specs.Calls.{Kind, decides, reserves, counts, knows, kindOf, momentIn}
 use Rattle.bucket.specs.Bucket.{dueAfter}
 use Rattle.bucket.proofs.BucketLaws.{due-by-number}
-use Rattle.shard.proofs.DueLaws.{TellsItsMoment, granted, denied, no-space, every-answer-tells-its-moment}
+use Rattle.shard.proofs.DueLaws.{TellsItsMoment, granted, denied, every-answer-tells-its-moment}
 use Rattle.store.specs.Memory.{memoryWords}
 
 -- The number by which a call is refused, 0 if it is not.
@@ -178,13 +177,11 @@ abbrev asKind : Request → Kind
 asKind Acquire = decides
 asKind (Reserve longest) = reserves
 
-reply-in-kind : (r : Request) {at : Nanos} {a : Answer} → TellsItsMoment r at a → OfKind at (asKind r) (Rules.replyTo r a)
+reply-in-kind : (r : Request) {at : Nanos} {d : BucketDecision} → TellsItsMoment r at d → OfKind at (asKind r) (Rules.replyTo r d)
 reply-in-kind Acquire {at} (granted wait within) = no-wait-is-now at wait (omega arith)
 reply-in-kind Acquire (denied wait) = retried wait
-reply-in-kind Acquire (no-space wait) = retried wait
 reply-in-kind (Reserve longest) (granted wait within) = reserved wait
 reply-in-kind (Reserve longest) (denied wait) = not-reserved
-reply-in-kind (Reserve longest) (no-space wait) = not-reserved
 
 too-much-in-kind : (at : Nanos) (r : Request) → OfKind at (asKind r) (Rules.tooMuch r)
 too-much-in-kind at Acquire = impossible

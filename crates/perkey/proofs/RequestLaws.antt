@@ -16,8 +16,6 @@ use Rattle.settings.specs.declared.rate.Rate.{Rate}
 use Rattle.settings.specs.Rate.{burstOf}
 use Rattle.shard.specs.declared.Identity.{Identity}
 use Rattle.shard.specs.declared.Policy.{Policy}
-use Rattle.shard.specs.declared.Answer.{Answer}
-use Rattle.shard.specs.declared.Answer.the-variants.{Decided}
 use Rattle.shard.specs.Model as OneShard
 use Rattle.shard.proofs.ModelLaws.{ask-with-slot, ask-without-slot}
 use Rattle.shard_map.specs.Model.{Sound, placeOf}
@@ -72,25 +70,21 @@ module _ {s : Settings} {at : Nanos} {id : Identity} {cost : ℕ} {ws : List ℕ
         (asked .0, asked .1, asked .2, asked .3, asked .4, found-place-below (asked .0) (id .hash) (id .key) i (asked .1) (sym is-place ∙ found))
 
     -- What the store's answer, in the shard of the key, makes of the reply and of all words.
-    module _ (r : Request) {told : Reply} {ws′ : List ℕ} where
-      request-is-told : {answer : Answer} → told ≡ replyTo r answer
-          → outcome answer ws′ ≡ inShard s (id .hash) ws (OneShard.withOrInsert policy id r cost at (shardAt s (id .hash) ws))
+    module _ (r : Request) {decision : BucketDecision} {told : Reply} {ws′ : List ℕ} (is-reply : told ≡ replyTo r decision) where
+      request-is-told : outcome decision ws′ ≡ inShard s (id .hash) ws (OneShard.withOrInsert policy id r cost at (shardAt s (id .hash) ws))
           → outcome told ws′ ≡ askedBy r (s .limit) s at id cost ws
-      request-is-told is-reply gave =
-          rw is-reply (ap (λ (o : Outcome Answer (List ℕ)). outcome (replyTo r (o .answer)) (o .after)) (rw is-policy at gave))
+      request-is-told gave =
+          rw is-reply (ap (λ (o : Outcome BucketDecision (List ℕ)). outcome (replyTo r (o .answer)) (o .after)) (rw is-policy at gave))
           ∙ bucket-is-asked r s at id cost ws (a .is-limit) (a .within) (a .some)
 
-      pub known-is-told : {decision : BucketDecision} → told ≡ replyTo r (Decided decision) → (i : ℕ) → place ≡ At i
-          → outcome decision ws′ ≡ inPart part′ ws (OneShard.withExisting policy r cost at (shardIn part′ ws) i)
+      pub known-is-told : (i : ℕ) → place ≡ At i → outcome decision ws′ ≡ inPart part′ ws (OneShard.withExisting policy r cost at (shardIn part′ ws) i)
           → outcome told ws′ ≡ askedBy r (s .limit) s at id cost ws
-      known-is-told is-reply i found gave =
+      known-is-told i found gave =
           let with-slot = ask-with-slot policy id r cost at (shardAt s (id .hash) ws) i (rw (a .is-part) at (sym is-place ∙ found)) in
-          let as-answer = ap (λ (o : Outcome BucketDecision (List ℕ)). outcome (Decided (o .answer)) (o .after)) (rw (a .is-part) at gave) in
-          request-is-told is-reply (as-answer ∙ ap (inShard s (id .hash) ws) with-slot)
+          request-is-told ((rw (a .is-part) at gave) ∙ ap (inShard s (id .hash) ws) with-slot)
 
-      pub new-is-told : {answer : Answer} → told ≡ replyTo r answer → place ≡ Nowhere
-          → outcome answer ws′ ≡ inPart part′ ws (OneShard.admit policy id r cost at (shardIn part′ ws))
+      pub new-is-told : place ≡ Nowhere → outcome decision ws′ ≡ inPart part′ ws (OneShard.admit policy id r cost at (shardIn part′ ws))
           → outcome told ws′ ≡ askedBy r (s .limit) s at id cost ws
-      new-is-told is-reply missed gave =
+      new-is-told missed gave =
           let without-slot = ask-without-slot policy id r cost at (shardAt s (id .hash) ws) (rw (a .is-part) at (sym is-place ∙ missed)) in
-          request-is-told is-reply ((rw (a .is-part) at gave) ∙ ap (inShard s (id .hash) ws) without-slot)
+          request-is-told ((rw (a .is-part) at gave) ∙ ap (inShard s (id .hash) ws) without-slot)

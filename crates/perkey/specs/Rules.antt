@@ -26,8 +26,6 @@ use Rattle.settings.specs.Rate.{configOf}
 use Rattle.settings.specs.Settings.{shardCount, capOf}
 use Rattle.shard.specs.declared.Identity.{Identity}
 use Rattle.shard.specs.declared.Policy.{Policy}
-use Rattle.shard.specs.declared.Answer.{Answer}
-use Rattle.shard.specs.declared.Answer.the-variants.{Decided, NoSpace}
 use Rattle.shard_map.specs.Model.{Shard}
 use Rattle.shard.specs.Model as OneShard
 use Rattle.perkey.specs.declared.Reply.{Reply}
@@ -93,37 +91,30 @@ policyOf s rate = record { config = configOf rate; «idle_ttl» = s .eviction .�
 unfoldable pub setUp : Settings → List ℕ → Outcome Reply (List ℕ)
 setUp s ws = unlessRefused (setUpRefusal s ws) ws (outcome Done (replicate (memoryWords s) 0))
 
--- What a bucket decided, as a try is told it: a try is granted without a wait.
+-- What was decided, as a try is told it: a try is granted without a wait, or is to be tried again, by its bucket or for want of space.
 abbrev pub mapDecision : BucketDecision → Decision
 mapDecision (Allowed due) = Acquired due
 mapDecision (Denied due) = Retry due
 
--- The answer to a try: granted, or to be tried again, by its bucket or for want of space.
-abbrev pub tryReply : Answer → Reply
-tryReply (Decided decision) = Tried (mapDecision decision)
-tryReply (NoSpace due) = Tried (Retry due)
+abbrev pub tryReply : BucketDecision → Reply
+tryReply decision = Tried (mapDecision decision)
 
--- What a bucket decided, as a reservation is told it: granted with its wait, else none.
-abbrev pub reservedReply : BucketDecision → Reply
-reservedReply (Allowed due) = Reserved due
-reservedReply (Denied due) = Nothing
+-- What was decided, as a reservation is told it: granted with its wait, else none.
+abbrev pub reserveReply : BucketDecision → Reply
+reserveReply (Allowed due) = Reserved due
+reserveReply (Denied due) = Nothing
 
--- The answer to a reservation: by its bucket, or none for want of space.
-abbrev pub reserveReply : Answer → Reply
-reserveReply (Decided decision) = reservedReply decision
-reserveReply (NoSpace due) = Nothing
-
--- The answer to a request.
-abbrev pub replyTo : Request → Answer → Reply
-replyTo Acquire answer = tryReply answer
-replyTo (Reserve longest) answer = reserveReply answer
+-- The reply to a request.
+abbrev pub replyTo : Request → BucketDecision → Reply
+replyTo Acquire decision = tryReply decision
+replyTo (Reserve longest) decision = reserveReply decision
 
 -- Due at the moment itself, without a wait.
 abbrev pub dueNow : Nanos → Due
 dueNow at = dueAfter at (record { 0 = 0 })
 
 -- What a request does in its shard, and its answer.
-abbrev pub requested : Settings → Rate → Identity → Request → ℕ → Nanos → List ℕ → (Answer → Reply) → Outcome Reply (List ℕ)
+abbrev pub requested : Settings → Rate → Identity → Request → ℕ → Nanos → List ℕ → (BucketDecision → Reply) → Outcome Reply (List ℕ)
 requested s rate id request cost at ws reply =
     let o = inShard s (id .hash) ws (OneShard.withOrInsert (policyOf s rate) id request cost at (shardAt s (id .hash) ws)) in
     outcome (reply (o .answer)) (o .after)

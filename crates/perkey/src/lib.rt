@@ -16,7 +16,6 @@ use settings::Shape;
 use settings::decision::Decision;
 use settings::eviction::WhenFull;
 use settings::rate::Rate;
-use shard::Answer;
 use shard::Identity;
 use shard::Policy;
 use store::Part;
@@ -144,7 +143,7 @@ fn decide(
         Place::Nowhere => {
             let own = part;
             let key = id;
-            try_reply(store::admit(
+            let decision = store::admit(
                 ws,
                 own,
                 policy(settings, rate),
@@ -152,7 +151,8 @@ fn decide(
                 Request::Acquire,
                 cost,
                 at,
-            ))
+            );
+            Reply::Tried(map_decision(decision))
         }
     }
 }
@@ -252,12 +252,12 @@ fn reserve_within(
                 cost,
                 at,
             );
-            reserved_reply(decision)
+            reserve_reply(decision)
         }
         Place::Nowhere => {
             let own = part;
             let key = id;
-            reserve_reply(store::admit(
+            let decision = store::admit(
                 ws,
                 own,
                 policy(settings, rate),
@@ -265,7 +265,8 @@ fn reserve_within(
                 Request::Reserve(max_wait),
                 cost,
                 at,
-            ))
+            );
+            reserve_reply(decision)
         }
     }
 }
@@ -524,16 +525,6 @@ fn forgets(when_full: WhenFull) -> bool
     }
 }
 
-// A shard's answer as the reply to a try: want of space is a wait too.
-fn try_reply(answer: Answer) -> Reply
-    ensures { λ r. ⌜ r ≡ Rules.tryReply answer ⌝ }
-{
-    match answer {
-        Answer::Decided(decision) => Reply::Tried(map_decision(decision)),
-        Answer::NoSpace(after) => Reply::Tried(Decision::Retry { after }),
-    }
-}
-
 // What a bucket decided, as a try is told it.
 fn map_decision(decision: BucketDecision) -> Decision
     ensures { λ r. ⌜ r ≡ Rules.mapDecision decision ⌝ }
@@ -544,19 +535,9 @@ fn map_decision(decision: BucketDecision) -> Decision
     }
 }
 
-// A shard's answer as the reply to a reservation.
-fn reserve_reply(answer: Answer) -> Reply
-    ensures { λ r. ⌜ r ≡ Rules.reserveReply answer ⌝ }
-{
-    match answer {
-        Answer::Decided(decision) => reserved_reply(decision),
-        Answer::NoSpace(_) => Reply::Nothing,
-    }
-}
-
 // What a bucket decided, as a reservation is told it.
-fn reserved_reply(decision: BucketDecision) -> Reply
-    ensures { λ r. ⌜ r ≡ Rules.reservedReply decision ⌝ }
+fn reserve_reply(decision: BucketDecision) -> Reply
+    ensures { λ r. ⌜ r ≡ Rules.reserveReply decision ⌝ }
 {
     match decision {
         BucketDecision::Allowed(due) => Reply::Reserved(due),

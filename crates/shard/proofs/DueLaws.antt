@@ -6,6 +6,7 @@ use Rattle.arith.proofs.Cases.{by-le}
 use Rattle.units.specs.declared.Nanos.{Nanos}
 use Rattle.bucket.specs.declared.BucketConfig.{BucketConfig}
 use Rattle.bucket.specs.declared.BucketCore.{BucketCore}
+use Rattle.bucket.specs.declared.BucketDecision.{BucketDecision}
 use Rattle.bucket.specs.declared.BucketDecision.the-variants.{Allowed, Denied}
 use Rattle.bucket.specs.declared.Request.{Request}
 use Rattle.bucket.specs.Bucket.{dueAfter, longestWait, waitAt, asked}
@@ -19,18 +20,15 @@ use Rattle.evict.proofs.WalkLaws.{TellsRoom, room-made, room-refused, eviction-
 use Rattle.units.specs.declared.OptionNanos.{OptionNanos}
 use Rattle.shard.specs.declared.Identity.{Identity}
 use Rattle.shard.specs.declared.Policy.{Policy}
-use Rattle.shard.specs.declared.Answer.{Answer}
-use Rattle.shard.specs.declared.Answer.the-variants.{Decided, NoSpace}
 use Rattle.shard.specs.Model.{withExisting, swept, makeRoom, admitted, admit, askedFrom, withOrInsert}
 
--- An answer at a moment: a grant within the longest wait of the request, a denial, or no space. Each is due after its wait.
-pub data TellsItsMoment (request : Request) (at : Nanos) : Answer → Type 0 where
-  granted : (wait : Nanos) → wait .0 ≤ longestWait request → TellsItsMoment request at (Decided (Allowed (dueAfter at wait)))
-  denied : (wait : Nanos) → TellsItsMoment request at (Decided (Denied (dueAfter at wait)))
-  no-space : (wait : Nanos) → TellsItsMoment request at (NoSpace (dueAfter at wait))
+-- An answer at a moment: a grant within the longest wait of the request, or a denial, by the bucket or for want of space. Each is due after its wait.
+pub data TellsItsMoment (request : Request) (at : Nanos) : BucketDecision → Type 0 where
+  granted : (wait : Nanos) → wait .0 ≤ longestWait request → TellsItsMoment request at (Allowed (dueAfter at wait))
+  denied : (wait : Nanos) → TellsItsMoment request at (Denied (dueAfter at wait))
 
 bucket-tells-its-moment : (c : BucketConfig) (request : Request) (b : BucketCore) (cost : ℕ) (at : Nanos)
-    → TellsItsMoment request at (Decided (asked c request b cost at .decision))
+    → TellsItsMoment request at (asked c request b cost at .decision)
 bucket-tells-its-moment c request b cost at =
     by-le (waitAt c b cost at) (longestWait request)
     (λ soon. rw (granted-within-longest c request b cost at soon) (granted (record { 0 = waitAt c b cost at }) soon))
@@ -46,7 +44,7 @@ making-room-tells-its-moment p at s =
 module _ (p : Policy) (id : Identity) (request : Request) (cost : ℕ) (at : Nanos) where
   room-tells-its-moment : (owed : OptionNanos) (s : Shard) {room : Room} → TellsRoom at room → TellsItsMoment request at (admitted p id request cost at owed s room .answer)
   room-tells-its-moment owed s room-made = bucket-tells-its-moment (p .config) request _ cost at
-  room-tells-its-moment owed s (room-refused wait) = no-space wait
+  room-tells-its-moment owed s (room-refused wait) = denied wait
 
   place-tells-its-moment : (s : Shard) (place : Place) → TellsItsMoment request at (askedFrom p id request cost at s place .answer)
   unfolding withExisting admit

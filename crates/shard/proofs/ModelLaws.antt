@@ -10,6 +10,7 @@ use borrow.Author.Tests.{lt-ltb, le-ltb}
 use Rattle.units.specs.declared.Nanos.{Nanos}
 use Rattle.units.specs.declared.OptionNanos.{OptionNanos}
 use Rattle.bucket.specs.declared.BucketConfig.{BucketConfig}
+use Rattle.bucket.specs.declared.BucketDecision.the-variants.{Denied}
 use Rattle.bucket.specs.declared.Request.{Request}
 use Rattle.bucket.specs.declared.Due.{Due}
 use Rattle.bucket.specs.Bucket.{refunded as refundedBucket}
@@ -28,8 +29,7 @@ use Rattle.evict.specs.declared.Room.the-variants.{Made, Refused}
 use Rattle.evict.specs.Evict.{evicted}
 use Rattle.shard.specs.declared.Identity.{Identity}
 use Rattle.shard.specs.declared.Policy.{Policy}
-use Rattle.shard.specs.declared.Answer.the-variants.{NoSpace}
-use Rattle.shard.specs.Model.{tracks, idleLimitIn, askedAt, withExisting, sweptIdle, swept, makeRoom, joined, admit, decided, withOrInsert, hasDebt, refunded, removed}
+use Rattle.shard.specs.Model.{tracks, idleLimitIn, askedAt, withExisting, sweptIdle, swept, makeRoom, joined, admit, withOrInsert, hasDebt, refunded, removed}
 use Rattle.shard.proofs.RoomLaws.{swept-idle-sound, swept-sound, room-sound, room-made-leaves-room}
 use Rattle.shard.proofs.ShardLaws.{roomFor, debt-taken-sound, refused-took-nothing}
 
@@ -88,7 +88,7 @@ module _ (p : Policy) (id : Identity) (request : Request) (cost : ℕ) (at : Nan
   unfolding admit
   new-joins made = rw (after-is gave, after-is took, answer-is took, room-told made)
 
-  pub new-refused : (due : Due) → Sound s → room ≡ Refused due → outcome (NoSpace due) v ≡ admit p id request cost at s
+  pub new-refused : (due : Due) → Sound s → room ≡ Refused due → outcome (Denied due) v ≡ admit p id request cost at s
   unfolding admit
   new-refused due u refused =
       let told = room-told refused in
@@ -96,7 +96,7 @@ module _ (p : Policy) (id : Identity) (request : Request) (cost : ℕ) (at : Nan
 
 -- A request, by the place of the key.
 module _ (p : Policy) (id : Identity) (request : Request) (cost : ℕ) (at : Nanos) (s : Shard) where
-  pub ask-with-slot : (i : ℕ) → placeOf s (id .hash) (id .key) ≡ At i → decided (withExisting p request cost at s i) ≡ withOrInsert p id request cost at s
+  pub ask-with-slot : (i : ℕ) → placeOf s (id .hash) (id .key) ≡ At i → withExisting p request cost at s i ≡ withOrInsert p id request cost at s
   unfolding withOrInsert
   ask-with-slot i e = rw e
 

@@ -9,6 +9,8 @@ use Rattle.units.specs.declared.OptionNanos.the-variants as nanos
 use Rattle.bucket.specs.declared.BucketConfig.{BucketConfig}
 use Rattle.bucket.specs.declared.Due.{Due}
 use Rattle.bucket.specs.declared.BucketCore.{BucketCore}
+use Rattle.bucket.specs.declared.BucketDecision.{BucketDecision}
+use Rattle.bucket.specs.declared.BucketDecision.the-variants.{Denied}
 use Rattle.bucket.specs.declared.Request.{Request}
 use Rattle.bucket.specs.Bucket as Bucket
 use Rattle.rows.specs.declared.Place.{Place}
@@ -27,9 +29,7 @@ use Rattle.evict.specs.declared.Room.the-variants.{Made, Refused}
 use Rattle.evict.proofs.WalkLaws.{made-is-no-refusal}
 use Rattle.shard.specs.declared.Identity.{Identity}
 use Rattle.shard.specs.declared.Policy.{Policy}
-use Rattle.shard.specs.declared.Answer.{Answer}
-use Rattle.shard.specs.declared.Answer.the-variants.{Decided, NoSpace}
-use Rattle.shard.specs.Model.{withExisting, makeRoom, joined, admitted, admit, decided, askedFrom, withOrInsert, hasDebt, refundedFrom, refunded, removedFrom, removed}
+use Rattle.shard.specs.Model.{withExisting, makeRoom, joined, admitted, admit, askedFrom, withOrInsert, hasDebt, refundedFrom, refunded, removedFrom, removed}
 use Rattle.shard.proofs.RoomLaws.{room-sound, room-cap, room-ledger-cap, room-made-leaves-room, room-below-ledger-cap-never-refuses}
 
 -- A slot of the same key, with a bucket that is given. Its mark and its last-seen may be any.
@@ -50,14 +50,14 @@ debt-taken-sound id s u = ledger-sound s _ u (taken-sound (s .ledger) (id .hash)
 
 -- How a request ends: the key's slot is asked; the key is new, and joins once there is room; or there is no room. A key that is refused for space has
 -- neither a slot nor a debt, so no debt was taken out and none is put back: what is left is what making room left.
-pub data Asking (p : Policy) (id : Identity) (request : Request) (cost : ℕ) (at : Nanos) (s : Shard) : Outcome Answer Shard → Type 0 where
+pub data Asking (p : Policy) (id : Identity) (request : Request) (cost : ℕ) (at : Nanos) (s : Shard) : Outcome BucketDecision Shard → Type 0 where
   slot-asked : (i : ℕ) (slot : Slot) → placeOf s (id .hash) (id .key) ≡ At i → Holding s (id .hash) (id .key) i
       → Rebucketed (slotAt s i) (Bucket.asked (p .config) request (slotAt s i .bucket) cost at .bucket) slot
-      → Asking p id request cost at s (outcome (Decided (Bucket.asked (p .config) request (slotAt s i .bucket) cost at .decision)) (withSlot s i slot))
+      → Asking p id request cost at s (outcome (Bucket.asked (p .config) request (slotAt s i .bucket) cost at .decision) (withSlot s i slot))
   key-joins : placeOf s (id .hash) (id .key) ≡ Nowhere → roomFor p id at s .answer ≡ Made
       → Asking p id request cost at s (joined p id request cost at (Ledger.taken (s .ledger) (id .hash) .answer) (roomFor p id at s .after))
   no-space : (due : Due) → placeOf s (id .hash) (id .key) ≡ Nowhere → Ledger.owedBy (s .ledger) (id .hash) ≡ nanos.None → makeRoom p at s .answer ≡ Refused due
-      → Asking p id request cost at s (outcome (NoSpace due) (makeRoom p at s .after))
+      → Asking p id request cost at s (outcome (Denied due) (makeRoom p at s .after))
 
 -- Where room is refused no debt was taken out: one that was taken out would have left the ledger below its cap.
 pub refused-took-nothing : (p : Policy) (id : Identity) (at : Nanos) (s : Shard) (due : Due) → Sound s → roomFor p id at s .answer ≡ Refused due
@@ -73,7 +73,7 @@ refused-took-nothing p id at s due u =
 
 module _ (p : Policy) (id : Identity) (request : Request) (cost : ℕ) (at : Nanos) (s : Shard) (u : Sound s) where
   -- The touch of a known key alters neither its identity nor its bucket.
-  known-cases : (i : ℕ) → placeOf s (id .hash) (id .key) ≡ At i → Asking p id request cost at s (decided (withExisting p request cost at s i))
+  known-cases : (i : ℕ) → placeOf s (id .hash) (id .key) ≡ At i → Asking p id request cost at s (withExisting p request cost at s i)
   unfolding withExisting
   known-cases i e = slot-asked i _ e (found-holds s (id .hash) (id .key) i e) (record { hash = refl; key = refl; bucket = refl })
 
@@ -146,7 +146,7 @@ module _ (s : Shard) (u : Sound s) where
       v : Sound (debtTaken id s)
       v = debt-taken-sound id s u
 
-      go : {o : Outcome Answer Shard} → Asking p id request cost at s o → SameRoom s (o .after)
+      go : {o : Outcome BucketDecision Shard} → Asking p id request cost at s o → SameRoom s (o .after)
       go (slot-asked i slot e f r) = changed-same-room i slot
       go (key-joins e made) = record {
         sound = insert-sound t _ (room-sound p at (debtTaken id s) v) (room-made-leaves-room p at (debtTaken id s) v made);

@@ -11,6 +11,7 @@ use Rattle.units.specs.Units.{millisOf}
 use Rattle.bucket.specs.declared.BucketConfig.{BucketConfig}
 use Rattle.bucket.specs.declared.BucketCore.{BucketCore}
 use Rattle.bucket.specs.declared.BucketDecision.{BucketDecision}
+use Rattle.bucket.specs.declared.BucketDecision.the-variants.{Denied}
 use Rattle.bucket.specs.declared.BucketOutcome.{BucketOutcome}
 use Rattle.bucket.specs.declared.Request.{Request}
 use Rattle.bucket.specs.Bucket as Bucket
@@ -30,8 +31,6 @@ use Rattle.evict.specs.declared.Room.the-variants.{Made, Refused}
 use Rattle.evict.specs.Evict.{evicted}
 use Rattle.shard.specs.declared.Identity.{Identity}
 use Rattle.shard.specs.declared.Policy.{Policy}
-use Rattle.shard.specs.declared.Answer.{Answer}
-use Rattle.shard.specs.declared.Answer.the-variants.{Decided, NoSpace}
 
 -- Whether last-seen is kept up to date: only where an idle time is set.
 abbrev pub tracks : OptionNanos → Bool
@@ -74,39 +73,35 @@ returning c at nanos.None = Bucket.fresh c at
 returning c at (nanos.Some settles) = restored c (Bucket.fresh c at) at settles
 
 -- Room was made: the bucket is asked, and its slot comes last, unmarked, seen now, whatever the bucket answered.
-abbrev pub joined : Policy → Identity → Request → ℕ → Nanos → OptionNanos → Shard → Outcome Answer Shard
+abbrev pub joined : Policy → Identity → Request → ℕ → Nanos → OptionNanos → Shard → Outcome BucketDecision Shard
 joined p id request cost at owed s =
     let asked = Bucket.asked (p .config) request (returning (p .config) at owed) cost at in
-    outcome (Decided (asked .decision)) (insert s (newSlot (id .hash) (id .key) (asked .bucket) (millisOf at)))
+    outcome (asked .decision) (insert s (newSlot (id .hash) (id .key) (asked .bucket) (millisOf at)))
 
 -- A debt that was taken out goes back into the ledger.
 abbrev pub putBack : ℕ → Nanos → OptionNanos → Shard → Shard
 putBack hash at nanos.None s = s
 putBack hash at (nanos.Some settles) s = withLedger s (Ledger.recorded (s .ledger) (record { hash = hash; settles = settles }) at false .after)
 
--- No room: the key is turned away for want of space, and its debt put back, if it had one; what was swept, cleared or moved stays so. A key that had a debt is
+-- No room: the key is turned away for want of space, which denies it until room is due, and its debt is put back, if it had one; what was swept, cleared or moved stays so. A key that had a debt is
 -- never turned away (`admit` says why), so the code puts nothing back.
-abbrev pub admitted : Policy → Identity → Request → ℕ → Nanos → OptionNanos → Shard → Room → Outcome Answer Shard
+abbrev pub admitted : Policy → Identity → Request → ℕ → Nanos → OptionNanos → Shard → Room → Outcome BucketDecision Shard
 admitted p id request cost at owed s Made = joined p id request cost at owed s
-admitted p id request cost at owed s (Refused due) = outcome (NoSpace due) (putBack (id .hash) at owed s)
+admitted p id request cost at owed s (Refused due) = outcome (Denied due) (putBack (id .hash) at owed s)
 
 -- A new key's own debt is taken out first: its place in the ledger is then free for the debt of a slot that has to go.
-unfoldable pub admit : Policy → Identity → Request → ℕ → Nanos → Shard → Outcome Answer Shard
+unfoldable pub admit : Policy → Identity → Request → ℕ → Nanos → Shard → Outcome BucketDecision Shard
 admit p id request cost at s =
     let own = Ledger.taken (s .ledger) (id .hash) in
     let room = makeRoom p at (withLedger s (own .after)) in
     admitted p id request cost at (own .answer) (room .after) (room .answer)
 
--- What a bucket decided, as an answer.
-abbrev pub decided : Outcome BucketDecision Shard → Outcome Answer Shard
-decided o = outcome (Decided (o .answer)) (o .after)
-
 -- A request for a key.
-abbrev pub askedFrom : Policy → Identity → Request → ℕ → Nanos → Shard → Place → Outcome Answer Shard
-askedFrom p id request cost at s (At i) = decided (withExisting p request cost at s i)
+abbrev pub askedFrom : Policy → Identity → Request → ℕ → Nanos → Shard → Place → Outcome BucketDecision Shard
+askedFrom p id request cost at s (At i) = withExisting p request cost at s i
 askedFrom p id request cost at s Nowhere = admit p id request cost at s
 
-unfoldable pub withOrInsert : Policy → Identity → Request → ℕ → Nanos → Shard → Outcome Answer Shard
+unfoldable pub withOrInsert : Policy → Identity → Request → ℕ → Nanos → Shard → Outcome BucketDecision Shard
 withOrInsert p id request cost at s = askedFrom p id request cost at s (placeOf s (id .hash) (id .key))
 
 -- The bucket that a key has, or would have if it came in now. A view changes nothing.
@@ -117,9 +112,9 @@ viewedFrom c id at s Nowhere = returning c at (Ledger.owedBy (s .ledger) (id .ha
 unfoldable pub viewed : BucketConfig → Identity → Nanos → Shard → BucketCore
 viewed c id at s = viewedFrom c id at s (placeOf s (id .hash) (id .key))
 
--- What a key's own bucket answers to a request.
-abbrev pub ownAnswer : BucketConfig → Identity → Request → ℕ → Nanos → Shard → Answer
-ownAnswer c id request cost at s = Decided (Bucket.asked c request (viewed c id at s) cost at .decision)
+-- What a key's own bucket decides on a request.
+abbrev pub ownDecision : BucketConfig → Identity → Request → ℕ → Nanos → Shard → BucketDecision
+ownDecision c id request cost at s = Bucket.asked c request (viewed c id at s) cost at .decision
 
 -- Whether there is a debt, and a slot.
 abbrev pub hasDebt : OptionNanos → Bool

@@ -32,12 +32,6 @@ pub struct Policy {
     pub forget_debt: bool,
 }
 
-// The answer to a new key's request: its bucket's, or when space is expected.
-pub enum Answer {
-    Decided(BucketDecision),
-    NoSpace(Due),
-}
-
 impl Policy {
     // Whether last-seen is kept up to date.
     pub fn tracks_idle(self) -> bool
@@ -90,7 +84,7 @@ fn with_bucket(slot: Slot, bucket: BucketCore) -> Slot
 }
 
 // A request of a new key. The key's own debt is taken out first: its place in the ledger is then free for the debt of a slot that has to go. So a key that
-// left a debt is never turned away for space, and no debt has to be put back.
+// left a debt is never turned away for space, and no debt has to be put back. A key that is turned away is denied until room is due.
 pub fn admit(
     ws: &mut [u64],
     cap: usize,
@@ -99,14 +93,14 @@ pub fn admit(
     request: Request,
     cost: u32,
     at: Nanos,
-) -> Answer
+) -> BucketDecision
     requires { ⌜ Intact cap (now ws) × Accepted (policy .config) × (cost ≤ policy .config .capacity) × (at .0 ≤ 2 ^ 62) ⌝ }
     ensures { λ r. ⌜ outcome r (shard cap (now (ws .exit))) ≡ Model.admit policy id request cost at (shard cap (now (ws .entry))) ⌝ }
 {
     let owed = debts::take(ws, cap, id.hash);
     match make_room(ws, cap, policy, at) {
         Room::Made => join(ws, cap, policy, id, request, cost, at, owed),
-        Room::Refused(due) => Answer::NoSpace(due),
+        Room::Refused(due) => BucketDecision::Denied(due),
     }
 }
 
@@ -120,7 +114,7 @@ fn join(
     cost: u32,
     at: Nanos,
     owed: OptionNanos,
-) -> Answer
+) -> BucketDecision
     requires { ⌜ Intact cap (now ws) × Accepted (policy .config) × (cost ≤ policy .config .capacity) × (at .0 ≤ 2 ^ 62) × (shard cap (now ws) .slots .count < cap) ⌝ }
     ensures { λ r. ⌜ outcome r (shard cap (now (ws .exit))) ≡ Model.joined policy id request cost at owed (shard cap (now (ws .entry))) ⌝ }
 {
@@ -130,7 +124,7 @@ fn join(
     let decision = asked.decision;
     let after = asked.bucket;
     shard_map::insert(ws, cap, Slot::new(id.hash, id.key, after, at.millis()));
-    Answer::Decided(decision)
+    decision
 }
 
 // The bucket of a key without a slot: a fresh one, in its debt if it left one.

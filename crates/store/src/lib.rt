@@ -17,7 +17,6 @@ use bucket::Request;
 use rows::Place;
 use settings::Settings;
 use settings::Shape;
-use shard::Answer;
 use shard::Identity;
 use shard::Policy;
 use units::Nanos;
@@ -91,7 +90,7 @@ pub fn admit(
     request: Request,
     cost: u32,
     at: Nanos,
-) -> Answer
+) -> BucketDecision
     requires { ⌜ Placed part (now ws) × Sound (shardIn part (now ws)) × Accepted (policy .config) × (cost ≤ policy .config .capacity) × (at .0 ≤ 2 ^ 62) ⌝ }
     ensures { λ r. ⌜ outcome r (now (ws .exit)) ≡ inPart part (now (ws .entry)) (OneShard.admit policy id request cost at (shardIn part (now (ws .entry)))) ⌝ }
 {

@@ -80,8 +80,8 @@ policy-requires-2 c κs = search needs
 admit-requires : tie.Need-admit-requires
 admit-requires c κs = new-may-be-asked (asks (missed c .before .before)) (c .policy2 .ensures)
 
-try-reply-requires : tie.Need-try-reply-requires
-try-reply-requires c κs = search needs
+map-decision-requires-2 : tie.Need-map-decision-requires-2
+map-decision-requires-2 c κs = search needs
 
 same-length : tie.Need-same-length
 same-length c = search needs
@@ -102,7 +102,7 @@ returns-4 c =
     let k = c .before .before .before .before in
     let p = missed k in
     let e = p .before .before in
-    let new = new-is-told (asks e) (k .policy2 .ensures) (p .position .ensures) (request (start e)) (c .try-reply .ensures) in
+    let new = new-is-told (asks e) (k .policy2 .ensures) (p .position .ensures) (request (start e)) (ap (λ (d : Decision). Tried d) (c .map-decision2 .ensures)) in
     new (k .before .before .enum-told .given .1) (c .before .before .before .admit .ensures)
 
 pub decide-spec : {M : Type 1} → statement M
@@ -121,7 +121,7 @@ decide-spec =
     enum-told
     policy-requires-2
     admit-requires
-    try-reply-requires
+    map-decision-requires-2
     same-length
     returns-3
     same-length-2

@@ -66,8 +66,8 @@ with-existing-requires c κs =
     let p = found c in
     known-may-be-asked (asks (p .before .before)) (c .policy .ensures) (p .position .ensures) _ (c .before .before .before .pos .given .1)
 
-reserved-reply-requires : tie.Need-reserved-reply-requires
-reserved-reply-requires c κs = search needs
+reserve-reply-requires : tie.Need-reserve-reply-requires
+reserve-reply-requires c κs = search needs
 
 enum-told : tie.Need-enum-told
 enum-told c = search needs
@@ -78,8 +78,8 @@ policy-requires-2 c κs = search needs
 admit-requires : tie.Need-admit-requires
 admit-requires c κs = new-may-be-asked (asks (missed c .before .before)) (c .policy2 .ensures)
 
-reserve-reply-requires : tie.Need-reserve-reply-requires
-reserve-reply-requires c κs = search needs
+reserve-reply-requires-2 : tie.Need-reserve-reply-requires-2
+reserve-reply-requires-2 c κs = search needs
 
 same-length : tie.Need-same-length
 same-length c = search needs
@@ -89,7 +89,7 @@ returns-3 c =
     let k = c .before .before .before .before in
     let p = found k in
     let e = p .before .before in
-    let known = known-is-told (asks e) (k .policy .ensures) (p .position .ensures) (request (start e)) (c .reserved-reply .ensures) in
+    let known = known-is-told (asks e) (k .policy .ensures) (p .position .ensures) (request (start e)) (c .reserve-reply .ensures) in
     known _ (k .before .before .before .pos .given .1) (c .before .before .before .with-existing .ensures)
 
 same-length-2 : tie.Need-same-length-2
@@ -100,7 +100,7 @@ returns-4 c =
     let k = c .before .before .before .before in
     let p = missed k in
     let e = p .before .before in
-    let new = new-is-told (asks e) (k .policy2 .ensures) (p .position .ensures) (request (start e)) (c .reserve-reply .ensures) in
+    let new = new-is-told (asks e) (k .policy2 .ensures) (p .position .ensures) (request (start e)) (c .reserve-reply2 .ensures) in
     new (k .before .before .enum-told .given .1) (c .before .before .before .admit .ensures)
 
 pub reserve-within-spec : {M : Type 1} → statement M
@@ -115,11 +115,11 @@ reserve-within-spec =
     enum-known-pos
     policy-requires
     with-existing-requires
-    reserved-reply-requires
+    reserve-reply-requires
     enum-told
     policy-requires-2
     admit-requires
-    reserve-reply-requires
+    reserve-reply-requires-2
     same-length
     returns-3
     same-length-2
