@@ -8,6 +8,7 @@ use mathlib.Core.Bool.{true≢false}
 use mathlib.Core.List.{List, [], _∷_}
 use Rattle.arith.proofs.Cases.{by-test}
 use Rattle.units.specs.declared.Nanos.{Nanos}
+use Rattle.bucket.specs.declared.BucketDecision.the-variants.{Denied}
 use Rattle.bucket.specs.declared.Due.{Due}
 use Rattle.bucket.specs.Bucket.{dueAfter}
 use Rattle.bucket.specs.declared.Request.{Request}

@@ -4,7 +4,8 @@ use Prim.Native.Nat.{ℕ, _+_, min}
 use mathlib.Core.Bool.{Bool, cond}
 use mathlib.Core.List.{List}
 use Rattle.rows.specs.Outcome.{outcome}
-use Rattle.bucket.specs.declared.BucketDecision.the-variants.{Allowed}
+use Rattle.bucket.specs.declared.BucketDecision.{BucketDecision}
+use Rattle.bucket.specs.declared.BucketDecision.the-variants.{Allowed, Denied}
 use Rattle.bucket.specs.Bucket.{dueAfter}
 use Rattle.ledger.specs.Model as Ledger
 use Rattle.shard_map.specs.Model.{Shard, withLedger, placeOf}
