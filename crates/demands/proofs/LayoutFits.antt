@@ -14,7 +14,7 @@ use Rattle.ledger.specs.Layout as Debts
 use Rattle.shard_map.specs.Model.{Shard}
 use Rattle.shard_map.specs.Layout.{slotOf, slotWords, ledgerStart, shard, wordsOf}
 use Rattle.perkey.specs.Calls.{Every}
-use Rattle.demands.proofs.EveryLaws.{of-item, every-joined, every-made, every-in-part, every-in-rows, every-of-rows}
+use Rattle.demands.proofs.EveryLaws.{of-item, every-left, every-joined, every-made, every-in-part, every-in-rows, every-of-rows}
 use Rattle.demands.proofs.WordFits.{Word, HeldFits}
 use Rattle.demands.proofs.LedgerFits.{DebtFits, LedgerFits}
 use Rattle.demands.proofs.ShardFits.{SlotFits, ShardFits}
@@ -52,6 +52,7 @@ unfolding Debts.ledger
 ledger-read-fits cap ws room every = record {
   debts = held-read-fits DebtFits Debts.debtOf _ cap _ _ ws debt-read-fits room every;
   cursor = word-fits ws _ every;
+  others = every-left Word (Debts.ledgerWords cap) ws every;
 }
 
 pub shard-read-fits : (cap : ℕ) (ws : List ℕ) → Word cap → Every Word ws → ShardFits (shard cap ws)
@@ -76,7 +77,9 @@ items-written-fit Q write writes items every = every-of-rows Word (map write ite
 
 ledger-words-fit : (l : Ledger) → LedgerFits l → Every Word (Debts.wordsOf l)
 unfolding Debts.wordsOf
-ledger-words-fit l f = (f .debts .count, (f .cursor, items-written-fit DebtFits Debts.debtWords debt-words-fit (l .debts .places) (f .debts .items)))
+ledger-words-fit l f =
+    let debts = items-written-fit DebtFits Debts.debtWords debt-words-fit (l .debts .places) (f .debts .items) in
+    (f .debts .count, (f .cursor, every-joined Word (unrow (map Debts.debtWords (l .debts .places))) (l .others) debts (f .others)))
 
 pub shard-words-fit : (s : Shard) → ShardFits s → Every Word (wordsOf s)
 unfolding wordsOf

@@ -7,10 +7,10 @@ use borrow.Author.Tests.{lt-ltb, le-ltb}
 use mathlib.Core.Path.{_≡_, refl, ap, sym, _∙_}
 use mathlib.Core.List.{List, [], _∷_}
 use lib.ListN.{length, getD, set}
-use lib.Seq.{sets, getD-set-same, getD-set-other, take-all}
-use Rattle.rows.specs.Layout.{heldIn}
-use Rattle.rows.proofs.RowLaws.{segment-word, by-listed, getD-sets-lt}
-use Rattle.rows.proofs.LayoutLaws.{held-count, held-length, held-item, held-count-put, held-put, held-set-before, held-round}
+use lib.Seq.{sets, getD-set-same, getD-set-other, drop-set-lt}
+use Rattle.rows.proofs.SegmentLaws.{drop-sets-below}
+use Rattle.rows.proofs.RowLaws.{segment-word, row-end, by-listed, getD-sets-lt}
+use Rattle.rows.proofs.LayoutLaws.{held-count, held-length, held-item, held-count-put, held-put, held-set-before, held-words}
 use Rattle.ledger.specs.declared.Debt.{Debt}
 use Rattle.ledger.specs.Model.{capOf, debtAt, cursorOf, withCount, withCursor, withDebt}
 use Rattle.ledger.specs.Layout.{countAt, cursorAt, debtsAt, debtWidth, ledgerWords, debtOf, debtWords, ledger, wordsOf}
@@ -42,39 +42,39 @@ module _ (cap : ℕ) (ws : List ℕ) where
       let settles-word = segment-word (debtsAt + debtWidth * i) debtWidth ws 1 (lit< tt) in
       sym (held-item debtOf debtWidth cap countAt debtsAt ws i below ∙ (λ j. record { hash = hash-word j; settles = record { 0 = settles-word j } }))
 
--- Stores: each changes one field of the ledger, and nothing else.
-module _ (cap : ℕ) (ws : List ℕ) (size : length ws ≡ ledgerWords cap) where
+-- Stores: each changes one field of the ledger, and nothing else. The words that are not its own lie past all that is stored.
+module _ (cap : ℕ) (ws : List ℕ) (size : ledgerWords cap ≤ length ws) where
   pub count-put : (n : ℕ) → ledger cap (set ws countAt n) ≡ withCount (ledger cap ws) n
   unfolding ledger
   count-put n =
       let debts-put = held-count-put debtOf debtWidth cap countAt debtsAt ws (lit< tt) (omega arith) n in
       let cursor-kept = getD-set-other ws countAt cursorAt n 0 (omega arith) in
-      λ j. record { debts = debts-put j; cursor = cursor-kept j }
+      let others-kept = drop-set-lt (ledgerWords cap) ws countAt n (omega arith) in
+      λ j. record { debts = debts-put j; cursor = cursor-kept j; others = others-kept j }
 
   pub cursor-put : (n : ℕ) → ledger cap (set ws cursorAt n) ≡ withCursor (ledger cap ws) n
   unfolding ledger
   cursor-put n =
       let debts-kept = held-set-before debtOf debtWidth cap countAt debtsAt ws (lit< tt) (omega arith) cursorAt n (lit< tt) (λ e. omega arith) in
       let cursor-put = getD-set-same ws cursorAt n 0 (omega arith) in
-      λ j. record { debts = debts-kept j; cursor = cursor-put j }
+      let others-kept = drop-set-lt (ledgerWords cap) ws cursorAt n (omega arith) in
+      λ j. record { debts = debts-kept j; cursor = cursor-put j; others = others-kept j }
 
   pub debt-put : (i : ℕ) (d : Debt) → i < cap → ledger cap (sets ws (debtsAt + debtWidth * i) (debtWords d)) ≡ withDebt (ledger cap ws) i d
   unfolding ledger
   debt-put i d below =
       let debts-put = held-put debtOf debtWidth cap countAt debtsAt ws (lit< tt) (omega arith) i (debtWords d) below refl in
       let cursor-kept = getD-sets-lt ws (debtsAt + debtWidth * i) cursorAt (debtWords d) (omega arith) in
-      λ j. record { debts = debts-put j; cursor = cursor-kept j }
+      let others-kept = drop-sets-below (ledgerWords cap) ws (debtsAt + debtWidth * i) (debtWords d) (omega (arith, row-end debtWidth cap i below)) in
+      λ j. record { debts = debts-put j; cursor = cursor-kept j; others = others-kept j }
 
--- The words of the ledger in words of the right length are those words.
-pub words-ledger : (cap : ℕ) (ws : List ℕ) → length ws ≡ ledgerWords cap → wordsOf (ledger cap ws) ≡ ws
-unfolding ledger wordsOf heldIn
-words-ledger cap [] e = absurd (omega arith)
-words-ledger cap (n ∷ []) e = absurd (omega arith)
-words-ledger cap (n ∷ c ∷ ws) e =
-    ap {B = List ℕ} (λ r. n ∷ c ∷ r)
-    (held-round debtOf debtWidth cap countAt debtsAt debtWords (n ∷ c ∷ ws) (by-listed debtWidth (λ r. debtWords (debtOf r) ≡ r) (λ f. refl)) (omega arith)
-    ∙ take-all (debtWidth * cap) ws (omega arith))
+-- The words of the ledger in words that are long enough are those words.
+pub words-ledger : (cap : ℕ) (ws : List ℕ) → ledgerWords cap ≤ length ws → wordsOf (ledger cap ws) ≡ ws
+unfolding ledger wordsOf
+words-ledger cap ws long =
+    rw (held-count debtOf debtWidth cap countAt debtsAt ws)
+    (held-words debtOf debtWidth cap countAt debtsAt debtWords ws (by-listed debtWidth (λ r. debtWords (debtOf r) ≡ r) (λ f. refl)) long)
 
--- So words of that length with equal ledgers are equal: a contract that gives the ledger at exit gives every word at exit.
-pub same-words : (cap : ℕ) (xs ys : List ℕ) → length xs ≡ ledgerWords cap → length ys ≡ ledgerWords cap → ledger cap xs ≡ ledger cap ys → xs ≡ ys
+-- So words that are long enough and have equal ledgers are equal: a contract that gives the ledger at exit gives every word at exit.
+pub same-words : (cap : ℕ) (xs ys : List ℕ) → ledgerWords cap ≤ length xs → ledgerWords cap ≤ length ys → ledger cap xs ≡ ledger cap ys → xs ≡ ys
 same-words cap xs ys a b e = sym (words-ledger cap xs a) ∙ ap wordsOf e ∙ words-ledger cap ys b

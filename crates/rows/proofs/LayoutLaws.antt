@@ -1,17 +1,17 @@
 -- Held items in words: what a read gives, and what a store or the lending of another part does to them. Over any item, width and place.
 use Prim.Native.Nat.{ℕ, _+_, _-_, _*_, _≤_, _<_}
 use mathlib.Core.Path.{_≡_, refl, ap, _∙_}
-use mathlib.Core.List.{List, [], map}
+use mathlib.Core.List.{List, [], _++_, map}
 use native.Mathlib.Omega.{arith}
-use lib.ListN.{length, getD, set, length-map}
+use lib.ListN.{length, getD, set, drop, length-map}
 use lib.Seq.{sets, getD-set-same, getD-set-other}
 use borrow.Rule.Slice.PartMut.{putMid}
 use Rattle.rows.specs.Segments.{segment}
 use Rattle.rows.specs.Rows.{rows, unrow}
 use Rattle.rows.specs.Held.{itemAt, stored}
 use Rattle.rows.specs.Layout.{heldIn}
-use Rattle.rows.proofs.SegmentLaws.{segment-set, segment-set-below, segment-sets, segment-length, segment-of-segment, segment-kept-below, word-kept}
-use Rattle.rows.proofs.RowLaws.{rows-length, record-at, record-put, record-put-word, row-end, getD-sets-lt, rows-round, unrow-rows}
+use Rattle.rows.proofs.SegmentLaws.{segment-set, segment-set-below, segment-sets, segment-length, segment-and-rest, segment-of-segment, segment-kept-below, word-kept}
+use Rattle.rows.proofs.RowLaws.{rows-length, record-at, record-put, record-put-word, row-end, tabulate, listed-and-rest, getD-sets-lt, rows-round, unrow-rows}
 
 module _ {A : Type 0} (read : List ℕ → A) (w cap at first : ℕ) where
   pub held-count : (ws : List ℕ) → heldIn read w cap at first ws .count ≡ getD ws at 0
@@ -29,13 +29,18 @@ module _ {A : Type 0} (read : List ℕ → A) (w cap at first : ℕ) where
       record-at read w cap (segment first (w * cap) ws) i b
       ∙ ap read (segment-of-segment first (w * cap) (w * i) w ws (row-end w cap i b))
 
-  -- Items written as the rows that they were read from give the words of those rows.
-  pub held-round : (write : A → List ℕ) (ws : List ℕ) → ((row : List ℕ) → length row ≡ w → write (read row) ≡ row) → first + w * cap ≤ length ws
-      → unrow (map write (heldIn read w cap at first ws .places)) ≡ segment first (w * cap) ws
+  -- Words read as items, and written again: the words before the items, the items' rows, and the words past them. `write` gives an item's row back.
+  pub held-words : (write : A → List ℕ) (ws : List ℕ) → ((row : List ℕ) → length row ≡ w → write (read row) ≡ row) → first + w * cap ≤ length ws
+      → tabulate first (λ i. getD ws i 0) ++ (unrow (map write (heldIn read w cap at first ws .places)) ++ drop (first + w * cap) ws) ≡ ws
   unfolding heldIn
-  held-round write ws round room =
+  held-words write ws round room =
       let all = segment-length first (w * cap) ws room in
-      rw (rows-round read write w cap (segment first (w * cap) ws) round (omega (arith, all))) (unrow-rows w cap (segment first (w * cap) ws) all)
+      rw (
+        rows-round read write w cap (segment first (w * cap) ws) round (omega (arith, all)),
+        unrow-rows w cap (segment first (w * cap) ws) all,
+        segment-and-rest first (w * cap) ws,
+      )
+      (listed-and-rest first ws (omega arith))
 
   module _ (ws : List ℕ) (before : at < first) (room : first + w * cap ≤ length ws) where
     pub held-count-put : (n : ℕ) → heldIn read w cap at first (set ws at n) ≡ record { count = n; places = heldIn read w cap at first ws .places }

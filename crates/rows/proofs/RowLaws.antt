@@ -3,7 +3,7 @@ use Prim.Native.Nat.{ℕ, zero, suc, _+_, _*_, _-_, _≤_, _<_}
 use native.Mathlib.Omega.{arith}
 use native.Mathlib.Nat.{mul-suc, mul-zero, zero-add, add-zero, add-suc, mul-le-mul-left}
 use mathlib.Core.Path.{_≡_, refl, ap, sym, _∙_, subst}
-use mathlib.Core.List.{List, [], _∷_, map, append-nil}
+use mathlib.Core.List.{List, [], _∷_, _++_, map, append-nil}
 use lib.ListN.{length, getD, set, take, drop, length-drop, List·getD-map, drop-of-length-le}
 use lib.Seq.{drop-drop, take-set-lt, take-set-le, drop-set-lt, drop-set-add, getD-take, getD-drop, length-take-le, sets, getD-set-same, getD-set-other}
 use lib.Seq.{set-getD, set-set, take-add, take-all, sets-eq}
@@ -54,6 +54,12 @@ listed zero [] e = refl
 listed zero (a ∷ row) e = absurd (omega arith)
 listed (suc n) [] e = absurd (omega arith)
 listed (suc n) (a ∷ row) e = ap {B = List ℕ} (λ r. a ∷ r) (listed n row (omega arith))
+
+-- The first n words, written out, and what lies past them.
+pub listed-and-rest : (n : ℕ) (ws : List ℕ) → n ≤ length ws → tabulate n (λ i. getD ws i 0) ++ drop n ws ≡ ws
+listed-and-rest zero ws h = refl
+listed-and-rest (suc n) [] h = absurd (omega arith)
+listed-and-rest (suc n) (a ∷ ws) h = ap {B = List ℕ} (λ r. a ∷ r) (listed-and-rest n ws (omega arith))
 
 -- What holds of every list that is written out holds of the row.
 pub by-listed : (n : ℕ) (P : List ℕ → Type 0) → ((f : ℕ → ℕ) → P (tabulate n f)) → (row : List ℕ) → length row ≡ n → P row

@@ -6,7 +6,6 @@ use mathlib.Core.List.{List, [], _∷_, _++_}
 use lib.ListN.{length, getD, set, take, drop, length-drop, List·getD-append, take-append-drop}
 use native.Mathlib.Nat.{add-suc}
 use lib.Seq.{sets, take-take, take-set-lt, drop-set-lt, drop-set-add, drop-drop, drop-append-le, take-append-le, take-at, drop-at, length-take-le, getD-take}
-use lib.Seq.{take-add}
 use borrow.Rule.Slice.PartMut.{putMid}
 use Rattle.rows.specs.Segments.{segment}
 
@@ -57,18 +56,21 @@ module _ (a n : ℕ) (ws ys : List ℕ) (h : a + n ≤ length ws) (k : length ys
       ∙ ap (drop (b - (a + n))) (ap (drop n) back ∙ drop-at ys (drop n (drop a ws)) n k)
       ∙ sym (past a n b ws d))
 
--- A run of stores in the part, and before it.
+-- A run of stores in the part, and before it or before all that lies from a word on.
 pub segment-sets : (a n : ℕ) (ws : List ℕ) (i : ℕ) (vs : List ℕ) → i + length vs ≤ n → segment a n (sets ws (a + i) vs) ≡ sets (segment a n ws) i vs
 segment-sets a n ws i [] h = refl
 segment-sets a n ws i (v ∷ vs) h = rw (← add-suc) (segment-sets a n (set ws (a + i) v) (suc i) vs (omega arith) ∙ rw (segment-set a n ws i v (omega arith)))
 
-pub segment-sets-below : (a n : ℕ) (ws : List ℕ) (i : ℕ) (vs : List ℕ) → i + length vs ≤ a → segment a n (sets ws i vs) ≡ segment a n ws
-segment-sets-below a n ws i [] h = refl
-segment-sets-below a n ws i (v ∷ vs) h = segment-sets-below a n (set ws i v) (suc i) vs (omega arith) ∙ segment-set-below a n ws i v (omega arith)
+pub drop-sets-below : (a : ℕ) (ws : List ℕ) (i : ℕ) (vs : List ℕ) → i + length vs ≤ a → drop a (sets ws i vs) ≡ drop a ws
+drop-sets-below a ws i [] h = refl
+drop-sets-below a ws i (v ∷ vs) h = drop-sets-below a (set ws i v) (suc i) vs (omega arith) ∙ drop-set-lt a ws i v (omega arith)
 
--- Neighbouring parts are one part.
-pub segment-join : (a n m : ℕ) (ws : List ℕ) → segment a n ws ++ segment (a + n) m ws ≡ segment a (n + m) ws
-segment-join a n m ws = rw (← drop-drop n a ws) (sym (take-add n m (drop a ws)))
+pub segment-sets-below : (a n : ℕ) (ws : List ℕ) (i : ℕ) (vs : List ℕ) → i + length vs ≤ a → segment a n (sets ws i vs) ≡ segment a n ws
+segment-sets-below a n ws i vs h = ap (take n) (drop-sets-below a ws i vs h)
+
+-- A part, and what lies past it.
+pub segment-and-rest : (a n : ℕ) (ws : List ℕ) → segment a n ws ++ drop (a + n) ws ≡ drop a ws
+segment-and-rest a n ws = rw (← drop-drop n a ws) (take-append-drop n (drop a ws))
 
 -- A part of the front of a list is that part of the list.
 segment-of-front : (b m n : ℕ) (ws : List ℕ) → b + m ≤ n → segment b m (take n ws) ≡ segment b m ws

@@ -14,9 +14,9 @@ use Rattle.rows.specs.Segments.{segment}
 use Rattle.rows.specs.Held.{itemAt, stored}
 use Rattle.rows.specs.Layout.{heldIn}
 use Rattle.rows.specs.Outcome.{Outcome, outcome}
-use Rattle.rows.proofs.SegmentLaws.{segment-set-below, segment-sets-below, segment-length, segment-back, segment-join, word-kept}
+use Rattle.rows.proofs.SegmentLaws.{segment-set-below, segment-sets-below, segment-length, segment-back, word-kept}
 use Rattle.rows.proofs.RowLaws.{segment-word, row-end, by-listed, getD-sets-lt}
-use Rattle.rows.proofs.LayoutLaws.{held-count, held-length, held-item, held-round, held-count-put, held-put, held-put-word, held-set-before, held-lent-after}
+use Rattle.rows.proofs.LayoutLaws.{held-count, held-length, held-item, held-words, held-count-put, held-put, held-put-word, held-set-before, held-lent-after}
 use Rattle.slot.specs.declared.Slot.{Slot}
 use Rattle.slot.specs.Slot.{withMark}
 use Rattle.ledger.specs.Model as Debts
@@ -156,8 +156,8 @@ module _ (cap : ℕ) (ws : List ℕ) (size : length ws ≡ shardWords cap) {star
   unfolding shard
   ledger-lent = rw (lent-words, is)
 
-  pub ledger-long : length (segment start (length ws - start) ws) ≡ Ledger.ledgerWords cap
-  ledger-long = segment-length start (length ws - start) ws ledger-fits ∙ lent-words
+  pub ledger-long : Ledger.ledgerWords cap ≤ length (segment start (length ws - start) ws)
+  ledger-long = omega (arith, segment-length start (length ws - start) ws ledger-fits)
 
   module _ (ys : List ℕ) (same : length ys ≡ length (segment start (length ws - start) ws)) where
     long : length ys ≡ length ws - start
@@ -179,25 +179,17 @@ module _ (cap : ℕ) (ws : List ℕ) (size : length ws ≡ shardWords cap) {star
     ledger-answered gave = rw ledger-back (ap (λ o. inLedger (shard cap ws) o) gave)
 
 -- The words of the shard in words of the right length are those words.
-head-words : (ws : List ℕ) → slotsAt ≤ length ws → getD ws countAt 0 ∷ getD ws handAt 0 ∷ getD ws sweepAt 0 ∷ drop slotsAt ws ≡ ws
-head-words [] h = absurd (omega arith)
-head-words (a ∷ []) h = absurd (omega arith)
-head-words (a ∷ b ∷ []) h = absurd (omega arith)
-head-words (a ∷ b ∷ c ∷ ws) h = refl
-
 pub words-shard : (cap : ℕ) (ws : List ℕ) → length ws ≡ shardWords cap → wordsOf (shard cap ws) ≡ ws
 unfolding shard wordsOf
 words-shard cap ws size =
-    let ledger-long = segment-length (ledgerStart cap) (Ledger.ledgerWords cap) ws (omega arith) in
-    let rest-long = length-drop slotsAt ws in
+    let rest-long = length-drop (ledgerStart cap) ws in
+    let own-long = segment-length (ledgerStart cap) (Ledger.ledgerWords cap) ws (omega arith) in
     rw (
       held-count slotOf slotWidth cap countAt slotsAt ws,
-      held-round slotOf slotWidth cap countAt slotsAt slotWords ws (by-listed slotWidth (λ r. slotWords (slotOf r) ≡ r) (λ f. refl)) (omega arith),
-      words-ledger cap (segment (ledgerStart cap) (Ledger.ledgerWords cap) ws) ledger-long,
-      segment-join slotsAt (slotWidth * cap) (Ledger.ledgerWords cap) ws,
-      take-all (slotWidth * cap + Ledger.ledgerWords cap) (drop slotsAt ws) (omega arith),
+      words-ledger cap (segment (ledgerStart cap) (Ledger.ledgerWords cap) ws) (omega arith),
+      take-all (Ledger.ledgerWords cap) (drop (ledgerStart cap) ws) (omega arith),
     )
-    (head-words ws (omega arith))
+    (held-words slotOf slotWidth cap countAt slotsAt slotWords ws (by-listed slotWidth (λ r. slotWords (slotOf r) ≡ r) (λ f. refl)) (omega arith))
 
 -- So words of that length with equal shards are equal: a contract that gives the shard at exit gives every word at exit.
 pub same-words : (cap : ℕ) (xs ys : List ℕ) → length xs ≡ shardWords cap → length ys ≡ shardWords cap → shard cap xs ≡ shard cap ys → xs ≡ ys
