@@ -2,9 +2,9 @@
 -- and width stands here once, and once in src/words.rt.
 use Prim.Native.Nat.{ℕ, _+_, _*_, _≤_}
 use mathlib.Core.List.{List, [], _∷_, _++_, map}
-use lib.ListN.{length, getD, drop}
+use lib.ListN.{length, getD}
 use Rattle.rows.specs.Rows.{unrow}
-use Rattle.rows.specs.Layout.{heldIn}
+use Rattle.rows.specs.Layout.{Table, tableIn, heldOf}
 use Rattle.ledger.specs.declared.Debt.{Debt}
 use Rattle.ledger.specs.Model.{Ledger, Sound}
 
@@ -32,13 +32,12 @@ debtOf row = record { hash = getD row 0 0; settles = record { 0 = getD row 1 0 }
 abbrev pub debtWords : Debt → List ℕ
 debtWords d = d .hash ∷ d .settles .0 ∷ []
 
--- The ledger that lies in some words, and the words of a ledger.
+-- The ledger that a table of debts is, the ledger that lies in some words, and the words of a ledger.
+abbrev pub ledgerOf : Table Debt → Ledger
+ledgerOf t = record { debts = heldOf countAt t; cursor = t .head cursorAt; others = t .rest }
+
 unfoldable pub ledger : ℕ → List ℕ → Ledger
-ledger cap ws = record {
-  debts = heldIn debtOf debtWidth cap countAt debtsAt ws;
-  cursor = getD ws cursorAt 0;
-  others = drop (ledgerWords cap) ws;
-}
+ledger cap ws = ledgerOf (tableIn debtOf debtWidth cap debtsAt ws)
 
 unfoldable pub wordsOf : Ledger → List ℕ
 wordsOf l = l .debts .count ∷ l .cursor ∷ (unrow (map debtWords (l .debts .places)) ++ l .others)

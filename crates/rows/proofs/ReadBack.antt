@@ -1,4 +1,4 @@
--- Items written as rows of words and read back: the items come out as they were, with the count. Over any item and width.
+-- Items written as rows of words and read back: the table comes out as it was. Over any item and width.
 use Prim.Native.Nat.{ℕ, _+_, _*_}
 use native.Mathlib.Omega.{arith}
 use native.Mathlib.Nat.{mul-zero, mul-suc}
@@ -8,8 +8,7 @@ use lib.ListN.{length, getD, drop, length-append}
 use lib.Seq.{take-at, drop-at, drop-drop}
 use Rattle.rows.specs.Segments.{segment}
 use Rattle.rows.specs.Rows.{rows, unrow}
-use Rattle.rows.specs.Held.{Held}
-use Rattle.rows.specs.Layout.{heldIn}
+use Rattle.rows.specs.Layout.{tableIn}
 
 -- `write` gives the words of an item, w of them.
 module _ {A : Type 0} (write : A → List ℕ) (w : ℕ) (long : (x : A) → length (write x) ≡ w) where
@@ -18,6 +17,13 @@ module _ {A : Type 0} (write : A → List ℕ) (w : ℕ) (long : (x : A) → len
   unfolding unrow
   written-length [] = sym (mul-zero w)
   written-length (x ∷ items) = rw (length-append, long x, written-length items, mul-suc) (omega arith)
+
+  -- `read` makes an item of its words. The rows of written items, read, are the items.
+  rows-of-written : (read : List ℕ → A) → ((x : A) → read (write x) ≡ x) → (items : List A) → map read (rows w (length items) (unrow (map write items))) ≡ items
+  unfolding rows unrow
+  rows-of-written read back [] = refl
+  rows-of-written read back (x ∷ items) =
+      rw (take-at (write x) (unrow (map write items)) w (long x), drop-at (write x) (unrow (map write items)) w (long x), back x, rows-of-written read back items)
 
   -- Items written between a head and a rest.
   module _ (items : List A) (head rest : List ℕ) {cap first : ℕ} (full : length items ≡ cap) (headed : length head ≡ first) where
@@ -28,28 +34,16 @@ module _ {A : Type 0} (write : A → List ℕ) (w : ℕ) (long : (x : A) → len
     pub between-length : length (head ++ (unrow (map write items) ++ rest)) ≡ first + w * cap + length rest
     between-length = rw (length-append, length-append) (omega (arith, rows-there))
 
-    -- The rest is read back from them.
-    pub between-rest : drop (first + w * cap) (head ++ (unrow (map write items) ++ rest)) ≡ rest
-    between-rest =
-        rw (← drop-drop (w * cap) first (head ++ (unrow (map write items) ++ rest)), drop-at head (unrow (map write items) ++ rest) first headed)
-        (drop-at (unrow (map write items)) rest (w * cap) rows-there)
-
-  -- `read` makes an item of its words.
-  module _ (read : List ℕ → A) (back : (x : A) → read (write x) ≡ x) where
-    -- The rows of the written items, read.
-    rows-of-written : (items : List A) → map read (rows w (length items) (unrow (map write items))) ≡ items
-    unfolding rows unrow
-    rows-of-written [] = refl
-    rows-of-written (x ∷ items) =
-        rw (take-at (write x) (unrow (map write items)) w (long x), drop-at (write x) (unrow (map write items)) w (long x), back x, rows-of-written items)
-
-    -- Held items are read back from between a head and a rest, if the head has their count in its word.
-    pub between-read : (h : Held A) (head rest : List ℕ) {cap first : ℕ} → length (h .places) ≡ cap → length head ≡ first
-        → (at : ℕ) → getD (head ++ (unrow (map write (h .places)) ++ rest)) at 0 ≡ h .count
-        → heldIn read w cap at first (head ++ (unrow (map write (h .places)) ++ rest)) ≡ h
-    unfolding heldIn
-    between-read h head rest {cap} {first} full headed at count =
-        let own : List ℕ = unrow (map write (h .places)) in
-        let items : map read (rows w cap (segment first (w * cap) (head ++ (own ++ rest)))) ≡ h .places =
-        rw (drop-at head (own ++ rest) first headed, take-at own rest (w * cap) (rows-there (h .places) head rest full headed), ← full) (rows-of-written (h .places)) in
-        λ j. record { count = count j; places = items j }
+    -- The table in them: what was written.
+    pub table-of-words : (read : List ℕ → A) → ((x : A) → read (write x) ≡ x)
+        → tableIn read w cap first (head ++ (unrow (map write items) ++ rest)) ≡ record { head = λ k. getD head k 0; places = items; rest = rest }
+    unfolding tableIn
+    table-of-words read back =
+        let own : List ℕ = unrow (map write items) in
+        let front-there = take-at head (own ++ rest) first headed in
+        let past-head = drop-at head (own ++ rest) first headed in
+        let items-there : map read (rows w cap (segment first (w * cap) (head ++ (own ++ rest)))) ≡ items =
+        rw (past-head, take-at own rest (w * cap) rows-there, ← full) (rows-of-written read back items) in
+        let rest-there : drop (first + w * cap) (head ++ (own ++ rest)) ≡ rest =
+        rw (← drop-drop (w * cap) first (head ++ (own ++ rest)), past-head) (drop-at own rest (w * cap) rows-there) in
+        λ j. record { head = λ k. getD (front-there j) k 0; places = items-there j; rest = rest-there j }

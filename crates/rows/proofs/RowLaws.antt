@@ -3,7 +3,7 @@ use Prim.Native.Nat.{ℕ, zero, suc, _+_, _*_, _-_, _≤_, _<_}
 use native.Mathlib.Omega.{arith}
 use native.Mathlib.Nat.{mul-suc, mul-zero, zero-add, add-zero, add-suc, mul-le-mul-left}
 use mathlib.Core.Path.{_≡_, refl, ap, sym, _∙_, subst}
-use mathlib.Core.List.{List, [], _∷_, _++_, map, append-nil}
+use mathlib.Core.List.{List, [], _∷_, map, append-nil}
 use lib.ListN.{length, getD, set, take, drop, length-drop, List·getD-map, drop-of-length-le}
 use lib.Seq.{drop-drop, take-set-lt, take-set-le, drop-set-lt, drop-set-add, getD-take, getD-drop, length-take-le, sets, getD-set-same, getD-set-other}
 use lib.Seq.{set-getD, set-set, take-add, take-all, sets-eq}
@@ -55,12 +55,6 @@ listed zero (a ∷ row) e = absurd (omega arith)
 listed (suc n) [] e = absurd (omega arith)
 listed (suc n) (a ∷ row) e = ap {B = List ℕ} (λ r. a ∷ r) (listed n row (omega arith))
 
--- The first n words, written out, and what lies past them.
-pub listed-and-rest : (n : ℕ) (ws : List ℕ) → n ≤ length ws → tabulate n (λ i. getD ws i 0) ++ drop n ws ≡ ws
-listed-and-rest zero ws h = refl
-listed-and-rest (suc n) [] h = absurd (omega arith)
-listed-and-rest (suc n) (a ∷ ws) h = ap {B = List ℕ} (λ r. a ∷ r) (listed-and-rest n ws (omega arith))
-
 -- What holds of every list that is written out holds of the row.
 pub by-listed : (n : ℕ) (P : List ℕ → Type 0) → ((f : ℕ → ℕ) → P (tabulate n f)) → (row : List ℕ) → length row ≡ n → P row
 by-listed n P p row e = subst P (listed n row e) (p (λ i. getD row i 0))
@@ -69,11 +63,6 @@ pub map-set : {A B : Type 0} (f : A → B) (l : List A) (i : ℕ) (a : A) → ma
 map-set f [] i a = refl
 map-set f (x ∷ l) zero a = refl
 map-set {B = B} f (x ∷ l) (suc i) a = ap {B = List B} (λ r. f x ∷ r) (map-set f l i a)
-
--- A run of stores leaves the words before it.
-pub getD-sets-lt : (l : List ℕ) (i j : ℕ) (vs : List ℕ) → j < i → getD (sets l i vs) j 0 ≡ getD l j 0
-getD-sets-lt l i j [] h = refl
-getD-sets-lt l i j (v ∷ vs) h = getD-sets-lt (set l i v) (suc i) j vs (omega arith) ∙ getD-set-other l i j v 0 (omega arith)
 
 row-puts-from : (w n : ℕ) (ws : List ℕ) (i f : ℕ) (vs : List ℕ) → i < n → f + length vs ≤ w
     → rows w n (sets ws (w * i + f) vs) ≡ set (rows w n ws) i (sets (getD (rows w n ws) i []) f vs)

@@ -1,20 +1,18 @@
 -- The words of a shard read back as the shard, and the shard that lies in zeros.
-use Prim.Native.Nat.{ℕ}
+use Prim.Native.Nat.{ℕ, _≤_}
 use native.Mathlib.Omega.{arith}
 use mathlib.Core.Path.{_≡_, refl, ap, _∙_}
 use mathlib.Core.List.{List, [], _∷_}
-use lib.ListN.{length, getD, take, drop, length-drop, length-take}
-use lib.Seq.{take-all}
-use Rattle.rows.specs.Segments.{segment}
-use Rattle.rows.proofs.LayoutLaws.{held-count}
-use Rattle.rows.proofs.ReadBack.{between-length, between-read, between-rest}
-use Rattle.rows.proofs.ZeroLaws.{zeros-segment}
+use lib.ListN.{length, getD, drop, length-drop}
+use Rattle.rows.specs.Layout.{tableIn}
+use Rattle.rows.proofs.ReadBack.{between-length, table-of-words}
+use Rattle.rows.proofs.ZeroLaws.{zeros-head, zeros-rest}
 use Rattle.ledger.specs.Model as Debts
 use Rattle.ledger.specs.Layout as Ledger
 use Rattle.ledger.proofs.LayoutLaws as LedgerLaws
 use Rattle.ledger.proofs.ReadBack as LedgerBack
-use Rattle.shard_map.specs.Model.{Shard, capOf}
-use Rattle.shard_map.specs.Layout.{countAt, slotsAt, slotWidth, slotOf, slotWords, ledgerStart, shardWords, shard, wordsOf}
+use Rattle.shard_map.specs.Model.{Shard, capOf, withLedger}
+use Rattle.shard_map.specs.Layout.{countAt, handAt, sweepAt, slotsAt, slotWidth, slotOf, slotWords, ledgerStart, shardWords, shardOf, shard, wordsOf}
 use Rattle.shard_map.proofs.LayoutLaws.{cap-is}
 
 -- A shard with room for cap slots and cap debts, in which every word of the ledger is the ledger's own.
@@ -24,16 +22,17 @@ pub record Sized (cap : ℕ) (s : Shard) : Type 0 where
   pub others : length (s .ledger .others) ≡ 0
 
 module _ (cap : ℕ) (s : Shard) (sized : Sized cap s) where
-  -- Its ledger's words,
-  ledger-length : length (Ledger.wordsOf (s .ledger)) ≡ Ledger.ledgerWords cap
-  ledger-length = omega (arith, LedgerBack.words-length cap (s .ledger) (sized .debts), sized .others)
-
-  -- and all its words.
+  -- How many words it has.
   pub words-length : length (wordsOf s) ≡ shardWords cap
   unfolding wordsOf
   words-length =
       let head : List ℕ = s .slots .count ∷ s .hand ∷ s .sweep ∷ [] in
-      omega (arith, between-length slotWords slotWidth (λ slot. refl) (s .slots .places) head (Ledger.wordsOf (s .ledger)) (sized .slots) refl, ledger-length)
+      omega (
+        arith,
+        between-length slotWords slotWidth (λ slot. refl) (s .slots .places) head (Ledger.wordsOf (s .ledger)) (sized .slots) refl,
+        LedgerBack.words-length cap (s .ledger) (sized .debts),
+        sized .others,
+      )
 
   -- Nothing of a shard is lost when it is written as words and read again.
   pub shard-of-words : shard cap (wordsOf s) ≡ s
@@ -41,26 +40,21 @@ module _ (cap : ℕ) (s : Shard) (sized : Sized cap s) where
   shard-of-words =
       let head : List ℕ = s .slots .count ∷ s .hand ∷ s .sweep ∷ [] in
       let rest : List ℕ = Ledger.wordsOf (s .ledger) in
-      let slots-back = between-read slotWords slotWidth (λ slot. refl) slotOf (λ slot. refl) (s .slots) head rest (sized .slots) refl countAt refl in
-      let rest-back = between-rest slotWords slotWidth (λ slot. refl) (s .slots .places) head rest (sized .slots) refl in
-      let own-back = ap (take (Ledger.ledgerWords cap)) rest-back ∙ take-all (Ledger.ledgerWords cap) rest (omega (arith, ledger-length)) in
-      let ledger-back = ap (Ledger.ledger cap) own-back ∙ LedgerBack.ledger-of-words cap (s .ledger) (sized .debts) in
-      λ j. record { slots = slots-back j; hand = s .hand; sweep = s .sweep; ledger = ledger-back j }
+      ap (shardOf cap) (table-of-words slotWords slotWidth (λ slot. refl) (s .slots .places) head rest (sized .slots) refl slotOf (λ slot. refl))
+      ∙ ap (withLedger s) (LedgerBack.ledger-of-words cap (s .ledger) (sized .debts))
 
--- Whatever the words, the ledger of the shard in them has room for cap debts, and the shard has its size.
+-- Whatever the words, the ledger of the shard in them has room for cap debts; and words that are no longer than a shard's have the shard's size.
 pub debt-cap-is : (cap : ℕ) (ws : List ℕ) → Debts.capOf (shard cap ws .ledger) ≡ cap
 unfolding shard
-debt-cap-is cap ws = LedgerLaws.cap-is cap (segment (ledgerStart cap) (Ledger.ledgerWords cap) ws)
+debt-cap-is cap ws = LedgerLaws.cap-is cap (tableIn slotOf slotWidth cap slotsAt ws .rest)
 
-pub shard-sized : (cap : ℕ) (ws : List ℕ) → Sized cap (shard cap ws)
-unfolding shard Ledger.ledger
-shard-sized cap ws =
-    let own : List ℕ = segment (ledgerStart cap) (Ledger.ledgerWords cap) ws in
-    record {
-      slots = cap-is cap ws;
-      debts = debt-cap-is cap ws;
-      others = omega (arith, length-drop (Ledger.ledgerWords cap) own, length-take (Ledger.ledgerWords cap) (drop (ledgerStart cap) ws));
-    }
+pub shard-sized : (cap : ℕ) (ws : List ℕ) → length ws ≤ shardWords cap → Sized cap (shard cap ws)
+unfolding shard Ledger.ledger tableIn
+shard-sized cap ws size = record {
+  slots = cap-is cap ws;
+  debts = debt-cap-is cap ws;
+  others = omega (arith, length-drop (Ledger.ledgerWords cap) (drop (ledgerStart cap) ws), length-drop (ledgerStart cap) ws);
+}
 
 -- A shard that holds no slot and no debt, and whose hand, sweep and cursor stand at the first place.
 pub record Empty (s : Shard) : Type 0 where
@@ -74,11 +68,11 @@ pub record Empty (s : Shard) : Type 0 where
 pub zeros-empty : (cap : ℕ) (ws : List ℕ) → ((i : ℕ) → getD ws i 0 ≡ 0) → Empty (shard cap ws)
 unfolding shard
 zeros-empty cap ws zeros =
-    let ledger-zeros = zeros-segment (ledgerStart cap) (Ledger.ledgerWords cap) ws zeros in
+    let rest = zeros-rest slotOf slotWidth cap slotsAt ws zeros in
     record {
-      slots = held-count slotOf slotWidth cap countAt slotsAt ws ∙ zeros 0;
-      hand = zeros 1;
-      sweep = zeros 2;
-      debts = LedgerBack.zeros-no-debts cap _ ledger-zeros;
-      cursor = LedgerBack.zeros-cursor cap _ ledger-zeros;
+      slots = zeros-head slotOf slotWidth cap slotsAt ws zeros countAt;
+      hand = zeros-head slotOf slotWidth cap slotsAt ws zeros handAt;
+      sweep = zeros-head slotOf slotWidth cap slotsAt ws zeros sweepAt;
+      debts = LedgerBack.zeros-no-debts cap _ rest;
+      cursor = LedgerBack.zeros-cursor cap _ rest;
     }

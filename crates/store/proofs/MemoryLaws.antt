@@ -9,7 +9,7 @@ use borrow.Rule.Slice.PartMut.{same-len-mid}
 use Rattle.arith.proofs.Cases.{by-le}
 use Rattle.rows.specs.Segments.{segment}
 use Rattle.rows.specs.Outcome.{Outcome}
-use Rattle.rows.proofs.SegmentLaws.{segment-length, segment-back, segment-kept-below, segment-kept-above}
+use Rattle.rows.proofs.SegmentLaws.{segment-most, segment-length, segment-back, segment-kept-below, segment-kept-above}
 use Rattle.rows.proofs.ZeroLaws.{zeros-segment}
 use Rattle.settings.specs.declared.Settings.{Settings}
 use Rattle.settings.specs.declared.Shape.{Shape}
@@ -125,7 +125,7 @@ module _ (s : Settings) (hash : ℕ) (ws : List ℕ) where
   -- A shard with the same room has its size.
   pub same-room-sized : {t : Shard.Shard} → SameRoom (shardAt s hash ws) t → Sized (capOf s) t
   same-room-sized room =
-      let own = shard-sized (capOf s) _ in
+      let own = shard-sized (capOf s) _ (segment-most (partStart (shapeOf s) hash) (shardWords (capOf s)) ws) in
       record { slots = room .cap ∙ own .slots; debts = room .ledger-room .cap ∙ own .debts; others = room .ledger-room .others ∙ own .others }
 
   -- The shard of a hash is sound where its counts are at most the cap.
