@@ -15,13 +15,13 @@ use Rattle.settings.specs.declared.Settings.{Settings}
 use Rattle.settings.specs.declared.rate.Rate.{Rate}
 use Rattle.settings.specs.Rate.{configOf}
 use Rattle.settings.specs.Settings.{capOf, shardOf}
-use Rattle.ledger.specs.Model as Ledger
 use Rattle.shard_map.specs.Model as Shard
+use Rattle.shard_map.proofs.ReadBack.{Sized}
 use Rattle.shard.specs.declared.Identity.{Identity}
 use Rattle.shard.specs.Model as OneShard
 use Rattle.shard.proofs.ShardLaws.{SameRoom, ask-same-room, refund-same-room, remove-same-room}
 use Rattle.store.specs.Memory.{shardAt, inShard}
-use Rattle.store.proofs.MemoryLaws.{shard-at-cap, shard-at-debt-cap, in-shard-length, in-shard-reads-back-for, in-shard-leaves-others, fresh-sound}
+use Rattle.store.proofs.MemoryLaws.{same-room-sized, in-shard-length, in-shard-reads-back-for, in-shard-leaves-others, fresh-sound}
 use Rattle.perkey.specs.declared.Reply.{Reply}
 use Rattle.perkey.specs.Rules.{unlessTrivial, askedBy, tooMuch, atOnce, requested, policyOf, replyTo, refundedBy}
 use Rattle.perkey.specs.Calls.{Call, request, look, undo, len, peeks, tokens, refunds, removes, rules, settingsOf, numbered}
@@ -44,14 +44,13 @@ pub record SoundMemory (s : Settings) (ws : List ℕ) : Type 0 where
 operation-keeps-sound : {A : Type 0} (s : Settings) (hash : ℕ) (ws : List ℕ) (o : Outcome A Shard.Shard) → SameRoom (shardAt s hash ws) (o .after)
     → SoundMemory s ws → SoundMemory s (inShard s hash ws o .after)
 operation-keeps-sound s hash ws o room memory =
-    let slots : Shard.capOf (o .after) ≡ capOf s = room .cap ∙ shard-at-cap s hash ws in
-    let debts : Ledger.capOf (o .after .ledger) ≡ capOf s = room .ledger-cap ∙ shard-at-debt-cap s hash ws in
+    let sized : Sized (capOf s) (o .after) = same-room-sized s hash ws room in
     record {
-      size = in-shard-length s hash ws o (memory .size) slots debts;
+      size = in-shard-length s hash ws o (memory .size) sized;
       sound = λ other.
           by-eq (shardOf s other) (shardOf s hash)
-          (λ same. rw (in-shard-reads-back-for s hash ws o (memory .size) slots debts other same) (room .sound))
-          (λ apart. rw (in-shard-leaves-others s hash ws o (memory .size) slots debts other apart) (memory .sound other));
+          (λ same. rw (in-shard-reads-back-for s hash ws o (memory .size) sized other same) (room .sound))
+          (λ apart. rw (in-shard-leaves-others s hash ws o (memory .size) sized other apart) (memory .sound other));
     }
 
 -- A cost that never reaches the store changes no word.

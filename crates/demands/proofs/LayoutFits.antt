@@ -1,20 +1,20 @@
 -- A shard that is read from words that fit 64 bits fits, and one that fits is written as words that fit.
-use Prim.Native.Nat.{ℕ, _*_}
+use Prim.Native.Nat.{ℕ, _+_, _*_}
 use mathlib.Core.List.{List, map}
 use native.Mathlib.Omega.{arith}
-use lib.ListN.{getD}
+use lib.ListN.{length, getD, take}
 use Rattle.rows.specs.Segments.{segment}
 use Rattle.rows.specs.Rows.{rows, unrow}
-use Rattle.rows.specs.Layout.{heldIn}
-use Rattle.rows.proofs.LayoutLaws.{held-length}
+use Rattle.rows.specs.Layout.{Table, tableIn}
+use Rattle.rows.proofs.LayoutLaws.{table-length}
 use Rattle.slot.specs.declared.Slot.{Slot}
 use Rattle.ledger.specs.declared.Debt.{Debt}
 use Rattle.ledger.specs.Model.{Ledger}
 use Rattle.ledger.specs.Layout as Debts
 use Rattle.shard_map.specs.Model.{Shard}
-use Rattle.shard_map.specs.Layout.{slotOf, slotWords, ledgerStart, shard, wordsOf}
+use Rattle.shard_map.specs.Layout.{slotOf, slotWords, shard, wordsOf}
 use Rattle.perkey.specs.Calls.{Every}
-use Rattle.demands.proofs.EveryLaws.{of-item, every-joined, every-made, every-in-part, every-in-rows, every-of-rows}
+use Rattle.demands.proofs.EveryLaws.{of-item, every-taken, every-left, every-joined, every-made, every-in-part, every-in-rows, every-of-rows}
 use Rattle.demands.proofs.WordFits.{Word, HeldFits}
 use Rattle.demands.proofs.LedgerFits.{DebtFits, LedgerFits}
 use Rattle.demands.proofs.ShardFits.{SlotFits, ShardFits}
@@ -23,18 +23,26 @@ use Rattle.demands.proofs.ShardFits.{SlotFits, ShardFits}
 word-fits : (ws : List ℕ) (i : ℕ) → Every Word ws → Word (getD ws i 0)
 word-fits ws i every = of-item Word ws i 0 (omega arith) every
 
--- Held items, a slot, a debt, a ledger and a shard, read from words that fit.
-held-read-fits : {A : Type 0} (Q : A → Type 0) (read : List ℕ → A) (width cap at first : ℕ) (ws : List ℕ)
-    → ((row : List ℕ) → Every Word row → Q (read row)) → Word cap → Every Word ws → HeldFits Q (heldIn read width cap at first ws)
-unfolding heldIn
-held-read-fits Q read width cap at first ws reads room every =
+-- A table that is read from words that fit: the words before its rows, its items, and its rest.
+record TableFits {A : Type 0} (Q : A → Type 0) (t : Table A) : Type 0 where
+  head : (k : ℕ) → Word (t .head k)
+  room : Word (length (t .places))
+  items : Every Q (t .places)
+  rest : Every Word (t .rest)
+
+table-read-fits : {A : Type 0} (Q : A → Type 0) (read : List ℕ → A) (width cap first : ℕ) (ws : List ℕ)
+    → ((row : List ℕ) → Every Word row → Q (read row)) → Word cap → Every Word ws → TableFits Q (tableIn read width cap first ws)
+unfolding tableIn
+table-read-fits Q read width cap first ws reads room every =
     let own : List ℕ = segment first (width * cap) ws in
     record {
-      count = word-fits ws at every;
-      room = rw (held-length read width cap at first ws) room;
+      head = λ k. word-fits (take first ws) k (every-taken Word first ws every);
+      room = rw (table-length read width cap first ws) room;
       items = every-made (Every Word) Q read reads (rows width cap own) (every-in-rows Word width cap own (every-in-part Word first (width * cap) ws every));
+      rest = every-left Word (first + width * cap) ws every;
     }
 
+-- So a slot, a debt, a ledger and a shard.
 slot-read-fits : (row : List ℕ) → Every Word row → SlotFits (slotOf row)
 slot-read-fits row every = record {
   hash = word-fits row _ every;
@@ -49,19 +57,20 @@ debt-read-fits row every = record { hash = word-fits row _ every; settles = word
 
 ledger-read-fits : (cap : ℕ) (ws : List ℕ) → Word cap → Every Word ws → LedgerFits (Debts.ledger cap ws)
 unfolding Debts.ledger
-ledger-read-fits cap ws room every = record {
-  debts = held-read-fits DebtFits Debts.debtOf _ cap _ _ ws debt-read-fits room every;
-  cursor = word-fits ws _ every;
-}
+ledger-read-fits cap ws room every =
+    let f = table-read-fits DebtFits Debts.debtOf _ cap _ ws debt-read-fits room every in
+    record { debts = record { count = f .head _; room = f .room; items = f .items }; cursor = f .head _; others = f .rest }
 
 pub shard-read-fits : (cap : ℕ) (ws : List ℕ) → Word cap → Every Word ws → ShardFits (shard cap ws)
 unfolding shard
-shard-read-fits cap ws room every = record {
-  slots = held-read-fits SlotFits slotOf _ cap _ _ ws slot-read-fits room every;
-  hand = word-fits ws _ every;
-  sweep = word-fits ws _ every;
-  ledger = ledger-read-fits cap _ room (every-in-part Word (ledgerStart cap) (Debts.ledgerWords cap) ws every);
-}
+shard-read-fits cap ws room every =
+    let f = table-read-fits SlotFits slotOf _ cap _ ws slot-read-fits room every in
+    record {
+      slots = record { count = f .head _; room = f .room; items = f .items };
+      hand = f .head _;
+      sweep = f .head _;
+      ledger = ledger-read-fits cap _ room (f .rest);
+    }
 
 -- The words of each, where it fits.
 slot-words-fit : (slot : Slot) → SlotFits slot → Every Word (slotWords slot)
@@ -76,7 +85,9 @@ items-written-fit Q write writes items every = every-of-rows Word (map write ite
 
 ledger-words-fit : (l : Ledger) → LedgerFits l → Every Word (Debts.wordsOf l)
 unfolding Debts.wordsOf
-ledger-words-fit l f = (f .debts .count, (f .cursor, items-written-fit DebtFits Debts.debtWords debt-words-fit (l .debts .places) (f .debts .items)))
+ledger-words-fit l f =
+    let debts = items-written-fit DebtFits Debts.debtWords debt-words-fit (l .debts .places) (f .debts .items) in
+    (f .debts .count, (f .cursor, every-joined Word (unrow (map Debts.debtWords (l .debts .places))) (l .others) debts (f .others)))
 
 pub shard-words-fit : (s : Shard) → ShardFits s → Every Word (wordsOf s)
 unfolding wordsOf

@@ -20,6 +20,7 @@ use Rattle.ledger.specs.Model.{Ledger, noDebt, capOf, debtAt, settledBy, hasSet
 use Rattle.ledger.specs.Model.{sooner, scanFrom, scan, dropChosen, makeRoom, joined, recordedAt, recorded, paidDown}
 use Rattle.ledger.proofs.StepLaws.{removal-count, taken-cases, paid-cases}
 use Rattle.ledger.proofs.RecordLaws.{done-is-no-refusal}
+use Rattle.perkey.specs.Calls.{Every}
 use Rattle.demands.proofs.EveryLaws.{of-either}
 use Rattle.demands.proofs.WordFits.{Word, next-place-fits, HeldFits, item-fits, stored-fits, appended-fits, removed-fits, swept-fits}
 
@@ -31,6 +32,7 @@ pub record DebtFits (d : Debt) : Type 0 where
 pub record LedgerFits (l : Ledger) : Type 0 where
   pub debts : HeldFits DebtFits (l .debts)
   pub cursor : Word (l .cursor)
+  pub others : Every Word (l .others)
 
 no-debt-fits : DebtFits noDebt
 no-debt-fits = record { hash = omega arith; settles = omega arith }
@@ -41,18 +43,18 @@ module _ (l : Ledger) (f : LedgerFits l) where
   debt-at-fits i = item-fits DebtFits (l .debts) (f .debts) noDebt no-debt-fits i
 
   moved-cursor-fits : (c : ℕ) → Word c → LedgerFits (withCursor l c)
-  moved-cursor-fits c fits = record { debts = f .debts; cursor = fits }
+  moved-cursor-fits c fits = record { debts = f .debts; cursor = fits; others = f .others }
 
   changed-debt-fits : (i : ℕ) (d : Debt) → DebtFits d → LedgerFits (withDebt l i d)
-  changed-debt-fits i d fits = record { debts = stored-fits DebtFits (l .debts) (f .debts) i d fits; cursor = f .cursor }
+  changed-debt-fits i d fits = record { debts = stored-fits DebtFits (l .debts) (f .debts) i d fits; cursor = f .cursor; others = f .others }
 
   debt-removed-fits : (p : ℕ) → LedgerFits (removeAt l p)
   unfolding removeAt
-  debt-removed-fits p = record { debts = removed-fits DebtFits (l .debts) (f .debts) noDebt no-debt-fits p; cursor = f .cursor }
+  debt-removed-fits p = record { debts = removed-fits DebtFits (l .debts) (f .debts) noDebt no-debt-fits p; cursor = f .cursor; others = f .others }
 
   debt-appended-fits : (d : Debt) → DebtFits d → Word (l .debts .count + 1) → LedgerFits (append l d)
   unfolding append
-  debt-appended-fits d fits next = record { debts = appended-fits DebtFits (l .debts) (f .debts) d fits next; cursor = f .cursor }
+  debt-appended-fits d fits next = record { debts = appended-fits DebtFits (l .debts) (f .debts) d fits next; cursor = f .cursor; others = f .others }
 
   next-cursor-fits : LedgerFits (withCursor l (cursorOf l + 1))
   next-cursor-fits = moved-cursor-fits _ (next-place-fits (l .cursor) (l .debts .count) (f .debts .count))
@@ -65,7 +67,7 @@ pub sweep-fits : (at : Nanos) (n : ℕ) (l : Ledger) → LedgerFits l → Ledger
 unfolding sweep
 sweep-fits at n l f =
     let swept = swept-fits DebtFits noDebt no-debt-fits (settledBy at) n (roundOf l) (record { items = f .debts; next = f .cursor }) in
-    record { debts = swept .items; cursor = swept .next }
+    record { debts = swept .items; cursor = swept .next; others = f .others }
 
 -- Taking out and paying down.
 pub taken-fits : (l : Ledger) (h : ℕ) → LedgerFits l → LedgerFits (taken l h .after)

@@ -27,7 +27,7 @@ use Rattle.shard.specs.Model as OneShard
 use Rattle.shard.proofs.ShardLaws.{SameRoom, ask-same-room, refund-same-room, remove-same-room}
 use Rattle.store.specs.Memory.{withSegment, partStart, shardAt, inShard}
 use Rattle.store.specs.Refusals.{setUpRefusal}
-use Rattle.store.proofs.MemoryLaws.{shard-at-cap, shard-at-debt-cap, in-shard-length}
+use Rattle.store.proofs.MemoryLaws.{same-room-sized, in-shard-length}
 use Rattle.store.proofs.RefusalLaws.{Accepted, keyed-not-refused}
 use Rattle.perkey.specs.declared.Reply.{Reply}
 use Rattle.perkey.specs.Rules.{setUp, policyOf, unlessTrivial, requested, replyTo, askedBy, keyed, refundedBy}
@@ -62,7 +62,7 @@ module _ (s : Settings) (hash : ℕ) (ws : List ℕ) (lent : lendable ws ≡ tru
       → lendable (inShard s hash ws o .after) ≡ true
   operation-leaves-lendable o room f =
       let same : length (inShard s hash ws o .after) ≡ memoryWords s =
-      in-shard-length s hash ws o (accepted .set-up .size) (room .cap ∙ shard-at-cap s hash ws) (room .ledger-cap ∙ shard-at-debt-cap s hash ws) in
+      in-shard-length s hash ws o (accepted .set-up .size) (same-room-sized s hash ws room) in
       let new : Every Word (Layout.wordsOf (o .after)) = shard-words-fit (o .after) f in
       words-are-lendable (inShard s hash ws o .after)
       (omega (arith, same, accepted .set-up .size, lendable-length ws lent))

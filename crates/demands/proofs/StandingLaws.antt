@@ -1,7 +1,7 @@
 -- The state of a whole memory between two calls, as far as one key is concerned: what stands in the key's own shard bounds what happened to the key so far,
 -- by any bound by its line. An operation in any shard leaves it standing.
 use Prim.Native.Nat.{ℕ, _≤_}
-use mathlib.Core.Path.{_≡_, _∙_}
+use mathlib.Core.Path.{_≡_}
 use mathlib.Core.List.{List}
 use lib.ListN.{length}
 use Rattle.arith.proofs.Cases.{by-eq}
@@ -12,11 +12,11 @@ use Rattle.settings.specs.declared.rate.Rate.{Rate}
 use Rattle.settings.specs.Rate.{configOf}
 use Rattle.settings.specs.Settings.{capOf, shardOf}
 use Rattle.shard_map.specs.Model as Shard
-use Rattle.ledger.specs.Model as Ledger
+use Rattle.shard_map.proofs.ReadBack.{Sized}
 use Rattle.shard.specs.declared.Identity.{Identity}
 use Rattle.shard.proofs.ShardLaws.{SameRoom}
 use Rattle.store.specs.Memory.{memoryWords, shardAt, inShard}
-use Rattle.store.proofs.MemoryLaws.{same-shard, shard-at-cap, shard-at-debt-cap, in-shard-length, in-shard-reads-back-for, in-shard-leaves-others}
+use Rattle.store.proofs.MemoryLaws.{same-shard, same-room-sized, in-shard-length, in-shard-reads-back-for, in-shard-leaves-others}
 use Rattle.demands.proofs.LineBound.{BoundOf}
 use Rattle.demands.proofs.RequestLaws.{Invariant, invariant-later}
 
@@ -48,28 +48,25 @@ module _ (s : Settings) (rate : Rate) (k : Identity) (B : BoundOf (configOf rate
   -- An operation in the shard of a hash. In the key's own shard it has to keep the bound; elsewhere nothing happens to the key.
   module _ {A : Type 0} (hash n : ℕ) (ws : List ℕ) {g : B .History} (v : Standing n ws g) (o : Outcome A Shard.Shard)
       (room : SameRoom (shardAt s hash ws) (o .after)) (next : B .History) where
-    slots-fit : Shard.capOf (o .after) ≡ capOf s
-    slots-fit = room .cap ∙ shard-at-cap s hash ws
-
-    debts-fit : Ledger.capOf (o .after .ledger) ≡ capOf s
-    debts-fit = room .ledger-cap ∙ shard-at-debt-cap s hash ws
+    sized : Sized (capOf s) (o .after)
+    sized = same-room-sized s hash ws room
 
     pub operation-stands : (shardOf s (k .hash) ≡ shardOf s hash → Bounds n (shardAt s hash ws) g → Bounds n (o .after) next)
         → ((shardOf s (k .hash) ≡ shardOf s hash → ⊥) → next ≡ g) → Standing n (inShard s hash ws o .after) next
     operation-stands here there =
         by-eq (shardOf s (k .hash)) (shardOf s hash)
         (λ same.
-        let back : own (inShard s hash ws o .after) ≡ o .after = in-shard-reads-back-for s hash ws o (v .size) slots-fit debts-fit (k .hash) same in
+        let back : own (inShard s hash ws o .after) ≡ o .after = in-shard-reads-back-for s hash ws o (v .size) sized (k .hash) same in
         let before : own ws ≡ shardAt s hash ws = same-shard s hash (k .hash) ws same in
         record {
-          size = in-shard-length s hash ws o (v .size) slots-fit debts-fit;
+          size = in-shard-length s hash ws o (v .size) sized;
           sound = rw back (room .sound);
           bounds = rw back (here same (rw before at (v .bounds)));
         })
         (λ apart.
-        let kept : own (inShard s hash ws o .after) ≡ own ws = in-shard-leaves-others s hash ws o (v .size) slots-fit debts-fit (k .hash) apart in
+        let kept : own (inShard s hash ws o .after) ≡ own ws = in-shard-leaves-others s hash ws o (v .size) sized (k .hash) apart in
         record {
-          size = in-shard-length s hash ws o (v .size) slots-fit debts-fit;
+          size = in-shard-length s hash ws o (v .size) sized;
           sound = rw kept (v .sound);
           bounds = rw (kept, there apart) (v .bounds);
         })

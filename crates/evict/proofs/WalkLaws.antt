@@ -26,7 +26,8 @@ use Rattle.ledger.specs.declared.Debt.{Debt}
 use Rattle.ledger.specs.declared.Recorded.{Recorded}
 use Rattle.ledger.specs.declared.Recorded.the-variants.{Done, NoRoom}
 use Rattle.ledger.specs.Model as Ledger
-use Rattle.ledger.proofs.RecordLaws.{recorded-sound, recorded-cap, Refusal, refusal}
+use Rattle.ledger.proofs.StepLaws.{SameRoom, same-room, same-room-trans}
+use Rattle.ledger.proofs.RecordLaws.{recorded-sound, recorded-room, Refusal, refusal}
 use Rattle.evict.specs.declared.Walk.{Walk}
 use Rattle.evict.specs.declared.Victim.{Victim}
 use Rattle.evict.specs.declared.Victim.the-variants.{Free, Owing}
@@ -354,8 +355,8 @@ module _ (c : BucketConfig) (at : Nanos) (forget : Bool) (s : Shard) (u : Sound 
   pub evict-cap : capOf (evicted c at forget s .after) ≡ capOf s
   evict-cap = evict-keeps-slots (λ h. length (h .places) ≡ capOf s) (record { remarks = λ t v r same. r .cap ∙ same; drops = λ t p v same. removal-cap t p ∙ same }) refl
 
-  pub evict-ledger-cap : Ledger.capOf (evicted c at forget s .after .ledger) ≡ Ledger.capOf (s .ledger)
-  evict-ledger-cap = evict-keeps-ledger (λ l. Ledger.capOf l ≡ Ledger.capOf (s .ledger)) (λ l d v same. recorded-cap l d at forget v ∙ same) refl
+  pub evict-ledger-room : SameRoom (s .ledger) (evicted c at forget s .after .ledger)
+  evict-ledger-room = evict-keeps-ledger (SameRoom (s .ledger)) (λ l d v same. same-room-trans same (recorded-room l d at forget v)) (same-room (s .ledger))
 
   pub evict-count : evicted c at forget s .after .slots .count ≤ s .slots .count
   evict-count =

@@ -24,7 +24,7 @@ use Rattle.ledger.specs.declared.Choice.the-variants.{Settled, Soonest}
 use Rattle.ledger.specs.declared.Recorded.{Recorded}
 use Rattle.ledger.specs.declared.Recorded.the-variants.{Done, NoRoom}
 use Rattle.ledger.specs.Model.{Ledger, Sound, noDebt, capOf, debtAt, settlesAt, settledBy, cursorOf, withCount, withCursor, withDebt, owes, placeOf, removeAt}
-use Rattle.ledger.specs.Model.{append, takenAt, taken, roundOf, ofRound, look, sweep, sooner, scanFrom, scan, dropChosen, makeRoom, joined, later, recordedAt}
+use Rattle.ledger.specs.Model.{append, takenAt, taken, roundOf, withRound, look, sweep, sooner, scanFrom, scan, dropChosen, makeRoom, joined, later, recordedAt}
 use Rattle.ledger.specs.Model.{recorded, credit, paidAt, paidDown}
 use Rattle.ledger.specs.Layout.{ledger, Intact}
 use Rattle.ledger.proofs.LayoutLaws.{cap-is}
@@ -60,11 +60,11 @@ module _ (l : Ledger) (hash : ℕ) {place known : Place} (gave : place ≡ place
 module _ (at : Nanos) (l : Ledger) where
   pub look-settled : 0 < l .debts .count → settlesAt l (cursorOf l) .0 ≤ at .0 → removeAt (withCursor l (cursorOf l)) (cursorOf l) ≡ look at l
   unfolding look removeAt
-  look-settled some settled = ap ofRound (look-goes noDebt (settledBy at) (roundOf l) some (le-leb _ _ settled))
+  look-settled some settled = ap (withRound l) (look-goes noDebt (settledBy at) (roundOf l) some (le-leb _ _ settled))
 
   pub look-unsettled : 0 < l .debts .count → at .0 < settlesAt l (cursorOf l) .0 → withCursor l (cursorOf l + 1) ≡ look at l
   unfolding look
-  look-unsettled some unsettled = ap ofRound (look-stays noDebt (settledBy at) (roundOf l) some (lt-leb _ _ unsettled))
+  look-unsettled some unsettled = ap (withRound l) (look-stays noDebt (settledBy at) (roundOf l) some (lt-leb _ _ unsettled))
 
 -- The scan of a full ledger: its start, no look left, a settled debt, an unsettled one.
 pub scan-start : (at : Nanos) (l : Ledger) → scanFrom at (min ledgerScan (l .debts .count)) l (cursorOf l) ≡ scan at l
@@ -150,7 +150,7 @@ module _ {cap : ℕ} {ws : List ℕ} (hash : ℕ) {place : Place} {p : ℕ} (int
 -- answer with it) and by what its operation keeps.
 module _ {cap : ℕ} {ws ws′ : List ℕ} (intact : Intact cap ws) (same : length ws′ ≡ length ws) where
   pub intact-after : {l : Ledger} → ledger cap ws′ ≡ l → Sound l → Intact cap ws′
-  intact-after gave s = record { size = same ∙ intact .size; sound = rw gave s }
+  intact-after gave s = record { size = rw same (intact .size); sound = rw gave s }
 
   pub intact-after-answer : {A : Type 0} {a : A} {o : Outcome A Ledger} → outcome a (ledger cap ws′) ≡ o → Sound (o .after) → Intact cap ws′
   intact-after-answer gave s = intact-after (after-is gave) s
@@ -161,7 +161,7 @@ unfolding sweep look Round.sweep
 sweep-by-looks cap at = record {
   none-left = λ l. refl;
   one-more = λ n l. refl;
-  no-item = λ l none. ap ofRound (look-none noDebt (settledBy at) (roundOf l) none);
+  no-item = λ l none. ap (withRound l) (look-none noDebt (settledBy at) (roundOf l) none);
   stay-lent = λ intact same looked. intact-after intact same looked (look-sound at _ (intact .sound));
 }
 

@@ -19,7 +19,7 @@ use Rattle.ledger.specs.declared.Recorded.{Recorded}
 use Rattle.ledger.specs.declared.Recorded.the-variants.{Done, NoRoom}
 use Rattle.ledger.specs.Model.{Ledger, Sound, capOf, debtAt, hasSettled, settlesAt, cursorOf, withCursor, withDebt, placeOf, removeAt, append, sooner}
 use Rattle.ledger.specs.Model.{scanFrom, scan, dropChosen, makeRoom, joined, later, recordedAt, recorded}
-use Rattle.ledger.proofs.StepLaws.{cursor-below, cursor-sound, change-sound, append-sound, removal-sound, removal-cap, removal-leaves-room}
+use Rattle.ledger.proofs.StepLaws.{cursor-below, cursor-sound, change-sound, append-sound, SameRoom, removal-sound, removal-room, removal-leaves-room}
 
 -- What the looks at a full ledger come to: nothing but the cursor moves, and the place told has a settled debt, or an unsettled one.
 data Scanned (at : Nanos) (l : Ledger) : Outcome Choice Ledger → Type 0 where
@@ -158,15 +158,17 @@ recorded-sound l d at forget s = go (record-cases l d at forget s)
     go (replaces p c new below settled) = append-sound (removeAt (withCursor l c) p) d (removal-leaves-room (withCursor l c) p (s .count-fits) below)
     go (refused p c full below never unsettled) = cursor-sound l c s
 
-pub recorded-cap : (l : Ledger) (d : Debt) (at : Nanos) (forget : Bool) → Sound l → capOf (recorded l d at forget .after) ≡ capOf l
+pub recorded-room : (l : Ledger) (d : Debt) (at : Nanos) (forget : Bool) → Sound l → SameRoom l (recorded l d at forget .after)
 unfolding append
-recorded-cap l d at forget s = go (record-cases l d at forget s)
+recorded-room l d at forget s = go (record-cases l d at forget s)
   where
-    go : {o : Outcome Recorded Ledger} → Recording l d at forget o → capOf (o .after) ≡ capOf l
-    go (merged p e) = simp length-set
-    go (joins new free) = simp length-set
-    go (replaces p c new below settled) = simp length-set (removal-cap (withCursor l c) p)
-    go (refused p c full below never unsettled) = refl
+    go : {o : Outcome Recorded Ledger} → Recording l d at forget o → SameRoom l (o .after)
+    go (merged p e) = record { cap = simp length-set; others = refl }
+    go (joins new free) = record { cap = simp length-set; others = refl }
+    go (replaces p c new below settled) =
+        let removed = removal-room (withCursor l c) p in
+        record { cap = simp length-set (removed .cap); others = removed .others }
+    go (refused p c full below never unsettled) = record { cap = refl; others = refl }
 
 -- A debt is recorded unless the ledger is full and nothing may be forgotten.
 record-succeeds : (l : Ledger) (d : Debt) (at : Nanos) (forget : Bool) → Sound l → (forget ≡ false → l .debts .count < capOf l) → recorded l d at forget .answer ≡ Done

@@ -1,9 +1,9 @@
 -- What lookup by hash says, and what the operations leave of the room.
 use Prim.Native.Nat.{ℕ, _-_, _≤_, _<_}
-use mathlib.Core.Path.{_≡_, refl}
+use mathlib.Core.Path.{_≡_, refl, _∙_}
 use mathlib.Core.Bool.{Bool, true, false}
 use native.Mathlib.Omega.{arith}
-use lib.ListN.{length-set}
+use lib.ListN.{length, length-set}
 use borrow.Author.Tests.{eqb-true, eqb-false}
 use Rattle.units.specs.declared.Nanos.{Nanos}
 use Rattle.units.specs.declared.OptionNanos.{OptionNanos}
@@ -43,6 +43,17 @@ pub owed-where : (l : Ledger) (h : ℕ) {place : Place} → placeOf l h ≡ plac
 unfolding owedBy
 owed-where l h looked-up = rw looked-up
 
+-- A ledger has the room that another has: as many places for debts, and as many words that are not its own.
+pub record SameRoom (l m : Ledger) : Type 0 where
+  pub cap : capOf m ≡ capOf l
+  pub others : length (m .others) ≡ length (l .others)
+
+pub same-room : (l : Ledger) → SameRoom l l
+same-room l = record { cap = refl; others = refl }
+
+pub same-room-trans : {l m n : Ledger} → SameRoom l m → SameRoom m n → SameRoom l n
+same-room-trans first second = record { cap = second .cap ∙ first .cap; others = second .others ∙ first .others }
+
 -- The cursor has no part in whether a ledger is sound.
 pub cursor-sound : (l : Ledger) (c : ℕ) → Sound l → Sound (withCursor l c)
 cursor-sound l c s = record { room = s .room; count-fits = s .count-fits }
@@ -55,6 +66,10 @@ removal-count l p = removed-count noDebt (l .debts) p
 pub removal-cap : (l : Ledger) (p : ℕ) → capOf (removeAt l p) ≡ capOf l
 unfolding removeAt
 removal-cap l p = removed-length noDebt (l .debts) p
+
+pub removal-room : (l : Ledger) (p : ℕ) → SameRoom l (removeAt l p)
+unfolding removeAt
+removal-room l p = record { cap = removal-cap l p; others = refl }
 
 pub removal-sound : (l : Ledger) (p : ℕ) → Sound l → Sound (removeAt l p)
 removal-sound l p s = record { room = omega (arith, removal-cap l p); count-fits = omega (arith, removal-cap l p, removal-count l p) }
@@ -98,27 +113,27 @@ paid-cases l h cost c Q found none = go (placeOf l h) refl
 pub taken-sound : (l : Ledger) (h : ℕ) → Sound l → Sound (taken l h .after)
 taken-sound l h s = taken-cases l h (λ o. Sound (o .after)) (λ p e. removal-sound l p s) (λ e. s)
 
-pub taken-cap : (l : Ledger) (h : ℕ) → capOf (taken l h .after) ≡ capOf l
-taken-cap l h = taken-cases l h (λ o. capOf (o .after) ≡ capOf l) (λ p e. removal-cap l p) (λ e. refl)
+pub taken-room : (l : Ledger) (h : ℕ) → SameRoom l (taken l h .after)
+taken-room l h = taken-cases l h (λ o. SameRoom l (o .after)) (λ p e. removal-room l p) (λ e. same-room l)
 
 pub paid-sound : (l : Ledger) (h cost : ℕ) (c : BucketConfig) → Sound l → Sound (paidDown l h cost c .after)
 paid-sound l h cost c s = paid-cases l h cost c (λ o. Sound (o .after)) (λ p e. change-sound l p _ s) (λ e. s)
 
-pub paid-cap : (l : Ledger) (h cost : ℕ) (c : BucketConfig) → capOf (paidDown l h cost c .after) ≡ capOf l
-paid-cap l h cost c = paid-cases l h cost c (λ o. capOf (o .after) ≡ capOf l) (λ p e. simp length-set) (λ e. refl)
+pub paid-room : (l : Ledger) (h cost : ℕ) (c : BucketConfig) → SameRoom l (paidDown l h cost c .after)
+paid-room l h cost c = paid-cases l h cost c (λ o. SameRoom l (o .after)) (λ p e. record { cap = simp length-set; others = refl }) (λ e. same-room l)
 
 -- A sweep leaves a sound ledger with the same room, and no more debts than there were. So does a look, which is a sweep of one look.
 module _ (at : Nanos) (n : ℕ) (l : Ledger) where
-  pub sweep-cap : capOf (sweep at n l) ≡ capOf l
+  pub sweep-room : SameRoom l (sweep at n l)
   unfolding sweep
-  sweep-cap = sweep-length noDebt (settledBy at) n (roundOf l)
+  sweep-room = record { cap = sweep-length noDebt (settledBy at) n (roundOf l); others = refl }
 
   pub sweep-count : sweep at n l .debts .count ≤ l .debts .count
   unfolding sweep
   sweep-count = RoundLaws.sweep-count noDebt (settledBy at) n (roundOf l)
 
   pub sweep-sound : Sound l → Sound (sweep at n l)
-  sweep-sound s = record { room = omega (arith, sweep-cap); count-fits = omega (arith, sweep-cap, sweep-count) }
+  sweep-sound s = record { room = omega (arith, sweep-room .cap); count-fits = omega (arith, sweep-room .cap, sweep-count) }
 
 pub look-sound : (at : Nanos) (l : Ledger) → Sound l → Sound (look at l)
 unfolding look sweep Round.sweep

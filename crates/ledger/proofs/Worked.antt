@@ -20,12 +20,12 @@ use Rattle.ledger.specs.Model.{recorded, paidDown}
 abbrev moment : ℕ → Nanos
 moment n = record { 0 = n }
 
--- A debt, and a ledger: how many debts are held, the cursor, and what stands in all its places.
+-- A debt, and a ledger: how many debts are held, the cursor, and what stands in all its places. Two words lie past them; every operation keeps these.
 abbrev owing : ℕ → ℕ → Debt
 owing hash settles = record { hash = hash; settles = moment settles }
 
 abbrev holding : ℕ → ℕ → List Debt → Ledger
-holding count cursor places = record { debts = record { count = count; places = places }; cursor = cursor }
+holding count cursor places = record { debts = record { count = count; places = places }; cursor = cursor; others = 6 ∷ 7 ∷ [] }
 
 -- Two looks from place 1 at moment 5: the settled debt there goes, the last one moves into the gap, is looked at next, and goes too.
 sweep-looks-at-the-moved-debt : sweep (moment 5) 2 (holding 3 1 (owing 1 10 ∷ owing 2 5 ∷ owing 3 5 ∷ [])) ≡ holding 1 1 (owing 1 10 ∷ noDebt ∷ noDebt ∷ [])

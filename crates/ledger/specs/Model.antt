@@ -1,6 +1,7 @@
 -- The ledger of one shard: the debts of keys that were forgotten before their buckets were full, and what each operation makes of it.
 use Prim.Native.Nat.{ℕ, zero, suc, _+_, _*_, _-_, _/_, _≤_, _<_, min, max}
 use mathlib.Core.Bool.{Bool, true, false, cond}
+use mathlib.Core.List.{List}
 use lib.ListN.{length}
 use lib.Dec.{ltb, leb, eqb}
 use Rattle.arith.specs.Arith.{saturated}
@@ -21,10 +22,11 @@ use Rattle.ledger.specs.declared.Choice.the-variants.{Settled, Soonest}
 use Rattle.ledger.specs.declared.Recorded.{Recorded}
 use Rattle.ledger.specs.declared.Recorded.the-variants.{Done, NoRoom}
 
--- The debts, and the cursor: the place at which the next look begins.
+-- The debts, the cursor, which is the place at which the next look begins, and the lent words that are not the ledger's own. Every operation keeps those.
 pub record Ledger : Type 0 where
   pub debts : Held Debt
   pub cursor : ℕ
+  pub others : List ℕ
 
 -- What stands in a place that holds no debt.
 abbrev pub noDebt : Debt
@@ -58,13 +60,13 @@ abbrev pub cursorOf : Ledger → ℕ
 cursorOf l = wrapped (l .cursor) (l .debts .count)
 
 abbrev pub withDebts : Ledger → Held Debt → Ledger
-withDebts l ds = record { debts = ds; cursor = l .cursor }
+withDebts l ds = record { debts = ds; cursor = l .cursor; others = l .others }
 
 abbrev pub withCount : Ledger → ℕ → Ledger
 withCount l n = withDebts l (record { count = n; places = l .debts .places })
 
 abbrev pub withCursor : Ledger → ℕ → Ledger
-withCursor l c = record { debts = l .debts; cursor = c }
+withCursor l c = record { debts = l .debts; cursor = c; others = l .others }
 
 abbrev pub withDebt : Ledger → ℕ → Debt → Ledger
 withDebt l i d = withDebts l (stored (l .debts) i d)
@@ -103,15 +105,15 @@ taken l hash = takenAt l (placeOf l hash)
 abbrev pub roundOf : Ledger → Round Debt
 roundOf l = record { items = l .debts; next = l .cursor }
 
-abbrev pub ofRound : Round Debt → Ledger
-ofRound r = record { debts = r .items; cursor = r .next }
+abbrev pub withRound : Ledger → Round Debt → Ledger
+withRound l r = record { debts = r .items; cursor = r .next; others = l .others }
 
 -- The next look of the sweep, and a sweep of n looks: settled debts go.
 unfoldable pub look : Nanos → Ledger → Ledger
-look at l = ofRound (Round.look noDebt (settledBy at) (roundOf l))
+look at l = withRound l (Round.look noDebt (settledBy at) (roundOf l))
 
 unfoldable pub sweep : Nanos → ℕ → Ledger → Ledger
-sweep at n l = ofRound (Round.sweep noDebt (settledBy at) n (roundOf l))
+sweep at n l = withRound l (Round.sweep noDebt (settledBy at) n (roundOf l))
 
 -- Of two debts, the place of the one that settles sooner; `best` where both settle at one moment.
 abbrev pub sooner : Ledger → ℕ → ℕ → ℕ

@@ -1,7 +1,7 @@
 // The debts of keys that were evicted before their buckets were full, by the hash of the key. A key that comes back starts with its
 // debt, if the ledger still has it. The debts lie in lent words: the count, the cursor, then two words for each of `cap` debts.
 ghost use mathlib.Core.Path.{_≡_};
-ghost use Prim.Native.Nat.{_<_};
+ghost use Prim.Native.Nat.{_≤_, _<_};
 ghost use lib.ListN.{length};
 ghost use Rattle.rows.specs.declared.Place.the-variants.{Nowhere};
 ghost use Rattle.rows.specs.Outcome.{outcome};
@@ -36,7 +36,7 @@ pub enum Recorded {
 
 // How many debts are held. It requires the length alone, so that it can tell a count that is too large.
 pub fn len(ws: &[u64], cap: usize) -> usize
-    requires { ⌜ length (now ws) ≡ ledgerWords cap ⌝ }
+    requires { ⌜ ledgerWords cap ≤ length (now ws) ⌝ }
     ensures { λ r. ⌜ r ≡ ledger cap (now (ws .entry)) .debts .count ⌝ }
 {
     words::count(ws, cap)

@@ -1,6 +1,6 @@
 // The words of a ledger, read and stored. No other function of the crate knows where a word lies.
 ghost use mathlib.Core.Path.{_≡_};
-ghost use Prim.Native.Nat.{_<_};
+ghost use Prim.Native.Nat.{_≤_, _<_};
 ghost use lib.ListN.{length};
 ghost use Rattle.ledger.specs.Model as Model;
 ghost use Rattle.ledger.specs.Layout.{ledger, ledgerWords};
@@ -20,7 +20,7 @@ const SETTLES: usize = 1;
 
 // How many debts are held.
 pub(crate) fn count(ws: &[u64], cap: usize) -> usize
-    requires { ⌜ length (now ws) ≡ ledgerWords cap ⌝ }
+    requires { ⌜ ledgerWords cap ≤ length (now ws) ⌝ }
     ensures { λ r. ⌜ r ≡ ledger cap (now (ws .entry)) .debts .count ⌝ }
 {
     ws[COUNT] as usize
@@ -28,7 +28,7 @@ pub(crate) fn count(ws: &[u64], cap: usize) -> usize
 
 // The cursor, read as 0 where it stands at or past the count.
 pub(crate) fn cursor(ws: &[u64], cap: usize) -> usize
-    requires { ⌜ length (now ws) ≡ ledgerWords cap ⌝ }
+    requires { ⌜ ledgerWords cap ≤ length (now ws) ⌝ }
     ensures { λ r. ⌜ r ≡ Model.cursorOf (ledger cap (now (ws .entry))) ⌝ }
 {
     let cursor = ws[CURSOR];
@@ -41,7 +41,7 @@ pub(crate) fn cursor(ws: &[u64], cap: usize) -> usize
 
 // The hash of the debt at a place.
 pub(crate) fn hash_at(ws: &[u64], cap: usize, i: usize) -> u64
-    requires { ⌜ (length (now ws) ≡ ledgerWords cap) × (i < cap) ⌝ }
+    requires { ⌜ (ledgerWords cap ≤ length (now ws)) × (i < cap) ⌝ }
     ensures { λ r. ⌜ r ≡ Model.debtAt (ledger cap (now (ws .entry))) i .hash ⌝ }
 {
     ws[DEBTS + DEBT_WIDTH * i]
@@ -49,7 +49,7 @@ pub(crate) fn hash_at(ws: &[u64], cap: usize, i: usize) -> u64
 
 // The moment at which the debt at a place settles.
 pub(crate) fn settles_at(ws: &[u64], cap: usize, i: usize) -> Nanos
-    requires { ⌜ (length (now ws) ≡ ledgerWords cap) × (i < cap) ⌝ }
+    requires { ⌜ (ledgerWords cap ≤ length (now ws)) × (i < cap) ⌝ }
     ensures { λ r. ⌜ r ≡ Model.settlesAt (ledger cap (now (ws .entry))) i ⌝ }
 {
     Nanos(ws[DEBTS + DEBT_WIDTH * i + SETTLES])
@@ -57,7 +57,7 @@ pub(crate) fn settles_at(ws: &[u64], cap: usize, i: usize) -> Nanos
 
 // The debt at a place.
 pub(crate) fn load(ws: &[u64], cap: usize, i: usize) -> Debt
-    requires { ⌜ (length (now ws) ≡ ledgerWords cap) × (i < cap) ⌝ }
+    requires { ⌜ (ledgerWords cap ≤ length (now ws)) × (i < cap) ⌝ }
     ensures { λ r. ⌜ r ≡ Model.debtAt (ledger cap (now (ws .entry))) i ⌝ }
 {
     let first = DEBTS + DEBT_WIDTH * i;
@@ -69,7 +69,7 @@ pub(crate) fn load(ws: &[u64], cap: usize, i: usize) -> Debt
 
 // From now on so many debts are held.
 pub(crate) fn set_count(ws: &mut [u64], cap: usize, count: usize)
-    requires { ⌜ length (now ws) ≡ ledgerWords cap ⌝ }
+    requires { ⌜ ledgerWords cap ≤ length (now ws) ⌝ }
     ensures { λ _. ⌜ ledger cap (now (ws .exit)) ≡ Model.withCount (ledger cap (now (ws .entry))) count ⌝ }
 {
     ws[COUNT] = count as u64;
@@ -77,7 +77,7 @@ pub(crate) fn set_count(ws: &mut [u64], cap: usize, count: usize)
 
 // The next look begins at this place.
 pub(crate) fn set_cursor(ws: &mut [u64], cap: usize, cursor: usize)
-    requires { ⌜ length (now ws) ≡ ledgerWords cap ⌝ }
+    requires { ⌜ ledgerWords cap ≤ length (now ws) ⌝ }
     ensures { λ _. ⌜ ledger cap (now (ws .exit)) ≡ Model.withCursor (ledger cap (now (ws .entry))) cursor ⌝ }
 {
     ws[CURSOR] = cursor as u64;
@@ -85,7 +85,7 @@ pub(crate) fn set_cursor(ws: &mut [u64], cap: usize, cursor: usize)
 
 // A debt comes to stand at a place.
 pub(crate) fn put(ws: &mut [u64], cap: usize, i: usize, debt: Debt)
-    requires { ⌜ (length (now ws) ≡ ledgerWords cap) × (i < cap) ⌝ }
+    requires { ⌜ (ledgerWords cap ≤ length (now ws)) × (i < cap) ⌝ }
     ensures { λ _. ⌜ ledger cap (now (ws .exit)) ≡ Model.withDebt (ledger cap (now (ws .entry))) i debt ⌝ }
 {
     let first = DEBTS + DEBT_WIDTH * i;

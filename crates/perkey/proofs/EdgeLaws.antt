@@ -3,7 +3,7 @@ use mathlib.Core.Path.{_≡_, refl}
 use mathlib.Core.Bool.{true}
 use Rattle.arith.specs.Arith.{ceilDiv}
 use Rattle.rows.specs.Rows.{rows, unrow}
-use Rattle.rows.specs.Layout.{heldIn}
+use Rattle.rows.specs.Layout.{tableIn}
 use Rattle.rows.specs.Held.{lowestFrom, removed}
 use Rattle.rows.specs.Round as Round
 use Rattle.bucket.specs.Bucket.{shortfallAt, availableAt, waitAt, asked}
@@ -23,7 +23,7 @@ use Rattle.perkey.specs.Rules as Rules
 use Rattle.perkey.specs.Edges.{allHold, edges}
 
 pub every-edge-holds : allHold edges ≡ true
-unfolding ceilDiv rows unrow heldIn lowestFrom removed Round.lookAt Round.look Round.sweep shortfallAt availableAt waitAt asked takenOut lacking restored
+unfolding ceilDiv rows unrow tableIn lowestFrom removed Round.lookAt Round.look Round.sweep shortfallAt availableAt waitAt asked takenOut lacking restored
     Rate.unlessWithin Rate.rateRefusal Settings.sizeRefusal Settings.firstRefusal exponentFrom exponentFor hashFrom
     Debts.ledger Debts.wordsOf Ledger.placeOf Ledger.removeAt Ledger.append Ledger.owedBy Ledger.taken Ledger.sweep
     Ledger.scanFrom Ledger.scan Ledger.dropChosen Ledger.makeRoom Ledger.recordedAt Ledger.recorded Ledger.paidDown

@@ -1,85 +1,117 @@
--- Held items in words: what a read gives, and what a store or the lending of another part does to them. Over any item, width and place.
+-- A table in words: what a read gives, what a store or the lending of its rest changes, and its words. Over any item, width and place.
 use Prim.Native.Nat.{ℕ, _+_, _-_, _*_, _≤_, _<_}
+use mathlib.Core.Bool.{cond}
 use mathlib.Core.Path.{_≡_, refl, ap, _∙_}
-use mathlib.Core.List.{List, [], map}
+use mathlib.Core.List.{List, [], _++_, map, append-nil}
 use native.Mathlib.Omega.{arith}
-use lib.ListN.{length, getD, set, length-map}
-use lib.Seq.{sets, getD-set-same, getD-set-other}
+use lib.Dec.{eqb}
+use lib.ListN.{length, getD, set, take, drop, length-map, length-drop, take-append-drop, drop-of-length-le}
+use lib.Seq.{sets, getD-set-same, getD-set-other, getD-take, take-set-lt, take-set-le, drop-set-lt, length-take-le}
+use borrow.Author.Tests.{lt-ltb, le-ltb, eq-eqb, ne-eqb}
 use borrow.Rule.Slice.PartMut.{putMid}
+use Rattle.arith.proofs.Cases.{by-eq}
 use Rattle.rows.specs.Segments.{segment}
 use Rattle.rows.specs.Rows.{rows, unrow}
-use Rattle.rows.specs.Held.{itemAt, stored}
-use Rattle.rows.specs.Layout.{heldIn}
-use Rattle.rows.proofs.SegmentLaws.{segment-set, segment-set-below, segment-sets, segment-length, segment-of-segment, segment-kept-below, word-kept}
-use Rattle.rows.proofs.RowLaws.{rows-length, record-at, record-put, record-put-word, row-end, getD-sets-lt, rows-round, unrow-rows}
+use Rattle.rows.specs.Held.{wrapped}
+use Rattle.rows.specs.Layout.{tableIn, withWord, withItem, withRest}
+use Rattle.rows.proofs.SegmentLaws.{segment-set, segment-set-below, segment-sets, segment-length, segment-and-rest, segment-of-segment, segment-kept-below}
+use Rattle.rows.proofs.SegmentLaws.{rest-back, take-sets-above, drop-sets-below}
+use Rattle.rows.proofs.RowLaws.{rows-length, record-at, record-put, record-put-word, row-end, tabulate, listed, rows-round, unrow-rows}
 
-module _ {A : Type 0} (read : List ℕ → A) (w cap at first : ℕ) where
-  pub held-count : (ws : List ℕ) → heldIn read w cap at first ws .count ≡ getD ws at 0
-  unfolding heldIn
-  held-count ws = refl
+-- A store to one of the first n words, read among these.
+front-set : (n : ℕ) (ws : List ℕ) (k v : ℕ) → k < n → n ≤ length ws → (m : ℕ) → getD (take n (set ws k v)) m 0 ≡ cond (eqb m k) v (getD (take n ws) m 0)
+front-set n ws k v before long m =
+    let front-long = length-take-le n ws long in
+    rw (take-set-lt n ws k v before)
+    (by-eq m k
+    (λ same. rw (same, eq-eqb k k refl) (getD-set-same (take n ws) k v 0 (omega (arith, front-long))))
+    (λ other. rw (ne-eqb m k other) (getD-set-other (take n ws) k m v 0 other)))
 
-  pub held-length : (ws : List ℕ) → length (heldIn read w cap at first ws .places) ≡ cap
-  unfolding heldIn
-  held-length ws = length-map (rows w cap (segment first (w * cap) ws)) read ∙ rows-length w cap (segment first (w * cap) ws)
+module _ {A : Type 0} (read : List ℕ → A) (w cap first : ℕ) where
+  -- There are cap items, whatever the words.
+  pub table-length : (ws : List ℕ) → length (tableIn read w cap first ws .places) ≡ cap
+  unfolding tableIn
+  table-length ws = length-map (rows w cap (segment first (w * cap) ws)) read ∙ rows-length w cap (segment first (w * cap) ws)
 
-  -- The item at place i is read from the words of row i.
-  pub held-item : (ws : List ℕ) (i : ℕ) → i < cap → itemAt (read []) (heldIn read w cap at first ws) i ≡ read (segment (first + w * i) w ws)
-  unfolding heldIn
-  held-item ws i b =
-      record-at read w cap (segment first (w * cap) ws) i b
-      ∙ ap read (segment-of-segment first (w * cap) (w * i) w ws (row-end w cap i b))
+  module _ (ws : List ℕ) where
+    -- A word before the rows.
+    pub table-word : (k : ℕ) → k < first → tableIn read w cap first ws .head k ≡ getD ws k 0
+    unfolding tableIn
+    table-word k before = getD-take first ws k 0 before
 
-  -- Items written as the rows that they were read from give the words of those rows.
-  pub held-round : (write : A → List ℕ) (ws : List ℕ) → ((row : List ℕ) → length row ≡ w → write (read row) ≡ row) → first + w * cap ≤ length ws
-      → unrow (map write (heldIn read w cap at first ws .places)) ≡ segment first (w * cap) ws
-  unfolding heldIn
-  held-round write ws round room =
-      let all = segment-length first (w * cap) ws room in
-      rw (rows-round read write w cap (segment first (w * cap) ws) round (omega (arith, all))) (unrow-rows w cap (segment first (w * cap) ws) all)
+    -- Such a word, read as a place: where it is below another, the count, it stands for itself, and elsewhere for the first place.
+    module _ (at k : ℕ) (a : at < first) (b : k < first) where
+      pub place-below : getD ws k 0 < getD ws at 0 → getD ws k 0 ≡ wrapped (tableIn read w cap first ws .head k) (tableIn read w cap first ws .head at)
+      place-below below = rw (table-word at a, table-word k b, lt-ltb _ _ below)
 
-  module _ (ws : List ℕ) (before : at < first) (room : first + w * cap ≤ length ws) where
-    pub held-count-put : (n : ℕ) → heldIn read w cap at first (set ws at n) ≡ record { count = n; places = heldIn read w cap at first ws .places }
-    unfolding heldIn
-    held-count-put n = λ j. record {
-      count = getD-set-same ws at n 0 (omega arith) j;
-      places = map read (rows w cap (segment-set-below first (w * cap) ws at n before j));
-    }
+      pub place-past : getD ws at 0 ≤ getD ws k 0 → 0 ≡ wrapped (tableIn read w cap first ws .head k) (tableIn read w cap first ws .head at)
+      place-past past = rw (table-word at a, table-word k b, le-ltb _ _ past)
 
-    -- A whole row stored, and one word of a row.
-    pub held-put : (i : ℕ) (vs : List ℕ) → i < cap → length vs ≡ w
-        → heldIn read w cap at first (sets ws (first + w * i) vs) ≡ stored (heldIn read w cap at first ws) i (read vs)
-    unfolding heldIn
-    held-put i vs b k =
-        let e = row-end w cap i b in
-        let rows-put : map read (rows w cap (segment first (w * cap) (sets ws (first + w * i) vs))) ≡ set (map read (rows w cap (segment first (w * cap) ws))) i (read vs) =
-        rw (segment-sets first (w * cap) ws (w * i) vs (omega arith))
-        (record-put read w cap (segment first (w * cap) ws) i b vs k (omega (arith, segment-length first (w * cap) ws room))) in
-        λ j. record { count = getD-sets-lt ws (first + w * i) at vs (omega arith) j; places = rows-put j }
+    -- The item at place i is read from the words of row i.
+    pub table-item : (i : ℕ) → i < cap → getD (tableIn read w cap first ws .places) i (read []) ≡ read (segment (first + w * i) w ws)
+    unfolding tableIn
+    table-item i b =
+        record-at read w cap (segment first (w * cap) ws) i b
+        ∙ ap read (segment-of-segment first (w * cap) (w * i) w ws (row-end w cap i b))
 
-    pub held-put-word : (i f v : ℕ) → i < cap → f < w
-        → heldIn read w cap at first (set ws (first + (w * i + f)) v) ≡ stored (heldIn read w cap at first ws) i (read (set (segment (first + w * i) w ws) f v))
-    unfolding heldIn
-    held-put-word i f v b c =
-        let e = row-end w cap i b in
-        let word-put : map read (rows w cap (segment first (w * cap) (set ws (first + (w * i + f)) v)))
-        ≡ set (map read (rows w cap (segment first (w * cap) ws))) i (read (set (segment (first + w * i) w ws) f v)) =
-        rw (segment-set first (w * cap) ws (w * i + f) v (omega arith), ← segment-of-segment first (w * cap) (w * i) w ws e)
-        (record-put-word read w cap (segment first (w * cap) ws) i b f v c) in
-        λ j. record { count = getD-set-other ws (first + (w * i + f)) at v 0 (λ q. omega arith) j; places = word-put j }
+    module _ (room : first + w * cap ≤ length ws) where
+      -- A word before the rows is stored.
+      pub table-set-word : (k v : ℕ) → k < first → tableIn read w cap first (set ws k v) ≡ withWord (tableIn read w cap first ws) k v
+      unfolding tableIn
+      table-set-word k v before = λ j. record {
+        head = λ m. front-set first ws k v before (omega arith) m j;
+        places = map read (rows w cap (segment-set-below first (w * cap) ws k v before j));
+        rest = drop-set-lt (first + w * cap) ws k v (omega arith) j;
+      }
 
-    -- A word before the items that is not the count.
-    pub held-set-before : (j v : ℕ) → j < first → (at ≡ j → ⊥) → heldIn read w cap at first (set ws j v) ≡ heldIn read w cap at first ws
-    unfolding heldIn
-    held-set-before j v b other = λ k. record {
-      count = getD-set-other ws j at v 0 other k;
-      places = map read (rows w cap (segment-set-below first (w * cap) ws j v b k));
-    }
+      -- A whole row is stored, or one word of a row.
+      pub table-put : (i : ℕ) (vs : List ℕ) → i < cap → length vs ≡ w
+          → tableIn read w cap first (sets ws (first + w * i) vs) ≡ withItem (tableIn read w cap first ws) i (read vs)
+      unfolding tableIn
+      table-put i vs b k =
+          let e = row-end w cap i b in
+          let row-put : map read (rows w cap (segment first (w * cap) (sets ws (first + w * i) vs))) ≡ set (map read (rows w cap (segment first (w * cap) ws))) i (read vs) =
+          rw (segment-sets first (w * cap) ws (w * i) vs (omega arith))
+          (record-put read w cap (segment first (w * cap) ws) i b vs k (omega (arith, segment-length first (w * cap) ws room))) in
+          let front-kept = take-sets-above first ws (first + w * i) vs (omega arith) in
+          let rest-kept = drop-sets-below (first + w * cap) ws (first + w * i) vs (omega arith) in
+          λ j. record { head = λ m. getD (front-kept j) m 0; places = row-put j; rest = rest-kept j }
 
-    -- A part past the items that was lent and came back.
-    pub held-lent-after : (b n : ℕ) (ys : List ℕ) → b + n ≤ length ws → length ys ≡ n → first + w * cap ≤ b
-        → heldIn read w cap at first (putMid b n ws ys) ≡ heldIn read w cap at first ws
-    unfolding heldIn
-    held-lent-after b n ys h k past = λ j. record {
-      count = word-kept b n ws ys h k at (omega arith) j;
-      places = map read (rows w cap (segment-kept-below b n ws ys h k first (w * cap) past j));
-    }
+      pub table-put-word : (i f v : ℕ) → i < cap → f < w
+          → tableIn read w cap first (set ws (first + (w * i + f)) v) ≡ withItem (tableIn read w cap first ws) i (read (set (segment (first + w * i) w ws) f v))
+      unfolding tableIn
+      table-put-word i f v b c =
+          let e = row-end w cap i b in
+          let word-put : map read (rows w cap (segment first (w * cap) (set ws (first + (w * i + f)) v)))
+          ≡ set (map read (rows w cap (segment first (w * cap) ws))) i (read (set (segment (first + w * i) w ws) f v)) =
+          rw (segment-set first (w * cap) ws (w * i + f) v (omega arith), ← segment-of-segment first (w * cap) (w * i) w ws e)
+          (record-put-word read w cap (segment first (w * cap) ws) i b f v c) in
+          let front-kept = take-set-le first ws (first + (w * i + f)) v (omega arith) in
+          let rest-kept = drop-set-lt (first + w * cap) ws (first + (w * i + f)) v (omega arith) in
+          λ j. record { head = λ m. getD (front-kept j) m 0; places = word-put j; rest = rest-kept j }
+
+      -- The rest was lent to the end, and came back as other words.
+      pub table-lent : (ys : List ℕ) → length ys ≡ length ws - (first + w * cap)
+          → tableIn read w cap first (putMid (first + w * cap) (length ws - (first + w * cap)) ws ys) ≡ withRest (tableIn read w cap first ws) ys
+      unfolding tableIn
+      table-lent ys same =
+          let start : ℕ = first + w * cap in
+          let lent : ℕ = length ws - (first + w * cap) in
+          let front-kept = segment-kept-below start lent ws ys (omega arith) same 0 first (omega arith) in
+          let rows-kept = segment-kept-below start lent ws ys (omega arith) same first (w * cap) (omega arith) in
+          let rest-new = rest-back start ws ys room same in
+          λ j. record { head = λ m. getD (front-kept j) m 0; places = map read (rows w cap (rows-kept j)); rest = rest-new j }
+
+      -- The words before the rows, the items written as rows, and the rest are the words again. `write` gives an item's row back.
+      pub table-words : (write : A → List ℕ) → ((row : List ℕ) → length row ≡ w → write (read row) ≡ row)
+          → tabulate first (tableIn read w cap first ws .head) ++ (unrow (map write (tableIn read w cap first ws .places)) ++ tableIn read w cap first ws .rest) ≡ ws
+      unfolding tableIn
+      table-words write round =
+          let all = segment-length first (w * cap) ws room in
+          rw (
+            listed first (take first ws) (length-take-le first ws (omega arith)),
+            rows-round read write w cap (segment first (w * cap) ws) round (omega (arith, all)),
+            unrow-rows w cap (segment first (w * cap) ws) all,
+            segment-and-rest first (w * cap) ws,
+          )
+          (take-append-drop first ws)

@@ -88,28 +88,34 @@ pub record ByLooks {S : Type 0} (Lent : List ℕ → Type 0) (view : List ℕ �
   pub no-item : (s : S) → count s ≡ 0 → one s ≡ s
   pub stay-lent : {ws ws′ : List ℕ} → Lent ws → length ws′ ≡ length ws → view ws′ ≡ one (view ws) → Lent ws′
 
--- A loop that makes the looks one by one: the words are lent, and the looks left, made from here, give what all of them give from the start. Then its steps.
-pub record Sweeping {S : Type 0} (Lent : List ℕ → Type 0) (view : List ℕ → S) (all : ℕ → S → S) (left : ℕ) (ws : List ℕ) (end : S) : Type 0 where
+-- A loop that makes the looks one by one: the words are lent, as long as at the start, and the looks left, made from here, give what all of them give from the
+-- start. Then its steps.
+pub record Sweeping {S : Type 0} (Lent : List ℕ → Type 0) (view : List ℕ → S) (all : ℕ → S → S) (budget : ℕ) (start : List ℕ) (left : ℕ) (ws : List ℕ) : Type 0 where
   pub lent : Lent ws
-  pub same : all left (view ws) ≡ end
+  pub long : length ws ≡ length start
+  pub same : all left (view ws) ≡ all budget (view start)
+
+pub sweep-begins : {S : Type 0} {Lent : List ℕ → Type 0} {view : List ℕ → S} {all : ℕ → S → S} {n : ℕ} {ws : List ℕ} → Lent ws → Sweeping Lent view all n ws n ws
+sweep-begins lent = record { lent = lent; long = refl; same = refl }
 
 module _ {S : Type 0} {Lent : List ℕ → Type 0} {view : List ℕ → S} {all : ℕ → S → S} {one : S → S} {count : S → ℕ} (looks : ByLooks Lent view all one count)
-    {left : ℕ} {ws : List ℕ} {end : S} (sweeping : Sweeping Lent view all left ws end) where
+    {budget left : ℕ} {start ws : List ℕ} (sweeping : Sweeping Lent view all budget start left ws) where
   -- A look was made.
-  pub sweep-goes-on : {ws′ : List ℕ} → 0 < left → length ws′ ≡ length ws → view ws′ ≡ one (view ws) → Sweeping Lent view all (left - 1) ws′ end
-  sweep-goes-on some long looked =
+  pub sweep-goes-on : {ws′ : List ℕ} → 0 < left → length ws′ ≡ length ws → view ws′ ≡ one (view ws) → Sweeping Lent view all budget start (left - 1) ws′
+  sweep-goes-on some kept looked =
       let e : left ≡ suc (left - 1) = omega arith in
       record {
-        lent = looks .stay-lent (sweeping .lent) long looked;
+        lent = looks .stay-lent (sweeping .lent) kept looked;
+        long = kept ∙ sweeping .long;
         same = rw (looked, ← looks .one-more (left - 1) (view ws), ← e) (sweeping .same);
       }
 
   -- No look is left.
-  pub sweep-ends : left ≤ 0 → view ws ≡ end
+  pub sweep-ends : left ≤ 0 → view ws ≡ all budget (view start)
   sweep-ends none = let e : left ≡ 0 = omega arith in rw (e, looks .none-left (view ws)) at (sweeping .same)
 
   -- No item is left.
-  pub sweep-stops : count (view ws) ≡ 0 → view ws ≡ end
+  pub sweep-stops : count (view ws) ≡ 0 → view ws ≡ all budget (view start)
   sweep-stops none = sym (unchanged left) ∙ sweeping .same
     where
       unchanged : (n : ℕ) → all n (view ws) ≡ view ws

@@ -64,11 +64,6 @@ map-set f [] i a = refl
 map-set f (x ∷ l) zero a = refl
 map-set {B = B} f (x ∷ l) (suc i) a = ap {B = List B} (λ r. f x ∷ r) (map-set f l i a)
 
--- A run of stores leaves the words before it.
-pub getD-sets-lt : (l : List ℕ) (i j : ℕ) (vs : List ℕ) → j < i → getD (sets l i vs) j 0 ≡ getD l j 0
-getD-sets-lt l i j [] h = refl
-getD-sets-lt l i j (v ∷ vs) h = getD-sets-lt (set l i v) (suc i) j vs (omega arith) ∙ getD-set-other l i j v 0 (omega arith)
-
 row-puts-from : (w n : ℕ) (ws : List ℕ) (i f : ℕ) (vs : List ℕ) → i < n → f + length vs ≤ w
     → rows w n (sets ws (w * i + f) vs) ≡ set (rows w n ws) i (sets (getD (rows w n ws) i []) f vs)
 row-puts-from w n ws i f [] b c = sym (set-getD (rows w n ws) i [])

@@ -2,21 +2,23 @@
 use Prim.Native.Nat.{ℕ, zero, suc, _+_, _-_, _≤_, _<_}
 use native.Mathlib.Omega.{arith}
 use mathlib.Core.Path.{_≡_, refl, ap, sym, _∙_}
-use mathlib.Core.List.{List, [], _∷_, _++_}
-use lib.ListN.{length, getD, set, take, drop, length-drop, List·getD-append, take-append-drop}
+use mathlib.Core.List.{List, [], _∷_, _++_, append-nil}
+use lib.ListN.{length, getD, set, take, drop, length-take, length-drop, List·getD-append, take-append-drop, drop-of-length-le}
 use native.Mathlib.Nat.{add-suc}
-use lib.Seq.{sets, take-take, take-set-lt, drop-set-lt, drop-set-add, drop-drop, drop-append-le, take-append-le, take-at, drop-at, length-take-le, getD-take}
-use lib.Seq.{take-add}
+use lib.Seq.{sets, take-take, take-set-lt, take-set-le, drop-set-lt, drop-set-add, drop-drop, drop-append-le, take-append-le, take-at, drop-at, length-take-le, getD-take}
 use borrow.Rule.Slice.PartMut.{putMid}
 use Rattle.rows.specs.Segments.{segment}
 
--- A store in the part, before it, after it.
+-- A store in the part, and before it; how long a part is at most, and within the words.
 module _ (a n : ℕ) (ws : List ℕ) where
   pub segment-set : (i v : ℕ) → i < n → segment a n (set ws (a + i) v) ≡ set (segment a n ws) i v
   segment-set i v h = rw (drop-set-add, take-set-lt n (drop a ws) i v h)
 
   pub segment-set-below : (i v : ℕ) → i < a → segment a n (set ws i v) ≡ segment a n ws
   segment-set-below i v h = rw (drop-set-lt a ws i v h)
+
+  pub segment-most : length (segment a n ws) ≤ n
+  segment-most = omega (arith, length-take n (drop a ws))
 
   pub segment-length : a + n ≤ length ws → length (segment a n ws) ≡ n
   segment-length h = let d = length-drop a ws in length-take-le n (drop a ws) (omega arith)
@@ -57,18 +59,31 @@ module _ (a n : ℕ) (ws ys : List ℕ) (h : a + n ≤ length ws) (k : length ys
       ∙ ap (drop (b - (a + n))) (ap (drop n) back ∙ drop-at ys (drop n (drop a ws)) n k)
       ∙ sym (past a n b ws d))
 
--- A run of stores in the part, and before it.
+-- What was lent to the end has come back: from its start on, the words are the new ones.
+pub rest-back : (a : ℕ) (ws ys : List ℕ) → a ≤ length ws → length ys ≡ length ws - a → drop a (putMid a (length ws - a) ws ys) ≡ ys
+rest-back a ws ys h k =
+    back a (length ws - a) ws ys (omega arith) k
+    ∙ rw (drop-of-length-le (drop a ws) {i = length ws - a} (omega (arith, length-drop a ws))) (append-nil ys)
+
+-- A run of stores in the part, before it, before all that lies from a word on, and past the first words.
 pub segment-sets : (a n : ℕ) (ws : List ℕ) (i : ℕ) (vs : List ℕ) → i + length vs ≤ n → segment a n (sets ws (a + i) vs) ≡ sets (segment a n ws) i vs
 segment-sets a n ws i [] h = refl
 segment-sets a n ws i (v ∷ vs) h = rw (← add-suc) (segment-sets a n (set ws (a + i) v) (suc i) vs (omega arith) ∙ rw (segment-set a n ws i v (omega arith)))
 
-pub segment-sets-below : (a n : ℕ) (ws : List ℕ) (i : ℕ) (vs : List ℕ) → i + length vs ≤ a → segment a n (sets ws i vs) ≡ segment a n ws
-segment-sets-below a n ws i [] h = refl
-segment-sets-below a n ws i (v ∷ vs) h = segment-sets-below a n (set ws i v) (suc i) vs (omega arith) ∙ segment-set-below a n ws i v (omega arith)
+pub drop-sets-below : (a : ℕ) (ws : List ℕ) (i : ℕ) (vs : List ℕ) → i + length vs ≤ a → drop a (sets ws i vs) ≡ drop a ws
+drop-sets-below a ws i [] h = refl
+drop-sets-below a ws i (v ∷ vs) h = drop-sets-below a (set ws i v) (suc i) vs (omega arith) ∙ drop-set-lt a ws i v (omega arith)
 
--- Neighbouring parts are one part.
-pub segment-join : (a n m : ℕ) (ws : List ℕ) → segment a n ws ++ segment (a + n) m ws ≡ segment a (n + m) ws
-segment-join a n m ws = rw (← drop-drop n a ws) (sym (take-add n m (drop a ws)))
+pub take-sets-above : (a : ℕ) (ws : List ℕ) (i : ℕ) (vs : List ℕ) → a ≤ i → take a (sets ws i vs) ≡ take a ws
+take-sets-above a ws i [] h = refl
+take-sets-above a ws i (v ∷ vs) h = take-sets-above a (set ws i v) (suc i) vs (omega arith) ∙ take-set-le a ws i v h
+
+pub segment-sets-below : (a n : ℕ) (ws : List ℕ) (i : ℕ) (vs : List ℕ) → i + length vs ≤ a → segment a n (sets ws i vs) ≡ segment a n ws
+segment-sets-below a n ws i vs h = ap (take n) (drop-sets-below a ws i vs h)
+
+-- A part, and what lies past it.
+pub segment-and-rest : (a n : ℕ) (ws : List ℕ) → segment a n ws ++ drop (a + n) ws ≡ drop a ws
+segment-and-rest a n ws = rw (← drop-drop n a ws) (take-append-drop n (drop a ws))
 
 -- A part of the front of a list is that part of the list.
 segment-of-front : (b m n : ℕ) (ws : List ℕ) → b + m ≤ n → segment b m (take n ws) ≡ segment b m ws

@@ -25,7 +25,7 @@ use Rattle.shard_map.proofs.KeptLaws.{Keeps, keeps-refl, keeps-trans, sweep-idl
 use Rattle.evict.specs.declared.Room.{Room}
 use Rattle.evict.specs.declared.Room.the-variants.{Made, Refused}
 use Rattle.evict.specs.Evict.{minRefusalWait, evicted}
-use Rattle.evict.proofs.WalkLaws.{made-is-no-refusal, never-refused-is-made, evict-cap, evict-ledger-cap, evict-sound, evict-made-leaves-room, evict-refusal}
+use Rattle.evict.proofs.WalkLaws.{made-is-no-refusal, never-refused-is-made, evict-cap, evict-ledger-room, evict-sound, evict-made-leaves-room, evict-refusal}
 use Rattle.evict.proofs.KeptLaws.{evict-keeps-shortage}
 use Rattle.shard.specs.declared.Policy.{Policy}
 use Rattle.shard.specs.Model.{idleLimitIn, sweptIdle, swept, makeRoom}
@@ -51,10 +51,10 @@ module _ (p : Policy) (at : Nanos) where
     ledger = λ s u q. ledger-sound s _ u (LedgerSteps.sweep-sound at ledgerScan (s .ledger) (u .ledger));
   }
 
-  ledger-cap-by-sweeps : (cap : ℕ) → KeptBySweeps p at (λ s. Ledger.capOf (s .ledger) ≡ cap)
-  ledger-cap-by-sweeps cap = record {
+  ledger-room-by-sweeps : (l : Ledger.Ledger) → KeptBySweeps p at (λ s. LedgerSteps.SameRoom l (s .ledger))
+  ledger-room-by-sweeps l = record {
     idle = λ s limit u same. rw (sweep-idle-ledger (p .config) at limit ttlSweep s) same;
-    ledger = λ s u same. LedgerSteps.sweep-cap at ledgerScan (s .ledger) ∙ same;
+    ledger = λ s u same. LedgerSteps.same-room-trans same (LedgerSteps.sweep-room at ledgerScan (s .ledger));
   }
 
 -- What a refusal says: the ledger is full, nothing may be forgotten, and the wait is at least a millisecond.
@@ -82,8 +82,8 @@ module _ (p : Policy) (at : Nanos) (s : Shard) (u : Sound s) where
   swept-sound = swept-keeps Sound (sound-by-sweeps p at) u
 
   -- They leave the ledger the room that it had, and no more debts than there were.
-  swept-ledger-cap : Ledger.capOf (swept p at s .ledger) ≡ Ledger.capOf (s .ledger)
-  swept-ledger-cap = swept-keeps (λ t. Ledger.capOf (t .ledger) ≡ Ledger.capOf (s .ledger)) (ledger-cap-by-sweeps p at _) refl
+  swept-ledger-room : LedgerSteps.SameRoom (s .ledger) (swept p at s .ledger)
+  swept-ledger-room = swept-keeps (λ t. LedgerSteps.SameRoom (s .ledger) (t .ledger)) (ledger-room-by-sweeps p at _) (LedgerSteps.same-room (s .ledger))
 
   swept-ledger-count : swept p at s .ledger .debts .count ≤ s .ledger .debts .count
   swept-ledger-count =
@@ -117,10 +117,10 @@ module _ (p : Policy) (at : Nanos) (s : Shard) (u : Sound s) where
       (record { idle = λ t limit v same. sweep-idle-cap (p .config) at limit ttlSweep t ∙ same; ledger = λ t v same. same })
       (λ t v some same. evict-cap (p .config) at (p .«forget_debt») t v some ∙ same) refl
 
-  pub room-ledger-cap : Ledger.capOf (makeRoom p at s .after .ledger) ≡ Ledger.capOf (s .ledger)
-  room-ledger-cap =
-      room-keeps (λ t. Ledger.capOf (t .ledger) ≡ Ledger.capOf (s .ledger)) (ledger-cap-by-sweeps p at _)
-      (λ t v some same. evict-ledger-cap (p .config) at (p .«forget_debt») t v some ∙ same) refl
+  pub room-ledger-room : LedgerSteps.SameRoom (s .ledger) (makeRoom p at s .after .ledger)
+  room-ledger-room =
+      room-keeps (λ t. LedgerSteps.SameRoom (s .ledger) (t .ledger)) (ledger-room-by-sweeps p at _)
+      (λ t v some same. LedgerSteps.same-room-trans same (evict-ledger-room (p .config) at (p .«forget_debt») t v some)) (LedgerSteps.same-room (s .ledger))
 
   -- Where debts may not be forgotten, nothing that a key lacks is lost.
   pub room-keeps-shortage : Accepted (p .config) → p .«forget_debt» ≡ false → (h k : ℕ) → Keeps (p .config) h k at s (makeRoom p at s .after)
@@ -149,7 +149,7 @@ module _ (p : Policy) (at : Nanos) (s : Shard) (u : Sound s) where
       (λ free e. made-is-no-refusal e)
       (λ some e.
       let r = evict-refusal (p .config) at (p .«forget_debt») (swept p at s) swept-sound some due e in
-      record { full = omega (arith, r .full, swept-ledger-cap, swept-ledger-count); never = r .never; least = r .least })
+      record { full = omega (arith, r .full, swept-ledger-room .cap, swept-ledger-count); never = r .never; least = r .least })
 
   -- So room is made while the ledger is below its cap, and wherever debts may be forgotten.
   pub room-below-ledger-cap-never-refuses : s .ledger .debts .count < Ledger.capOf (s .ledger) → makeRoom p at s .answer ≡ Made

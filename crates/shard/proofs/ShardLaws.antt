@@ -19,7 +19,7 @@ use Rattle.rows.specs.Outcome.{Outcome, outcome}
 use Rattle.slot.specs.declared.Slot.{Slot}
 use Rattle.ledger.specs.Model as Ledger
 use Rattle.ledger.proofs.StepLaws as LedgerSteps
-use Rattle.ledger.proofs.StepLaws.{found-owes, taken-cases, taken-sound, taken-cap, paid-sound, paid-cap}
+use Rattle.ledger.proofs.StepLaws.{found-owes, taken-cases, taken-sound, taken-room, paid-sound, paid-room}
 use Rattle.ledger.proofs.LookupLaws.{taken-tells}
 use Rattle.shard_map.specs.Model.{Shard, Sound, capOf, slotAt, withSlot, withLedger, inLedger, placeOf, removeAt}
 use Rattle.shard_map.proofs.StepLaws.{Holding, found-holds, removal-cap, removal-ledger, removal-sound, insert-cap, insert-ledger, insert-sound, change-cap}
@@ -30,7 +30,7 @@ use Rattle.evict.proofs.WalkLaws.{made-is-no-refusal}
 use Rattle.shard.specs.declared.Identity.{Identity}
 use Rattle.shard.specs.declared.Policy.{Policy}
 use Rattle.shard.specs.Model.{withExisting, makeRoom, joined, admitted, admit, askedFrom, withOrInsert, hasDebt, refundedFrom, refunded, removedFrom, removed}
-use Rattle.shard.proofs.RoomLaws.{room-sound, room-cap, room-ledger-cap, room-made-leaves-room, room-below-ledger-cap-never-refuses}
+use Rattle.shard.proofs.RoomLaws.{room-sound, room-cap, room-ledger-room, room-made-leaves-room, room-below-ledger-cap-never-refuses}
 
 -- A slot of the same key, with a bucket that is given. Its mark and its last-seen may be any.
 pub record Rebucketed (old : Slot) (b : BucketCore) (slot : Slot) : Type 0 where
@@ -130,12 +130,12 @@ remove-cases id s = go (placeOf s (id .hash) (id .key)) refl
 pub record SameRoom (s t : Shard) : Type 0 where
   pub sound : Sound t
   pub cap : capOf t ≡ capOf s
-  pub ledger-cap : Ledger.capOf (t .ledger) ≡ Ledger.capOf (s .ledger)
+  pub ledger-room : LedgerSteps.SameRoom (s .ledger) (t .ledger)
 
 -- That is what every operation leaves, whatever it answers.
 module _ (s : Shard) (u : Sound s) where
   changed-same-room : (i : ℕ) (slot : Slot) → SameRoom s (withSlot s i slot)
-  changed-same-room i slot = record { sound = change-sound s i slot u; cap = change-cap s i slot; ledger-cap = refl }
+  changed-same-room i slot = record { sound = change-sound s i slot u; cap = change-cap s i slot; ledger-room = LedgerSteps.same-room (s .ledger) }
 
   pub ask-same-room : (p : Policy) (id : Identity) (request : Request) (cost : ℕ) (at : Nanos) → SameRoom s (withOrInsert p id request cost at s .after)
   ask-same-room p id request cost at = go (ask-cases p id request cost at s u)
@@ -151,9 +151,9 @@ module _ (s : Shard) (u : Sound s) where
       go (key-joins e made) = record {
         sound = insert-sound t _ (room-sound p at (debtTaken id s) v) (room-made-leaves-room p at (debtTaken id s) v made);
         cap = insert-cap t _ ∙ room-cap p at (debtTaken id s) v;
-        ledger-cap = ap Ledger.capOf (insert-ledger t _) ∙ room-ledger-cap p at (debtTaken id s) v ∙ taken-cap (s .ledger) (id .hash);
+        ledger-room = rw (insert-ledger t _) (LedgerSteps.same-room-trans (taken-room (s .ledger) (id .hash)) (room-ledger-room p at (debtTaken id s) v));
       }
-      go (no-space due e no-debt told) = record { sound = room-sound p at s u; cap = room-cap p at s u; ledger-cap = room-ledger-cap p at s u }
+      go (no-space due e no-debt told) = record { sound = room-sound p at s u; cap = room-cap p at s u; ledger-room = room-ledger-room p at s u }
 
   pub refund-same-room : (c : BucketConfig) (id : Identity) (cost : ℕ) → SameRoom s (refunded c id cost s .after)
   refund-same-room c id cost = go (refund-cases c id cost s)
@@ -163,7 +163,7 @@ module _ (s : Shard) (u : Sound s) where
       go (debt-paid e) = record {
         sound = ledger-sound s _ u (paid-sound (s .ledger) (id .hash) cost c (u .ledger));
         cap = refl;
-        ledger-cap = paid-cap (s .ledger) (id .hash) cost c;
+        ledger-room = paid-room (s .ledger) (id .hash) cost c;
       }
 
   pub remove-same-room : (id : Identity) → SameRoom s (removed id s .after)
@@ -173,6 +173,6 @@ module _ (s : Shard) (u : Sound s) where
       go (slot-removed i e f) = record {
         sound = removal-sound (debtTaken id s) i (debt-taken-sound id s u);
         cap = removal-cap (debtTaken id s) i;
-        ledger-cap = ap Ledger.capOf (removal-ledger (debtTaken id s) i) ∙ taken-cap (s .ledger) (id .hash);
+        ledger-room = rw (removal-ledger (debtTaken id s) i) (taken-room (s .ledger) (id .hash));
       }
-      go (no-slot e) = record { sound = debt-taken-sound id s u; cap = refl; ledger-cap = taken-cap (s .ledger) (id .hash) }
+      go (no-slot e) = record { sound = debt-taken-sound id s u; cap = refl; ledger-room = taken-room (s .ledger) (id .hash) }

@@ -31,7 +31,7 @@ slot number shortfall mark seen = record { hash = number; key = number; bucket =
 
 -- A ledger by its count, its cursor and what stands in all its places, and a shard by its count, its hand, its sweep, its places and its ledger.
 abbrev pub ledger : ℕ → ℕ → List Debt → Ledger.Ledger
-ledger count cursor places = record { debts = record { count = count; places = places }; cursor = cursor }
+ledger count cursor places = record { debts = record { count = count; places = places }; cursor = cursor; others = [] }
 
 abbrev pub shard : ℕ → ℕ → ℕ → List Slot → Ledger.Ledger → Shard
 shard count hand sweep places l = record { slots = record { count = count; places = places }; hand = hand; sweep = sweep; ledger = l }

@@ -4,9 +4,8 @@ use Prim.Native.Nat.{ℕ, _+_, _*_}
 use mathlib.Core.Path.{_≡_}
 use mathlib.Core.List.{List, [], _∷_, _++_, map}
 use lib.ListN.{length, getD}
-use Rattle.rows.specs.Segments.{segment}
 use Rattle.rows.specs.Rows.{unrow}
-use Rattle.rows.specs.Layout.{heldIn}
+use Rattle.rows.specs.Layout.{Table, tableIn, heldOf}
 use Rattle.slot.specs.declared.Slot.{Slot}
 use Rattle.ledger.specs.Layout as Ledger
 use Rattle.shard_map.specs.Model.{Shard, Sound}
@@ -55,14 +54,12 @@ ledgerStart cap = slotsAt + slotWidth * cap
 abbrev pub shardWords : ℕ → ℕ
 shardWords cap = ledgerStart cap + Ledger.ledgerWords cap
 
--- The shard that lies in some words, and the words of a shard.
+-- The shard that a table of slots is, the ledger lying in its rest; the shard that lies in some words, and the words of a shard.
+abbrev pub shardOf : ℕ → Table Slot → Shard
+shardOf cap t = record { slots = heldOf countAt t; hand = t .head handAt; sweep = t .head sweepAt; ledger = Ledger.ledger cap (t .rest) }
+
 unfoldable pub shard : ℕ → List ℕ → Shard
-shard cap ws = record {
-  slots = heldIn slotOf slotWidth cap countAt slotsAt ws;
-  hand = getD ws handAt 0;
-  sweep = getD ws sweepAt 0;
-  ledger = Ledger.ledger cap (segment (ledgerStart cap) (Ledger.ledgerWords cap) ws);
-}
+shard cap ws = shardOf cap (tableIn slotOf slotWidth cap slotsAt ws)
 
 unfoldable pub wordsOf : Shard → List ℕ
 wordsOf s = s .slots .count ∷ s .hand ∷ s .sweep ∷ (unrow (map slotWords (s .slots .places)) ++ Ledger.wordsOf (s .ledger))

@@ -9,7 +9,7 @@ use borrow.Rule.Slice.PartMut.{same-len-mid}
 use Rattle.arith.proofs.Cases.{by-le}
 use Rattle.rows.specs.Segments.{segment}
 use Rattle.rows.specs.Outcome.{Outcome}
-use Rattle.rows.proofs.SegmentLaws.{segment-length, segment-back, segment-kept-below, segment-kept-above}
+use Rattle.rows.proofs.SegmentLaws.{segment-most, segment-length, segment-back, segment-kept-below, segment-kept-above}
 use Rattle.rows.proofs.ZeroLaws.{zeros-segment}
 use Rattle.settings.specs.declared.Settings.{Settings}
 use Rattle.settings.specs.declared.Shape.{Shape}
@@ -20,7 +20,8 @@ use Rattle.shard_map.specs.Model as Shard
 use Rattle.shard_map.specs.Layout as Layout
 use Rattle.shard_map.specs.Layout.{shardWords}
 use Rattle.shard_map.proofs.LayoutLaws.{cap-is}
-use Rattle.shard_map.proofs.ReadBack.{Empty, words-length, shard-of-words, debt-cap-is, zeros-empty}
+use Rattle.shard_map.proofs.ReadBack.{Sized, Empty, words-length, shard-of-words, debt-cap-is, shard-sized, zeros-empty}
+use Rattle.shard.proofs.ShardLaws.{SameRoom}
 use Rattle.store.specs.Memory.{withSegment, shardStart, shardEnd, wordsIn, memoryWords, partStart, partOf, Placed, shardAt, inShard}
 
 -- A shard ends before one of a higher number begins.
@@ -68,12 +69,12 @@ shard-ends s i ws size below = rw size (shard-ends-before (capOf s) i (shardCoun
 pub same-shard : (s : Settings) (hash other : ℕ) (ws : List ℕ) → shardOf s other ≡ shardOf s hash → shardAt s other ws ≡ shardAt s hash ws
 same-shard s hash other ws same = ap (λ (i : ℕ). Layout.shard (capOf s) (segment (shardStart (capOf s) i) (shardWords (capOf s)) ws)) same
 
--- An operation on the shard of a hash, in memory of the right length, whose outcome has room for as many slots and debts as before.
+-- An operation on the shard of a hash, in memory of the right length, whose outcome has the size of a shard.
 module _ {A : Type 0} (s : Settings) (hash : ℕ) (ws : List ℕ) (o : Outcome A Shard.Shard)
-    (size : length ws ≡ memoryWords s) (room : Shard.capOf (o .after) ≡ capOf s) (debt-room : Ledger.capOf (o .after .ledger) ≡ capOf s) where
+    (size : length ws ≡ memoryWords s) (sized : Sized (capOf s) (o .after)) where
   -- The new words are as many as those that they replace.
   new-length : length (Layout.wordsOf (o .after)) ≡ shardWords (capOf s)
-  new-length = words-length (capOf s) (o .after) room debt-room
+  new-length = words-length (capOf s) (o .after) sized
 
   -- The memory keeps its length.
   pub in-shard-length : length (inShard s hash ws o .after) ≡ memoryWords s
@@ -86,7 +87,7 @@ module _ {A : Type 0} (s : Settings) (hash : ℕ) (ws : List ℕ) (o : Outcome A
   pub in-shard-reads-back : shardAt s hash (inShard s hash ws o .after) ≡ o .after
   in-shard-reads-back =
       ap (Layout.shard (capOf s)) (segment-back (partStart (shapeOf s) hash) (shardWords (capOf s)) ws (Layout.wordsOf (o .after)) (shard-fits s hash ws size) new-length)
-      ∙ shard-of-words (capOf s) (o .after) room debt-room
+      ∙ shard-of-words (capOf s) (o .after) sized
 
   -- So it is for every hash of that shard.
   pub in-shard-reads-back-for : (other : ℕ) → shardOf s other ≡ shardOf s hash → shardAt s other (inShard s hash ws o .after) ≡ o .after
@@ -121,7 +122,13 @@ module _ (s : Settings) (hash : ℕ) (ws : List ℕ) where
   pub shard-at-debt-cap : Ledger.capOf (shardAt s hash ws .ledger) ≡ capOf s
   shard-at-debt-cap = debt-cap-is (capOf s) _
 
-  -- So it is sound where its counts are at most the cap.
+  -- A shard with the same room has its size.
+  pub same-room-sized : {t : Shard.Shard} → SameRoom (shardAt s hash ws) t → Sized (capOf s) t
+  same-room-sized room =
+      let own = shard-sized (capOf s) _ (segment-most (partStart (shapeOf s) hash) (shardWords (capOf s)) ws) in
+      record { slots = room .cap ∙ own .slots; debts = room .ledger-room .cap ∙ own .debts; others = room .ledger-room .others ∙ own .others }
+
+  -- The shard of a hash is sound where its counts are at most the cap.
   pub sound-shard : (shardAt s hash ws .slots .count ≤ capOf s) × (shardAt s hash ws .ledger .debts .count ≤ capOf s) → Shard.Sound (shardAt s hash ws)
   sound-shard within = record {
     room = rw shard-at-cap (cap-least s);

@@ -1,6 +1,7 @@
 -- `scan` looks for a debt to drop. The loop holds that the looks left, made from here, choose and leave what all of them do from the start.
-use mathlib.Core.Path.{_≡_, sym, _∙_}
+use mathlib.Core.Path.{_≡_, refl, sym, _∙_}
 use mathlib.Core.List.{List}
+use lib.ListN.{length}
 use Prim.Native.Nat.{ℕ, _<_}
 use native.Mathlib.Omega.{arith}
 use Rattle.units.specs.declared.Nanos.{Nanos}
@@ -12,9 +13,10 @@ use borrow.Author.Needs.{needs}
 use Rattle.ledger.proofs.scan.Statement.{statement}
 use Rattle.ledger.proofs.scan.Tie as tie
 
--- The scan from here, with the looks that are left, is the scan from the start; the soonest so far is a debt that is held.
+-- The scan from here, with the looks that are left, is the scan from the start; the words are as long as then, and the soonest so far is a debt that is held.
 record Scanning (ws₀ : List ℕ) (cap : ℕ) (at : Nanos) (ws : List ℕ) (left best : ℕ) : Type 0 where
   intact : Intact cap ws
+  long : length ws ≡ length ws₀
   some : 0 < ledger cap ws .debts .count
   below : best < ledger cap ws .debts .count
   same : scanFrom at left (ledger cap ws) best ≡ scan at (ledger cap ws₀)
@@ -60,6 +62,7 @@ loop-holds c =
     let pre′ = looks .before .before .pre in
     record {
       intact = pre′ .0;
+      long = refl;
       some = pre′ .1;
       below = intact-cursor (pre′ .0) (pre′ .1) (c .cursor .ensures) .0;
       same = rw (c .cursor .ensures, fewer′ .fewer .ensures, count′ .count .ensures, looks .ledger-looks .ensures) (scan-start _ _);
@@ -118,6 +121,7 @@ loop-again c =
     let goes-on = scan-turn _ _ _ _ (k .before .before .loop-test .taken) unsettled in
     record {
       intact = intact-after (inv .intact) (stored .set-cursor2 .kept .0) (stored .set-cursor2 .ensures) (cursor-sound _ _ (inv .intact .sound));
+      long = stored .set-cursor2 .kept .0 ∙ inv .long;
       some = rw (stored .set-cursor2 .ensures) (inv .some);
       below = rw (stored .set-cursor2 .ensures, chosen .sooner .ensures) (intact-sooner (inv .intact) (inv .below) (held k .0));
       same = rw (stored .set-cursor2 .ensures, chosen .sooner .ensures, k .cursor2 .ensures) (sym goes-on ∙ inv .same);

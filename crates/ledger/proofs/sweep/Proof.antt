@@ -1,7 +1,7 @@
 -- `sweep` makes its looks one by one. The loop holds that the looks left, made from here, give what all of them give from the start.
-use mathlib.Core.Path.{refl, sym, _∙_}
+use mathlib.Core.Path.{sym, _∙_}
 use borrow.Author.Needs.{needs}
-use Rattle.rows.proofs.RoundLaws.{Sweeping, sweep-goes-on, sweep-ends, sweep-stops}
+use Rattle.rows.proofs.RoundLaws.{Sweeping, sweep-begins, sweep-goes-on, sweep-ends, sweep-stops}
 use Rattle.ledger.specs.Model.{sweep}
 use Rattle.ledger.specs.Layout.{ledger, Intact}
 use Rattle.ledger.proofs.ModelLaws.{sweep-by-looks}
@@ -9,7 +9,7 @@ use Rattle.ledger.proofs.sweep.Statement.{statement}
 use Rattle.ledger.proofs.sweep.Tie as tie
 
 abbrev Inv-loop : tie.InvT-loop
-Inv-loop ws₀ cap at budget left₀ ws left = Sweeping (Intact cap) (ledger cap) (sweep at) left ws (sweep at budget (ledger cap ws₀))
+Inv-loop ws₀ cap at budget left₀ ws left = Sweeping (Intact cap) (ledger cap) (sweep at) budget ws₀ left ws
 
 abbrev μ-loop : tie.MeasureT-loop
 μ-loop ws₀ cap at budget left₀ ws left = left
@@ -19,7 +19,7 @@ abbrev head : tie.After-count Inv-loop μ-loop → tie.At-loop Inv-loop μ-loop
 head n = n .before .before .before
 
 loop-holds : tie.Need-loop-holds Inv-loop μ-loop
-loop-holds c = record { lent = c .before .pre; same = refl }
+loop-holds c = sweep-begins (c .before .pre)
 
 count-requires : tie.Need-count-requires Inv-loop μ-loop
 count-requires c κs = search needs

@@ -1,7 +1,7 @@
 -- `sweep_idle` makes its looks one by one. The loop holds that the looks left, made from here, give what all of them give from the start.
-use mathlib.Core.Path.{refl, sym, _∙_}
+use mathlib.Core.Path.{sym, _∙_}
 use borrow.Author.Needs.{needs}
-use Rattle.rows.proofs.RoundLaws.{Sweeping, sweep-goes-on, sweep-ends, sweep-stops}
+use Rattle.rows.proofs.RoundLaws.{Sweeping, sweep-begins, sweep-goes-on, sweep-ends, sweep-stops}
 use Rattle.shard_map.specs.Model.{sweepIdle}
 use Rattle.shard_map.specs.Layout.{shard, Intact}
 use Rattle.shard_map.proofs.ModelLaws.{idle-sweep-by-looks}
@@ -9,8 +9,7 @@ use Rattle.shard_map.proofs.sweep_idle.Statement.{statement}
 use Rattle.shard_map.proofs.sweep_idle.Tie as tie
 
 abbrev Inv-loop : tie.InvT-loop
-Inv-loop ws₀ cap config at ttl-ms budget left₀ ws left =
-    Sweeping (Intact cap) (shard cap) (sweepIdle config at ttl-ms) left ws (sweepIdle config at ttl-ms budget (shard cap ws₀))
+Inv-loop ws₀ cap config at ttl-ms budget left₀ ws left = Sweeping (Intact cap) (shard cap) (sweepIdle config at ttl-ms) budget ws₀ left ws
 
 abbrev μ-loop : tie.MeasureT-loop
 μ-loop ws₀ cap config at ttl-ms budget left₀ ws left = left
@@ -20,7 +19,7 @@ abbrev head : tie.After-count Inv-loop μ-loop → tie.At-loop Inv-loop μ-loop
 head k = k .before .before .before
 
 loop-holds : tie.Need-loop-holds Inv-loop μ-loop
-loop-holds c = record { lent = c .before .pre .0; same = refl }
+loop-holds c = sweep-begins (c .before .pre .0)
 
 count-requires : tie.Need-count-requires Inv-loop μ-loop
 count-requires c κs = search needs

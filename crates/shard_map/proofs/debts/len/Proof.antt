@@ -1,5 +1,5 @@
 -- `debts::len` gives what the ledger's own function gives for its part of the words.
-use Rattle.shard_map.proofs.LayoutLaws.{ledger-lent, ledger-long}
+use Rattle.shard_map.proofs.LayoutLaws.{ledger-long, ledger-tells}
 use borrow.Author.Needs.{needs}
 use Rattle.shard_map.proofs.debts.len.Statement.{statement}
 use Rattle.shard_map.proofs.debts.len.Tie as tie
@@ -27,7 +27,7 @@ len-requires : tie.Need-len-requires
 len-requires c κs = let l = c .before in ledger-long _ (start l .args .ws .now) (start l .pre) (l .ledger-start .ensures)
 
 returns : tie.Need-returns
-returns c = let l = c .before .before in rw (ledger-lent _ _ (start l .pre) (l .ledger-start .ensures)) at (c .len .ensures)
+returns c = let l = c .before .before in ledger-tells _ _ (start l .pre) (l .ledger-start .ensures) (λ m. m .debts .count) (c .len .ensures)
 
 pub len-spec : {M : Type 1} → statement M
 len-spec =

@@ -1,6 +1,7 @@
 -- `debts::owed_by` gives what the ledger's own function gives for its part of the words.
+use Rattle.ledger.specs.Model as Ledger
 use Rattle.shard_map.proofs.ModelLaws.{intact-ledger}
-use Rattle.shard_map.proofs.LayoutLaws.{ledger-lent}
+use Rattle.shard_map.proofs.LayoutLaws.{ledger-tells}
 use borrow.Author.Needs.{needs}
 use Rattle.shard_map.proofs.debts.owed_by.Statement.{statement}
 use Rattle.shard_map.proofs.debts.owed_by.Tie as tie
@@ -28,7 +29,7 @@ owed-by-requires : tie.Need-owed-by-requires
 owed-by-requires c κs = let l = c .before in intact-ledger (start l .pre) (l .ledger-start .ensures)
 
 returns : tie.Need-returns
-returns c = let l = c .before .before in rw (ledger-lent _ _ (start l .pre .size) (l .ledger-start .ensures)) at (c .owed-by .ensures)
+returns c = let l = c .before .before in ledger-tells _ _ (start l .pre .size) (l .ledger-start .ensures) (λ m. Ledger.owedBy m (start l .args .hash)) (c .owed-by .ensures)
 
 pub owed-by-spec : {M : Type 1} → statement M
 owed-by-spec =

@@ -1,6 +1,7 @@
 -- `debts::pay_down` does to the ledger's part of the words what the ledger's own function does, and nothing to the rest.
+use Rattle.ledger.specs.Model as Ledger
 use Rattle.shard_map.proofs.ModelLaws.{intact-ledger}
-use Rattle.shard_map.proofs.LayoutLaws.{ledger-lent, ledger-answered}
+use Rattle.shard_map.proofs.LayoutLaws.{ledger-answers}
 use borrow.Author.Needs.{needs}
 use Rattle.shard_map.proofs.debts.pay_down.Statement.{statement}
 use Rattle.shard_map.proofs.debts.pay_down.Tie as tie
@@ -34,9 +35,8 @@ returns : tie.Need-returns
 returns c =
     let gave = c .before .before .pay-down in
     let l = c .before .before .before .before in
-    let size = start l .pre .0 .size in
-    let is = l .ledger-start .ensures in
-    ledger-answered _ _ size is _ (gave .kept .0) (rw (ledger-lent _ _ size is) at (gave .ensures))
+    let a = start l .args in
+    ledger-answers _ _ (start l .pre .0 .size) (l .ledger-start .ensures) _ (gave .kept .0) (λ m. Ledger.paidDown m (a .hash) (a .cost) (a .config)) (gave .ensures)
 
 pub pay-down-spec : {M : Type 1} → statement M
 pay-down-spec =

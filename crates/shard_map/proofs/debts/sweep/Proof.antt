@@ -1,6 +1,7 @@
 -- `debts::sweep` does to the ledger's part of the words what the ledger's own function does, and nothing to the rest.
+use Rattle.ledger.specs.Model as Ledger
 use Rattle.shard_map.proofs.ModelLaws.{intact-ledger}
-use Rattle.shard_map.proofs.LayoutLaws.{ledger-lent, ledger-back}
+use Rattle.shard_map.proofs.LayoutLaws.{ledger-leaves}
 use borrow.Author.Needs.{needs}
 use Rattle.shard_map.proofs.debts.sweep.Statement.{statement}
 use Rattle.shard_map.proofs.debts.sweep.Tie as tie
@@ -34,9 +35,7 @@ returns : tie.Need-returns
 returns c =
     let gave = c .before .before .sweep in
     let l = c .before .before .before .before in
-    let size = start l .pre .size in
-    let is = l .ledger-start .ensures in
-    rw (ledger-back _ _ size is _ (gave .kept .0), gave .ensures, ledger-lent _ _ size is)
+    ledger-leaves _ _ (start l .pre .size) (l .ledger-start .ensures) _ (gave .kept .0) (Ledger.sweep _ _) (gave .ensures)
 
 pub sweep-spec : {M : Type 1} → statement M
 sweep-spec =

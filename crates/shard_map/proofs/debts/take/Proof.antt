@@ -1,6 +1,7 @@
 -- `debts::take` does to the ledger's part of the words what the ledger's own function does, and nothing to the rest.
+use Rattle.ledger.specs.Model as Ledger
 use Rattle.shard_map.proofs.ModelLaws.{intact-ledger}
-use Rattle.shard_map.proofs.LayoutLaws.{ledger-lent, ledger-answered}
+use Rattle.shard_map.proofs.LayoutLaws.{ledger-answers}
 use borrow.Author.Needs.{needs}
 use Rattle.shard_map.proofs.debts.take.Statement.{statement}
 use Rattle.shard_map.proofs.debts.take.Tie as tie
@@ -34,9 +35,7 @@ returns : tie.Need-returns
 returns c =
     let gave = c .before .before .take in
     let l = c .before .before .before .before in
-    let size = start l .pre .size in
-    let is = l .ledger-start .ensures in
-    ledger-answered _ _ size is _ (gave .kept .0) (rw (ledger-lent _ _ size is) at (gave .ensures))
+    ledger-answers _ _ (start l .pre .size) (l .ledger-start .ensures) _ (gave .kept .0) (λ m. Ledger.taken m (start l .args .hash)) (gave .ensures)
 
 pub take-spec : {M : Type 1} → statement M
 take-spec =
