@@ -1,3 +1,4 @@
+pub mod Worked
 pub mod CycleLaws
 pub mod CopyLaws
 pub mod WalkLaws

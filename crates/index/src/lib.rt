@@ -218,11 +218,11 @@ fn rehome(ws: &mut [u64], index: Index, n: usize, from: usize)
     let mut q = from;
     let mut left = size - 1;
     while 0 < left {
-        let word = word_at(ws, index, q);
-        if word == 0 {
+        let held = word_at(ws, index, q);
+        if held == 0 {
             return;
         }
-        rehome_one(ws, index, n, q, word);
+        rehome_one(ws, index, n, q, held);
         q = onward(size, q);
         left -= 1;
     }
