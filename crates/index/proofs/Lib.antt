@@ -1,0 +1,12 @@
+pub mod Worked
+pub mod CycleLaws
+pub mod CopyLaws
+pub mod WalkLaws
+pub mod StepLaws
+pub mod RunLaws
+pub mod ExactLaws
+pub mod RemoveLaws
+pub mod FindLaws
+pub mod CountedLaws
+pub mod HeldLaws
+pub mod LayoutLaws

@@ -1,0 +1,87 @@
+-- `rehome` is the pass over the places after an emptied one. The loop holds that the pass from here leaves what it leaves from the start.
+use native.Mathlib.Omega.{arith}
+use Prim.Native.Nat.{ℕ}
+use mathlib.Core.Path.{_≡_, refl, sym, _∙_}
+use mathlib.Core.List.{List}
+use Rattle.index.specs.declared.Index.{Index}
+use Rattle.index.proofs.LayoutLaws.{Rehoming, rehoming-start, rehoming-empty, rehoming-over, rehoming-on}
+use borrow.Author.Needs.{needs}
+use Rattle.index.proofs.rehome.Statement.{statement}
+use Rattle.index.proofs.rehome.Tie as tie
+
+abbrev Inv-loop : tie.InvT-loop
+Inv-loop ws₀ index n from size q₀ left₀ ws q left = (size ≡ index .size) × Rehoming index n ws₀ from ws q left
+
+abbrev μ-loop : tie.MeasureT-loop
+μ-loop ws₀ index n from size q₀ left₀ ws q left = left
+
+sub-left : tie.Need-sub-left Inv-loop μ-loop
+sub-left c = omega (arith, c .before .pre .0 .room)
+
+loop-holds : tie.Need-loop-holds Inv-loop μ-loop
+loop-holds c = (refl, rehoming-start (c .before .pre .0) (c .before .pre .1))
+
+word-at-requires : tie.Need-word-at-requires Inv-loop μ-loop
+word-at-requires c κs = let inv = c .before .before .loop .inv .1 in (inv .fits .inside, inv .below)
+
+same-length : tie.Need-same-length Inv-loop μ-loop
+same-length c = c .before .before .before .before .loop .inv .1 .long
+
+returns : tie.Need-returns Inv-loop μ-loop
+returns c =
+    let turn = c .before .before .before in
+    let head = turn .before in
+    rehoming-empty (head .before .before .pre .0) (head .loop .inv .1) (turn .loop-test .taken) (sym (c .before .word-at .ensures) ∙ c .if1 .taken)
+
+rehome-one-requires : tie.Need-rehome-one-requires Inv-loop μ-loop
+rehome-one-requires c κs =
+    let inv = c .before .before .before .before .before .loop .inv .1 in
+    (inv .fits, inv .below, omega (arith, c .before .if1 .left))
+
+onward-requires : tie.Need-onward-requires Inv-loop μ-loop
+onward-requires c κs =
+    let inv = c .before .before .before .before .before .before .before .before .loop .inv in
+    rw (inv .0) (inv .1 .below)
+
+sub-left-2 : tie.Need-sub-left-2 Inv-loop μ-loop
+sub-left-2 c = search needs
+
+loop-less : tie.Need-loop-less Inv-loop μ-loop
+loop-less c = search needs
+
+loop-again : tie.Need-loop-again Inv-loop μ-loop
+loop-again c =
+    let rehomed = c .before .before .before in
+    let test = rehomed .before .before in
+    let read = test .before in
+    let turn = read .before .before in
+    let head = turn .before in
+    let used = rw (read .word-at .ensures) at (test .if1 .left) in
+    let after = rw (read .word-at .ensures) at (rehomed .rehome-one .ensures) in
+    let goes-on = rehoming-on (head .before .before .pre .0) (head .loop .inv .1) (turn .loop-test .taken) used after in
+    (head .loop .inv .0, rw (c .onward .ensures, head .loop .inv .0) goes-on)
+
+same-length-2 : tie.Need-same-length-2 Inv-loop μ-loop
+same-length-2 c = c .before .loop .inv .1 .long
+
+returns-2 : tie.Need-returns-2 Inv-loop μ-loop
+returns-2 c = rehoming-over (c .before .before .before .pre .0) (c .before .loop .inv .1) (c .loop-test .left)
+
+pub rehome-spec : {M : Type 1} → statement M
+rehome-spec =
+    tie.close
+    (tie.spec
+    Inv-loop
+    μ-loop
+    sub-left
+    loop-holds
+    word-at-requires
+    same-length
+    returns
+    rehome-one-requires
+    onward-requires
+    sub-left-2
+    loop-less
+    loop-again
+    same-length-2
+    returns-2)

@@ -1,0 +1,276 @@
+// An index by hash over lent words. A place holds 0, or the number of an item plus 1. A hash has a home place, and its walk goes from there, round, up to the
+// first empty place. Removal empties the places after the item's own, up to the first empty one, and adds their items again.
+ghost use mathlib.Core.Path.{_≡_};
+ghost use Prim.Native.Nat.{ℕ, _+_, _*_, _-_, _^_, _≤_, _<_};
+ghost use lib.ListN.{length, set};
+ghost use Rattle.index.specs.Walk as Walk;
+ghost use Rattle.index.specs.Layout.{Fits, placesOf, withPlaces, hashOf, keyOf, keyed};
+use rows::Place;
+
+// Where an index and its items lie in one slice: the index has `size` places from word `base` on. The items lie before it, from word `first` on, each in a row
+// of `width` words. The first word of a row is the item's hash, and word `key` of it is the item's key. Items without a key have the hash for a key, in word 0.
+pub struct Index {
+    pub base: usize,
+    pub size: usize,
+    pub first: usize,
+    pub width: usize,
+    pub key: usize,
+}
+
+// What lookup makes of one place: an item that it looks for, an empty place, or a reason to go on.
+enum Probed {
+    Hit(usize),
+    Empty,
+    Other,
+}
+
+// The place one step on: after the last place comes the first.
+fn onward(size: usize, q: usize) -> usize
+    requires { ⌜ q < size ⌝ }
+    ensures { λ r. ⌜ r ≡ Walk.onward size q ⌝ }
+{
+    if q + 1 < size {
+        return q + 1;
+    }
+    0
+}
+
+// The word at a place.
+fn word_at(ws: &[u64], index: Index, q: usize) -> u64
+    requires { ⌜ (index .base + index .size ≤ length (now ws)) × (q < index .size) ⌝ }
+    ensures { λ r. ⌜ r ≡ Walk.at (placesOf index (now (ws .entry))) q ⌝ }
+{
+    let k = index.base + q;
+    ws[k]
+}
+
+// The hash of an item.
+fn hash_at(ws: &[u64], index: Index, n: usize, i: usize) -> u64
+    requires { ⌜ Fits index n (now ws) × (i < n) ⌝ }
+    ensures { λ r. ⌜ r ≡ hashOf index (now (ws .entry)) i ⌝ }
+{
+    let k = index.first + index.width * i;
+    ws[k]
+}
+
+// The key of an item.
+fn key_at(ws: &[u64], index: Index, n: usize, i: usize) -> u64
+    requires { ⌜ Fits index n (now ws) × (i < n) ⌝ }
+    ensures { λ r. ⌜ r ≡ keyOf index (now (ws .entry)) i ⌝ }
+{
+    let k = index.first + index.width * i + index.key;
+    ws[k]
+}
+
+// Does the item have the hash and the key?
+fn has_key(ws: &[u64], index: Index, n: usize, i: usize, hash: u64, key: u64) -> bool
+    requires { ⌜ Fits index n (now ws) × (i < n) ⌝ }
+    ensures { λ r. ⌜ r ≡ keyed index (now (ws .entry)) hash key i ⌝ }
+{
+    if hash_at(ws, index, n, i) == hash {
+        return key_at(ws, index, n, i) == key;
+    }
+    false
+}
+
+// One look of a lookup. A word less 1, with 0 wrapped round, is below the count exactly where the word names an item: one comparison for the common case.
+fn probe(ws: &[u64], index: Index, n: usize, hash: u64, key: u64, q: usize) -> Probed
+    requires { ⌜ Fits index n (now ws) × (q < index .size) ⌝ }
+    ensures { λ r. ⌜ r ≡ Walk.probed n (keyed index (now (ws .entry)) hash key) (Walk.at (placesOf index (now (ws .entry))) q) ⌝ }
+{
+    let word = word_at(ws, index, q);
+    let item = std::num::wrapping_sub_u64(word, 1);
+    if item < n as u64 {
+        let i = item as usize;
+        if has_key(ws, index, n, i, hash, key) {
+            return Probed::Hit(i);
+        }
+        return Probed::Other;
+    }
+    if word == 0 {
+        return Probed::Empty;
+    }
+    Probed::Other
+}
+
+// The rest of a lookup, after a look at place `home` that found no reason to stop.
+fn find_on(ws: &[u64], index: Index, n: usize, hash: u64, key: u64, home: usize) -> Place
+    requires { ⌜ Fits index n (now ws) × (home < index .size) ⌝ }
+    ensures { λ r. ⌜ r ≡ Walk.findFrom n (keyed index (now (ws .entry)) hash key) (placesOf index (now (ws .entry))) (Walk.onward (index .size) home) (index .size - 1) ⌝ }
+{
+    let size = index.size;
+    let mut q = onward(size, home);
+    let mut left = size - 1;
+    while 0 < left {
+        match probe(ws, index, n, hash, key, q) {
+            Probed::Hit(i) => {
+                return Place::At(i);
+            }
+            Probed::Empty => {
+                return Place::Nowhere;
+            }
+            Probed::Other => {
+                q = onward(size, q);
+                left -= 1;
+            }
+        }
+    }
+    Place::Nowhere
+}
+
+// The first item on the hash's walk that has the hash and the key. The look at the home place stands here, so that a caller has it in line.
+pub fn find(ws: &[u64], index: Index, n: usize, hash: u64, key: u64) -> Place
+    requires { ⌜ Fits index n (now ws) ⌝ }
+    ensures { λ r. ⌜ r ≡ Walk.find n (keyed index (now (ws .entry)) hash key) (placesOf index (now (ws .entry))) hash ⌝ }
+{
+    let home = (hash % (index.size as u64)) as usize;
+    match probe(ws, index, n, hash, key, home) {
+        Probed::Hit(i) => Place::At(i),
+        Probed::Empty => Place::Nowhere,
+        Probed::Other => find_on(ws, index, n, hash, key, home),
+    }
+}
+
+// The first place on the hash's walk that holds the word. If there is none, it is the place at which the walk stops, or the number of places.
+fn seek(ix: &[u64], hash: u64, word: u64) -> usize
+    requires { ⌜ 0 < length (now ix) ⌝ }
+    ensures { λ r. ⌜ r ≡ Walk.seek (now (ix .entry)) hash word ⌝ }
+{
+    let size = ix.len();
+    let mut q = (hash % (size as u64)) as usize;
+    let mut left = size;
+    while 0 < left {
+        let v = ix[q];
+        if v == 0 {
+            return q;
+        }
+        if v == word {
+            return q;
+        }
+        q = onward(size, q);
+        left -= 1;
+    }
+    size
+}
+
+// The item fills the empty place at which its walk stops, if there is one. The caller lends the places alone.
+pub fn add(ix: &mut [u64], hash: u64, item: usize)
+    requires { ⌜ (0 < length (now ix)) × (item + 1 < 2 ^ 64) ⌝ }
+    ensures { λ _. ⌜ now (ix .exit) ≡ Walk.add (now (ix .entry)) hash item ⌝ }
+{
+    let z = seek(ix, hash, 0);
+    if z < ix.len() {
+        ix[z] = item as u64 + 1;
+    }
+}
+
+// Item m gets the number r, if a place on its walk names it.
+fn renumber(ix: &mut [u64], hash: u64, m: usize, r: usize)
+    requires { ⌜ (0 < length (now ix)) × (m + 1 < 2 ^ 64) × (r + 1 < 2 ^ 64) ⌝ }
+    ensures { λ _. ⌜ now (ix .exit) ≡ Walk.renumber (now (ix .entry)) hash m r ⌝ }
+{
+    let z = seek(ix, hash, m as u64 + 1);
+    if z < ix.len() {
+        if ix[z] != 0 {
+            ix[z] = r as u64 + 1;
+        }
+    }
+}
+
+// The item that a word names, if any, is added again.
+fn add_again(ws: &mut [u64], index: Index, n: usize, word: u64)
+    requires { ⌜ Fits index n (now ws) × (0 < word) ⌝ }
+    ensures { λ _. ⌜ now (ws .exit) ≡ withPlaces index (now (ws .entry)) (Walk.addAgain (hashOf index (now (ws .entry))) n (placesOf index (now (ws .entry))) word) ⌝ }
+{
+    if word <= n as u64 {
+        let i = (word - 1) as usize;
+        let hash = hash_at(ws, index, n, i);
+        let start = index.base;
+        let end = index.base + index.size;
+        add(&mut ws[start..end], hash, i);
+    }
+}
+
+// A place is emptied.
+fn empty(ws: &mut [u64], index: Index, q: usize)
+    requires { ⌜ (index .base + index .size ≤ length (now ws)) × (q < index .size) ⌝ }
+    ensures { λ _. ⌜ now (ws .exit) ≡ withPlaces index (now (ws .entry)) (set (placesOf index (now (ws .entry))) q 0) ⌝ }
+{
+    let k = index.base + q;
+    ws[k] = 0;
+}
+
+// A place that holds a word is emptied, and the item that the word names, if any, is added again.
+fn rehome_one(ws: &mut [u64], index: Index, n: usize, q: usize, word: u64)
+    requires { ⌜ Fits index n (now ws) × (q < index .size) × (0 < word) ⌝ }
+    ensures { λ _. ⌜ now (ws .exit) ≡ withPlaces index (now (ws .entry)) (Walk.addAgain (hashOf index (now (ws .entry))) n (set (placesOf index (now (ws .entry))) q 0) word) ⌝ }
+{
+    empty(ws, index, q);
+    add_again(ws, index, n, word);
+}
+
+// The places from `from` on, up to the first one that is met empty, are emptied one by one and their items added again. The place before `from` is left out.
+fn rehome(ws: &mut [u64], index: Index, n: usize, from: usize)
+    requires { ⌜ Fits index n (now ws) × (from < index .size) ⌝ }
+    ensures { λ _. ⌜ now (ws .exit) ≡ withPlaces index (now (ws .entry)) (Walk.rehome (hashOf index (now (ws .entry))) n (placesOf index (now (ws .entry))) from (index .size - 1)) ⌝ }
+{
+    let size = index.size;
+    let mut q = from;
+    let mut left = size - 1;
+    while 0 < left {
+        let held = word_at(ws, index, q);
+        if held == 0 {
+            return;
+        }
+        rehome_one(ws, index, n, q, held);
+        q = onward(size, q);
+        left -= 1;
+    }
+}
+
+// A place in use is emptied, and the items after it are added again.
+fn vacate(ws: &mut [u64], index: Index, n: usize, z: usize)
+    requires { ⌜ Fits index n (now ws) ⌝ }
+    ensures { λ _. ⌜ now (ws .exit) ≡ withPlaces index (now (ws .entry)) (Walk.vacate (hashOf index (now (ws .entry))) n (placesOf index (now (ws .entry))) z) ⌝ }
+{
+    if z < index.size {
+        if word_at(ws, index, z) != 0 {
+            empty(ws, index, z);
+            let from = onward(index.size, z);
+            rehome(ws, index, n, from);
+        }
+    }
+}
+
+// The first place on an item's walk that names it. If there is none, it is the place at which the walk stops, or the number of places.
+fn place_of(ws: &[u64], index: Index, n: usize, i: usize) -> usize
+    requires { ⌜ Fits index n (now ws) × (i < n) ⌝ }
+    ensures { λ r. ⌜ r ≡ Walk.seek (placesOf index (now (ws .entry))) (hashOf index (now (ws .entry)) i) (i + 1) ⌝ }
+{
+    let hash = hash_at(ws, index, n, i);
+    let start = index.base;
+    let end = index.base + index.size;
+    seek(&ws[start..end], hash, i as u64 + 1)
+}
+
+// The last item gets the number r.
+fn renumber_last(ws: &mut [u64], index: Index, n: usize, r: usize)
+    requires { ⌜ Fits index n (now ws) × (r < n) ⌝ }
+    ensures { λ _. ⌜ now (ws .exit) ≡ withPlaces index (now (ws .entry)) (Walk.renumber (placesOf index (now (ws .entry))) (hashOf index (now (ws .entry)) (n - 1)) (n - 1) r) ⌝ }
+{
+    let last = n - 1;
+    let hash = hash_at(ws, index, n, last);
+    let start = index.base;
+    let end = index.base + index.size;
+    renumber(&mut ws[start..end], hash, last, r);
+}
+
+// Item r leaves the index, and the last item gets its number. The caller moves the last item afterwards.
+pub fn remove(ws: &mut [u64], index: Index, n: usize, r: usize)
+    requires { ⌜ Fits index n (now ws) × (r < n) ⌝ }
+    ensures { λ _. ⌜ now (ws .exit) ≡ withPlaces index (now (ws .entry)) (Walk.remove (hashOf index (now (ws .entry))) n (placesOf index (now (ws .entry))) r) ⌝ }
+{
+    let z = place_of(ws, index, n, r);
+    vacate(ws, index, n, z);
+    renumber_last(ws, index, n, r);
+}
