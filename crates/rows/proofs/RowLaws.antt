@@ -1,5 +1,5 @@
 -- Words in rows: what a read and a store mean for them, and the way back from rows to words. At every width.
-use Prim.Native.Nat.{ℕ, zero, suc, _+_, _*_, _-_, _≤_, _<_}
+use Prim.Native.Nat.{ℕ, zero, suc, _+_, _*_, _≤_, _<_}
 use native.Mathlib.Omega.{arith}
 use native.Mathlib.Nat.{mul-suc, mul-zero, zero-add, add-zero, add-suc, mul-le-mul-left}
 use mathlib.Core.Path.{_≡_, refl, ap, sym, _∙_, subst}

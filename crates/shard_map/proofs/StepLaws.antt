@@ -1,5 +1,5 @@
 -- What lookup by hash and key says, and what the steps leave of the room.
-use Prim.Native.Nat.{ℕ, _+_, _-_, _<_}
+use Prim.Native.Nat.{ℕ, _-_, _<_}
 use mathlib.Core.Path.{_≡_, refl, sym, _∙_}
 use mathlib.Core.Bool.{true, false, true≢false}
 use lib.ListN.{length-set}
@@ -75,11 +75,7 @@ pub removal-sound : (s : Shard) (p : ℕ) → Sound s → Sound (removeAt s p)
 unfolding removeAt
 removal-sound s p t = sound-by-parts (removeAt s p) (removed-sound noSlot (s .slots) p (slots-sound s t)) (t .ledger)
 
--- An insertion where there is room leaves one slot more and the same room.
-pub insert-count : (s : Shard) (slot : Slot) → insert s slot .slots .count ≡ s .slots .count + 1
-unfolding insert
-insert-count s slot = refl
-
+-- An insertion where there is room leaves the same room and the same ledger.
 pub insert-cap : (s : Shard) (slot : Slot) → capOf (insert s slot) ≡ capOf s
 unfolding insert
 insert-cap s slot = simp length-set
