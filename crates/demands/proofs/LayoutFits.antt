@@ -15,7 +15,7 @@ use Rattle.shard_map.specs.Model.{Shard}
 use Rattle.shard_map.specs.Layout.{slotOf, slotWords, shard, wordsOf}
 use Rattle.perkey.specs.Calls.{Every}
 use Rattle.demands.proofs.EveryLaws.{of-item, every-taken, every-left, every-joined, every-made, every-in-part, every-in-rows, every-of-rows}
-use Rattle.demands.proofs.WordFits.{Word, HeldFits}
+use Rattle.demands.proofs.WordFits.{Word}
 use Rattle.demands.proofs.LedgerFits.{DebtFits, LedgerFits}
 use Rattle.demands.proofs.ShardFits.{SlotFits, ShardFits}
 

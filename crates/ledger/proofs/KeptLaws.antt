@@ -22,7 +22,7 @@ use Rattle.ledger.specs.declared.Recorded.{Recorded}
 use Rattle.ledger.specs.declared.Recorded.the-variants.{Done, NoRoom}
 use Rattle.ledger.specs.Model.{Ledger, Sound, noDebt, capOf, debtAt, settlesAt, settledBy, withCursor, withDebt, owes, placeOf, removeAt, append, taken, roundOf, sweep}
 use Rattle.ledger.specs.Model.{later, recorded, credit, paidDown}
-use Rattle.ledger.proofs.StepLaws.{cursor-sound, removal-leaves-room, Owing, found-owes, nowhere-owes-none, taken-cases, paid-cases}
+use Rattle.ledger.proofs.StepLaws.{removal-leaves-room, Owing, found-owes, nowhere-owes-none, taken-cases, paid-cases}
 use Rattle.ledger.proofs.StepLaws.{sooner-by}
 use Rattle.ledger.proofs.RecordLaws.{Recording, merged, joins, replaces, refused, record-cases, done-is-no-refusal, refusal}
 
@@ -77,7 +77,7 @@ module _ (h : ℕ) (value : ℕ → ℕ) where
   -- The steps: a debt that leaves takes its value away, one that joins adds its own, one that is changed changes its own. The cursor has no part in it.
   pub owed-removed : (l : Ledger) (p : ℕ) → Sound l → p < l .debts .count → owed h value (removeAt l p) + weigh h value (debtAt l p) ≡ owed h value l
   unfolding owed removeAt
-  owed-removed l p s below = total-removed noDebt (weigh h value) (l .debts) p (record { count-fits = s .count-fits }) below
+  owed-removed l p s below = total-removed noDebt (weigh h value) (l .debts) p s below
 
   pub owed-appended : (l : Ledger) (d : Debt) → l .debts .count < capOf l → owed h value (append l d) ≡ owed h value l + weigh h value d
   unfolding owed append
@@ -85,7 +85,7 @@ module _ (h : ℕ) (value : ℕ → ℕ) where
 
   pub owed-stored : (l : Ledger) (p : ℕ) (d : Debt) → Sound l → p < l .debts .count → owed h value (withDebt l p d) + weigh h value (debtAt l p) ≡ owed h value l + weigh h value d
   unfolding owed
-  owed-stored l p d s below = total-stored noDebt (weigh h value) (l .debts) p d (record { count-fits = s .count-fits }) below
+  owed-stored l p d s below = total-stored noDebt (weigh h value) (l .debts) p d s below
 
   pub owed-cursor : (l : Ledger) (c : ℕ) → owed h value (withCursor l c) ≡ owed h value l
   unfolding owed
@@ -96,17 +96,17 @@ module _ (h : ℕ) (value : ℕ → ℕ) where
       → owed h value (append (removeAt (withCursor l c) p) d) + weigh h value (debtAt l p) ≡ owed h value l + weigh h value d
   owed-replaced l c p d s below =
       let moved : Ledger = withCursor l c in
-      omega (arith, owed-appended (removeAt moved p) d (removal-leaves-room moved p (s .count-fits) below), owed-removed moved p (cursor-sound l c s) below, owed-cursor l c)
+      omega (arith, owed-appended (removeAt moved p) d (removal-leaves-room moved p (s .count-fits) below), owed-removed moved p s below, owed-cursor l c)
 
   -- A sweep never adds, and of what is unsettled it loses nothing.
   pub sweep-never-adds : (at : Nanos) (n : ℕ) (l : Ledger) → Sound l → owed h value (sweep at n l) ≤ owed h value l
   unfolding owed sweep
-  sweep-never-adds at n l s = RoundLaws.sweep-never-adds noDebt (settledBy at) (weigh h value) n (roundOf l) (record { count-fits = s .count-fits })
+  sweep-never-adds at n l s = RoundLaws.sweep-never-adds noDebt (settledBy at) (weigh h value) n (roundOf l) s
 
   pub sweep-keeps-unsettled : (at : Nanos) (n : ℕ) (l : Ledger) → Sound l → SettledIsNothing at value → owed h value (sweep at n l) ≡ owed h value l
   unfolding owed sweep
   sweep-keeps-unsettled at n l s nothing =
-      sweep-keeps-total noDebt (settledBy at) (weigh h value) n (roundOf l) (record { count-fits = s .count-fits })
+      sweep-keeps-total noDebt (settledBy at) (weigh h value) n (roundOf l) s
       (λ d settled. weigh-settled at nothing d (leb-true _ _ settled))
 
 -- Where lookup finds no debt of the hash, nothing is owed.

@@ -162,7 +162,7 @@ sweep-by-looks cap at = record {
   none-left = λ l. refl;
   one-more = λ n l. refl;
   no-item = λ l none. ap (withRound l) (look-none noDebt (settledBy at) (roundOf l) none);
-  stay-lent = λ intact same looked. intact-after intact same looked (look-sound at _ (intact .sound));
+  stay-lent = λ {ws} intact same looked. intact-after intact same looked (look-sound at (ledger cap ws) (intact .sound));
 }
 
 -- After a scan the words are still lent, and the place that it chose holds a debt.

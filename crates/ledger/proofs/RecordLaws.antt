@@ -19,7 +19,7 @@ use Rattle.ledger.specs.declared.Recorded.{Recorded}
 use Rattle.ledger.specs.declared.Recorded.the-variants.{Done, NoRoom}
 use Rattle.ledger.specs.Model.{Ledger, Sound, capOf, debtAt, hasSettled, settlesAt, cursorOf, withCursor, withDebt, placeOf, removeAt, append, sooner}
 use Rattle.ledger.specs.Model.{scanFrom, scan, dropChosen, makeRoom, joined, later, recordedAt, recorded}
-use Rattle.ledger.proofs.StepLaws.{cursor-below, cursor-sound, change-sound, append-sound, SameRoom, removal-sound, removal-room, removal-leaves-room}
+use Rattle.ledger.proofs.StepLaws.{cursor-below, change-sound, append-sound, SameRoom, removal-sound, removal-room, removal-leaves-room}
 
 -- What the looks at a full ledger come to: nothing but the cursor moves, and the place told has a settled debt, or an unsettled one.
 data Scanned (at : Nanos) (l : Ledger) : Outcome Choice Ledger → Type 0 where
@@ -80,8 +80,8 @@ pub scan-sound : (at : Nanos) (l : Ledger) → 0 < l .debts .count → Sound l �
 scan-sound at l some s = go (scan-cases at l some)
   where
     go : {o : Outcome Choice Ledger} → Scanned at l o → Sound (o .after)
-    go (one-settled p c below settled) = cursor-sound l c s
-    go (all-unsettled p c below unsettled) = cursor-sound l c s
+    go (one-settled p c below settled) = s
+    go (all-unsettled p c below unsettled) = s
 
 -- How room is made: a debt leaves, which is settled unless debts may be forgotten; or none does, where only the cursor moves and the wait is that of an
 -- unsettled debt.
@@ -112,8 +112,8 @@ module _ (l : Ledger) (at : Nanos) (forget : Bool) (some : 0 < l .debts .count) 
   make-room-sound = go (room-cases l at forget some)
     where
       go : {o : Outcome Recorded Ledger} → MakingRoom l at forget o → Sound (o .after)
-      go (one-leaves p c below settled) = removal-sound (withCursor l c) p (cursor-sound l c s)
-      go (none-leaves p c below never unsettled) = cursor-sound l c s
+      go (one-leaves p c below settled) = removal-sound (withCursor l c) p s
+      go (none-leaves p c below never unsettled) = s
 
   pub make-room-makes-room : makeRoom at forget l .answer ≡ Done → makeRoom at forget l .after .debts .count < capOf (makeRoom at forget l .after)
   make-room-makes-room = go (room-cases l at forget some)
@@ -156,7 +156,7 @@ recorded-sound l d at forget s = go (record-cases l d at forget s)
     go (merged p e) = change-sound l p (later (debtAt l p) (d .settles)) s
     go (joins new free) = append-sound l d free
     go (replaces p c new below settled) = append-sound (removeAt (withCursor l c) p) d (removal-leaves-room (withCursor l c) p (s .count-fits) below)
-    go (refused p c full below never unsettled) = cursor-sound l c s
+    go (refused p c full below never unsettled) = s
 
 pub recorded-room : (l : Ledger) (d : Debt) (at : Nanos) (forget : Bool) → Sound l → SameRoom l (recorded l d at forget .after)
 unfolding append

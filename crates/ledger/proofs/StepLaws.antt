@@ -15,10 +15,10 @@ use Rattle.rows.specs.Outcome.{Outcome, outcome}
 use Rattle.rows.specs.Round as Round
 use Rattle.rows.proofs.RoundLaws as RoundLaws
 use Rattle.rows.proofs.RoundLaws.{sweep-length}
-use Rattle.rows.proofs.HeldLaws.{wrapped-below, removed-count, removed-length}
+use Rattle.rows.proofs.HeldLaws.{wrapped-below, stored-sound, appended-sound, removed-count, removed-length, removed-sound}
 use Rattle.rows.proofs.LowestLaws.{found-passes, nowhere-passes-none}
 use Rattle.ledger.specs.declared.Debt.{Debt}
-use Rattle.ledger.specs.Model.{Ledger, Sound, noDebt, capOf, debtAt, settledBy, cursorOf, withCursor, withDebt, owes, placeOf, removeAt}
+use Rattle.ledger.specs.Model.{Ledger, Sound, noDebt, capOf, debtAt, settledBy, cursorOf, withDebt, owes, placeOf, removeAt}
 use Rattle.ledger.specs.Model.{append, owedAt, owedBy, takenAt, taken, roundOf, look, sweep, credit, paidAt, paidDown}
 
 -- The cursor, as it is read, stands at a debt.
@@ -54,10 +54,6 @@ same-room l = record { cap = refl; others = refl }
 pub same-room-trans : {l m n : Ledger} → SameRoom l m → SameRoom m n → SameRoom l n
 same-room-trans first second = record { cap = second .cap ∙ first .cap; others = second .others ∙ first .others }
 
--- The cursor has no part in whether a ledger is sound.
-pub cursor-sound : (l : Ledger) (c : ℕ) → Sound l → Sound (withCursor l c)
-cursor-sound l c s = record { room = s .room; count-fits = s .count-fits }
-
 -- A removal leaves one debt less and the same room.
 pub removal-count : (l : Ledger) (p : ℕ) → removeAt l p .debts .count ≡ l .debts .count - 1
 unfolding removeAt
@@ -72,7 +68,8 @@ unfolding removeAt
 removal-room l p = record { cap = removal-cap l p; others = refl }
 
 pub removal-sound : (l : Ledger) (p : ℕ) → Sound l → Sound (removeAt l p)
-removal-sound l p s = record { room = omega (arith, removal-cap l p); count-fits = omega (arith, removal-cap l p, removal-count l p) }
+unfolding removeAt
+removal-sound l p s = removed-sound noDebt (l .debts) p s
 
 -- So there is room for another debt.
 pub removal-leaves-room : (l : Ledger) (p : ℕ) → l .debts .count ≤ capOf l → p < l .debts .count → removeAt l p .debts .count < capOf (removeAt l p)
@@ -80,11 +77,11 @@ removal-leaves-room l p held below = omega (arith, removal-cap l p, removal-coun
 
 -- A debt that is changed, or that joins where there is room, leaves a sound ledger.
 pub change-sound : (l : Ledger) (p : ℕ) (d : Debt) → Sound l → Sound (withDebt l p d)
-change-sound l p d s = record { room = simp length-set (s .room); count-fits = simp length-set (s .count-fits) }
+change-sound l p d s = stored-sound (l .debts) p d s
 
 pub append-sound : (l : Ledger) (d : Debt) → l .debts .count < capOf l → Sound (append l d)
 unfolding append
-append-sound l d room = record { room = simp length-set (omega arith); count-fits = simp length-set (omega arith) }
+append-sound l d room = appended-sound (l .debts) d room
 
 -- A debt that settles so much sooner.
 abbrev pub sooner-by : Nanos → Debt → Debt
@@ -133,7 +130,8 @@ module _ (at : Nanos) (n : ℕ) (l : Ledger) where
   sweep-count = RoundLaws.sweep-count noDebt (settledBy at) n (roundOf l)
 
   pub sweep-sound : Sound l → Sound (sweep at n l)
-  sweep-sound s = record { room = omega (arith, sweep-room .cap); count-fits = omega (arith, sweep-room .cap, sweep-count) }
+  unfolding sweep
+  sweep-sound s = RoundLaws.sweep-sound noDebt (settledBy at) n (roundOf l) s
 
 pub look-sound : (at : Nanos) (l : Ledger) → Sound l → Sound (look at l)
 unfolding look sweep Round.sweep

@@ -1,5 +1,5 @@
 -- The ledger of one shard: the debts of keys that were forgotten before their buckets were full, and what each operation makes of it.
-use Prim.Native.Nat.{ℕ, zero, suc, _+_, _*_, _-_, _/_, _≤_, _<_, min, max}
+use Prim.Native.Nat.{ℕ, zero, suc, _+_, _*_, _-_, _/_, min, max}
 use mathlib.Core.Bool.{Bool, true, false, cond}
 use mathlib.Core.List.{List}
 use lib.ListN.{length}
@@ -13,6 +13,7 @@ use Rattle.settings.specs.Eviction.{ledgerScan}
 use Rattle.rows.specs.declared.Place.{Place}
 use Rattle.rows.specs.declared.Place.the-variants.{At, Nowhere}
 use Rattle.rows.specs.Held.{Held, wrapped, itemAt, position, removed, appended, stored}
+use Rattle.rows.specs.Held as Held
 use Rattle.rows.specs.Round.{Round}
 use Rattle.rows.specs.Round as Round
 use Rattle.rows.specs.Outcome.{Outcome, outcome}
@@ -37,9 +38,8 @@ abbrev pub capOf : Ledger → ℕ
 capOf l = length (l .debts .places)
 
 -- There is room for a debt, and no more are held than there is room for.
-pub record Sound (l : Ledger) : Type 0 where
-  pub room : 0 < capOf l
-  pub count-fits : l .debts .count ≤ capOf l
+abbrev pub Sound : Ledger → Type 0
+Sound l = Held.Sound (l .debts)
 
 -- The debt at a place, and the moment at which it settles.
 abbrev pub debtAt : Ledger → ℕ → Debt

@@ -1,5 +1,5 @@
 -- Held items after an item is stored, appended or removed: what stands where, and what becomes of a sum of weights.
-use Prim.Native.Nat.{ℕ, suc, _+_, _-_, _≤_, _<_}
+use Prim.Native.Nat.{ℕ, suc, _+_, _-_, _<_}
 use mathlib.Core.Path.{_≡_, refl, ap, sym, _∙_}
 use native.Mathlib.Numerals.{add-one}
 use native.Mathlib.Omega.{arith}
@@ -8,16 +8,20 @@ use lib.Dec.{ltb}
 use lib.Seq.{getD-set-same, getD-set-other}
 use borrow.Author.Tests.{ltb-true}
 use Rattle.arith.proofs.Cases.{by-test, by-eq}
-use Rattle.rows.specs.Held.{Held, wrapped, sum, itemAt, removed, total, appended, stored}
+use Rattle.rows.specs.Held.{Held, Sound, wrapped, sum, itemAt, removed, total, appended, stored}
 use Rattle.rows.proofs.SumLaws.{sum-same, sum-changed}
 
 -- A hand, sweep or cursor, as it is read, stands at an item.
 pub wrapped-below : (i count : ℕ) → 0 < count → wrapped i count < count
 wrapped-below i count some = by-test (ltb i count) (λ t. rw t (ltb-true _ _ t)) (λ t. rw t some)
 
--- The items stand in places that there are.
-pub record Sound {A : Type 0} (h : Held A) : Type 0 where
-  pub count-fits : h .count ≤ length (h .places)
+-- A stored item, and an appended one where there is room, leave held items sound.
+module _ {A : Type 0} (h : Held A) where
+  pub stored-sound : (i : ℕ) (x : A) → Sound h → Sound (stored h i x)
+  stored-sound i x s = record { room = simp length-set (s .room); count-fits = simp length-set (s .count-fits) }
+
+  pub appended-sound : (x : A) → h .count < length (h .places) → Sound (appended h x)
+  appended-sound x below = record { room = simp length-set (omega arith); count-fits = simp length-set (omega arith) }
 
 module _ {A : Type 0} (free : A) where
   pub item-stored : (h : Held A) (i : ℕ) (x : A) → i < length (h .places) → itemAt free (stored h i x) i ≡ x
@@ -54,7 +58,7 @@ module _ {A : Type 0} (free : A) where
   removed-length h p = simp length-set
 
   pub removed-sound : (h : Held A) (p : ℕ) → Sound h → Sound (removed free h p)
-  removed-sound h p s = record { count-fits = omega (arith, s .count-fits, removed-count h p, removed-length h p) }
+  removed-sound h p s = record { room = omega (arith, s .room, removed-length h p); count-fits = omega (arith, s .count-fits, removed-count h p, removed-length h p) }
 
   -- The weights: a stored item changes its own, an appended one adds its own, a removed one takes its own away.
   pub total-stored : (w : A → ℕ) (h : Held A) (i : ℕ) (x : A) → Sound h → i < h .count

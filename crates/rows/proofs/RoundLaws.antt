@@ -8,9 +8,9 @@ use lib.Dec.{eqb}
 use lib.ListN.{length}
 use borrow.Author.Tests.{eqb-false, eq-eqb, ne-eqb}
 use Rattle.arith.proofs.Cases.{by-test}
-use Rattle.rows.specs.Held.{Held, itemAt, removed, total}
+use Rattle.rows.specs.Held.{Held, Sound, itemAt, removed, total}
 use Rattle.rows.specs.Round.{Round, nextOf, lookAt, look, sweep}
-use Rattle.rows.proofs.HeldLaws.{Sound, wrapped-below, removed-count, removed-length, removed-sound, total-removed}
+use Rattle.rows.proofs.HeldLaws.{wrapped-below, removed-count, removed-length, removed-sound, total-removed}
 
 module _ {A : Type 0} (free : A) (goes : A → Bool) where
   -- A look at an item that goes, at one that stays, and where there is none.
@@ -52,13 +52,18 @@ module _ {A : Type 0} (free : A) (goes : A → Bool) where
   sweep-keeps Q kept (suc n) r q =
       sweep-keeps Q kept n (look free goes r) (look-cases (λ t. Q (t .items)) r q (λ below passes. kept (r .items) (nextOf r) below passes q) (λ below. q))
 
-  -- The room stays, and there are no more items than there were. The next look is at a place up to the count, unless there was no look.
+  -- The room stays, and there are no more items than there were.
   pub sweep-length : (n : ℕ) (r : Round A) → length (sweep free goes n r .items .places) ≡ length (r .items .places)
   sweep-length n r = sweep-keeps (λ h. length (h .places) ≡ length (r .items .places)) (λ h p below passes same. removed-length free h p ∙ same) n r refl
 
   pub sweep-count : (n : ℕ) (r : Round A) → sweep free goes n r .items .count ≤ r .items .count
   sweep-count n r = sweep-keeps (λ h. h .count ≤ r .items .count) (λ h p below passes fewer. omega (arith, removed-count free h p)) n r (omega arith)
 
+  -- Sound items stay so.
+  pub sweep-sound : (n : ℕ) (r : Round A) → Sound (r .items) → Sound (sweep free goes n r .items)
+  sweep-sound n r s = sweep-keeps Sound (λ h p below passes t. removed-sound free h p t) n r s
+
+  -- The next look is at a place up to the count, unless there was no look.
   pub sweep-next : (n : ℕ) (r : Round A) → sweep free goes n r .next ≤ max (r .next) (r .items .count)
   unfolding sweep
   sweep-next zero r = omega arith

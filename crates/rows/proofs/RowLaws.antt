@@ -1,11 +1,11 @@
 -- Words in rows: what a read and a store mean for them, and the way back from rows to words. At every width.
-use Prim.Native.Nat.{ℕ, zero, suc, _+_, _*_, _-_, _≤_, _<_}
+use Prim.Native.Nat.{ℕ, zero, suc, _+_, _*_, _≤_, _<_}
 use native.Mathlib.Omega.{arith}
 use native.Mathlib.Nat.{mul-suc, mul-zero, zero-add, add-zero, add-suc, mul-le-mul-left}
 use mathlib.Core.Path.{_≡_, refl, ap, sym, _∙_, subst}
 use mathlib.Core.List.{List, [], _∷_, map, append-nil}
 use lib.ListN.{length, getD, set, take, drop, length-drop, List·getD-map, drop-of-length-le}
-use lib.Seq.{drop-drop, take-set-lt, take-set-le, drop-set-lt, drop-set-add, getD-take, getD-drop, length-take-le, sets, getD-set-same, getD-set-other}
+use lib.Seq.{drop-drop, take-set-lt, take-set-le, drop-set-lt, drop-set-add, getD-take, getD-drop, length-take-le, sets, getD-set-same}
 use lib.Seq.{set-getD, set-set, take-add, take-all, sets-eq}
 use Rattle.rows.specs.Rows.{rows, unrow}
 use Rattle.rows.specs.Segments.{segment}

@@ -3,9 +3,9 @@ use Prim.Native.Nat.{ℕ, zero, suc, _+_, _-_, _≤_, _<_}
 use native.Mathlib.Omega.{arith}
 use mathlib.Core.Path.{_≡_, refl, ap, sym, _∙_}
 use mathlib.Core.List.{List, [], _∷_, _++_, append-nil}
-use lib.ListN.{length, getD, set, take, drop, length-take, length-drop, List·getD-append, take-append-drop, drop-of-length-le}
+use lib.ListN.{length, set, take, drop, length-take, length-drop, take-append-drop, drop-of-length-le}
 use native.Mathlib.Nat.{add-suc}
-use lib.Seq.{sets, take-take, take-set-lt, take-set-le, drop-set-lt, drop-set-add, drop-drop, drop-append-le, take-append-le, take-at, drop-at, length-take-le, getD-take}
+use lib.Seq.{sets, take-take, take-set-lt, take-set-le, drop-set-lt, drop-set-add, drop-drop, drop-append-le, take-append-le, take-at, drop-at, length-take-le}
 use borrow.Rule.Slice.PartMut.{putMid}
 use Rattle.rows.specs.Segments.{segment}
 
@@ -43,9 +43,6 @@ module _ (a n : ℕ) (ws ys : List ℕ) (h : a + n ≤ length ws) (k : length ys
   pub segment-back : segment a n (putMid a n ws ys) ≡ ys
   segment-back = ap (take n) back ∙ take-at ys (drop n (drop a ws)) n k
 
-  pub word-kept : (j : ℕ) → j < a → getD (putMid a n ws ys) j 0 ≡ getD ws j 0
-  word-kept j b = List·getD-append (take a ws) _ 0 j (rw front-long b) ∙ getD-take a ws j 0 b
-
   pub segment-kept-below : (b m : ℕ) → b + m ≤ a → segment b m (putMid a n ws ys) ≡ segment b m ws
   segment-kept-below b m d =
       let l = front-long in
@@ -65,7 +62,7 @@ rest-back a ws ys h k =
     back a (length ws - a) ws ys (omega arith) k
     ∙ rw (drop-of-length-le (drop a ws) {i = length ws - a} (omega (arith, length-drop a ws))) (append-nil ys)
 
--- A run of stores in the part, before it, before all that lies from a word on, and past the first words.
+-- A run of stores in the part, before all that lies from a word on, and past the first words.
 pub segment-sets : (a n : ℕ) (ws : List ℕ) (i : ℕ) (vs : List ℕ) → i + length vs ≤ n → segment a n (sets ws (a + i) vs) ≡ sets (segment a n ws) i vs
 segment-sets a n ws i [] h = refl
 segment-sets a n ws i (v ∷ vs) h = rw (← add-suc) (segment-sets a n (set ws (a + i) v) (suc i) vs (omega arith) ∙ rw (segment-set a n ws i v (omega arith)))
@@ -77,9 +74,6 @@ drop-sets-below a ws i (v ∷ vs) h = drop-sets-below a (set ws i v) (suc i) vs 
 pub take-sets-above : (a : ℕ) (ws : List ℕ) (i : ℕ) (vs : List ℕ) → a ≤ i → take a (sets ws i vs) ≡ take a ws
 take-sets-above a ws i [] h = refl
 take-sets-above a ws i (v ∷ vs) h = take-sets-above a (set ws i v) (suc i) vs (omega arith) ∙ take-set-le a ws i v h
-
-pub segment-sets-below : (a n : ℕ) (ws : List ℕ) (i : ℕ) (vs : List ℕ) → i + length vs ≤ a → segment a n (sets ws i vs) ≡ segment a n ws
-segment-sets-below a n ws i vs h = ap (take n) (drop-sets-below a ws i vs h)
 
 -- A part, and what lies past it.
 pub segment-and-rest : (a n : ℕ) (ws : List ℕ) → segment a n ws ++ drop (a + n) ws ≡ drop a ws

@@ -1,17 +1,22 @@
 -- Items held in the first places of a fixed number of places. What stands in the places past the count is part of the value, so that a definition
 -- over `Held` fixes every word. An operation changes which items are held by three definitions: `appended` adds an item, `removed` takes one out, and
 -- `stored` puts one in the place of another. `position` finds an item and changes nothing. Only set-up and clear do otherwise: all words become 0.
-use Prim.Native.Nat.{ℕ, zero, suc, _+_, _-_}
+use Prim.Native.Nat.{ℕ, zero, suc, _+_, _-_, _≤_, _<_}
 use mathlib.Core.Bool.{Bool, cond}
 use mathlib.Core.List.{List}
 use lib.Dec.{ltb}
-use lib.ListN.{getD, set}
+use lib.ListN.{length, getD, set}
 use Rattle.rows.specs.declared.Place.{Place}
 use Rattle.rows.specs.declared.Place.the-variants.{At, Nowhere}
 
 pub record Held (A : Type 0) : Type 0 where
   pub count : ℕ
   pub places : List A
+
+-- There is room for an item, and no more are held than there is room for.
+pub record Sound {A : Type 0} (h : Held A) : Type 0 where
+  pub room : 0 < length (h .places)
+  pub count-fits : h .count ≤ length (h .places)
 
 -- A hand, sweep or cursor that stands at or past the count reads as the first place.
 abbrev pub wrapped : ℕ → ℕ → ℕ

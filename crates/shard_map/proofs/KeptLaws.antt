@@ -22,13 +22,12 @@ use Rattle.rows.specs.Held.{total}
 use Rattle.rows.proofs.SumLaws.{sum-le, term-le-sum, sum-of-zeros}
 use Rattle.rows.proofs.RoundLaws as RoundLaws
 use Rattle.rows.proofs.RoundLaws.{sweep-keeps-total}
-use Rattle.rows.proofs.HeldLaws as Held
 use Rattle.rows.proofs.HeldLaws.{total-stored, total-appended, total-removed}
 use Rattle.slot.specs.declared.Slot.{Slot}
 use Rattle.ledger.specs.Model as Ledger
 use Rattle.ledger.proofs.KeptLaws.{weigh, owed, one, SettledIsNothing, sweep-never-adds, sweep-keeps-unsettled, owed-by-another-value, none-owed-nothing-owed}
 use Rattle.shard_map.specs.Model.{Shard, Sound, noSlot, capOf, slotAt, withSlot, withLedger, placeOf, removeAt, insert, reclaimable, roundOf, sweepIdle}
-use Rattle.shard_map.proofs.StepLaws.{Holding, nowhere-holds-none, removal-ledger, reclaimable-is-full}
+use Rattle.shard_map.proofs.StepLaws.{Holding, nowhere-holds-none, slots-sound, removal-ledger, reclaimable-is-full}
 
 -- What a slot counts for the identity (h, k), and what it lacks at a moment if its hash is h.
 unfoldable pub weight : ℕ → ℕ → Slot → ℕ
@@ -89,7 +88,7 @@ module _ (h : ℕ) (slotValue : Slot → ℕ) (debtValue : ℕ → ℕ) where
   all-removed : (s : Shard) (p : ℕ) → Sound s → p < s .slots .count
       → overAll h slotValue debtValue (removeAt s p) + slotValue (slotAt s p) ≡ overAll h slotValue debtValue s
   unfolding removeAt
-  all-removed s p u below = omega (arith, total-removed noSlot slotValue (s .slots) p (record { count-fits = u .count-fits }) below)
+  all-removed s p u below = omega (arith, total-removed noSlot slotValue (s .slots) p (slots-sound s u) below)
 
   all-inserted : (s : Shard) (slot : Slot) → s .slots .count < capOf s → overAll h slotValue debtValue (insert s slot) ≡ overAll h slotValue debtValue s + slotValue slot
   unfolding insert
@@ -97,7 +96,7 @@ module _ (h : ℕ) (slotValue : Slot → ℕ) (debtValue : ℕ → ℕ) where
 
   all-stored : (s : Shard) (p : ℕ) (slot : Slot) → Sound s → p < s .slots .count
       → overAll h slotValue debtValue (withSlot s p slot) + slotValue (slotAt s p) ≡ overAll h slotValue debtValue s + slotValue slot
-  all-stored s p slot u below = omega (arith, total-stored noSlot slotValue (s .slots) p slot (record { count-fits = u .count-fits }) below)
+  all-stored s p slot u below = omega (arith, total-stored noSlot slotValue (s .slots) p slot (slots-sound s u) below)
 
 -- A shard without a slot and without a debt has nothing of any hash.
 pub empty-has-nothing : (h : ℕ) (slotValue : Slot → ℕ) (debtValue : ℕ → ℕ) (s : Shard) → s .slots .count ≡ 0 → s .ledger .debts .count ≡ 0
@@ -173,7 +172,7 @@ module _ (c : BucketConfig) (h k : ℕ) where
   pub sweep-idle-keeps-shortage : (at : Nanos) (limit : Millis) (n : ℕ) (s : Shard) → Sound s → Keeps c h k at s (sweepIdle c at limit n s)
   unfolding sweepIdle
   sweep-idle-keeps-shortage at limit n s u =
-      let sound : Held.Sound (s .slots) = record { count-fits = u .count-fits } in
+      let sound = slots-sound s u in
       let weightless : (slot : Slot) → reclaimable c at limit slot ≡ true → short c h at slot ≡ 0 =
       λ slot goes. short-full c h at slot (reclaimable-is-full c at limit slot goes) in
       record {

@@ -1,6 +1,6 @@
 -- Laws of the shard's operations that their functions go by: one turn of a loop is one step of the definition that counts the looks left; what a
 -- definition is in each case that the code goes through; and that words which are lent stay so. What the operations keep is in StepLaws.
-use Prim.Native.Nat.{ℕ, _+_, _-_, _*_, _<_}
+use Prim.Native.Nat.{ℕ, _+_, _-_, _<_}
 use native.Mathlib.Omega.{arith}
 use mathlib.Core.Path.{_≡_, refl, ap, _∙_}
 use mathlib.Core.Bool.{true, false}

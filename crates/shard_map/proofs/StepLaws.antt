@@ -1,8 +1,7 @@
 -- What lookup by hash and key says, and what the steps leave of the room.
-use Prim.Native.Nat.{ℕ, _+_, _-_, _<_}
+use Prim.Native.Nat.{ℕ, _-_, _<_}
 use mathlib.Core.Path.{_≡_, refl, sym, _∙_}
 use mathlib.Core.Bool.{true, false, true≢false}
-use native.Mathlib.Omega.{arith}
 use lib.ListN.{length-set}
 use borrow.Author.Tests.{eqb-true}
 use Rattle.arith.proofs.Cases.{by-test}
@@ -12,9 +11,11 @@ use Rattle.units.specs.Units.{millisOf}
 use Rattle.bucket.specs.declared.BucketConfig.{BucketConfig}
 use Rattle.bucket.specs.Bucket.{shortfallAt}
 use Rattle.rows.specs.declared.Place.the-variants.{At, Nowhere}
+use Rattle.rows.specs.Held as Held
 use Rattle.rows.specs.Round as Round
-use Rattle.rows.proofs.RoundLaws.{sweep-length, sweep-count}
-use Rattle.rows.proofs.HeldLaws.{wrapped-below, removed-count, removed-length}
+use Rattle.rows.proofs.RoundLaws as RoundLaws
+use Rattle.rows.proofs.RoundLaws.{sweep-length}
+use Rattle.rows.proofs.HeldLaws.{wrapped-below, stored-sound, appended-sound, removed-count, removed-length, removed-sound}
 use Rattle.rows.proofs.LowestLaws.{found-passes, nowhere-passes-none}
 use Rattle.slot.specs.declared.Slot.{Slot}
 use Rattle.slot.specs.Slot.{isKey, expired}
@@ -50,6 +51,13 @@ nowhere-holds-none s h k e i below hash key =
     let holds : isKey h k (slotAt s i) ≡ true = is-key-iff h k (slotAt s i) .1 (hash, key) in
     absurd (true≢false (sym holds ∙ fails))
 
+-- A shard is sound where its slots and its ledger are.
+pub slots-sound : (s : Shard) → Sound s → Held.Sound (s .slots)
+slots-sound s t = record { room = t .room; count-fits = t .count-fits }
+
+sound-by-parts : (s : Shard) → Held.Sound (s .slots) → Ledger.Sound (s .ledger) → Sound s
+sound-by-parts s t u = record { room = t .room; count-fits = t .count-fits; ledger = u }
+
 -- A removal leaves one slot less, the same room and the same ledger.
 pub removal-count : (s : Shard) (p : ℕ) → removeAt s p .slots .count ≡ s .slots .count - 1
 unfolding removeAt
@@ -64,17 +72,10 @@ unfolding removeAt
 removal-ledger s p = refl
 
 pub removal-sound : (s : Shard) (p : ℕ) → Sound s → Sound (removeAt s p)
-removal-sound s p t = record {
-  room = omega (arith, removal-cap s p, t .room);
-  count-fits = omega (arith, removal-cap s p, removal-count s p, t .count-fits);
-  ledger = rw (removal-ledger s p) (t .ledger);
-}
+unfolding removeAt
+removal-sound s p t = sound-by-parts (removeAt s p) (removed-sound noSlot (s .slots) p (slots-sound s t)) (t .ledger)
 
--- An insertion where there is room leaves one slot more and the same room.
-pub insert-count : (s : Shard) (slot : Slot) → insert s slot .slots .count ≡ s .slots .count + 1
-unfolding insert
-insert-count s slot = refl
-
+-- An insertion where there is room leaves the same room and the same ledger.
 pub insert-cap : (s : Shard) (slot : Slot) → capOf (insert s slot) ≡ capOf s
 unfolding insert
 insert-cap s slot = simp length-set
@@ -84,24 +85,21 @@ unfolding insert
 insert-ledger s slot = refl
 
 pub insert-sound : (s : Shard) (slot : Slot) → Sound s → s .slots .count < capOf s → Sound (insert s slot)
-insert-sound s slot t room = record {
-  room = omega (arith, insert-cap s slot, t .room);
-  count-fits = omega (arith, insert-cap s slot, insert-count s slot);
-  ledger = rw (insert-ledger s slot) (t .ledger);
-}
+unfolding insert
+insert-sound s slot t room = sound-by-parts (insert s slot) (appended-sound (s .slots) slot room) (t .ledger)
 
 -- A slot that is changed, a sweep that moves, and a sound ledger put in leave a sound shard; a change leaves the same room.
 pub change-cap : (s : Shard) (p : ℕ) (slot : Slot) → capOf (withSlot s p slot) ≡ capOf s
 change-cap s p slot = simp length-set
 
 pub change-sound : (s : Shard) (p : ℕ) (slot : Slot) → Sound s → Sound (withSlot s p slot)
-change-sound s p slot t = record { room = simp length-set (t .room); count-fits = simp length-set (t .count-fits); ledger = t .ledger }
+change-sound s p slot t = sound-by-parts (withSlot s p slot) (stored-sound (s .slots) p slot (slots-sound s t)) (t .ledger)
 
 pub sweep-sound : (s : Shard) (sweep : ℕ) → Sound s → Sound (withSweep s sweep)
-sweep-sound s sweep t = record { room = t .room; count-fits = t .count-fits; ledger = t .ledger }
+sweep-sound s sweep t = sound-by-parts (withSweep s sweep) (slots-sound s t) (t .ledger)
 
 pub ledger-sound : (s : Shard) (l : Ledger.Ledger) → Sound s → Ledger.Sound l → Sound (withLedger s l)
-ledger-sound s l t u = record { room = t .room; count-fits = t .count-fits; ledger = u }
+ledger-sound s l t u = sound-by-parts (withLedger s l) (slots-sound s t) u
 
 -- A slot that may be reclaimed has a full bucket.
 pub reclaimable-is-full : (c : BucketConfig) (at : Nanos) (limit : Millis) (slot : Slot) → reclaimable c at limit slot ≡ true → shortfallAt c (slot .bucket) at ≡ 0
@@ -120,8 +118,7 @@ module _ (c : BucketConfig) (at : Nanos) (limit : Millis) where
   pub sweep-idle-sound : (n : ℕ) (s : Shard) → Sound s → Sound (sweepIdle c at limit n s)
   unfolding sweepIdle
   sweep-idle-sound n s t =
-      let fewer = sweep-count noSlot (reclaimable c at limit) n (roundOf s) in
-      record { room = omega (arith, sweep-idle-cap n s, t .room); count-fits = omega (arith, sweep-idle-cap n s, t .count-fits); ledger = t .ledger }
+      sound-by-parts (sweepIdle c at limit n s) (RoundLaws.sweep-sound noSlot (reclaimable c at limit) n (roundOf s) (slots-sound s t)) (t .ledger)
 
   pub idle-look-sound : (s : Shard) → Sound s → Sound (idleLook c at limit s)
   unfolding idleLook sweepIdle Round.sweep

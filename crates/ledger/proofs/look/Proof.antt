@@ -2,7 +2,6 @@
 use Prim.Native.Nat.{_<_}
 use native.Mathlib.Omega.{arith}
 use Rattle.ledger.specs.Layout.{ledger}
-use Rattle.ledger.proofs.StepLaws.{cursor-sound}
 use Rattle.ledger.proofs.ModelLaws.{look-settled, look-unsettled, intact-cursor, intact-after}
 use borrow.Author.Needs.{needs}
 use Rattle.ledger.proofs.look.Statement.{statement}
@@ -32,7 +31,7 @@ remove-at-requires : tie.Need-remove-at-requires
 remove-at-requires c κs =
     let stored = c .before .before .before in
     let intact = start (looked stored) .pre .0 in
-    let still-intact = intact-after intact (stored .set-cursor .kept .0) (stored .set-cursor .ensures) (cursor-sound _ _ (intact .sound)) in
+    let still-intact = intact-after intact (stored .set-cursor .kept .0) (stored .set-cursor .ensures) (intact .sound) in
     (still-intact, rw (stored .set-cursor .ensures) (held (looked stored) .0))
 
 add-set-cursor : tie.Need-add-set-cursor

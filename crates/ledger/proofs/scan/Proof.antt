@@ -5,7 +5,6 @@ use lib.ListN.{length}
 use Prim.Native.Nat.{ℕ, _<_}
 use native.Mathlib.Omega.{arith}
 use Rattle.units.specs.declared.Nanos.{Nanos}
-use Rattle.ledger.proofs.StepLaws.{cursor-sound}
 use Rattle.ledger.proofs.ModelLaws.{scan-start, scan-end, scan-settled, scan-turn, intact-below, intact-cursor, intact-sooner, intact-after}
 use Rattle.ledger.specs.Layout.{ledger, Intact}
 use Rattle.ledger.specs.Model.{scan, scanFrom}
@@ -120,7 +119,7 @@ loop-again c =
     let unsettled = rw (test .before .before .before .settles-at .ensures, k .cursor2 .ensures) at (test .if1 .left) in
     let goes-on = scan-turn _ _ _ _ (k .before .before .loop-test .taken) unsettled in
     record {
-      intact = intact-after (inv .intact) (stored .set-cursor2 .kept .0) (stored .set-cursor2 .ensures) (cursor-sound _ _ (inv .intact .sound));
+      intact = intact-after (inv .intact) (stored .set-cursor2 .kept .0) (stored .set-cursor2 .ensures) (inv .intact .sound);
       long = stored .set-cursor2 .kept .0 ∙ inv .long;
       some = rw (stored .set-cursor2 .ensures) (inv .some);
       below = rw (stored .set-cursor2 .ensures, chosen .sooner .ensures) (intact-sooner (inv .intact) (inv .below) (held k .0));
