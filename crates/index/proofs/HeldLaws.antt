@@ -5,8 +5,8 @@ use mathlib.Core.List.{List}
 use mathlib.Core.Bool.{Bool, true}
 use lib.ListN.{length}
 use Rattle.arith.proofs.Cases.{by-eq}
-use Rattle.rows.specs.Held.{Held, itemAt, removed, appended, stored, position}
-use Rattle.rows.proofs.HeldLaws.{Sound, item-stored, item-stored-other, item-appended, item-appended-other, item-moved, item-kept}
+use Rattle.rows.specs.Held.{Held, Sound, itemAt, removed, appended, stored, position}
+use Rattle.rows.proofs.HeldLaws.{item-stored, item-stored-other, item-appended, item-appended-other, item-moved, item-kept}
 use Rattle.index.specs.Walk.{find, add, remove}
 use Rattle.index.specs.Exact.{Exact}
 use Rattle.index.proofs.ExactLaws.{exact-hash, add-exact}
