@@ -1,6 +1,7 @@
 -- The examples of the impostors, and that of the window without its + 1: all that is computed from the rules, in one place. A store is named by how many
 -- keys it has room for; reservations are pairs of a key and a cost.
-use mathlib.Core.Path.{refl}
+use mathlib.Core.Path.{_≡_, refl}
+use mathlib.Core.Bool.{true}
 use mathlib.Core.List.{[], _∷_}
 use Rattle.arith.specs.Arith.{ceilDiv}
 use Rattle.rows.specs.Rows.{rows, unrow}
@@ -19,10 +20,14 @@ use Rattle.shard_map.specs.Layout as Layout
 use Rattle.shard_map.specs.Model as Shard
 use Rattle.evict.specs.Evict.{noted, walkFrom, walked, evicted}
 use Rattle.shard.specs.Model as OneShard
+use Rattle.settings.specs.declared.decision.Decision.the-variants.{Acquired}
 use Rattle.store.specs.Refusals as Refusals
+use Rattle.perkey.specs.declared.Reply.the-variants.{Tried}
+use Rattle.perkey.specs.Rules.{dueNow}
 use Rattle.perkey.specs.Rules as Rules
 use Rattle.perkey.specs.Calls.{len, rules, replies, accepted}
 use Rattle.perkey.specs.Edges.{rateOf, twoPerSecond, keyOf, asks, asksAsSeven}
+use Rattle.demands.specs.Widths.{allFit, lendable}
 use Rattle.demands.specs.Demands.{usable, tokensUsable}
 use Rattle.demands.specs.Impostors.{impossibleToAll, retryBeforeALook, alwaysAcquired, grantsWithoutStoring, firstDebtOnly, inventedLength}
 use Rattle.demands.specs.Impostors.{turnsSlotlessAway, turnsNewcomersAway, blindToKeys}
@@ -31,6 +36,12 @@ use Rattle.demands.proofs.ExampleLaws.{roomFor, fresh, after, TellsOthe
 -- Two tokens a nanosecond, and a burst of one.
 abbrev pub fast : Rate
 fast = rateOf 2 1 1
+
+-- A newcomer to a fresh store is granted its token at moment 1, and told so.
+pub record GrantedAtOne : Type 0 where
+  pub lent : lendable (fresh (roomFor 1)) ≡ true
+  pub fit : allFit (asks 1 7 1 (roomFor 1) ∷ []) ≡ true
+  pub told : rules (asks 1 7 1 (roomFor 1)) (fresh (roomFor 1)) .answer ≡ Tried (Acquired (dueNow (record { 0 = 1 })))
 
 pub record Computed : Type 0 where
   -- Key 7 has taken one token of four and asks for another: its bucket grants it.
@@ -50,6 +61,7 @@ pub record Computed : Type 0 where
   pub newcomer : TellsOtherwise turnsNewcomersAway (asks 0 7 1 (roomFor 1)) (fresh (roomFor 1))
   -- Keys 7 and 8 share the hash 7. Key 7 has taken all, and key 8 one token: the bucket of key 8 grants another.
   pub blind : Misdecides blindToKeys 2 (asks 0 7 4 ∷ asksAsSeven 0 8 1 ∷ []) (record { hash = 7; key = 8 })
+  pub at-one : GrantedAtOne
   -- At two tokens a nanosecond, the second and the third of three reservations both become usable at moment 1.
   pub two-at-once : Overgrants 0 rules fast 1 ((7, 1) ∷ (7, 1) ∷ (7, 1) ∷ []) 7 1
 
@@ -74,5 +86,6 @@ computed = record {
   slotless = record { fit = refl; lent = refl; accepts = refl; holding = refl; otherwise = refl };
   newcomer = record { fit = refl; lent = refl; otherwise = refl };
   blind = record { fit = refl; lent = refl; accepts = refl; holding = refl; otherwise = refl };
+  at-one = record { lent = refl; fit = refl; told = refl };
   two-at-once = record { settings = refl; lent = refl; fit = refl; set-up = refl; over = refl };
 }

@@ -1,6 +1,6 @@
 -- What each impostor fails. The six of document 01 fail demand 2, and the first five demand 3 too; of the other three, the one that turns away keys without
--- a slot and the one that is blind to keys fail both, and the one that turns newcomers away once fails demand 2. The examples are computed in `Computed`.
--- Last, the window without its + 1, which the rules fail.
+-- a slot and the one that is blind to keys fail both, and the one that turns newcomers away once fails demand 2. So does the one that tells no moment, which
+-- fails the moments of request 1. The examples are computed in `Computed`. Last, the window without its + 1, which the rules fail.
 use Prim.Native.Nat.{ℕ}
 use native.Mathlib.Omega.{arith}
 use mathlib.Core.Path.{_≡_, refl}
@@ -8,11 +8,14 @@ use mathlib.Core.List.{List, [], _∷_}
 use Rattle.shard.specs.declared.Identity.{Identity}
 use Rattle.perkey.specs.Rules.{setUp}
 use Rattle.perkey.specs.Calls.{Call, request, look, undo, len, rules, replies}
+use Rattle.perkey.specs.Edges.{asks}
 use Rattle.demands.specs.Demands.{Limiter, answering, Demand2, tokensOf, tokensUsable, WindowAdding, Window, OwnBucket, Demand3}
+use Rattle.demands.specs.Moments.{TellsMoments}
 use Rattle.demands.specs.Impostors.{impossibleToAll, retryBeforeALook, alwaysAcquired, grantsWithoutStoring, firstDebtOnly, inventedLength}
-use Rattle.demands.specs.Impostors.{turnsSlotlessAway, turnsNewcomersAway, blindToKeys}
+use Rattle.demands.specs.Impostors.{turnsSlotlessAway, turnsNewcomersAway, blindToKeys, tellsNoMoment}
 use Rattle.demands.proofs.Theorem.{demand2-gives-demand3}
-use Rattle.demands.proofs.ExampleLaws.{telling-otherwise-fails-demand2, misdeciding-breaks-own-bucket, overgranting-breaks-the-window}
+use Rattle.demands.proofs.MomentLaws.{demand2-tells-moments}
+use Rattle.demands.proofs.ExampleLaws.{roomFor, fresh, telling-otherwise-fails-demand2, misdeciding-breaks-own-bucket, overgranting-breaks-the-window}
 use Rattle.demands.proofs.Computed.{computed}
 
 -- Demand 3 is both parts, and demand 2 gives demand 3.
@@ -106,6 +109,17 @@ blind-to-keys-fails-demand3 = by-own-bucket _ blind-to-keys-breaks-own-bucket
 
 pub blind-to-keys-fails-demand2 : Demand2 (answering blindToKeys) → ⊥
 blind-to-keys-fails-demand2 = by-demand3 _ blind-to-keys-fails-demand3
+
+-- No moment told: a grant at moment 1 is told with moment 0. The moments told shut this out, and so does demand 2. Demand 3 does not speak of them.
+pub telling-no-moment-fails-the-moments : TellsMoments (answering tellsNoMoment) → ⊥
+unfolding replies
+telling-no-moment-fails-the-moments tells =
+    let shown = computed .at-one in
+    let told : _≡_ {A = ℕ} 0 1 = rw (shown .told) at (tells (fresh (roomFor 1)) (asks 1 7 1 (roomFor 1) ∷ []) (shown .lent) (shown .fit) .0) in
+    absurd (omega arith)
+
+pub telling-no-moment-fails-demand2 : Demand2 (answering tellsNoMoment) → ⊥
+telling-no-moment-fails-demand2 demand = telling-no-moment-fails-the-moments (demand2-tells-moments (answering tellsNoMoment) demand)
 
 -- The window adds one moment to those from t to u. The rules do not keep it where none is added.
 pub window-adding-none-is-false-of-the-rules : WindowAdding 0 (answering rules) → ⊥

@@ -4,6 +4,7 @@ use Prim.Native.Nat.{ℕ, _+_, min}
 use mathlib.Core.Bool.{Bool, cond}
 use mathlib.Core.List.{List}
 use Rattle.rows.specs.Outcome.{outcome}
+use Rattle.bucket.specs.declared.Due.{Due}
 use Rattle.bucket.specs.declared.BucketDecision.{BucketDecision}
 use Rattle.bucket.specs.declared.BucketDecision.the-variants.{Allowed, Denied}
 use Rattle.bucket.specs.Bucket.{dueAfter}
@@ -13,8 +14,8 @@ use Rattle.evict.specs.Evict.{minRefusalWait}
 use Rattle.shard.specs.declared.Identity.{Identity}
 use Rattle.shard.specs.Model.{hasSlot, holds}
 use Rattle.perkey.specs.declared.Reply.{Reply}
-use Rattle.settings.specs.declared.decision.Decision.the-variants.{Impossible}
-use Rattle.perkey.specs.declared.Reply.the-variants.{Tried, Count}
+use Rattle.settings.specs.declared.decision.Decision.the-variants.{Acquired, Retry, Impossible}
+use Rattle.perkey.specs.declared.Reply.the-variants.{Tried, Reserved, Nothing, Done, Count, Refused}
 use Rattle.store.specs.Memory.{shardAt, inShard}
 use Rattle.perkey.specs.Rules.{numberOf, dueNow, replyTo}
 use Rattle.perkey.specs.Calls.{Call, request, look, undo, len, Implementation, rules, settingsOf, momentIn, numbered}
@@ -110,3 +111,20 @@ blindly (len s) = len s
 
 abbrev pub blindToKeys : Implementation
 blindToKeys c ws = rules (blindly c) ws
+
+-- The rules, with no moment told: a grant and a retry are told with the moment 0 (request 1 of document 02).
+abbrev atNoMoment : Due → Due
+atNoMoment due = record { wait = due .wait; moment = record { 0 = 0 } }
+
+abbrev withoutMoment : Reply → Reply
+withoutMoment (Tried (Acquired due)) = Tried (Acquired (atNoMoment due))
+withoutMoment (Tried (Retry due)) = Tried (Retry (atNoMoment due))
+withoutMoment (Tried Impossible) = Tried Impossible
+withoutMoment (Reserved due) = Reserved (atNoMoment due)
+withoutMoment Nothing = Nothing
+withoutMoment Done = Done
+withoutMoment (Count n) = Count n
+withoutMoment (Refused n) = Refused n
+
+abbrev pub tellsNoMoment : Implementation
+tellsNoMoment = telling (λ c ws. withoutMoment (rules c ws .answer))

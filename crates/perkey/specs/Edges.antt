@@ -18,7 +18,7 @@ use Rattle.settings.specs.Settings.{shardCount, capOf, idleLimit}
 use Rattle.hash.specs.Fnv.{fnv1a}
 use Rattle.shard.specs.declared.Identity.{Identity}
 use Rattle.perkey.specs.declared.Reply.{Reply}
-use Rattle.perkey.specs.Rules.{codeOf, numberOf, setUp}
+use Rattle.perkey.specs.Rules.{codeOf, numberOf, momentOf, setUp}
 use Rattle.perkey.specs.Calls.{Call, try, available, refund, rules}
 use Rattle.store.specs.Memory.{memoryWords}
 
@@ -81,8 +81,8 @@ pub data Edge : Type 0 where
   sized : Settings → (shards cap words : ℕ) → Edge
   -- Settings with an idle limit of so many milliseconds.
   idles : Settings → (limit : ℕ) → Edge
-  -- A run whose last answer has this code and this number, and which leaves these words.
-  ends : Settings → List (Settings → Call) → (code number : ℕ) → (words : List ℕ) → Edge
+  -- A run whose last answer has this code, this number and this moment, and which leaves these words.
+  ends : Settings → List (Settings → Call) → (code number moment : ℕ) → (words : List ℕ) → Edge
   -- Bytes with this hash.
   hashes : List ℕ → (hash : ℕ) → Edge
 
@@ -97,13 +97,13 @@ abbrev limitIs : OptionMillis → ℕ → Bool
 limitIs millis.None limit = false
 limitIs (millis.Some ms) limit = eqb (ms .0) limit
 
-abbrev endsIn : Outcome Reply (List ℕ) → ℕ → ℕ → List ℕ → Bool
-endsIn o code number words = eqb (codeOf (o .answer)) code && eqb (numberOf (o .answer)) number && sameWords (o .after) words
+abbrev tells : Reply → ℕ → ℕ → ℕ → Bool
+tells reply code number moment = eqb (codeOf reply) code && eqb (numberOf reply) number && eqb (momentOf reply) moment
 
 abbrev passes : Edge → Bool
 passes (sized s shards cap words) = eqb (shardCount s) shards && eqb (capOf s) cap && eqb (memoryWords s) words
 passes (idles s limit) = limitIs (idleLimit s) limit
-passes (ends s cs code number words) = endsIn (ran s cs) code number words
+passes (ends s cs code number moment words) = tells (ran s cs .answer) code number moment && sameWords (ran s cs .after) words
 passes (hashes bytes hash) = eqb (fnv1a bytes) hash
 
 -- Every row passes its test.
@@ -119,43 +119,46 @@ edges =
     sized (limited twoPerSecond (capacityOf 0) 0) 1 1 13
     -- 5 keys and 3 shards asked for: 4 shards with two places each.
     ∷ sized (limited twoPerSecond (capacityOf 5) 3) 4 2 84
-    -- A cost above the burst is impossible, and cost 0 is granted; neither leaves a slot.
-    ∷ ends (forOneKey twoPerSecond) (asks 0 7 5 ∷ []) 2 0 (replicate 13 0)
-    ∷ ends (forOneKey twoPerSecond) (asks 0 7 0 ∷ []) 0 0 (replicate 13 0)
+    -- A cost above the burst is impossible, and tells no moment. Cost 0 is granted, and tells now. Neither leaves a slot.
+    ∷ ends (forOneKey twoPerSecond) (asks 0 7 5 ∷ []) 2 0 0 (replicate 13 0)
+    ∷ ends (forOneKey twoPerSecond) (asks 3 7 0 ∷ []) 0 0 3 (replicate 13 0)
     -- An idle time of 1 ns counts as the 2 s that the bucket needs; one of a nanosecond more than 2 s is rounded up to the next millisecond.
     ∷ idles (idleAfter 1) 2001
     ∷ idles (idleAfter 2000000001) 2002
     -- Key 7, last seen at 0, is full again at 2 s. It is still there when key 8 comes at 2.000999999 s, and has gone when key 8 comes at 2.001 s.
-    ∷ ends (idleAfter 1) (asks 0 7 4 ∷ asks 2000999999 8 1 ∷ []) 0 0
+    ∷ ends (idleAfter 1) (asks 0 7 4 ∷ asks 2000999999 8 1 ∷ []) 0 0 2000999999
     (2 ∷ 0 ∷ 1 ∷ 7 ∷ 7 ∷ 4000000000 ∷ 0 ∷ 0 ∷ 0 ∷ 8 ∷ 8 ∷ 1000000000 ∷ 2000999999 ∷ 0 ∷ 2000 ∷ replicate 6 0)
-    ∷ ends (idleAfter 1) (asks 0 7 4 ∷ asks 2001000000 8 1 ∷ []) 0 0
+    ∷ ends (idleAfter 1) (asks 0 7 4 ∷ asks 2001000000 8 1 ∷ []) 0 0 2001000000
     (1 ∷ 0 ∷ 0 ∷ 8 ∷ 8 ∷ 1000000000 ∷ 2001000000 ∷ 0 ∷ 2001 ∷ replicate 12 0)
     -- Key 7 spends all, and key 8 turns it into a debt. For key 9 there is no space: it gets no slot, and waits until key 8 is full.
-    ∷ ends (forOneKey twoPerSecond) (asks 0 7 4 ∷ asks 0 8 1 ∷ asks 0 9 1 ∷ []) 1 500000000
+    ∷ ends (forOneKey twoPerSecond) (asks 0 7 4 ∷ asks 0 8 1 ∷ asks 0 9 1 ∷ []) 1 500000000 500000000
     (1 ∷ 1 ∷ 0 ∷ 8 ∷ 8 ∷ 1000000000 ∷ 0 ∷ 0 ∷ 0 ∷ 1 ∷ 1 ∷ 7 ∷ 2000000000 ∷ [])
     -- Key 7 in the place of key 9 is let in, since its own debt makes way for that of key 8. Its bucket tells the wait.
-    ∷ ends (forOneKey twoPerSecond) (asks 0 7 4 ∷ asks 0 8 1 ∷ asks 0 7 1 ∷ []) 1 500000000
+    ∷ ends (forOneKey twoPerSecond) (asks 0 7 4 ∷ asks 0 8 1 ∷ asks 0 7 1 ∷ []) 1 500000000 500000000
     (1 ∷ 1 ∷ 0 ∷ 7 ∷ 7 ∷ 4000000000 ∷ 0 ∷ 0 ∷ 0 ∷ 1 ∷ 0 ∷ 8 ∷ 500000000 ∷ [])
     -- Who is turned away for space waits at least a millisecond, though after 15,260 ns key 8 is full and the debt of key 7 settled.
-    ∷ ends (forOneKey fastest) (asks 0 7 1 ∷ asks 0 8 1 ∷ asks 0 9 1 ∷ []) 1 1000000
+    ∷ ends (forOneKey fastest) (asks 0 7 1 ∷ asks 0 8 1 ∷ asks 0 9 1 ∷ []) 1 1000000 1000000
     (1 ∷ 1 ∷ 0 ∷ 8 ∷ 8 ∷ 1000000000 ∷ 0 ∷ 0 ∷ 0 ∷ 1 ∷ 1 ∷ 7 ∷ 15260 ∷ [])
+    -- Five nanoseconds later it is told a moment that is five later: that of the wait told, not of the shorter one.
+    ∷ ends (forOneKey fastest) (asks 5 7 1 ∷ asks 5 8 1 ∷ asks 5 9 1 ∷ []) 1 1000000 1000005
+    (1 ∷ 1 ∷ 0 ∷ 8 ∷ 8 ∷ 1000000000 ∷ 5 ∷ 0 ∷ 0 ∷ 1 ∷ 1 ∷ 7 ∷ 15265 ∷ [])
     -- The wait of a key's own bucket has no such floor. The second call of key 7 finds its slot and marks it.
-    ∷ ends (forOneKey fastest) (asks 0 7 65535 ∷ asks 0 7 1 ∷ []) 1 15260
+    ∷ ends (forOneKey fastest) (asks 0 7 65535 ∷ asks 0 7 1 ∷ []) 1 15260 15260
     (1 ∷ 0 ∷ 0 ∷ 7 ∷ 7 ∷ 65535000000000 ∷ 0 ∷ 1 ∷ 0 ∷ replicate 4 0)
     -- Key 7 spends one of four tokens of 10 parts each, and is evicted. Its debt of 4 ns is 12 parts, which counts as two tokens: two are left, as long as
     -- it is a debt and once it is back.
-    ∷ ends (forOneKey threePerTen) (asks 0 7 1 ∷ asks 0 8 1 ∷ looksAt 0 7 ∷ []) 0 2
+    ∷ ends (forOneKey threePerTen) (asks 0 7 1 ∷ asks 0 8 1 ∷ looksAt 0 7 ∷ []) 0 2 0
     (1 ∷ 1 ∷ 0 ∷ 8 ∷ 8 ∷ 10 ∷ 0 ∷ 0 ∷ 0 ∷ 1 ∷ 0 ∷ 7 ∷ 4 ∷ [])
-    ∷ ends (forOneKey threePerTen) (asks 0 7 1 ∷ asks 0 8 1 ∷ asks 0 7 3 ∷ looksAt 0 7 ∷ []) 0 2
+    ∷ ends (forOneKey threePerTen) (asks 0 7 1 ∷ asks 0 8 1 ∷ asks 0 7 3 ∷ looksAt 0 7 ∷ []) 0 2 0
     (1 ∷ 1 ∷ 0 ∷ 7 ∷ 7 ∷ 20 ∷ 0 ∷ 0 ∷ 0 ∷ 1 ∷ 0 ∷ 8 ∷ 4 ∷ [])
     -- A token refunded to key 7, whose debt settles at 2 s, takes half a second off the debt.
-    ∷ ends (forOneKey twoPerSecond) (asks 0 7 4 ∷ asks 0 8 1 ∷ returns 7 1 ∷ []) 0 0
+    ∷ ends (forOneKey twoPerSecond) (asks 0 7 4 ∷ asks 0 8 1 ∷ returns 7 1 ∷ []) 0 0 0
     (1 ∷ 1 ∷ 0 ∷ 8 ∷ 8 ∷ 1000000000 ∷ 0 ∷ 0 ∷ 0 ∷ 1 ∷ 0 ∷ 7 ∷ 1500000000 ∷ [])
     -- Keys 7 and 8 share the hash 7. Each has a slot of its own: key 7 has spent all, and key 8 is granted all of its tokens.
-    ∷ ends (limited twoPerSecond (capacityOf 2) 1) (asks 0 7 4 ∷ asksAsSeven 0 8 4 ∷ []) 0 0
+    ∷ ends (limited twoPerSecond (capacityOf 2) 1) (asks 0 7 4 ∷ asksAsSeven 0 8 4 ∷ []) 0 0 0
     (2 ∷ 0 ∷ 0 ∷ 7 ∷ 7 ∷ 4000000000 ∷ 0 ∷ 0 ∷ 0 ∷ 7 ∷ 8 ∷ 4000000000 ∷ 0 ∷ 0 ∷ 0 ∷ replicate 6 0)
     -- A debt has no key but its hash alone: key 9 turns key 7 into a debt, and key 8 takes it over.
-    ∷ ends (forOneKey twoPerSecond) (asks 0 7 4 ∷ asks 0 9 1 ∷ asksAsSeven 0 8 1 ∷ []) 1 500000000
+    ∷ ends (forOneKey twoPerSecond) (asks 0 7 4 ∷ asks 0 9 1 ∷ asksAsSeven 0 8 1 ∷ []) 1 500000000 500000000
     (1 ∷ 1 ∷ 0 ∷ 7 ∷ 8 ∷ 4000000000 ∷ 0 ∷ 0 ∷ 0 ∷ 1 ∷ 0 ∷ 9 ∷ 500000000 ∷ [])
     -- No bytes hash to the number at which the hash starts.
     ∷ hashes [] 14695981039346656037
