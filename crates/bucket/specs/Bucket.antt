@@ -60,10 +60,11 @@ fresh c at = record { shortfall = partsOf c (c .capacity - c .initial); stamp = 
 unfoldable pub waitAt : BucketConfig → BucketCore → ℕ → Nanos → ℕ
 waitAt c b cost at = cond (eqb cost 0) 0 (ceilDiv (shortfallAt c b at + partsOf c cost - fullParts c) (c .amount))
 
--- What is due after a wait: its wait and its moment, which is the moment of the call plus the wait. And when the tokens of a cost are due.
+-- Due after a wait: the wait, and the moment of the call plus it.
 abbrev pub dueAfter : Nanos → Nanos → Due
 dueAfter at wait = record { wait = wait; moment = record { 0 = at .0 + wait .0 } }
 
+-- When the tokens of a cost are due.
 abbrev pub dueAt : BucketConfig → BucketCore → ℕ → Nanos → Due
 dueAt c b cost at = dueAfter at (record { 0 = waitAt c b cost at })
 

@@ -23,8 +23,8 @@ charged c b tokens at = record {
 unfoldable pub takenOut : BucketConfig → BucketCore → ℕ → Nanos → BucketCore
 takenOut c b tokens at = cond (eqb tokens 0) b (charged c b tokens at)
 
--- The bucket with so many tokens missing. What is available beyond the capacity less the missing tokens is taken out. Missing tokens beyond the capacity
--- are taken out too, as a debt.
+-- The bucket with so many tokens missing. Available tokens above the capacity less the missing ones are taken out. Missing tokens above the capacity are taken
+-- out too, as a debt.
 unfoldable pub lacking : BucketConfig → BucketCore → ℕ → Nanos → BucketCore
 lacking c b missing at =
     takenOut c (takenOut c b (availableAt c b at - (c .capacity - missing)) at) (missing - c .capacity) at

@@ -110,7 +110,8 @@ blind-to-keys-fails-demand3 = by-own-bucket _ blind-to-keys-breaks-own-bucket
 pub blind-to-keys-fails-demand2 : Demand2 (answering blindToKeys) → ⊥
 blind-to-keys-fails-demand2 = by-demand3 _ blind-to-keys-fails-demand3
 
--- No moment told: a grant at moment 1 is told with moment 0. The moments told shut this out, and so does demand 2. Demand 3 does not speak of them.
+-- No moment told: a grant at moment 1 is told with moment 0. The moments of request 1 shut this out, and so does demand 2. The window does not speak of the
+-- moments told.
 pub telling-no-moment-fails-the-moments : TellsMoments (answering tellsNoMoment) → ⊥
 unfolding replies
 telling-no-moment-fails-the-moments tells =

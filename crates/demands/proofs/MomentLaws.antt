@@ -1,5 +1,5 @@
--- Every grant of the rules tells the moment from which its tokens are usable; so does every limiter that meets demand 2; and counted by the moments told, the
--- tokens of a window are those that demand 3 counts.
+-- Every grant and every retry of the rules tells its moment; so does every limiter that meets demand 2; and counted by the moments told, the tokens of a window
+-- are those that demand 3 counts.
 use Prim.Native.Nat.{ℕ, _+_}
 use mathlib.Core.Path.{_≡_, refl, ap, sym}
 use mathlib.Core.List.{List, [], _∷_}
@@ -13,27 +13,31 @@ use Rattle.shard.specs.declared.Identity.{Identity}
 use Rattle.perkey.specs.declared.Reply.{Reply}
 use Rattle.perkey.specs.declared.Reply.the-variants.{Tried, Reserved, Nothing, Done, Count, Refused}
 use Rattle.perkey.specs.Calls.{Call, request, look, undo, len, rules, Answered, replies, Every}
-use Rattle.perkey.specs.Calls.{Kind, decides, reserves, kindOf}
-use Rattle.perkey.proofs.CallLaws.{OfKind, acquired, retried, impossible, reserved, not-reserved}
+use Rattle.perkey.specs.Calls.{Look, peeks, tokens, Kind, decides, reserves, counts, kindOf}
+use Rattle.perkey.proofs.CallLaws.{OfKind, acquired, retried, impossible, reserved, not-reserved, counted}
 use Rattle.perkey.proofs.CallLaws.{refusalOf, ruleOf, not-refused-is-ruled, refused-is-told, rule-answers-in-kind}
 use Rattle.demands.specs.Demands.{Limiter, answering, Demand2, tokensOf, tokensUsable}
-use Rattle.demands.specs.Moments.{grantTells, tellsItsMoment, TellsMoments, tokensToldOf, tokensTold}
+use Rattle.demands.specs.Moments.{momentTold, tellsItsMoment, TellsMoments, tokensToldOf, tokensTold}
 use Rattle.demands.proofs.Theorem.{same-replies}
 
 -- A reply in the kind of its request, to a call at a moment.
-try-tells : {at : Nanos} {reply : Reply} → OfKind at decides reply → grantTells Acquire at reply
+try-tells : {at : Nanos} {reply : Reply} → OfKind at decides reply → momentTold Acquire at reply
 try-tells acquired = omega arith
-try-tells (retried wait) = tt
+try-tells (retried wait) = refl
 try-tells impossible = tt
 
-reservation-tells : (longest : Nanos) {at : Nanos} {reply : Reply} → OfKind at reserves reply → grantTells (Reserve longest) at reply
+reservation-tells : (longest : Nanos) {at : Nanos} {reply : Reply} → OfKind at reserves reply → momentTold (Reserve longest) at reply
 reservation-tells longest (reserved wait) = refl
 reservation-tells longest not-reserved = tt
+
+count-tells : {at : Nanos} {reply : Reply} → OfKind at counts reply → momentTold Acquire at reply
+count-tells (counted n) = tt
 
 rule-tells : (c : Call) (ws : List ℕ) → tellsItsMoment c (ruleOf c ws .answer)
 rule-tells (request s at id Acquire cost) ws = try-tells (rule-answers-in-kind (request s at id Acquire cost) ws)
 rule-tells (request s at id (Reserve longest) cost) ws = reservation-tells longest (rule-answers-in-kind (request s at id (Reserve longest) cost) ws)
-rule-tells (look s at id l) ws = tt
+rule-tells (look s at id (peeks cost)) ws = try-tells (rule-answers-in-kind (look s at id (peeks cost)) ws)
+rule-tells (look s at id tokens) ws = count-tells (rule-answers-in-kind (look s at id tokens) ws)
 rule-tells (undo s id r) ws = tt
 rule-tells (len s) ws = tt
 

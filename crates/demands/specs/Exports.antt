@@ -76,7 +76,7 @@ pub record ExportDemand2 (e : Exports) : Type 0 where
   pub answers : (n : LimiterSettings) (c : Call) (ws : List ℕ) → numbersFit n ≡ true → Calls.settingsOf c ≡ settingsOf n → fits c ≡ true → lendable ws ≡ true
       → through e n c ws ≡ told (rules c ws)
 
--- How a caller writes settings as numbers: any way in which they come back.
+-- A way of writing settings as numbers from which `settingsOf` gives them back.
 pub record Writer : Type 0 where
   pub write : Settings → LimiterSettings
   pub fit : (s : Settings) → settingsFit s ≡ true → numbersFit (write s) ≡ true

@@ -1,5 +1,6 @@
--- Implementations of the calls that look as if they kept the promises: the six of document 01, and three more. Each of them fails demand 2, and all but two
--- of them fail demand 3 (proofs/ImpostorLaws.antt); those two meet it (proofs/TellingLaws.antt).
+-- Implementations of the calls that look as if they kept the promises: the six of document 01, and four more. Each of them fails demand 2
+-- (proofs/ImpostorLaws.antt). The one that counts a key too many and the one that turns newcomers away meet demand 3 (proofs/TellingLaws.antt); all but these
+-- two and the last are shown to fail it. The last tells no moments, and fails those of request 1.
 use Prim.Native.Nat.{ℕ, _+_, min}
 use mathlib.Core.Bool.{Bool, cond}
 use mathlib.Core.List.{List}
@@ -72,7 +73,7 @@ withFirstDebt s = withLedger s (Ledger.withCount (s .ledger) (min 1 (s .ledger .
 abbrev pub firstDebtOnly : Implementation
 firstDebtOnly c ws = rules c (inShard (settingsOf c) (identityOf c .hash) ws (outcome (tt {0}) (withFirstDebt (ownShard c ws))) .after)
 
--- The next three leave the words that the rules leave, and tell something else.
+-- Those made by `telling` leave the words that the rules leave, and tell something else.
 abbrev pub telling : (Call → List ℕ → Reply) → Implementation
 telling told c ws = outcome (told c ws) (rules c ws .after)
 

@@ -1,11 +1,12 @@
--- The moment of a grant (request 1 of document 02). A grant tells the moment from which its tokens are usable. So the tokens counted by the moments that are
--- told are those that the window of demand 3 counts (`told-moments-count-alike`). The moments of retries and peeks are demand 2's: it fixes all of a reply.
+-- The moments told (request 1 of document 02). Every grant and every retry, of a request and of a peek, tells the moment of the call plus its wait. A grant
+-- tells so from when its tokens are usable: counted by the moments told, they are those that the window of demand 3 counts (`told-moments-count-alike`).
 use Prim.Native.Nat.{ℕ, _+_}
 use mathlib.Core.Path.{_≡_}
 use mathlib.Core.Bool.{true}
 use mathlib.Core.List.{List, [], _∷_}
 use Rattle.units.specs.declared.Nanos.{Nanos}
 use Rattle.bucket.specs.declared.Request.{Request}
+use Rattle.bucket.specs.declared.Request.the-variants.{Acquire}
 use Rattle.settings.specs.declared.decision.Decision.the-variants.{Acquired, Retry, Impossible}
 use Rattle.shard.specs.declared.Identity.{Identity}
 use Rattle.perkey.specs.declared.Reply.{Reply}
@@ -15,24 +16,25 @@ use Rattle.perkey.specs.Calls.{Call, request, look, undo, len, Answered, replie
 use Rattle.demands.specs.Widths.{allFit, lendable}
 use Rattle.demands.specs.Demands.{Limiter, usable, usableFrom}
 
--- A try that is granted tells the moment of the call. A reservation tells that moment plus its wait. Of other replies nothing is asked here.
-abbrev pub grantTells : Request → Nanos → Reply → Type 0
-grantTells r at (Tried (Acquired due)) = due .moment .0 ≡ usableFrom r at 0
-grantTells r at (Tried (Retry due)) = Unit {0}
-grantTells r at (Tried Impossible) = Unit {0}
-grantTells r at (Reserved due) = due .moment .0 ≡ usableFrom r at (due .wait .0)
-grantTells r at Nothing = Unit {0}
-grantTells r at Done = Unit {0}
-grantTells r at (Count n) = Unit {0}
-grantTells r at (Refused n) = Unit {0}
+-- A try that is granted tells the moment of the call. A reservation, and a retry, tells that moment plus its wait. Of other replies nothing is asked here.
+abbrev pub momentTold : Request → Nanos → Reply → Type 0
+momentTold r at (Tried (Acquired due)) = due .moment .0 ≡ usableFrom r at 0
+momentTold r at (Tried (Retry due)) = due .moment .0 ≡ at .0 + due .wait .0
+momentTold r at (Tried Impossible) = Unit {0}
+momentTold r at (Reserved due) = due .moment .0 ≡ usableFrom r at (due .wait .0)
+momentTold r at Nothing = Unit {0}
+momentTold r at Done = Unit {0}
+momentTold r at (Count n) = Unit {0}
+momentTold r at (Refused n) = Unit {0}
 
+-- A peek is told as a try is.
 abbrev pub tellsItsMoment : Call → Reply → Type 0
-tellsItsMoment (request s at id r cost) reply = grantTells r at reply
-tellsItsMoment (look s at id l) reply = Unit {0}
+tellsItsMoment (request s at id r cost) reply = momentTold r at reply
+tellsItsMoment (look s at id l) reply = momentTold Acquire at reply
 tellsItsMoment (undo s id r) reply = Unit {0}
 tellsItsMoment (len s) reply = Unit {0}
 
--- So does every grant of a limiter, in every list of calls, from any words.
+-- So it is with every reply of a limiter, in every list of calls, from any words.
 abbrev pub TellsMoments : Limiter → Type 0
 TellsMoments l =
     (ws : List ℕ) (cs : List Call) → lendable ws ≡ true → allFit cs ≡ true

@@ -35,7 +35,7 @@ abbrev pub placeOr : Place → ℕ → ℕ
 placeOr (At p) other = p
 placeOr Nowhere other = other
 
--- What the walk has noted before its first look: nothing. No shortfall is read as more than the number that it starts with.
+-- What the walk has noted before its first look: nothing. `least` starts at the largest shortfall that can be read.
 abbrev pub nothingNoted : BucketConfig → Walk
 nothingNoted c = record { full = Nowhere; unmarked = Nowhere; least = mostShortfall c }
 
@@ -102,8 +102,7 @@ debtLeft c at slot = record { hash = slot .hash; settles = record { 0 = at .0 + 
 abbrev pub refusalWait : BucketConfig → ℕ → Nanos → Nanos
 refusalWait c least wait = record { 0 = max (min (recoveryOf c least) (wait .0)) minRefusalWait }
 
--- A slot that owes goes where its debt was recorded, and the ledger is then l. Where the ledger had no room for the debt the slot stays, and room is due after
--- that wait.
+-- If the debt was recorded, the slot that owes goes; l is the ledger then. If there was no room for the debt, the slot stays, and room is due after that wait.
 abbrev pub afterRecording : BucketConfig → Nanos → Shard → ℕ → ℕ → Ledger.Ledger → Recorded → Outcome Room Shard
 afterRecording c at s p least l Done = outcome Made (evictAt (withLedger s l) p)
 afterRecording c at s p least l (NoRoom wait) = outcome (Refused (dueAfter at (refusalWait c least wait))) (withLedger s l)

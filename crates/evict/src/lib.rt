@@ -148,7 +148,7 @@ pub fn evict_one(ws: &mut [u64], cap: usize, config: BucketConfig, at: Nanos, fo
     let first = words::hand(ws, cap);
     let mut left = arith::fewer(Eviction::hand_looks(), shard_map::len(ws, cap));
     let mut walk = Walk::new(config);
-    let victim = loop {
+    let ended = loop {
         if left == 0 {
             break Place::Nowhere;
         }
@@ -167,7 +167,7 @@ pub fn evict_one(ws: &mut [u64], cap: usize, config: BucketConfig, at: Nanos, fo
         config,
         at,
         forget,
-        walk.choose(victim, first),
+        walk.choose(ended, first),
         least,
     )
 }

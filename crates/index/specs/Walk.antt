@@ -35,7 +35,7 @@ walk ix test h = walkFrom ix test (h % length ix) (length ix)
 abbrev pub hits : ℕ → (ℕ → Bool) → ℕ → Bool
 hits n test word = cond (leb word n) (test (word - 1)) false
 
--- The item that a word names, if the walk stopped there.
+-- What a lookup gives that stops at this word: its item, or nowhere for 0.
 abbrev pub named : ℕ → Place
 named word = cond (eqb word 0) Nowhere (At (word - 1))
 
@@ -51,7 +51,7 @@ find n test ix h = findFrom n test ix (h % length ix) (length ix)
 unfoldable pub probed : ℕ → (ℕ → Bool) → ℕ → Probed
 probed n test word = cond (eqb word 0) Empty (cond (hits n test word) (Hit (word - 1)) Other)
 
--- The first place on the walk of a hash that holds a word. If there is none, it is the place at which the walk stops.
+-- The first place on the walk of a hash that holds a word. If there is none, it is the place at which the walk stops, or the number of places.
 unfoldable pub seek : List ℕ → ℕ → ℕ → ℕ
 seek ix h word = walk ix (λ v. eqb v word) h
 
@@ -59,7 +59,7 @@ seek ix h word = walk ix (λ v. eqb v word) h
 unfoldable pub add : List ℕ → ℕ → ℕ → List ℕ
 add ix h i = set ix (seek ix h 0) (i + 1)
 
--- The item that a word names is added again. A word that names no item adds nothing.
+-- The item that a word, not 0, names is added again. A word over the count adds nothing.
 unfoldable pub addAgain : (ℕ → ℕ) → ℕ → List ℕ → ℕ → List ℕ
 addAgain hash n ix word = cond (leb word n) (add ix (hash (word - 1)) (word - 1)) ix
 

@@ -103,7 +103,7 @@ fn find_on(ws: &[u64], index: Index, n: usize, hash: u64, key: u64, home: usize)
     Place::Nowhere
 }
 
-// The first item on the hash's walk that has the hash and the key. The look at the home place stands here, so that a caller has it in line.
+// The first item on the hash's walk that has the hash and the key. For items without a key the caller gives the hash for it. The look at the home place stands here, so that a caller has it in line.
 pub fn find(ws: &[u64], index: Index, n: usize, hash: u64, key: u64) -> Place
     requires { ⌜ Fits index n (now ws) ⌝ }
     ensures { λ r. ⌜ r ≡ Walk.find n (keyed index (now (ws .entry)) hash key) (placesOf index (now (ws .entry))) hash ⌝ }

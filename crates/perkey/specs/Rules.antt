@@ -129,16 +129,17 @@ unlessTrivial rate cost tooMuch atOnce ws asked =
 unfoldable pub closed : Nanos → ℕ → Decision
 closed at cost = cond (eqb cost 0) (Acquired (dueNow at)) Impossible
 
--- What a request is told without a look at the store: on a closed limiter, where a reservation is told none even of cost 0; for more tokens than a full bucket
--- holds; and, where there is a rate, for cost 0, which is granted.
+-- What a request is told on a closed limiter: a reservation none, even of cost 0.
 abbrev pub closedTo : Request → Nanos → ℕ → Reply
 closedTo Acquire at cost = Tried (closed at cost)
 closedTo (Reserve longest) at cost = Nothing
 
+-- What it is told for more tokens than a full bucket holds.
 abbrev pub tooMuch : Request → Reply
 tooMuch Acquire = Tried Impossible
 tooMuch (Reserve longest) = Nothing
 
+-- What it is told for cost 0, if there is a rate: it is granted.
 abbrev pub atOnce : Request → Nanos → Reply
 atOnce Acquire at = Tried (Acquired (dueNow at))
 atOnce (Reserve longest) at = Reserved (dueNow at)

@@ -106,8 +106,8 @@ fn try_open(
 }
 
 // A try that is not refused. No state is made for a cost that can never be granted, nor for cost 0. The key's place is found here and not in the
-// store, so that a known key's request is compiled into the call (docs/DECISIONS.md); a new key's is lent copies of the
-// settings and the part, so that those of a known key stay in registers.
+// store, so that a known key's request is compiled into the call (docs/DECISIONS.md); a new key's is given copies of the
+// part and of the key, so that those of a known key stay in registers.
 fn decide(
     settings: Settings,
     rate: Rate,
@@ -315,7 +315,8 @@ fn peek_open(
     }
 }
 
-// A peek that is not refused: the wait of the bucket that the key has, or would have if it came in now.
+// A peek that is not refused: when the bucket that the key has, or would have if it came in now, has the cost. Each arm ends by itself, so that a known key's
+// peek is compiled into the call (docs/DECISIONS.md).
 fn peek_bucket(
     settings: Settings,
     rate: Rate,
@@ -332,8 +333,16 @@ fn peek_bucket(
     if config.capacity < cost {
         return Reply::Tried(Decision::Impossible);
     }
-    let bucket = store::view(ws, part, config, id, at);
-    due_reply(bucket.due_at(config, cost, at))
+    match store::position(ws, part, id) {
+        Place::At(pos) => {
+            let bucket = store::bucket_at(ws, part, pos);
+            due_reply(bucket.due_at(config, cost, at))
+        }
+        Place::Nowhere => {
+            let bucket = store::returning_bucket(ws, part, config, id.hash, at);
+            due_reply(bucket.due_at(config, cost, at))
+        }
+    }
 }
 
 // The whole tokens that a key has; none where there is no rate.
@@ -383,7 +392,7 @@ fn tokens(settings: Settings, rate: Rate, ws: &[u64], part: Part, at: Nanos, id:
     bucket.available_at(config, at) as u64
 }
 
-// Gives tokens back to a key, if it is known. To a closed limiter every key is unknown.
+// Gives tokens back to a key, if it is known. To a refund on a closed limiter every key is unknown.
 pub fn refund(settings: Settings, ws: &mut [u64], id: Identity, cost: u32) -> Reply
     ensures { λ r. ⌜ outcome r (now (ws .exit)) ≡ Rules.refund settings id cost (now (ws .entry)) ⌝ }
 {
@@ -525,7 +534,7 @@ fn forgets(when_full: WhenFull) -> bool
     }
 }
 
-// What a bucket decided, as a try is told it.
+// What was decided, by the bucket or for want of space, as a try is told it.
 fn map_decision(decision: BucketDecision) -> Decision
     ensures { λ r. ⌜ r ≡ Rules.mapDecision decision ⌝ }
 {
@@ -535,7 +544,7 @@ fn map_decision(decision: BucketDecision) -> Decision
     }
 }
 
-// What a bucket decided, as a reservation is told it.
+// What was decided, by the bucket or for want of space, as a reservation is told it.
 fn reserve_reply(decision: BucketDecision) -> Reply
     ensures { λ r. ⌜ r ≡ Rules.reserveReply decision ⌝ }
 {

@@ -27,7 +27,7 @@ module _ {A : Type 0} where
   abbrev pub heldOf : ℕ → Table A → Held A
   heldOf at t = record { count = t .head at; places = t .places }
 
-  -- What a store changes: a word before the rows, or the item of a row. Words that come back from a loan change the rest.
+  -- What one write changes: a word before the rows, or the item of a row. Words that come back from a loan change the rest.
   abbrev pub withWord : Table A → ℕ → ℕ → Table A
   withWord t k v = record { head = λ j. cond (eqb j k) v (t .head j); places = t .places; rest = t .rest }
 

@@ -37,7 +37,7 @@ abbrev pub tracks : OptionNanos → Bool
 tracks nanos.None = false
 tracks (nanos.Some ttl) = true
 
--- A known key's bucket is asked; then its slot is touched. It is never refused for space.
+-- A known key's slot is touched, and its bucket is asked. It is never refused for space.
 abbrev pub askedAt : Policy → Slot → Request → ℕ → Nanos → BucketOutcome
 askedAt p slot request cost at = Bucket.asked (p .config) request (slot .bucket) cost at
 
@@ -83,8 +83,8 @@ abbrev pub putBack : ℕ → Nanos → OptionNanos → Shard → Shard
 putBack hash at nanos.None s = s
 putBack hash at (nanos.Some settles) s = withLedger s (Ledger.recorded (s .ledger) (record { hash = hash; settles = settles }) at false .after)
 
--- No room: the key is turned away for want of space, which denies it until room is due, and its debt is put back, if it had one; what was swept, cleared or moved stays so. A key that had a debt is
--- never turned away (`admit` says why), so the code puts nothing back.
+-- No room: the key is denied for want of space, and told when room is due. Its debt, if it had one, goes back. What was swept, cleared or moved stays so. A key
+-- that had a debt is never turned away (`admit` says why), so the code puts nothing back.
 abbrev pub admitted : Policy → Identity → Request → ℕ → Nanos → OptionNanos → Shard → Room → Outcome BucketDecision Shard
 admitted p id request cost at owed s Made = joined p id request cost at owed s
 admitted p id request cost at owed s (Refused due) = outcome (Denied due) (putBack (id .hash) at owed s)

@@ -4,6 +4,8 @@ ghost use Prim.Native.Nat.{_≤_, _<_, _^_};
 ghost use Rattle.rows.specs.Outcome.{outcome};
 ghost use Rattle.bucket.specs.Bucket.{Accepted};
 ghost use Rattle.slot.specs.Slot.{withBucket};
+ghost use Rattle.ledger.specs.Model as Ledger;
+ghost use Rattle.shard_map.specs.Model.{slotAt};
 ghost use Rattle.shard_map.specs.Layout.{shard, Intact};
 ghost use Rattle.shard.specs.Model as Model;
 use bucket::BucketConfig;
@@ -187,12 +189,32 @@ pub fn view(ws: &[u64], cap: usize, config: BucketConfig, id: Identity, at: Nano
     ensures { λ r. ⌜ r ≡ Model.viewed config id at (shard cap (now (ws .entry))) ⌝ }
 {
     match shard_map::position(ws, cap, id.hash, id.key) {
-        Place::At(pos) => {
-            let slot = shard_map::get(ws, cap, pos);
-            slot.bucket
-        }
-        Place::Nowhere => returning(config, at, debts::owed_by(ws, cap, id.hash)),
+        Place::At(pos) => bucket_at(ws, cap, pos),
+        Place::Nowhere => returning_bucket(ws, cap, config, id.hash, at),
     }
+}
+
+// The bucket of the slot at a place.
+pub fn bucket_at(ws: &[u64], cap: usize, pos: usize) -> BucketCore
+    requires { ⌜ Intact cap (now ws) × (pos < cap) ⌝ }
+    ensures { λ r. ⌜ r ≡ slotAt (shard cap (now (ws .entry))) pos .bucket ⌝ }
+{
+    let slot = shard_map::get(ws, cap, pos);
+    slot.bucket
+}
+
+// The bucket that a key without a slot would have if it came in now.
+pub fn returning_bucket(
+    ws: &[u64],
+    cap: usize,
+    config: BucketConfig,
+    hash: u64,
+    at: Nanos,
+) -> BucketCore
+    requires { ⌜ Intact cap (now ws) × Accepted config ⌝ }
+    ensures { λ r. ⌜ r ≡ Model.returning config at (Ledger.owedBy (shard cap (now (ws .entry)) .ledger) hash) ⌝ }
+{
+    returning(config, at, debts::owed_by(ws, cap, hash))
 }
 
 // Gives tokens back to a key: to its slot, or off the debt that it left. Tells whether it had either.

@@ -6,7 +6,8 @@ ghost use Rattle.rows.specs.Held.{sum};
 ghost use Rattle.rows.specs.Outcome.{outcome};
 ghost use Rattle.bucket.specs.Bucket.{Accepted};
 ghost use Rattle.settings.specs.Settings.{ShapeOfAccepted, capOf, shardCount};
-ghost use Rattle.shard_map.specs.Model.{Sound, placeOf};
+ghost use Rattle.ledger.specs.Model as Ledger;
+ghost use Rattle.shard_map.specs.Model.{Sound, slotAt, placeOf};
 ghost use Rattle.shard.specs.Model as OneShard;
 ghost use Rattle.store.specs.Memory.{Placed, shardIn, partIn, inPart, shardEnd, slotCount};
 ghost use Rattle.store.specs.Refusals.{lenRefusal};
@@ -107,6 +108,32 @@ pub fn view(ws: &[u64], part: Part, config: BucketConfig, id: Identity, at: Nano
     let start = part.start;
     let end = part.end;
     shard::view(&ws[start..end], part.cap, config, id, at)
+}
+
+// The bucket of the slot at a place.
+pub fn bucket_at(ws: &[u64], part: Part, pos: usize) -> BucketCore
+    requires { ⌜ Placed part (now ws) × Sound (shardIn part (now ws)) × (pos < part .cap) ⌝ }
+    ensures { λ r. ⌜ r ≡ slotAt (shardIn part (now (ws .entry))) pos .bucket ⌝ }
+{
+    let start = part.start;
+    let end = part.end;
+    shard::bucket_at(&ws[start..end], part.cap, pos)
+}
+
+// The bucket that a key without a slot would have if it came in now.
+pub fn returning_bucket(
+    ws: &[u64],
+    part: Part,
+    config: BucketConfig,
+    hash: u64,
+    at: Nanos,
+) -> BucketCore
+    requires { ⌜ Placed part (now ws) × Sound (shardIn part (now ws)) × Accepted config ⌝ }
+    ensures { λ r. ⌜ r ≡ OneShard.returning config at (Ledger.owedBy (shardIn part (now (ws .entry)) .ledger) hash) ⌝ }
+{
+    let start = part.start;
+    let end = part.end;
+    shard::returning_bucket(&ws[start..end], part.cap, config, hash, at)
 }
 
 // Gives tokens back to a key. Tells whether it had a slot or a debt.

@@ -107,16 +107,16 @@ loop-again c =
     }
 
 -- Where the two ways out of the loop meet: what it yields, what was noted and the shard are those of the walk.
-record Ended (ws₀ : List ℕ) (cap : ℕ) (c : BucketConfig) (at : Nanos) (ws : List ℕ) (victim : Place) (walk : Walk) : Type 0 where
+record Ended (ws₀ : List ℕ) (cap : ℕ) (c : BucketConfig) (at : Nanos) (ws : List ℕ) (ended : Place) (walk : Walk) : Type 0 where
   long : length ws ≡ length ws₀
-  same : walked c at (shard cap ws₀) ≡ record { ended = victim; walk = walk; after = shard cap ws }
+  same : walked c at (shard cap ws₀) ≡ record { ended = ended; walk = walk; after = shard cap ws }
 
 -- `began` is where the hand was first read, as seen from there.
 abbrev began : tie.Joined1 Inv-loop μ-loop → tie.After-hand Inv-loop μ-loop
 began met = opening (met .before)
 
 walk-ended : (c : tie.Joined1 Inv-loop μ-loop) → let a = start (began c) .args in
-    Ended (a .ws .now) (a .cap) (a .config) (a .at) (c .if1 .ws) (c .if1 .victim) (c .before .loop .walk)
+    Ended (a .ws .now) (a .cap) (a .config) (a .at) (c .if1 .ws) (c .if1 .ended) (c .before .loop .walk)
 walk-ended c =
     let inv = c .before .loop .inv in
     ⊎-elim
@@ -129,7 +129,7 @@ walk-ended c =
 
 -- So the words are still lent there, and the victim is held.
 walk-left : (c : tie.Joined1 Inv-loop μ-loop) → let a = start (began c) .args in
-    AfterWalk (a .cap) (c .if1 .ws) (victimOf (c .if1 .victim) (c .before .loop .walk) (handOf (shard (a .cap) (a .ws .now))))
+    AfterWalk (a .cap) (c .if1 .ws) (victimOf (c .if1 .ended) (c .before .loop .walk) (handOf (shard (a .cap) (a .ws .now))))
 walk-left c =
     let pre′ = start (began c) .pre in
     after-walk _ _ (pre′ .0) (pre′ .2) (walk-ended c .long) (walk-ended c .same)

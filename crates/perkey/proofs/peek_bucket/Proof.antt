@@ -1,7 +1,16 @@
--- `peek_bucket` goes by the cost, as the rule does, and else tells when the bucket that it views has the cost.
-use Rattle.bucket.specs.Bucket.{Accepted}
+-- `peek_bucket` goes by the cost, as the rule does, and else tells when the key's bucket has the cost: that of its slot, or that with which it would come in.
+use Prim.Native.Nat.{_≤_, _^_}
+use mathlib.Core.Path.{_≡_, sym, _∙_}
+use Rattle.bucket.specs.declared.BucketCore.{BucketCore}
+use Rattle.bucket.specs.declared.Due.{Due}
+use Rattle.bucket.specs.Bucket.{Accepted, dueAt}
+use Rattle.shard.specs.Model as OneShard
+use Rattle.shard.proofs.OwnBucketLaws.{view-of-slot, view-without-slot}
 use Rattle.shard_map.specs.Model.{Sound}
 use Rattle.store.specs.Memory.{Placed, shardIn}
+use Rattle.store.proofs.LendingLaws.{found-place-below}
+use Rattle.perkey.specs.declared.Reply.{Reply}
+use Rattle.perkey.specs.Rules.{dueReply, peekedBy}
 use Rattle.perkey.proofs.RuleLaws.{peek-of-too-much, bucket-may-be-viewed, moment-is-early, viewed-due-is-told}
 use borrow.Author.Needs.{needs}
 use Rattle.perkey.proofs.peek_bucket.Statement.{statement}
@@ -17,6 +26,37 @@ viewed k =
     let pre′ = start k .pre in
     bucket-may-be-viewed (a .settings) (a .id .hash) (a .ws .now) (pre′ .1) (a .at) (pre′ .0) (a .rate) (pre′ .2) (k .config .ensures)
 
+-- Where the configuration was made, once the key's place is asked for.
+abbrev made : tie.After-position → tie.After-config
+made p = p .before .before .before
+
+-- Where the place was asked for, once the bucket is read: that of a slot, and that of a key without one; and that the bucket read is the one viewed.
+abbrev found : tie.After-bucket-at → tie.After-position
+found b = b .before .before .before .before
+
+abbrev missed : tie.After-returning-bucket → tie.After-position
+missed b = b .before .before .before
+
+-- The cost may be asked of a bucket, once the place is asked for.
+may-be-asked : (p : tie.After-position) → let a = start (made p) .args in
+    Accepted (made p .config .result) × (a .cost ≤ made p .config .result .capacity) × (a .at .0 ≤ 2 ^ 62)
+may-be-asked p =
+    let k = made p in
+    let a = start k .args in
+    let pre′ = start k .pre in
+    (viewed k .2, p .before .if1 .left, moment-is-early (a .settings) (a .id .hash) (a .ws .now) (pre′ .1) (a .at) (pre′ .0) (a .rate) (pre′ .2))
+
+-- What is told of the bucket viewed, by its due and its reply.
+told-of : (p : tie.After-position) {bucket : BucketCore} {due : Due} {told : Reply} → let k = made p in let a = start k .args in
+    bucket ≡ OneShard.viewed (k .config .result) (a .id) (a .at) (shardIn (a .part) (a .ws .now)) → due ≡ dueAt (k .config .result) bucket (a .cost) (a .at)
+    → told ≡ dueReply due → told ≡ peekedBy (a .settings .limit) (a .settings) (a .at) (a .id) (a .cost) (a .ws .now)
+told-of p is-bucket is-due is-reply =
+    let k = made p in
+    let a = start k .args in
+    let pre′ = start k .pre in
+    let within = rw (k .config .ensures) at (p .before .if1 .left) in
+    viewed-due-is-told (a .settings) (a .rate) (a .at) (a .id) (a .ws .now) (pre′ .2) (pre′ .1) (k .config .ensures) is-bucket (a .cost) within is-due is-reply
+
 config-requires : tie.Need-config-requires
 config-requires c κs = search needs
 
@@ -25,29 +65,47 @@ returns c =
     let k = c .before .before in
     rw (start k .pre .2) (peek-of-too-much _ _ _ _ _ _ (rw (k .config .ensures) at (c .if1 .taken)))
 
-view-requires : tie.Need-view-requires
-view-requires c κs = viewed (c .before .before)
+position-requires : tie.Need-position-requires
+position-requires c κs = let may = viewed (c .before .before) in (may .0, may .1)
+
+enum-known-pos : tie.Need-enum-known-pos
+enum-known-pos c = search needs
+
+bucket-at-requires : tie.Need-bucket-at-requires
+bucket-at-requires c κs =
+    let p = c .before .before .before in
+    let may = viewed (made p) in
+    (may .0, may .1, found-place-below (may .0) _ _ _ (may .1) (sym (p .position .ensures) ∙ c .before .pos .given .1))
 
 due-at-requires : tie.Need-due-at-requires
-due-at-requires c κs =
-    let k = c .before .before .before in
-    let a = start k .args in
-    let pre′ = start k .pre in
-    let early = moment-is-early (a .settings) (a .id .hash) (a .ws .now) (pre′ .1) (a .at) (pre′ .0) (a .rate) (pre′ .2) in
-    (viewed k .2, c .before .if1 .left, early)
+due-at-requires c κs = may-be-asked (found c)
 
 due-reply-requires : tie.Need-due-reply-requires
 due-reply-requires c κs = search needs
 
+enum-told : tie.Need-enum-told
+enum-told c = search needs
+
+returning-bucket-requires : tie.Need-returning-bucket-requires
+returning-bucket-requires c κs = viewed (made (c .before .before))
+
+due-at-requires-2 : tie.Need-due-at-requires-2
+due-at-requires-2 c κs = may-be-asked (missed c)
+
+due-reply-requires-2 : tie.Need-due-reply-requires-2
+due-reply-requires-2 c κs = search needs
+
 returns-2 : tie.Need-returns-2
 returns-2 c =
-    let e = c .before .before .before in
-    let k = e .before .before in
-    let a = start k .args in
-    let pre′ = start k .pre in
-    let within = rw (k .config .ensures) at (e .if1 .left) in
-    viewed-due-is-told (a .settings) (a .rate) (a .at) (a .id) (a .ws .now) (pre′ .2) (pre′ .1) (k .config .ensures) (c .before .before .view .ensures)
-    (a .cost) within (c .before .due-at .ensures) (c .due-reply .ensures)
+    let b = c .before .before in
+    let at-place = sym (found b .position .ensures) ∙ b .before .before .pos .given .1 in
+    told-of (found b) (b .bucket-at .ensures ∙ sym (view-of-slot _ _ _ _ _ at-place)) (c .before .due-at .ensures) (c .due-reply .ensures)
+
+returns-3 : tie.Need-returns-3
+returns-3 c =
+    let b = c .before .before in
+    let nowhere = sym (missed b .position .ensures) ∙ b .before .enum-told .given .1 in
+    told-of (missed b) (b .returning-bucket .ensures ∙ sym (view-without-slot _ _ _ _ nowhere)) (c .before .due-at2 .ensures) (c .due-reply2 .ensures)
 
 pub peek-bucket-spec : {M : Type 1} → statement M
 peek-bucket-spec =
@@ -55,7 +113,14 @@ peek-bucket-spec =
     (tie.spec
     config-requires
     returns
-    view-requires
+    position-requires
+    enum-known-pos
+    bucket-at-requires
     due-at-requires
     due-reply-requires
-    returns-2)
+    enum-told
+    returning-bucket-requires
+    due-at-requires-2
+    due-reply-requires-2
+    returns-2
+    returns-3)

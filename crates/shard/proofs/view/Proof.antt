@@ -12,8 +12,8 @@ position-requires c κs = search needs
 enum-known-pos : tie.Need-enum-known-pos
 enum-known-pos c = search needs
 
-get-requires : tie.Need-get-requires
-get-requires c κs =
+bucket-at-requires : tie.Need-bucket-at-requires
+bucket-at-requires c κs =
     let pre′ = c .before .before .before .before .before .pre in
     let found = sym (c .before .before .before .position .ensures) ∙ c .before .pos .given .1 in
     (pre′ .0, found-below-cap _ _ _ (pre′ .0) found)
@@ -21,21 +21,18 @@ get-requires c κs =
 enum-told : tie.Need-enum-told
 enum-told c = search needs
 
-owed-by-requires : tie.Need-owed-by-requires
-owed-by-requires c κs = search needs
-
-returning-requires : tie.Need-returning-requires
-returning-requires c κs = search needs
+returning-bucket-requires : tie.Need-returning-bucket-requires
+returning-bucket-requires c κs = search needs
 
 returns : tie.Need-returns
 returns c =
-    let found = sym (c .before .before .before .before .before .position .ensures) ∙ c .before .before .before .pos .given .1 in
-    rw (c .before .get .ensures) (sym (view-of-slot _ _ _ _ _ found))
+    let found = sym (c .before .before .before .before .position .ensures) ∙ c .before .before .pos .given .1 in
+    rw (c .bucket-at .ensures) (sym (view-of-slot _ _ _ _ _ found))
 
 returns-2 : tie.Need-returns-2
 returns-2 c =
-    let missed = sym (c .before .before .before .before .position .ensures) ∙ c .before .before .enum-told .given .1 in
-    rw (c .returning .ensures, c .before .owed-by .ensures) (sym (view-without-slot _ _ _ _ missed))
+    let missed = sym (c .before .before .before .position .ensures) ∙ c .before .enum-told .given .1 in
+    rw (c .returning-bucket .ensures) (sym (view-without-slot _ _ _ _ missed))
 
 pub view-spec : {M : Type 1} → statement M
 view-spec =
@@ -43,9 +40,8 @@ view-spec =
     (tie.spec
     position-requires
     enum-known-pos
-    get-requires
+    bucket-at-requires
     enum-told
-    owed-by-requires
-    returning-requires
+    returning-bucket-requires
     returns
     returns-2)
