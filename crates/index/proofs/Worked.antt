@@ -127,3 +127,14 @@ each-other-place-once = refl
 renumbered-without-a-place : remove (items (0 ∷ 1 ∷ [])) 2 (0 ∷ 2 ∷ 1 ∷ 0 ∷ []) 0 ≡ 0 ∷ 1 ∷ 1 ∷ 0 ∷ []
 unfolding onward walkFrom walk seek add addAgain rehome vacate renumber remove
 renumbered-without-a-place = refl
+
+-- The pass stops at the first place that it meets empty, not at the first that was empty: item 1 stands off its walk and is added again in place 2, which was
+-- empty. The pass then meets place 2 in use and goes on to place 3, whose word names no item.
+place-filled-meanwhile-is-passed : remove (items (0 ∷ 2 ∷ [])) 2 (1 ∷ 2 ∷ 0 ∷ 9 ∷ []) 0 ≡ 0 ∷ 0 ∷ 1 ∷ 0 ∷ []
+unfolding onward walkFrom walk seek add addAgain rehome vacate renumber remove
+place-filled-meanwhile-is-passed = refl
+
+-- The last item is named twice: both names are added again, and the first on its walk is renumbered. The other names no item then.
+first-name-is-renumbered : remove (items (0 ∷ 1 ∷ [])) 2 (1 ∷ 2 ∷ 2 ∷ 0 ∷ []) 0 ≡ 0 ∷ 1 ∷ 2 ∷ 0 ∷ []
+unfolding onward walkFrom walk seek add addAgain rehome vacate renumber remove
+first-name-is-renumbered = refl
