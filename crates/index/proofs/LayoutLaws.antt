@@ -4,17 +4,19 @@ use native.Mathlib.Omega.{arith}
 use native.Mathlib.Nat.{mul-le-mul-left}
 use mathlib.Core.Path.{_≡_, refl, sym, _∙_, ap}
 use mathlib.Core.List.{List, _++_}
-use mathlib.Core.Bool.{Bool, true, false}
+use mathlib.Core.Bool.{false}
 use lib.ListN.{length, getD, set, take, drop, length-set, length-drop, length-append, take-append-drop}
 use lib.Seq.{getD-take, getD-drop, length-take-le, take-at, drop-at, take-set-lt, drop-set-add, take-set-le, drop-set-lt}
 use lib.Dec.{eqb}
 use borrow.Rule.Slice.PartMut.{putMid}
-use borrow.Author.Tests.{eq-eqb, ne-eqb, eqb-true, eqb-false}
+use borrow.Author.Tests.{eq-eqb, ne-eqb}
 use Rattle.arith.proofs.Cases.{by-eq}
+use Rattle.rows.specs.Segments.{segment}
 use Rattle.rows.proofs.SegmentLaws.{segment-length, segment-back, word-kept}
+use Rattle.rows.proofs.RowLaws.{segment-word}
 use Rattle.index.specs.declared.Index.{Index}
 use Rattle.index.specs.Walk.{at, onward, seek, addAgain, rehome, vacate, renumber, remove}
-use Rattle.index.specs.Layout.{Fits, placesOf, withPlaces, hashOf, keyOf, keyed}
+use Rattle.index.specs.Layout.{Fits, placesOf, withPlaces, itemWord, hashOf, keyOf, keyed}
 use Rattle.index.proofs.StepLaws.{onward-below, add-again-length, add-again-agrees, rehome-agrees, rehome-empty, rehome-over, rehome-on}
 use Rattle.index.proofs.StepLaws.{vacate-none, vacate-used, vacate-length, remove-by, at-past}
 
@@ -35,14 +37,19 @@ module _ (index : Index) (ws : List ℕ) (h k i : ℕ) where
   keyed-not n = rw (ne-eqb _ _ n)
 
 pub keyed-by-hash : (index : Index) (ws : List ℕ) (h i : ℕ) → index .key ≡ 0 → keyed index ws h h i ≡ eqb (hashOf index ws i) h
-unfolding keyed keyOf hashOf
+unfolding keyed
 keyed-by-hash index ws h i none =
-    let first : ℕ = index .first + index .width * i in
-    let same : first + index .key ≡ first = omega arith in
-    by-eq (getD ws first 0) h
-    (λ e. rw (same, eq-eqb (getD ws first 0) h e))
-    (λ n. rw (ne-eqb (getD ws first 0) h n))
+    by-eq (hashOf index ws i) h
+    (λ e. rw (eq-eqb (hashOf index ws i) h e, eq-eqb (keyOf index ws i) h (ap (λ (f : ℕ). itemWord index f ws i) none ∙ e)))
+    (λ n. rw (ne-eqb (hashOf index ws i) h n))
 
+-- A word of an item as a word of its row.
+pub word-in-row : (index : Index) (ws : List ℕ) (i f : ℕ) → f < index .width
+    → getD (segment (index .first + index .width * i) (index .width) ws) f 0 ≡ itemWord index f ws i
+unfolding itemWord
+word-in-row index ws i f within = segment-word (index .first + index .width * i) (index .width) ws f within
+
+-- A place is a word of the lent words, and there are as many places as the index has.
 module _ (index : Index) (ws : List ℕ) where
   pub place-read : (q : ℕ) → q < index .size → getD ws (index .base + q) 0 ≡ at (placesOf index ws) q
   unfolding placesOf
@@ -79,11 +86,9 @@ module _ (index : Index) (n : ℕ) (ws ix : List ℕ) (fits : Fits index n ws) (
   unfolding placesOf withPlaces
   places-with = segment-back (index .base) (index .size) ws ix (fits .inside) long
 
-  pub hash-with : (i : ℕ) → i < n → hashOf index (withPlaces index ws ix) i ≡ hashOf index ws i
-  unfolding hashOf withPlaces
-  hash-with i h =
-      let before = item-before fits i 0 h (omega (arith, fits .within)) in
-      word-kept (index .base) (index .size) ws ix (fits .inside) long (index .first + index .width * i) (omega arith)
+  pub item-word-with : (i f : ℕ) → i < n → f < index .width → itemWord index f (withPlaces index ws ix) i ≡ itemWord index f ws i
+  unfolding itemWord withPlaces
+  item-word-with i f h b = word-kept (index .base) (index .size) ws ix (fits .inside) long (index .first + index .width * i + f) (item-before fits i f h b)
 
   pub length-with : length (withPlaces index ws ix) ≡ length ws
   unfolding withPlaces
@@ -122,11 +127,11 @@ module _ {index : Index} {n : ℕ} {ws ws₁ : List ℕ} (ix : List ℕ) (fits :
   pub then-fits : Fits index n ws₁
   then-fits = rw first (fits-with index n ws ix fits long)
 
-  then-places : placesOf index ws₁ ≡ ix
+  pub then-places : placesOf index ws₁ ≡ ix
   then-places = rw first (places-with index n ws ix fits long)
 
-  then-hash : (i : ℕ) → i < n → hashOf index ws₁ i ≡ hashOf index ws i
-  then-hash i h = rw first (hash-with index n ws ix fits long i h)
+  pub then-hash : (i : ℕ) → i < n → hashOf index ws₁ i ≡ hashOf index ws i
+  then-hash i h = rw first (item-word-with index n ws ix fits long i 0 h (omega (arith, fits .within)))
 
   then-with : (iy : List ℕ) → withPlaces index ws₁ iy ≡ withPlaces index ws iy
   then-with iy = rw first (with-with index n ws ix fits long iy)

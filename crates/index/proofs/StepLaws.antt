@@ -1,7 +1,7 @@
 -- What each definition makes of one place. Those that count the places left have a law for each turn of the loop that computes them.
 use Prim.Native.Nat.{ℕ, zero, suc, _+_, _-_, _%_, _^_, _≤_, _<_}
 use native.Mathlib.Omega.{arith}
-use mathlib.Core.Path.{_≡_, refl, sym, _∙_, ap}
+use mathlib.Core.Path.{_≡_, refl, sym, _∙_}
 use mathlib.Core.List.{List}
 use mathlib.Core.Bool.{Bool, true, false}
 use lib.ListN.{length, set, length-set, List·getD-eq-default}
@@ -13,7 +13,7 @@ use Rattle.rows.specs.declared.Place.{Place}
 use Rattle.rows.specs.declared.Place.the-variants.{At, Nowhere}
 use Rattle.index.specs.declared.Probed.{Probed}
 use Rattle.index.specs.declared.Probed.the-variants.{Hit, Empty, Other}
-use Rattle.index.specs.Walk.{at, onward, walkFrom, walk, hits, named, findFrom, find, probed, seek, add, addAgain, rehome, vacate, renumber, remove}
+use Rattle.index.specs.Walk.{at, onward, walkFrom, walk, hits, findFrom, find, probed, seek, add, addAgain, rehome, vacate, renumber, remove}
 use Rattle.index.proofs.CycleLaws.{onward-follows, follows-below}
 
 -- The place one step on, by the test of the code.

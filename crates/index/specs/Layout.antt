@@ -16,12 +16,15 @@ placesOf index ws = segment (index .base) (index .size) ws
 unfoldable pub withPlaces : Index → List ℕ → List ℕ → List ℕ
 withPlaces index ws ix = take (index .base) ws ++ (ix ++ drop (index .size) (drop (index .base) ws))
 
--- The hash of item i, and its key.
-unfoldable pub hashOf : Index → List ℕ → ℕ → ℕ
-hashOf index ws i = getD ws (index .first + index .width * i) 0
+-- Word f of the row of item i; the item's hash; its key.
+unfoldable pub itemWord : Index → ℕ → List ℕ → ℕ → ℕ
+itemWord index f ws i = getD ws (index .first + index .width * i + f) 0
 
-unfoldable pub keyOf : Index → List ℕ → ℕ → ℕ
-keyOf index ws i = getD ws (index .first + index .width * i + index .key) 0
+abbrev pub hashOf : Index → List ℕ → ℕ → ℕ
+hashOf index ws = itemWord index 0 ws
+
+abbrev pub keyOf : Index → List ℕ → ℕ → ℕ
+keyOf index ws = itemWord index (index .key) ws
 
 -- Does item i have the hash and the key?
 unfoldable pub keyed : Index → List ℕ → ℕ → ℕ → ℕ → Bool

@@ -1,11 +1,13 @@
 // An index by hash over lent words. A place holds 0, or the number of an item plus 1. A hash has a home place, and its walk goes from there, round, up to the
 // first empty place. Removal empties the places after the item's own, up to the first empty one, and adds their items again.
 ghost use mathlib.Core.Path.{_≡_};
-ghost use Prim.Native.Nat.{ℕ, _+_, _*_, _-_, _^_, _≤_, _<_};
+ghost use Prim.Native.Nat.{_+_, _*_, _-_, _^_, _≤_, _<_};
 ghost use lib.ListN.{length, set};
 ghost use Rattle.index.specs.Walk as Walk;
-ghost use Rattle.index.specs.Layout.{Fits, placesOf, withPlaces, hashOf, keyOf, keyed};
+ghost use Rattle.index.specs.Layout.{Fits, placesOf, withPlaces, itemWord, hashOf, keyed};
 use rows::Place;
+
+mod places;
 
 // Where an index and its items lie in one slice: the index has `size` places from word `base` on. The items lie before it, from word `first` on, each in a row
 // of `width` words. The first word of a row is the item's hash, and word `key` of it is the item's key. Items without a key have the hash for a key, in word 0.
@@ -17,22 +19,14 @@ pub struct Index {
     pub key: usize,
 }
 
+// The word of a row that has the hash.
+const HASH: usize = 0;
+
 // What lookup makes of one place: an item that it looks for, an empty place, or a reason to go on.
 enum Probed {
     Hit(usize),
     Empty,
     Other,
-}
-
-// The place one step on: after the last place comes the first.
-fn onward(size: usize, q: usize) -> usize
-    requires { ⌜ q < size ⌝ }
-    ensures { λ r. ⌜ r ≡ Walk.onward size q ⌝ }
-{
-    if q + 1 < size {
-        return q + 1;
-    }
-    0
 }
 
 // The word at a place.
@@ -44,21 +38,12 @@ fn word_at(ws: &[u64], index: Index, q: usize) -> u64
     ws[k]
 }
 
-// The hash of an item.
-fn hash_at(ws: &[u64], index: Index, n: usize, i: usize) -> u64
-    requires { ⌜ Fits index n (now ws) × (i < n) ⌝ }
-    ensures { λ r. ⌜ r ≡ hashOf index (now (ws .entry)) i ⌝ }
+// Word `f` of an item's row.
+fn item_word(ws: &[u64], index: Index, n: usize, i: usize, f: usize) -> u64
+    requires { ⌜ Fits index n (now ws) × (i < n) × (f < index .width) ⌝ }
+    ensures { λ r. ⌜ r ≡ itemWord index f (now (ws .entry)) i ⌝ }
 {
-    let k = index.first + index.width * i;
-    ws[k]
-}
-
-// The key of an item.
-fn key_at(ws: &[u64], index: Index, n: usize, i: usize) -> u64
-    requires { ⌜ Fits index n (now ws) × (i < n) ⌝ }
-    ensures { λ r. ⌜ r ≡ keyOf index (now (ws .entry)) i ⌝ }
-{
-    let k = index.first + index.width * i + index.key;
+    let k = index.first + index.width * i + f;
     ws[k]
 }
 
@@ -67,8 +52,8 @@ fn has_key(ws: &[u64], index: Index, n: usize, i: usize, hash: u64, key: u64) ->
     requires { ⌜ Fits index n (now ws) × (i < n) ⌝ }
     ensures { λ r. ⌜ r ≡ keyed index (now (ws .entry)) hash key i ⌝ }
 {
-    if hash_at(ws, index, n, i) == hash {
-        return key_at(ws, index, n, i) == key;
+    if item_word(ws, index, n, i, HASH) == hash {
+        return item_word(ws, index, n, i, index.key) == key;
     }
     false
 }
@@ -99,7 +84,7 @@ fn find_on(ws: &[u64], index: Index, n: usize, hash: u64, key: u64, home: usize)
     ensures { λ r. ⌜ r ≡ Walk.findFrom n (keyed index (now (ws .entry)) hash key) (placesOf index (now (ws .entry))) (Walk.onward (index .size) home) (index .size - 1) ⌝ }
 {
     let size = index.size;
-    let mut q = onward(size, home);
+    let mut q = places::onward(size, home);
     let mut left = size - 1;
     while 0 < left {
         match probe(ws, index, n, hash, key, q) {
@@ -110,7 +95,7 @@ fn find_on(ws: &[u64], index: Index, n: usize, hash: u64, key: u64, home: usize)
                 return Place::Nowhere;
             }
             Probed::Other => {
-                q = onward(size, q);
+                q = places::onward(size, q);
                 left -= 1;
             }
         }
@@ -131,50 +116,14 @@ pub fn find(ws: &[u64], index: Index, n: usize, hash: u64, key: u64) -> Place
     }
 }
 
-// The first place on the hash's walk that holds the word. If there is none, it is the place at which the walk stops, or the number of places.
-fn seek(ix: &[u64], hash: u64, word: u64) -> usize
-    requires { ⌜ 0 < length (now ix) ⌝ }
-    ensures { λ r. ⌜ r ≡ Walk.seek (now (ix .entry)) hash word ⌝ }
+// The item fills the empty place at which the walk of its hash stops, if there is one.
+pub fn add(ws: &mut [u64], index: Index, hash: u64, item: usize)
+    requires { ⌜ (0 < index .size) × (index .base + index .size ≤ length (now ws)) × (item + 1 < 2 ^ 64) ⌝ }
+    ensures { λ _. ⌜ now (ws .exit) ≡ withPlaces index (now (ws .entry)) (Walk.add (placesOf index (now (ws .entry))) hash item) ⌝ }
 {
-    let size = ix.len();
-    let mut q = (hash % (size as u64)) as usize;
-    let mut left = size;
-    while 0 < left {
-        let v = ix[q];
-        if v == 0 {
-            return q;
-        }
-        if v == word {
-            return q;
-        }
-        q = onward(size, q);
-        left -= 1;
-    }
-    size
-}
-
-// The item fills the empty place at which its walk stops, if there is one. The caller lends the places alone.
-pub fn add(ix: &mut [u64], hash: u64, item: usize)
-    requires { ⌜ (0 < length (now ix)) × (item + 1 < 2 ^ 64) ⌝ }
-    ensures { λ _. ⌜ now (ix .exit) ≡ Walk.add (now (ix .entry)) hash item ⌝ }
-{
-    let z = seek(ix, hash, 0);
-    if z < ix.len() {
-        ix[z] = item as u64 + 1;
-    }
-}
-
-// Item m gets the number r, if a place on its walk names it.
-fn renumber(ix: &mut [u64], hash: u64, m: usize, r: usize)
-    requires { ⌜ (0 < length (now ix)) × (m + 1 < 2 ^ 64) × (r + 1 < 2 ^ 64) ⌝ }
-    ensures { λ _. ⌜ now (ix .exit) ≡ Walk.renumber (now (ix .entry)) hash m r ⌝ }
-{
-    let z = seek(ix, hash, m as u64 + 1);
-    if z < ix.len() {
-        if ix[z] != 0 {
-            ix[z] = r as u64 + 1;
-        }
-    }
+    let start = index.base;
+    let end = index.base + index.size;
+    places::add(&mut ws[start..end], hash, item);
 }
 
 // The item that a word names, if any, is added again.
@@ -184,10 +133,8 @@ fn add_again(ws: &mut [u64], index: Index, n: usize, word: u64)
 {
     if word <= n as u64 {
         let i = (word - 1) as usize;
-        let hash = hash_at(ws, index, n, i);
-        let start = index.base;
-        let end = index.base + index.size;
-        add(&mut ws[start..end], hash, i);
+        let hash = item_word(ws, index, n, i, HASH);
+        add(ws, index, hash, i);
     }
 }
 
@@ -223,7 +170,7 @@ fn rehome(ws: &mut [u64], index: Index, n: usize, from: usize)
             return;
         }
         rehome_one(ws, index, n, q, held);
-        q = onward(size, q);
+        q = places::onward(size, q);
         left -= 1;
     }
 }
@@ -236,7 +183,7 @@ fn vacate(ws: &mut [u64], index: Index, n: usize, z: usize)
     if z < index.size {
         if word_at(ws, index, z) != 0 {
             empty(ws, index, z);
-            let from = onward(index.size, z);
+            let from = places::onward(index.size, z);
             rehome(ws, index, n, from);
         }
     }
@@ -247,10 +194,10 @@ fn place_of(ws: &[u64], index: Index, n: usize, i: usize) -> usize
     requires { ⌜ Fits index n (now ws) × (i < n) ⌝ }
     ensures { λ r. ⌜ r ≡ Walk.seek (placesOf index (now (ws .entry))) (hashOf index (now (ws .entry)) i) (i + 1) ⌝ }
 {
-    let hash = hash_at(ws, index, n, i);
+    let hash = item_word(ws, index, n, i, HASH);
     let start = index.base;
     let end = index.base + index.size;
-    seek(&ws[start..end], hash, i as u64 + 1)
+    places::seek(&ws[start..end], hash, i as u64 + 1)
 }
 
 // The last item gets the number r.
@@ -259,10 +206,10 @@ fn renumber_last(ws: &mut [u64], index: Index, n: usize, r: usize)
     ensures { λ _. ⌜ now (ws .exit) ≡ withPlaces index (now (ws .entry)) (Walk.renumber (placesOf index (now (ws .entry))) (hashOf index (now (ws .entry)) (n - 1)) (n - 1) r) ⌝ }
 {
     let last = n - 1;
-    let hash = hash_at(ws, index, n, last);
+    let hash = item_word(ws, index, n, last, HASH);
     let start = index.base;
     let end = index.base + index.size;
-    renumber(&mut ws[start..end], hash, last, r);
+    places::renumber(&mut ws[start..end], hash, last, r);
 }
 
 // Item r leaves the index, and the last item gets its number. The caller moves the last item afterwards.

@@ -1,42 +1,34 @@
--- `add` stores the number at the place that the walk gives. Past the last place it stores nothing, and neither does the definition.
-use Rattle.index.proofs.StepLaws.{add-in, add-past}
+-- `add` lends the places to `places::add`, and the words are as they were but for the places.
+use Rattle.index.proofs.LayoutLaws.{places-lent, places-back}
 use borrow.Author.Needs.{needs}
 use Rattle.index.proofs.add.Statement.{statement}
 use Rattle.index.proofs.add.Tie as tie
 
-seek-requires : tie.Need-seek-requires
-seek-requires c κs = search needs
+add-end : tie.Need-add-end
+add-end c = search needs
 
-add-ix : tie.Need-add-ix
-add-ix c = search needs
+mul-add : tie.Need-mul-add
+mul-add c = search needs
 
-mul-ix : tie.Need-mul-ix
-mul-ix c = search needs
+sub-add : tie.Need-sub-add
+sub-add c = search needs
 
-slice-write-ix : tie.Need-slice-write-ix
-slice-write-ix c = search needs
+part-add-start : tie.Need-part-add-start
+part-add-start c = search needs
+
+part-add-end : tie.Need-part-add-end
+part-add-end c = search needs
+
+add-requires : tie.Need-add-requires
+add-requires c κs = search needs
 
 same-length : tie.Need-same-length
 same-length c = search needs
 
 returns : tie.Need-returns
-returns c = add-in _ _ _ _ (c .before .seek .ensures)
-
-same-length-2 : tie.Need-same-length-2
-same-length-2 c = search needs
-
-returns-2 : tie.Need-returns-2
-returns-2 c = add-past _ _ _ _ (c .before .seek .ensures) (c .if1 .left)
+returns c = rw (places-back, c .before .before .add .ensures, places-lent)
 
 pub add-spec : {M : Type 1} → statement M
 add-spec =
     tie.close
-    (tie.spec
-    seek-requires
-    add-ix
-    mul-ix
-    slice-write-ix
-    same-length
-    returns
-    same-length-2
-    returns-2)
+    (tie.spec add-end mul-add sub-add part-add-start part-add-end add-requires same-length returns)

@@ -13,6 +13,7 @@ use borrow.Author.Needs.{needs}
 use Rattle.index.proofs.find_on.Statement.{statement}
 use Rattle.index.proofs.find_on.Tie as tie
 
+-- The place is one of the index, and the lookup from here gives what it gives from the place after the home.
 record Walking (ws : List ℕ) (index : Index) (n hash key home size q left : ℕ) : Type 0 where
   below : q < size
   sized : size ≡ index .size

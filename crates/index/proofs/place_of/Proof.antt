@@ -1,11 +1,11 @@
--- `place_of` lends the places to `seek`, with the hash of the item and its number plus 1.
+-- `place_of` lends the places to `places::seek`, with the hash of the item and its number plus 1.
 use Rattle.index.proofs.LayoutLaws.{places-lent}
 use borrow.Author.Needs.{needs}
 use Rattle.index.proofs.place_of.Statement.{statement}
 use Rattle.index.proofs.place_of.Tie as tie
 
-hash-at-requires : tie.Need-hash-at-requires
-hash-at-requires c κs = search needs
+item-word-requires : tie.Need-item-word-requires
+item-word-requires c κs = search needs
 
 add-end : tie.Need-add-end
 add-end c = search needs
@@ -31,13 +31,13 @@ seek-requires c κs = search needs
 returns : tie.Need-returns
 returns c =
     let read = c .before .before .before in
-    rw (c .seek .ensures, places-lent, read .hash-at .ensures)
+    rw (c .seek .ensures, places-lent, read .item-word .ensures)
 
 pub place-of-spec : {M : Type 1} → statement M
 place-of-spec =
     tie.close
     (tie.spec
-    hash-at-requires
+    item-word-requires
     add-end
     mul-seek
     sub-seek

@@ -1,10 +1,20 @@
 -- `probe` makes of the word at a place what the definition makes of it. The word less 1 is below the count exactly where the word names an item.
 use mathlib.Core.Path.{_≡_, sym, _∙_}
+use Prim.Native.Nat.{_+_}
+use Rattle.index.specs.Walk.{at}
+use Rattle.index.specs.Layout.{placesOf}
 use native.Mathlib.Omega.{arith}
 use Rattle.index.proofs.StepLaws.{probed-hit, probed-miss, probed-empty, probed-no-item, less-one-names, less-one-over}
 use borrow.Author.Needs.{needs}
 use Rattle.index.proofs.probe.Statement.{statement}
 use Rattle.index.proofs.probe.Tie as tie
+
+-- Where an item was asked for its key: the word at the place names it.
+names : (a : tie.After-has-key) → let less = a .before .before in let args = less .before .before .before .args in
+    at (placesOf (args .index) (args .ws .now)) (args .q) ≡ less .wrapping-sub-u64 .result + 1
+names a =
+    let less = a .before .before in
+    sym (less .before .word-at .ensures) ∙ less-one-names _ _ _ (less .wrapping-sub-u64 .ensures) (a .before .if1 .taken) (omega arith)
 
 word-at-requires : tie.Need-word-at-requires
 word-at-requires c κs = search needs
@@ -19,17 +29,13 @@ returns : tie.Need-returns
 returns c =
     let asked = c .before in
     let below = asked .before .if1 .taken in
-    let less = asked .before .before in
-    let names = less-one-names _ _ _ (less .wrapping-sub-u64 .ensures) below (omega arith) in
-    probed-hit _ _ _ _ (sym (less .before .word-at .ensures) ∙ names) below (sym (asked .has-key .ensures) ∙ c .if2 .taken)
+    probed-hit _ _ _ _ (names asked) below (sym (asked .has-key .ensures) ∙ c .if2 .taken)
 
 returns-2 : tie.Need-returns-2
 returns-2 c =
     let asked = c .before in
     let below = asked .before .if1 .taken in
-    let less = asked .before .before in
-    let names = less-one-names _ _ _ (less .wrapping-sub-u64 .ensures) below (omega arith) in
-    probed-miss _ _ _ _ (sym (less .before .word-at .ensures) ∙ names) below (sym (asked .has-key .ensures) ∙ c .if2 .left)
+    probed-miss _ _ _ _ (names asked) below (sym (asked .has-key .ensures) ∙ c .if2 .left)
 
 returns-3 : tie.Need-returns-3
 returns-3 c = probed-empty _ _ _ (sym (c .before .before .before .word-at .ensures) ∙ c .if3 .taken)

@@ -1,9 +1,6 @@
 -- `rehome` is the pass over the places after an emptied one. The loop holds that the pass from here leaves what it leaves from the start.
 use native.Mathlib.Omega.{arith}
-use Prim.Native.Nat.{ℕ}
 use mathlib.Core.Path.{_≡_, refl, sym, _∙_}
-use mathlib.Core.List.{List}
-use Rattle.index.specs.declared.Index.{Index}
 use Rattle.index.proofs.LayoutLaws.{Rehoming, rehoming-start, rehoming-empty, rehoming-over, rehoming-on}
 use borrow.Author.Needs.{needs}
 use Rattle.index.proofs.rehome.Statement.{statement}

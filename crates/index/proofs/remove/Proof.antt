@@ -1,5 +1,4 @@
 -- `remove` is the definition's removal: it finds the place of the item, vacates it, and renumbers the last item.
-use native.Mathlib.Omega.{arith}
 use Rattle.index.proofs.LayoutLaws.{then-fits, vacated-length, removed-by-calls}
 use borrow.Author.Needs.{needs}
 use Rattle.index.proofs.remove.Statement.{statement}

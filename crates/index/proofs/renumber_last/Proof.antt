@@ -1,4 +1,4 @@
--- `renumber_last` lends the places to `renumber`, with the hash of the last item.
+-- `renumber_last` lends the places to `places::renumber`, with the hash of the last item.
 use Rattle.index.proofs.LayoutLaws.{places-lent, places-back}
 use borrow.Author.Needs.{needs}
 use Rattle.index.proofs.renumber_last.Statement.{statement}
@@ -7,8 +7,8 @@ use Rattle.index.proofs.renumber_last.Tie as tie
 sub-last : tie.Need-sub-last
 sub-last c = search needs
 
-hash-at-requires : tie.Need-hash-at-requires
-hash-at-requires c κs = search needs
+item-word-requires : tie.Need-item-word-requires
+item-word-requires c κs = search needs
 
 add-end : tie.Need-add-end
 add-end c = search needs
@@ -35,14 +35,14 @@ returns : tie.Need-returns
 returns c =
     let renumbered = c .before .before in
     let read = renumbered .before .before .before in
-    rw (places-back, renumbered .renumber .ensures, places-lent, read .hash-at .ensures)
+    rw (places-back, renumbered .renumber .ensures, places-lent, read .item-word .ensures)
 
 pub renumber-last-spec : {M : Type 1} → statement M
 renumber-last-spec =
     tie.close
     (tie.spec
     sub-last
-    hash-at-requires
+    item-word-requires
     add-end
     mul-renumber
     sub-renumber

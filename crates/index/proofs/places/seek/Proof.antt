@@ -1,4 +1,4 @@
--- `seek` walks to the first place that holds the word. The loop holds that the walk from here stops where the whole walk stops.
+-- `places::seek` walks to the first place that holds the word. The loop holds that the walk from here stops where the whole walk stops.
 use mathlib.Core.Path.{_≡_, refl, sym, _∙_}
 use native.Mathlib.Omega.{arith}
 use Prim.Native.Nat.{ℕ, _<_}
@@ -10,9 +10,10 @@ use borrow.Author.Tests.{eq-eqb, ne-eqb}
 use Rattle.index.specs.Walk.{walkFrom, seek}
 use Rattle.index.proofs.StepLaws.{walk-empty, walk-passing, walk-on, walk-over, seek-start, onward-below}
 use borrow.Author.Needs.{needs}
-use Rattle.index.proofs.seek.Statement.{statement}
-use Rattle.index.proofs.seek.Tie as tie
+use Rattle.index.proofs.places.seek.Statement.{statement}
+use Rattle.index.proofs.places.seek.Tie as tie
 
+-- The place is one of the index, and the walk from here stops where the whole walk stops.
 record Walking (ix : List ℕ) (hash word size q left : ℕ) : Type 0 where
   below : q < size
   sized : size ≡ length ix

@@ -1,8 +1,8 @@
--- `renumber` stores the number at the place that the walk gives, if the place is in use, as the definition does.
+-- `places::renumber` stores the number at the place that the walk gives, if the place is in use, as the definition does.
 use Rattle.index.proofs.StepLaws.{renumber-in, renumber-none, renumber-past}
 use borrow.Author.Needs.{needs}
-use Rattle.index.proofs.renumber.Statement.{statement}
-use Rattle.index.proofs.renumber.Tie as tie
+use Rattle.index.proofs.places.renumber.Statement.{statement}
+use Rattle.index.proofs.places.renumber.Tie as tie
 
 add-seek : tie.Need-add-seek
 add-seek c = search needs

@@ -1,8 +1,8 @@
--- `onward` gives the place one step on, by the test of the definition.
+-- `places::onward` gives the place one step on, by the test of the definition.
 use Rattle.index.proofs.StepLaws.{onward-on, onward-back}
 use borrow.Author.Needs.{needs}
-use Rattle.index.proofs.onward.Statement.{statement}
-use Rattle.index.proofs.onward.Tie as tie
+use Rattle.index.proofs.places.onward.Statement.{statement}
+use Rattle.index.proofs.places.onward.Tie as tie
 
 add-if1 : tie.Need-add-if1
 add-if1 c = search needs
