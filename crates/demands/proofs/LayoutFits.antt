@@ -5,8 +5,8 @@ use native.Mathlib.Omega.{arith}
 use lib.ListN.{length, getD, take}
 use Rattle.rows.specs.Segments.{segment}
 use Rattle.rows.specs.Rows.{rows, unrow}
-use Rattle.rows.specs.Layout.{Table, tableIn}
-use Rattle.rows.proofs.LayoutLaws.{table-length}
+use Rattle.held.specs.Layout.{Table, tableIn}
+use Rattle.held.proofs.LayoutLaws.{table-length}
 use Rattle.slot.specs.declared.Slot.{Slot}
 use Rattle.ledger.specs.declared.Debt.{Debt}
 use Rattle.ledger.specs.Model.{Ledger}

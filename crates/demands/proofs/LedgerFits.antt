@@ -16,7 +16,7 @@ use Rattle.ledger.specs.declared.Choice.{Choice}
 use Rattle.ledger.specs.declared.Choice.the-variants.{Settled, Soonest}
 use Rattle.ledger.specs.declared.Recorded.{Recorded}
 use Rattle.ledger.specs.declared.Recorded.the-variants.{Done, NoRoom}
-use Rattle.ledger.specs.Model.{Ledger, noDebt, capOf, debtAt, settledBy, hasSettled, cursorOf, withCursor, withDebt, placeOf, removeAt, append, taken, roundOf, sweep}
+use Rattle.ledger.specs.Model.{Ledger, noDebt, debtItems, capOf, debtAt, settledBy, hasSettled, cursorOf, withCursor, withDebt, placeOf, removeAt, append, taken, roundOf, sweep}
 use Rattle.ledger.specs.Model.{sooner, scanFrom, scan, dropChosen, makeRoom, joined, recordedAt, recorded, paidDown}
 use Rattle.ledger.proofs.StepLaws.{removal-count, taken-cases, paid-cases}
 use Rattle.ledger.proofs.RecordLaws.{done-is-no-refusal}
@@ -40,7 +40,7 @@ no-debt-fits = record { hash = omega arith; settles = omega arith }
 -- The single steps.
 module _ (l : Ledger) (f : LedgerFits l) where
   debt-at-fits : (i : ℕ) → DebtFits (debtAt l i)
-  debt-at-fits i = item-fits DebtFits (l .debts) (f .debts) noDebt no-debt-fits i
+  debt-at-fits i = item-fits DebtFits (l .debts) (f .debts) debtItems no-debt-fits i
 
   moved-cursor-fits : (c : ℕ) → Word c → LedgerFits (withCursor l c)
   moved-cursor-fits c fits = record { debts = f .debts; cursor = fits; others = f .others }
@@ -50,11 +50,11 @@ module _ (l : Ledger) (f : LedgerFits l) where
 
   debt-removed-fits : (p : ℕ) → LedgerFits (removeAt l p)
   unfolding removeAt
-  debt-removed-fits p = record { debts = removed-fits DebtFits (l .debts) (f .debts) noDebt no-debt-fits p; cursor = f .cursor; others = f .others }
+  debt-removed-fits p = record { debts = removed-fits DebtFits (l .debts) (f .debts) debtItems no-debt-fits p; cursor = f .cursor; others = f .others }
 
   debt-appended-fits : (d : Debt) → DebtFits d → Word (l .debts .count + 1) → LedgerFits (append l d)
   unfolding append
-  debt-appended-fits d fits next = record { debts = appended-fits DebtFits (l .debts) (f .debts) d fits next; cursor = f .cursor; others = f .others }
+  debt-appended-fits d fits next = record { debts = appended-fits DebtFits (l .debts) (f .debts) debtItems d fits next; cursor = f .cursor; others = f .others }
 
   next-cursor-fits : LedgerFits (withCursor l (cursorOf l + 1))
   next-cursor-fits = moved-cursor-fits _ (next-place-fits (l .cursor) (l .debts .count) (f .debts .count))
@@ -66,7 +66,7 @@ module _ (l : Ledger) (f : LedgerFits l) where
 pub sweep-fits : (at : Nanos) (n : ℕ) (l : Ledger) → LedgerFits l → LedgerFits (sweep at n l)
 unfolding sweep
 sweep-fits at n l f =
-    let swept = swept-fits DebtFits noDebt no-debt-fits (settledBy at) n (roundOf l) (record { items = f .debts; next = f .cursor }) in
+    let swept = swept-fits DebtFits debtItems no-debt-fits (settledBy at) n (roundOf l) (record { items = f .debts; next = f .cursor }) in
     record { debts = swept .items; cursor = swept .next; others = f .others }
 
 -- Taking out and paying down.

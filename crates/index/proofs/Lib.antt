@@ -8,5 +8,4 @@ pub mod ExactLaws
 pub mod RemoveLaws
 pub mod FindLaws
 pub mod CountedLaws
-pub mod HeldLaws
 pub mod LayoutLaws

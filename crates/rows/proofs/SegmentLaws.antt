@@ -3,9 +3,9 @@ use Prim.Native.Nat.{ℕ, zero, suc, _+_, _-_, _≤_, _<_}
 use native.Mathlib.Omega.{arith}
 use mathlib.Core.Path.{_≡_, refl, ap, sym, _∙_}
 use mathlib.Core.List.{List, [], _∷_, _++_, append-nil}
-use lib.ListN.{length, set, take, drop, length-take, length-drop, take-append-drop, drop-of-length-le}
+use lib.ListN.{length, getD, set, take, drop, length-take, length-drop, List·getD-append, take-append-drop, drop-of-length-le}
 use native.Mathlib.Nat.{add-suc}
-use lib.Seq.{sets, take-take, take-set-lt, take-set-le, drop-set-lt, drop-set-add, drop-drop, drop-append-le, take-append-le, take-at, drop-at, length-take-le}
+use lib.Seq.{sets, take-take, take-set-lt, take-set-le, drop-set-lt, drop-set-add, drop-drop, drop-append-le, take-append-le, take-at, drop-at, length-take-le, getD-take}
 use borrow.Rule.Slice.PartMut.{putMid}
 use Rattle.rows.specs.Segments.{segment}
 
@@ -42,6 +42,9 @@ module _ (a n : ℕ) (ws ys : List ℕ) (h : a + n ≤ length ws) (k : length ys
 
   pub segment-back : segment a n (putMid a n ws ys) ≡ ys
   segment-back = ap (take n) back ∙ take-at ys (drop n (drop a ws)) n k
+
+  pub word-kept : (j : ℕ) → j < a → getD (putMid a n ws ys) j 0 ≡ getD ws j 0
+  word-kept j b = List·getD-append (take a ws) _ 0 j (rw front-long b) ∙ getD-take a ws j 0 b
 
   pub segment-kept-below : (b m : ℕ) → b + m ≤ a → segment b m (putMid a n ws ys) ≡ segment b m ws
   segment-kept-below b m d =

@@ -1,0 +1,6 @@
+pub mod HeldLaws
+pub mod FindingLaws
+pub mod SearchLaws
+pub mod RoundLaws
+pub mod LayoutLaws
+pub mod ReadBack
