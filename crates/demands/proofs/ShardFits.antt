@@ -1,5 +1,5 @@
 -- A shard whose words fit 64 bits, free places too, and what every step on it and the idle sweep leave.
-use Prim.Native.Nat.{ℕ, _+_}
+use Prim.Native.Nat.{ℕ, _+_, _<_}
 use native.Mathlib.Omega.{arith}
 use Rattle.units.specs.declared.Nanos.{Nanos}
 use Rattle.units.specs.declared.Millis.{Millis}
@@ -47,9 +47,9 @@ module _ (s : Shard) (f : ShardFits s) where
   pub changed-slot-fits : (i : ℕ) (slot : Slot) → SlotFits slot → ShardFits (withSlot s i slot)
   changed-slot-fits i slot fits = other-slots-fit _ (stored-fits SlotFits (s .slots) (f .slots) i slot fits)
 
-  pub removed-slot-fits : (p : ℕ) → ShardFits (removeAt s p)
+  pub removed-slot-fits : (p : ℕ) → p < s .slots .count → ShardFits (removeAt s p)
   unfolding removeAt
-  removed-slot-fits p = other-slots-fit _ (removed-fits SlotFits (s .slots) (f .slots) slotItems no-slot-fits p)
+  removed-slot-fits p below = other-slots-fit _ (removed-fits SlotFits (s .slots) (f .slots) slotItems no-slot-fits p below)
 
   pub inserted-slot-fits : (slot : Slot) → SlotFits slot → Word (s .slots .count + 1) → ShardFits (insert s slot)
   unfolding insert

@@ -1,5 +1,5 @@
 -- What a lookup says. On any value, what it finds is below the count and passes. On a complete value it misses no item of the hash. So layers above know
--- lookup by two laws. Then what each step keeps: that the value is complete, and the kind of its finding.
+-- lookup by two laws. Then what each step keeps: that the value is complete, the kind of its finding, and a bound over the words of its index.
 use Prim.Native.Nat.{ℕ, _+_, _-_, _*_, _<_}
 use native.Mathlib.Omega.{arith}
 use mathlib.Core.Path.{_≡_, refl, ap, _∙_}
@@ -15,6 +15,7 @@ use Rattle.index.specs.Exact.{Exact}
 use Rattle.index.proofs.StepLaws.{add-length, remove-length}
 use Rattle.index.proofs.ExactLaws.{exact-hash, add-exact, fresh-exact}
 use Rattle.index.proofs.RemoveLaws.{remove-exact}
+use Rattle.index.proofs.WordLaws.{Below, add-below, remove-below}
 use Rattle.index.proofs.FindLaws.{find-sound, find-nowhere, find-lowest}
 use Rattle.held.specs.Held.{Finding, inOrder, byIndex, Held, Sound, Items, foundBy, withAdded, withRemoved, itemAt, hashAt, position, appended, removed, stored}
 use Rattle.held.specs.Held.{inPlaceOrder, Complete, in-order-is-complete, exact-is-complete}
@@ -42,6 +43,19 @@ without-kind : (f : Finding) (hash : ℕ → ℕ) (n p : ℕ) → kindOf (withRe
 without-kind inOrder hash n p = refl
 without-kind (byIndex ix) hash n p = ap indexed (remove-length hash n ix p)
 
+-- Every word of an index is below a bound; in place order there is none. An item that comes or leaves keeps it so.
+abbrev pub WordsBelow : ℕ → Finding → Type 0
+WordsBelow bound inOrder = Unit {0}
+WordsBelow bound (byIndex ix) = Below bound ix
+
+pub added-below : (bound : ℕ) (f : Finding) (key i : ℕ) → i + 1 < bound → WordsBelow bound f → WordsBelow bound (withAdded f key i)
+added-below bound inOrder key i small words = tt
+added-below bound (byIndex ix) key i small words = add-below bound ix key i small words
+
+without-below : (bound : ℕ) (f : Finding) (hash : ℕ → ℕ) (n p : ℕ) → p + 1 < bound → WordsBelow bound f → WordsBelow bound (withRemoved f hash n p)
+without-below bound inOrder hash n p small words = tt
+without-below bound (byIndex ix) hash n p small words = remove-below bound hash n ix p small words
+
 -- What a lookup finds passes, in both cases.
 found-by : (f : Finding) (n : ℕ) (test : ℕ → Bool) (key p : ℕ) → foundBy f n test key ≡ At p → Found test n p
 found-by inOrder n test key p found = LowestLaws.found-passes n test p found
@@ -51,6 +65,10 @@ module _ {A : Type 0} (items : Items A) (h : Held A) where
   pub removed-kind : (p : ℕ) → kindOf (removed items h p .finding) ≡ kindOf (h .finding)
   unfolding removed
   removed-kind p = without-kind (h .finding) (hashAt items h) (h .count) p
+
+  pub removed-below : (bound p : ℕ) → p + 1 < bound → WordsBelow bound (h .finding) → WordsBelow bound (removed items h p .finding)
+  unfolding removed
+  removed-below bound p small words = without-below bound (h .finding) (hashAt items h) (h .count) p small words
 
   -- On any value: what is found is below the count and passes.
   pub found-passes : (key : ℕ) (test : A → Bool) (p : ℕ) → position items h key test ≡ At p → Found (λ i. test (itemAt items h i)) (h .count) p

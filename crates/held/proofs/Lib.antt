@@ -1,3 +1,4 @@
+pub mod Worked
 pub mod HeldLaws
 pub mod FindingLaws
 pub mod SearchLaws
