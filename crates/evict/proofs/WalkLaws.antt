@@ -21,7 +21,7 @@ use Rattle.held.specs.Held.{Held}
 use Rattle.held.specs.Held as Held
 use Rattle.rows.specs.Outcome.{Outcome, outcome}
 use Rattle.held.proofs.HeldLaws.{item-stored, item-stored-other}
-use Rattle.held.proofs.FindingLaws.{kindOf, rehashed-complete}
+use Rattle.held.proofs.FindingLaws.{kindOf, same-hashes-complete}
 use Rattle.slot.specs.declared.Slot.{Slot}
 use Rattle.slot.specs.Slot.{marked, withMark, lossless, recovery}
 use Rattle.ledger.specs.declared.Debt.{Debt}
@@ -62,7 +62,7 @@ remarked-sound s t r u = record { room = omega (arith, r .cap, u .room); count-f
 
 pub remarked-complete : (s t : Shard) → Remarked s t → Held.Complete slotItems (s .slots) → Held.Complete slotItems (t .slots)
 remarked-complete s t r complete =
-    rehashed-complete slotItems (s .slots) complete (t .slots) (r .finding) (r .count) (r .cap) (λ i below. remarked-slots s t r (λ slot. slot .hash) (λ slot mark. refl) i)
+    same-hashes-complete slotItems (s .slots) complete (t .slots) (r .finding) (r .count) (r .cap) (λ i below. remarked-slots s t r (λ slot. slot .hash) (λ slot mark. refl) i)
 
 -- A look at a place changes nothing else.
 look-remarks : (s t : Shard) (p : ℕ) → Remarked s t → p < capOf t → Remarked s (looked t p)

@@ -110,16 +110,16 @@ module _ {A : Type 0} (items : Items A) (h : Held A) where
       (rw none (fresh-exact (hashAt items h) (2 * length (h .places)) (omega arith)))
 
   -- Other items of the same hashes, as many, in as many places, found in the same way.
-  pub rehashed-complete : Complete items h → (g : Held A) → g .finding ≡ h .finding → g .count ≡ h .count → length (g .places) ≡ length (h .places)
+  pub same-hashes-complete : Complete items h → (g : Held A) → g .finding ≡ h .finding → g .count ≡ h .count → length (g .places) ≡ length (h .places)
       → ((i : ℕ) → i < h .count → hashAt items g i ≡ hashAt items h i) → Complete items g
-  rehashed-complete (in-order-is-complete order) g same count room hashes = in-order-is-complete (same ∙ order)
-  rehashed-complete (exact-is-complete ix by size exact) g same count room hashes =
+  same-hashes-complete (in-order-is-complete order) g same count room hashes = in-order-is-complete (same ∙ order)
+  same-hashes-complete (exact-is-complete ix by size exact) g same count room hashes =
       exact-is-complete ix (same ∙ by) (rw room size) (rw count (exact-hash exact (hashAt items g) hashes))
 
   -- Another item of the same hash stands in the place of one.
   pub stored-complete : Complete items h → (i : ℕ) (x : A) → i < length (h .places) → items .hash x ≡ hashAt items h i → Complete items (stored h i x)
   stored-complete complete i x inside same =
-      rehashed-complete complete (stored h i x) refl refl (simp length-set) (λ j below.
+      same-hashes-complete complete (stored h i x) refl refl (simp length-set) (λ j below.
       by-eq j i
       (λ e. rw e (ap (items .hash) (item-stored items h i x inside) ∙ same))
       (λ other. ap (items .hash) (item-stored-other items h i x j other)))

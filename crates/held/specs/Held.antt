@@ -1,7 +1,7 @@
 -- Items held in the first places of a fixed number of places. What stands in the places past the count is part of the value, so that a definition
 -- over `Held` fixes every word. An operation changes which items are held by three definitions: `appended` adds an item, `removed` takes one out, and
--- `stored` puts one in the place of another. `position` finds an item and changes nothing. Only these four look at how items are found. Only set-up and
--- clear do otherwise: all words become 0.
+-- `stored` puts one in the place of another. Only set-up and clear do otherwise: all words become 0. `position` finds an item and changes nothing. What the
+-- four do with the way in which items are found is said here alone; definitions above say the same for both ways.
 use Prim.Native.Nat.{ℕ, _+_, _-_, _*_, _≤_, _<_}
 use mathlib.Core.Path.{_≡_}
 use mathlib.Core.Bool.{Bool, cond}
