@@ -108,7 +108,7 @@ module _ (s : Settings) (rate : Rate) (k : Identity) (B : BoundOf (configOf rate
         let shard : Shard.Shard = shardAt s (id .hash) ws in
         rw (reply-grants B r at cost g (answered .answer) (store-grants-as-asked (policyOf s rate) id r cost at shard))
         (keyed-stands id (at .0) ws v answered (ask-same-room shard sound (policyOf s rate) id r cost at) alone _
-        (λ hash key b. own-request (policyOf s rate) id r cost at shard a never sound B (k .hash) (k .key) hash key least most patient b)
+        (λ hash key b. own-request (policyOf s rate) id r cost at shard a never sound (rw hash (v .complete)) B (k .hash) (k .key) hash key least most patient b)
         (λ differs. other-request (policyOf s rate) id r cost at shard a never sound (k .hash) (k .key) differs))
 
     -- A grant of no tokens keeps the bound.
@@ -120,6 +120,7 @@ module _ (s : Settings) (rate : Rate) (k : Identity) (B : BoundOf (configOf rate
         (record {
           size = v .size;
           sound = v .sound;
+          complete = v .complete;
           bounds = record { one = v .bounds .one; bound = B .granted-none (at .0) _ (v .bounds .bound) };
         }))
         (λ differs. rw (other-hash k id (B .grant (at .0) 0 cost g) g differs) v)

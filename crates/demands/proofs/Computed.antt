@@ -5,9 +5,10 @@ use mathlib.Core.Bool.{true}
 use mathlib.Core.List.{[], _∷_}
 use Rattle.arith.specs.Arith.{ceilDiv}
 use Rattle.rows.specs.Rows.{rows, unrow}
-use Rattle.rows.specs.Layout.{tableIn}
-use Rattle.rows.specs.Held.{lowestFrom, removed, sum}
-use Rattle.rows.specs.Round as Round
+use Rattle.held.specs.Layout.{tableIn}
+use Rattle.rows.specs.Places.{lowestFrom, sum}
+use Rattle.held.specs.Held.{removed}
+use Rattle.held.specs.Round as Round
 use Rattle.bucket.specs.Bucket.{shortfallAt, availableAt, waitAt, asked}
 use Rattle.bucket.specs.Debt.{takenOut, lacking, restored}
 use Rattle.settings.specs.declared.rate.Rate.{Rate}

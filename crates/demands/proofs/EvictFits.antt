@@ -14,7 +14,7 @@ use Rattle.evict.specs.declared.Room.{Room}
 use Rattle.evict.specs.declared.Walk.{Walk}
 use Rattle.evict.specs.Evict.{nothingNoted, noted, looked, goesAtOnce, Walked, walkFrom, walked, evictAt, debtLeft, evicted}
 use Rattle.evict.proofs.ModelLaws.{debt-fits}
-use Rattle.evict.proofs.WalkLaws.{debtRecorded, Evicting, full-goes, owing-goes, none-goes, evict-cases}
+use Rattle.evict.proofs.WalkLaws.{remarked-sound, walk-kept, debtRecorded, Evicting, full-goes, owing-goes, none-goes, evict-cases}
 use Rattle.demands.proofs.EveryLaws.{of-either}
 use Rattle.demands.proofs.WordFits.{next-place-fits}
 use Rattle.demands.proofs.LedgerFits.{DebtFits, recorded-fits}
@@ -42,20 +42,22 @@ walked-fits c at s f = walk-from-fits c at _ s (nothingNoted c) f
 
 -- The slot at p goes, and the hand steps past it.
 evicted-at-fits : (s : Shard) (p : ℕ) → p < s .slots .count → ShardFits s → ShardFits (evictAt s p)
-evicted-at-fits s p below f = moved-hand-fits _ (removed-slot-fits s f p) _ (omega (arith, f .slots .count))
+evicted-at-fits s p below f = moved-hand-fits _ (removed-slot-fits s f p below) _ (omega (arith, f .slots .count))
 
 -- An eviction: the debt that a slot leaves fits too.
 module _ (c : BucketConfig) (at : Nanos) (forget : Bool) (a : Accepted c) (early : at .0 ≤ 2 ^ 62) where
   debt-left-fits : (slot : Slot) → SlotFits slot → DebtFits (debtLeft c at slot)
   debt-left-fits slot f = record { hash = f .hash; settles = debt-fits (slot .bucket) at a early refl }
 
-  debt-recorded-fits : (s : Shard) (p : ℕ) → ShardFits s → ShardFits (withLedger s (debtRecorded c at forget s p .after))
-  debt-recorded-fits s p f = changed-ledger-fits s f _ (recorded-fits (s .ledger) _ at forget (debt-left-fits _ (slot-at-fits s f p)) (f .ledger))
+  debt-recorded-fits : (s : Shard) (p : ℕ) → Sound s → ShardFits s → ShardFits (withLedger s (debtRecorded c at forget s p .after))
+  debt-recorded-fits s p u f = changed-ledger-fits s f _ (recorded-fits (s .ledger) _ at forget (u .ledger) (debt-left-fits _ (slot-at-fits s f p)) (f .ledger))
 
-  ended-fits : {least : ℕ} {s : Shard} {o : Outcome Room Shard} → ShardFits s → Evicting c at forget least s o → ShardFits (o .after)
-  ended-fits {s = s} f (full-goes p full) = evicted-at-fits s p (full .below) f
-  ended-fits {s = s} f (owing-goes p below done) = evicted-at-fits _ p below (debt-recorded-fits s p f)
-  ended-fits {s = s} f (none-goes p wait below told) = debt-recorded-fits s p f
+  ended-fits : {least : ℕ} {s : Shard} {o : Outcome Room Shard} → Sound s → ShardFits s → Evicting c at forget least s o → ShardFits (o .after)
+  ended-fits {s = s} u f (full-goes p full) = evicted-at-fits s p (full .below) f
+  ended-fits {s = s} u f (owing-goes p below done) = evicted-at-fits _ p below (debt-recorded-fits s p u f)
+  ended-fits {s = s} u f (none-goes p wait below told) = debt-recorded-fits s p u f
 
   pub evicted-fits : (s : Shard) → Sound s → 0 < s .slots .count → ShardFits s → ShardFits (evicted c at forget s .after)
-  evicted-fits s u some f = ended-fits (walked-fits c at s f) (evict-cases c at forget s u some)
+  evicted-fits s u some f =
+      let kept : Sound (walked c at s .after) = remarked-sound s (walked c at s .after) (walk-kept c at s u some .same) u in
+      ended-fits kept (walked-fits c at s f) (evict-cases c at forget s u some)

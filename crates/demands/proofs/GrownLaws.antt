@@ -1,4 +1,4 @@
--- What every call keeps, a grown store has. So its shards are sound: none holds more items than it has room for.
+-- What every call keeps, a grown store has. So its shards are sound: none holds more items than it has room for. And lookup misses no item in them.
 use Prim.Native.Nat.{ℕ, _≤_}
 use mathlib.Core.Path.{_≡_, sym, ap, _∙_}
 use mathlib.Core.Bool.{false, true≢false}
@@ -21,7 +21,7 @@ use Rattle.shard.specs.declared.Identity.{Identity}
 use Rattle.shard.specs.Model as OneShard
 use Rattle.shard.proofs.ShardLaws.{SameRoom, ask-same-room, refund-same-room, remove-same-room}
 use Rattle.store.specs.Memory.{shardAt, inShard}
-use Rattle.store.proofs.MemoryLaws.{same-room-sized, in-shard-length, in-shard-reads-back-for, in-shard-leaves-others, fresh-sound}
+use Rattle.store.proofs.MemoryLaws.{same-room-sized, in-shard-length, in-shard-reads-back-for, in-shard-leaves-others, fresh-sound, fresh-shards-are-complete}
 use Rattle.perkey.specs.declared.Reply.{Reply}
 use Rattle.perkey.specs.Rules.{unlessTrivial, askedBy, tooMuch, atOnce, requested, policyOf, replyTo, refundedBy}
 use Rattle.perkey.specs.Calls.{Call, request, look, undo, len, peeks, tokens, refunds, removes, rules, settingsOf, numbered}
@@ -35,10 +35,11 @@ grown-keeps kept (set-up ws done) = kept .fresh ws done
 grown-keeps kept (cleared ws grown done) = kept .fresh ws done
 grown-keeps kept (called c ws grown same taken) = kept .call c ws same taken (grown-keeps kept grown)
 
--- A memory of the right size whose shards are sound.
+-- A memory of the right size whose shards are sound, and in which lookup misses no slot and no debt.
 pub record SoundMemory (s : Settings) (ws : List ℕ) : Type 0 where
   pub size : length ws ≡ memoryWords s
   pub sound : (hash : ℕ) → Shard.Sound (shardAt s hash ws)
+  pub complete : (hash : ℕ) → Shard.Complete (shardAt s hash ws)
 
 -- An operation in the shard of a hash that keeps its room and leaves it sound.
 operation-keeps-sound : {A : Type 0} (s : Settings) (hash : ℕ) (ws : List ℕ) (o : Outcome A Shard.Shard) → SameRoom (shardAt s hash ws) (o .after)
@@ -51,6 +52,10 @@ operation-keeps-sound s hash ws o room memory =
           by-eq (shardOf s other) (shardOf s hash)
           (λ same. rw (in-shard-reads-back-for s hash ws o (memory .size) sized other same) (room .sound))
           (λ apart. rw (in-shard-leaves-others s hash ws o (memory .size) sized other apart) (memory .sound other));
+      complete = λ other.
+          by-eq (shardOf s other) (shardOf s hash)
+          (λ same. rw (in-shard-reads-back-for s hash ws o (memory .size) sized other same) (room .complete (memory .complete hash)))
+          (λ apart. rw (in-shard-leaves-others s hash ws o (memory .size) sized other apart) (memory .complete other));
     }
 
 -- A cost that never reaches the store changes no word.
@@ -92,7 +97,7 @@ rule-keeps-sound (len s) ws memory = memory
 
 sound-kept-by-calls : (s : Settings) → KeptByCalls s (SoundMemory s)
 sound-kept-by-calls s = record {
-  fresh = λ ws done. rw (set-up-done s ws done .words) (record { size = length-replicate (memoryWords s) 0; sound = λ hash. fresh-sound s hash });
+  fresh = λ ws done. rw (set-up-done s ws done .words) (record { size = length-replicate (memoryWords s) 0; sound = λ hash. fresh-sound s hash; complete = λ hash. fresh-shards-are-complete s hash });
   call = λ c ws same taken memory.
       let none = taken-not-refused c ws taken in
       rw (not-refused-is-ruled c ws none) (rw same at (rule-keeps-sound c ws (rw same memory)));

@@ -5,8 +5,8 @@ use native.Mathlib.Omega.{arith}
 use lib.ListN.{length, getD, take}
 use Rattle.rows.specs.Segments.{segment}
 use Rattle.rows.specs.Rows.{rows, unrow}
-use Rattle.rows.specs.Layout.{Table, tableIn}
-use Rattle.rows.proofs.LayoutLaws.{table-length}
+use Rattle.held.specs.Layout.{Table, tableIn}
+use Rattle.held.proofs.LayoutLaws.{table-length}
 use Rattle.slot.specs.declared.Slot.{Slot}
 use Rattle.ledger.specs.declared.Debt.{Debt}
 use Rattle.ledger.specs.Model.{Ledger}
@@ -59,14 +59,14 @@ ledger-read-fits : (cap : ℕ) (ws : List ℕ) → Word cap → Every Word ws �
 unfolding Debts.ledger
 ledger-read-fits cap ws room every =
     let f = table-read-fits DebtFits Debts.debtOf _ cap _ ws debt-read-fits room every in
-    record { debts = record { count = f .head _; room = f .room; items = f .items }; cursor = f .head _; others = f .rest }
+    record { debts = record { count = f .head _; room = f .room; items = f .items; finding = tt }; cursor = f .head _; others = f .rest }
 
 pub shard-read-fits : (cap : ℕ) (ws : List ℕ) → Word cap → Every Word ws → ShardFits (shard cap ws)
 unfolding shard
 shard-read-fits cap ws room every =
     let f = table-read-fits SlotFits slotOf _ cap _ ws slot-read-fits room every in
     record {
-      slots = record { count = f .head _; room = f .room; items = f .items };
+      slots = record { count = f .head _; room = f .room; items = f .items; finding = tt };
       hand = f .head _;
       sweep = f .head _;
       ledger = ledger-read-fits cap _ room (f .rest);

@@ -16,7 +16,7 @@ use Rattle.rows.specs.Outcome.{Outcome}
 use Rattle.slot.specs.declared.Slot.{Slot}
 use Rattle.ledger.specs.Model as Ledger
 use Rattle.ledger.proofs.KeptLaws as Debts
-use Rattle.shard_map.specs.Model.{Shard, Sound, capOf, slotAt, withSlot, withLedger, placeOf, removeAt, insert}
+use Rattle.shard_map.specs.Model.{Shard, Sound, Complete, capOf, slotAt, withSlot, withLedger, placeOf, removeAt, insert}
 use Rattle.shard_map.proofs.StepLaws.{Holding}
 use Rattle.shard_map.proofs.KeptLaws.{weight, unpaid, count, shortage, weight-own, weight-other, short-own, short-other, empty-has-nothing, count-removed}
 use Rattle.shard_map.proofs.KeptLaws.{shortage-removed, count-inserted, shortage-inserted, count-stored, shortage-stored, Keeps, keeps-trans, later-keeps-line}
@@ -116,15 +116,15 @@ module _ (c : BucketConfig) (h k : ℕ) (at : Nanos) (s : Shard) (u : Sound s) w
     none : count h k (withLedger s (debt .after)) ≡ 0
     all : shortage c h at s ≡ Debts.worth (unpaid c at) (debt .answer)
 
-  own-debt-taken : placeOf s h k ≡ Nowhere → count h k s ≤ 1 → OwnDebtTaken (Ledger.taken (s .ledger) h)
-  own-debt-taken new single =
+  own-debt-taken : Complete s → placeOf s h k ≡ Nowhere → count h k s ≤ 1 → OwnDebtTaken (Ledger.taken (s .ledger) h)
+  own-debt-taken complete new single =
       let l : Ledger.Ledger = s .ledger in
-      let empty : Debts.owed h Debts.one (Ledger.taken l h .after) ≡ 0 = Debts.taking-leaves-none l h (u .ledger) (omega (arith, single)) in
+      let empty : Debts.owed h Debts.one (Ledger.taken l h .after) ≡ 0 = Debts.taking-leaves-none l h (u .ledger) (complete .ledger) (omega (arith, single)) in
       record {
-        none = omega (arith, nowhere-weighs-nothing c h k s new single);
+        none = omega (arith, nowhere-weighs-nothing c h k s complete new single);
         all = omega (
           arith,
-          nowhere-holds-the-debt c h k at s new single,
+          nowhere-holds-the-debt c h k at s complete new single,
           Debts.taking-lowers-by-what-it-tells h (unpaid c at) l (u .ledger),
           Debts.none-owed-nothing-owed h (unpaid c at) (Ledger.taken l h .after) empty,
         );
@@ -157,11 +157,11 @@ module _ (p : Policy) (id : Identity) (request : Request) (cost : ℕ) (at : Nan
 
   -- The key's own request: its slot is asked, or it comes in with the bucket that its debt left it; then that slot is all there is of the hash, and what it
   -- lacks bounds what happened.
-  own-request-of-identity : (B : BoundOf (p .config)) {g : B .History} → 1 ≤ cost → cost ≤ p .config .capacity → longestWait request ≤ 2 ^ 46
+  own-request-of-identity : Complete s → (B : BoundOf (p .config)) {g : B .History} → 1 ≤ cost → cost ≤ p .config .capacity → longestWait request ≤ 2 ^ 46
       → Invariant (p .config) B (id .hash) (id .key) at s g
       → Invariant (p .config) B (id .hash) (id .key) at (withOrInsert p id request cost at s .after)
       (decisionAdds B at cost (withOrInsert p id request cost at s .answer) g)
-  own-request-of-identity B {g} some within-burst longest v = go (ask-cases p id request cost at s u)
+  own-request-of-identity complete B {g} some within-burst longest v = go (ask-cases p id request cost at s u)
     where
       c : BucketConfig
       c = p .config
@@ -184,18 +184,18 @@ module _ (p : Policy) (id : Identity) (request : Request) (cost : ℕ) (at : Nan
           let all : OneSlot c h k at s i = one-slot-is-all c h k at s i u f (v .one) in
           own-slot-changed c h k at s u r B f (v .one) (asked-bounds (slotAt s i .bucket) (omega (arith, all .all)))
       go (key-joins e made) =
-          let gone : OwnDebtTaken c h k at s u debt = own-debt-taken c h k at s u e (v .one) in
+          let gone : OwnDebtTaken c h k at s u debt = own-debt-taken c h k at s u complete e (v .one) in
           own-slot-inserted c h k at (roomFor p id at s .after) _ (room-for-slot made) B refl refl (omega (arith, room-loses-nothing h k .fewer, gone .none))
           (asked-bounds (returning c at (debt .answer)) (omega (arith, gone .all, returning-lacks-the-debt c at a (debt .answer))))
       go (no-space wait e no-debt told) = invariant-keeps c B h k at s _ (room-keeps-shortage p at s u a never h k) v
 
 -- The same, for a key whose hash and key are known by an equation.
 pub own-request : (p : Policy) (id : Identity) (request : Request) (cost : ℕ) (at : Nanos) (s : Shard) → Accepted (p .config) → p .«forget_debt» ≡ false → Sound s
-    → (B : BoundOf (p .config)) (h k : ℕ) → id .hash ≡ h → id .key ≡ k → 1 ≤ cost → cost ≤ p .config .capacity → longestWait request ≤ 2 ^ 46 → {g : B .History}
+    → Complete s → (B : BoundOf (p .config)) (h k : ℕ) → id .hash ≡ h → id .key ≡ k → 1 ≤ cost → cost ≤ p .config .capacity → longestWait request ≤ 2 ^ 46 → {g : B .History}
     → Invariant (p .config) B h k at s g
     → Invariant (p .config) B h k at (withOrInsert p id request cost at s .after) (decisionAdds B at cost (withOrInsert p id request cost at s .answer) g)
-own-request p id request cost at s a never u B h k hash key some within-burst longest v =
-    rw (← hash, ← key) (own-request-of-identity p id request cost at s a never u B some within-burst longest (rw (← hash, ← key) at v))
+own-request p id request cost at s a never u complete B h k hash key some within-burst longest v =
+    rw (← hash, ← key) (own-request-of-identity p id request cost at s a never u complete B some within-burst longest (rw (← hash, ← key) at v))
 
 -- Refunds and removals for other hashes lose nothing, at any moment.
 module _ (c : BucketConfig) (h k : ℕ) (at : Nanos) (s : Shard) (u : Sound s) (id : Identity) (other : id .hash ≡ h → ⊥) where

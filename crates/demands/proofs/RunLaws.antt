@@ -11,7 +11,7 @@ use Rattle.settings.specs.declared.Settings.{Settings}
 use Rattle.settings.specs.declared.rate.Rate.{Rate}
 use Rattle.settings.specs.Rate.{configOf}
 use Rattle.shard.specs.declared.Identity.{Identity}
-use Rattle.store.proofs.MemoryLaws.{fresh-shards-are-empty, fresh-sound}
+use Rattle.store.proofs.MemoryLaws.{fresh-shards-are-empty, fresh-shards-are-complete, fresh-sound}
 use Rattle.perkey.specs.Rules.{policyOf}
 use Rattle.perkey.specs.Calls.{Call, rules, Answered, replies, accepted, Every}
 use Rattle.demands.specs.Demands.{SameSettings, clock, TimesNeverFall, NoSharedHash}
@@ -44,6 +44,7 @@ module _ (s : Settings) (rate : Rate) (k : Identity) (B : BoundOf (configOf rate
       record {
         size = length-replicate (memoryWords s) 0;
         sound = fresh-sound s (k .hash);
+        complete = fresh-shards-are-complete s (k .hash);
         bounds = invariant-empty (configOf rate) B (k .hash) (k .key) (moment 0) _ (empty .slots) (empty .debts);
       }
 

@@ -1,13 +1,13 @@
 -- A shard whose words fit 64 bits, free places too, and what every step on it and the idle sweep leave.
-use Prim.Native.Nat.{ℕ, _+_}
+use Prim.Native.Nat.{ℕ, _+_, _<_}
 use native.Mathlib.Omega.{arith}
 use Rattle.units.specs.declared.Nanos.{Nanos}
 use Rattle.units.specs.declared.Millis.{Millis}
 use Rattle.bucket.specs.declared.BucketConfig.{BucketConfig}
-use Rattle.rows.specs.Held.{Held}
+use Rattle.held.specs.Held.{Held}
 use Rattle.slot.specs.declared.Slot.{Slot}
 use Rattle.ledger.specs.Model.{Ledger}
-use Rattle.shard_map.specs.Model.{Shard, noSlot, slotAt, withSlots, withSlot, withHand, withLedger, removeAt, insert}
+use Rattle.shard_map.specs.Model.{Shard, noSlot, slotItems, slotAt, withSlots, withSlot, withHand, withLedger, removeAt, insert}
 use Rattle.shard_map.specs.Model.{reclaimable, roundOf, sweepIdle}
 use Rattle.demands.proofs.WordFits.{Word, HeldFits, item-fits, stored-fits, appended-fits, removed-fits, swept-fits}
 use Rattle.demands.proofs.BucketFits.{BucketFits}
@@ -39,7 +39,7 @@ no-slot-fits = record {
 -- The single steps.
 module _ (s : Shard) (f : ShardFits s) where
   pub slot-at-fits : (i : ℕ) → SlotFits (slotAt s i)
-  slot-at-fits i = item-fits SlotFits (s .slots) (f .slots) noSlot no-slot-fits i
+  slot-at-fits i = item-fits SlotFits (s .slots) (f .slots) slotItems no-slot-fits i
 
   other-slots-fit : (slots : Held Slot) → HeldFits SlotFits slots → ShardFits (withSlots s slots)
   other-slots-fit slots fit = record { slots = fit; hand = f .hand; sweep = f .sweep; ledger = f .ledger }
@@ -47,13 +47,13 @@ module _ (s : Shard) (f : ShardFits s) where
   pub changed-slot-fits : (i : ℕ) (slot : Slot) → SlotFits slot → ShardFits (withSlot s i slot)
   changed-slot-fits i slot fits = other-slots-fit _ (stored-fits SlotFits (s .slots) (f .slots) i slot fits)
 
-  pub removed-slot-fits : (p : ℕ) → ShardFits (removeAt s p)
+  pub removed-slot-fits : (p : ℕ) → p < s .slots .count → ShardFits (removeAt s p)
   unfolding removeAt
-  removed-slot-fits p = other-slots-fit _ (removed-fits SlotFits (s .slots) (f .slots) noSlot no-slot-fits p)
+  removed-slot-fits p below = other-slots-fit _ (removed-fits SlotFits (s .slots) (f .slots) slotItems no-slot-fits p below)
 
   pub inserted-slot-fits : (slot : Slot) → SlotFits slot → Word (s .slots .count + 1) → ShardFits (insert s slot)
   unfolding insert
-  inserted-slot-fits slot fits next = other-slots-fit _ (appended-fits SlotFits (s .slots) (f .slots) slot fits next)
+  inserted-slot-fits slot fits next = other-slots-fit _ (appended-fits SlotFits (s .slots) (f .slots) slotItems slot fits next)
 
   pub moved-hand-fits : (hand : ℕ) → Word hand → ShardFits (withHand s hand)
   moved-hand-fits hand fits = record { slots = f .slots; hand = fits; sweep = f .sweep; ledger = f .ledger }
@@ -65,5 +65,5 @@ module _ (s : Shard) (f : ShardFits s) where
 pub sweep-idle-fits : (c : BucketConfig) (at : Nanos) (limit : Millis) (n : ℕ) (s : Shard) → ShardFits s → ShardFits (sweepIdle c at limit n s)
 unfolding sweepIdle
 sweep-idle-fits c at limit n s f =
-    let swept = swept-fits SlotFits noSlot no-slot-fits (reclaimable c at limit) n (roundOf s) (record { items = f .slots; next = f .sweep }) in
+    let swept = swept-fits SlotFits slotItems no-slot-fits (reclaimable c at limit) n (roundOf s) (record { items = f .slots; next = f .sweep }) in
     record { slots = swept .items; hand = f .hand; sweep = swept .next; ledger = f .ledger }

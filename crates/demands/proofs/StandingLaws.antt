@@ -35,6 +35,7 @@ module _ (s : Settings) (rate : Rate) (k : Identity) (B : BoundOf (configOf rate
   pub record Standing (n : ℕ) (ws : List ℕ) (g : B .History) : Type 0 where
     pub size : length ws ≡ memoryWords s
     pub sound : Shard.Sound (own ws)
+    pub complete : Shard.Complete (own ws)
     pub bounds : Bounds n (own ws) g
 
   -- Time passes.
@@ -42,6 +43,7 @@ module _ (s : Settings) (rate : Rate) (k : Identity) (B : BoundOf (configOf rate
   standing-later n m ws later v = record {
     size = v .size;
     sound = v .sound;
+    complete = v .complete;
     bounds = invariant-later (configOf rate) B (k .hash) (k .key) (moment n) (moment m) (own ws) later (v .bounds);
   }
 
@@ -61,6 +63,7 @@ module _ (s : Settings) (rate : Rate) (k : Identity) (B : BoundOf (configOf rate
         record {
           size = in-shard-length s hash ws o (v .size) sized;
           sound = rw back (room .sound);
+          complete = rw back (room .complete (rw before at (v .complete)));
           bounds = rw back (here same (rw before at (v .bounds)));
         })
         (λ apart.
@@ -68,5 +71,6 @@ module _ (s : Settings) (rate : Rate) (k : Identity) (B : BoundOf (configOf rate
         record {
           size = in-shard-length s hash ws o (v .size) sized;
           sound = rw kept (v .sound);
+          complete = rw kept (v .complete);
           bounds = rw (kept, there apart) (v .bounds);
         })

@@ -125,5 +125,5 @@ pub removal-fits : (id : Identity) (s : Shard) → ShardFits s → ShardFits (re
 removal-fits id s f = go (remove-cases id s)
   where
     go : {o : Outcome Bool Shard} → Removing id s o → ShardFits (o .after)
-    go (slot-removed i e holding) = removed-slot-fits _ (debt-taken-fits id s f) i
+    go (slot-removed i e holding) = removed-slot-fits _ (debt-taken-fits id s f) i (holding .below)
     go (no-slot e) = debt-taken-fits id s f

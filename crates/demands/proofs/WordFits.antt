@@ -8,9 +8,10 @@ use lib.Dec.{ltb}
 use lib.ListN.{length, set, length-set}
 use borrow.Author.Tests.{ltb-true, lt-ltb}
 use Rattle.arith.proofs.Cases.{by-test}
-use Rattle.rows.specs.Held.{Held, wrapped, itemAt, removed, appended, stored}
-use Rattle.rows.specs.Round.{Round, sweep}
-use Rattle.rows.proofs.RoundLaws.{sweep-keeps, sweep-next}
+use Rattle.held.specs.Held.{Held, Items, wrapped, itemAt, removed, appended, stored}
+use Rattle.held.specs.Round.{Round, sweep}
+use Rattle.held.proofs.FindingLaws.{WordsBelow, added-below, removed-below}
+use Rattle.held.proofs.RoundLaws.{sweep-keeps, sweep-next}
 use Rattle.perkey.specs.Calls.{Every}
 use Rattle.demands.specs.Widths.{lendable}
 use Rattle.demands.proofs.WidthLaws.{both-true}
@@ -44,29 +45,41 @@ words-are-lendable (w ∷ ws) size every =
 pub next-place-fits : (i count : ℕ) → Word count → Word (wrapped i count + 1)
 next-place-fits i count fits = by-test (ltb i count) (λ below. rw below (omega (arith, ltb-true i count below))) (λ past. rw past (omega arith))
 
--- Held items that fit: their count, the room for them, and what stands in every place, also in a free one.
+-- Held items that fit: their count, the room for them, what stands in every place, also in a free one, and the words of their index, if there is one.
 pub record HeldFits {A : Type 0} (Q : A → Type 0) (h : Held A) : Type 0 where
   pub count : Word (h .count)
   pub room : Word (length (h .places))
   pub items : Every Q (h .places)
+  pub finding : WordsBelow (2 ^ 64) (h .finding)
 
 module _ {A : Type 0} (Q : A → Type 0) (h : Held A) (f : HeldFits Q h) where
-  pub item-fits : (free : A) → Q free → (i : ℕ) → Q (itemAt free h i)
-  item-fits free q i = of-item Q (h .places) i free q (f .items)
+  pub item-fits : (items : Items A) → Q (items .free) → (i : ℕ) → Q (itemAt items h i)
+  item-fits items q i = of-item Q (h .places) i (items .free) q (f .items)
 
   pub stored-fits : (i : ℕ) (x : A) → Q x → HeldFits Q (stored h i x)
-  stored-fits i x q = record { count = f .count; room = rw length-set (f .room); items = every-set Q (h .places) i x q (f .items) }
+  stored-fits i x q = record {
+    count = f .count;
+    room = rw length-set (f .room);
+    items = every-set Q (h .places) i x q (f .items);
+    finding = f .finding;
+  }
 
-  pub appended-fits : (x : A) → Q x → Word (h .count + 1) → HeldFits Q (appended h x)
-  appended-fits x q next = record { count = next; room = rw length-set (f .room); items = every-set Q (h .places) (h .count) x q (f .items) }
+  pub appended-fits : (items : Items A) (x : A) → Q x → Word (h .count + 1) → HeldFits Q (appended items h x)
+  appended-fits items x q next = record {
+    count = next;
+    room = rw length-set (f .room);
+    items = every-set Q (h .places) (h .count) x q (f .items);
+    finding = added-below (2 ^ 64) (h .finding) (items .hash x) (h .count) next (f .finding);
+  }
 
-  pub removed-fits : (free : A) → Q free → (p : ℕ) → HeldFits Q (removed free h p)
+  pub removed-fits : (items : Items A) → Q (items .free) → (p : ℕ) → p < h .count → HeldFits Q (removed items h p)
   unfolding removed
-  removed-fits free q p = record {
+  removed-fits items q p below = record {
     count = omega (arith, f .count);
     room = rw (length-set, length-set) (f .room);
-    items = every-set Q (set (h .places) p (itemAt free h (h .count - 1))) (h .count - 1) free q
-        (every-set Q (h .places) p (itemAt free h (h .count - 1)) (item-fits free q (h .count - 1)) (f .items));
+    items = every-set Q (set (h .places) p (itemAt items h (h .count - 1))) (h .count - 1) (items .free) q
+        (every-set Q (h .places) p (itemAt items h (h .count - 1)) (item-fits items q (h .count - 1)) (f .items));
+    finding = removed-below items h (2 ^ 64) p (omega (arith, f .count)) (f .finding);
   }
 
 -- A sweep of such items leaves such items, and a place that fits for the next look.
@@ -74,8 +87,9 @@ pub record RoundFits {A : Type 0} (Q : A → Type 0) (r : Round A) : Type 0 wher
   pub items : HeldFits Q (r .items)
   pub next : Word (r .next)
 
-pub swept-fits : {A : Type 0} (Q : A → Type 0) (free : A) → Q free → (goes : A → Bool) (n : ℕ) (r : Round A) → RoundFits Q r → RoundFits Q (sweep free goes n r)
-swept-fits Q free q goes n r f = record {
-  items = sweep-keeps free goes (HeldFits Q) (λ h p below passes g. removed-fits Q h g free q p) n r (f .items);
-  next = omega (arith, sweep-next free goes n r, f .next, f .items .count);
+pub swept-fits : {A : Type 0} (Q : A → Type 0) (items : Items A) → Q (items .free) → (goes : A → Bool) (n : ℕ) (r : Round A)
+    → RoundFits Q r → RoundFits Q (sweep items goes n r)
+swept-fits Q items q goes n r f = record {
+  items = sweep-keeps items goes (HeldFits Q) (λ h p below passes g. removed-fits Q h g items q p below) n r (f .items);
+  next = omega (arith, sweep-next items goes n r, f .next, f .items .count);
 }

@@ -17,9 +17,11 @@ use Rattle.bucket.proofs.BucketLaws.{most-shortfall-fits, shortfall-most, recov
 use Rattle.settings.specs.Eviction.{clockScan}
 use Rattle.rows.specs.declared.Place.{Place}
 use Rattle.rows.specs.declared.Place.the-variants.{At, Nowhere}
-use Rattle.rows.specs.Held.{Held}
+use Rattle.held.specs.Held.{Held}
+use Rattle.held.specs.Held as Held
 use Rattle.rows.specs.Outcome.{Outcome, outcome}
-use Rattle.rows.proofs.HeldLaws.{item-stored, item-stored-other}
+use Rattle.held.proofs.HeldLaws.{item-stored, item-stored-other}
+use Rattle.held.proofs.FindingLaws.{kindOf, same-hashes-complete}
 use Rattle.slot.specs.declared.Slot.{Slot}
 use Rattle.slot.specs.Slot.{marked, withMark, lossless, recovery}
 use Rattle.ledger.specs.declared.Debt.{Debt}
@@ -27,16 +29,16 @@ use Rattle.ledger.specs.declared.Recorded.{Recorded}
 use Rattle.ledger.specs.declared.Recorded.the-variants.{Done, NoRoom}
 use Rattle.ledger.specs.Model as Ledger
 use Rattle.ledger.proofs.StepLaws.{SameRoom, same-room, same-room-trans}
-use Rattle.ledger.proofs.RecordLaws.{recorded-sound, recorded-room, Refusal, refusal}
+use Rattle.ledger.proofs.RecordLaws.{recorded-sound, recorded-complete, recorded-room, Refusal, refusal}
 use Rattle.evict.specs.declared.Walk.{Walk}
 use Rattle.evict.specs.declared.Victim.{Victim}
 use Rattle.evict.specs.declared.Victim.the-variants.{Free, Owing}
 use Rattle.evict.specs.declared.Room.{Room}
 use Rattle.evict.specs.declared.Room.the-variants.{Made, Refused}
-use Rattle.shard_map.specs.Model.{Shard, Sound, noSlot, capOf, slotAt, withLedger, handOf, removeAt}
+use Rattle.shard_map.specs.Model.{Shard, Sound, Complete, slotItems, capOf, slotAt, withLedger, handOf, removeAt}
 use Rattle.evict.specs.Evict.{minRefusalWait, orElse, placeOr, nothingNoted, noted, looked, goesAtOnce, Walked, walkFrom, walked, freeOr, victimOf, evictAt}
 use Rattle.evict.specs.Evict.{debtLeft, refusalWait, afterRecording, evictVictim, evicted}
-use Rattle.shard_map.proofs.StepLaws.{hand-below, removal-count, removal-cap, removal-ledger, ledger-sound}
+use Rattle.shard_map.proofs.StepLaws.{hand-below, removal-count, removal-cap, removal-kind, removal-slots-complete, removal-ledger, ledger-sound}
 
 -- A shard that is another but for the hand and the marks.
 pub record Remarked (s t : Shard) : Type 0 where
@@ -44,6 +46,7 @@ pub record Remarked (s t : Shard) : Type 0 where
   pub cap : capOf t ≡ capOf s
   pub sweep : t .sweep ≡ s .sweep
   pub ledger : t .ledger ≡ s .ledger
+  pub finding : t .slots .finding ≡ s .slots .finding
   pub slots : (i : ℕ) → slotAt t i ≡ withMark (slotAt s i) (slotAt t i .mark)
 
 -- So every slot has the hash, the key, the bucket and the last-seen that it had: whatever does not look at marks is as it was.
@@ -57,6 +60,10 @@ remarked-bucket s t r = remarked-slots s t r (λ slot. slot .bucket) (λ slot ma
 pub remarked-sound : (s t : Shard) → Remarked s t → Sound s → Sound t
 remarked-sound s t r u = record { room = omega (arith, r .cap, u .room); count-fits = omega (arith, r .cap, r .count, u .count-fits); ledger = rw (r .ledger) (u .ledger) }
 
+pub remarked-complete : (s t : Shard) → Remarked s t → Held.Complete slotItems (s .slots) → Held.Complete slotItems (t .slots)
+remarked-complete s t r complete =
+    same-hashes-complete slotItems (s .slots) complete (t .slots) (r .finding) (r .count) (r .cap) (λ i below. remarked-slots s t r (λ slot. slot .hash) (λ slot mark. refl) i)
+
 -- A look at a place changes nothing else.
 look-remarks : (s t : Shard) (p : ℕ) → Remarked s t → p < capOf t → Remarked s (looked t p)
 look-remarks s t p r below = record {
@@ -64,10 +71,11 @@ look-remarks s t p r below = record {
   cap = simp length-set (r .cap);
   sweep = r .sweep;
   ledger = r .ledger;
+  finding = r .finding;
   slots = λ i.
       by-eq i p
-      (λ e. rw (e, item-stored noSlot (t .slots) p (withMark (slotAt t p) 0) below) (ap (λ (x : Slot). withMark x 0) (r .slots p)))
-      (λ other. rw (item-stored-other noSlot (t .slots) p (withMark (slotAt t p) 0) i other) (r .slots i));
+      (λ e. rw (e, item-stored slotItems (t .slots) p (withMark (slotAt t p) 0) below) (ap (λ (x : Slot). withMark x 0) (r .slots p)))
+      (λ other. rw (item-stored-other slotItems (t .slots) p (withMark (slotAt t p) 0) i other) (r .slots i));
 }
 
 -- A held slot whose bucket is full at a moment; and a place that may have been noted.
@@ -135,7 +143,7 @@ module _ (c : BucketConfig) (at : Nanos) (s : Shard) where
   pub walk-kept : Sound s → 0 < s .slots .count → WalkKept c at s (walked c at s)
   unfolding walked
   walk-kept u some =
-      walkFrom-kept _ s (nothingNoted c) u some (record { count = refl; cap = refl; sweep = refl; ledger = refl; slots = λ i. refl }) (record { full = tt; unmarked = tt })
+      walkFrom-kept _ s (nothingNoted c) u some (record { count = refl; cap = refl; sweep = refl; ledger = refl; finding = refl; slots = λ i. refl }) (record { full = tt; unmarked = tt })
 
 -- The soonest recovery of the slots that a walk looks at and that are not full, worked out at each look, with so many looks left.
 unfoldable pub soonestFrom : BucketConfig → Nanos → ℕ → Shard → ℕ → ℕ
@@ -323,7 +331,7 @@ pub record RefusalWait (c : BucketConfig) (at : Nanos) (forget : Bool) (s : Shar
 -- Q, of the slots, is kept by the two steps of an eviction: marks change, and a slot leaves.
 pub record KeptByEvictSteps (Q : Held Slot → Type 0) : Type 0 where
   pub remarks : (s t : Shard) → Remarked s t → Q (s .slots) → Q (t .slots)
-  pub drops : (s : Shard) (p : ℕ) → Sound s → Q (s .slots) → Q (removeAt s p .slots)
+  pub drops : (s : Shard) (p : ℕ) → Sound s → p < s .slots .count → Q (s .slots) → Q (removeAt s p .slots)
 
 module _ (c : BucketConfig) (at : Nanos) (forget : Bool) (s : Shard) (u : Sound s) (some : 0 < s .slots .count) where
   walk-remarks : Remarked s (walked c at s .after)
@@ -337,8 +345,8 @@ module _ (c : BucketConfig) (at : Nanos) (forget : Bool) (s : Shard) (u : Sound 
   evict-keeps-slots Q k q = go walk-sound (k .remarks s (walked c at s .after) walk-remarks q) (evict-cases c at forget s u some)
     where
       go : {least : ℕ} {t : Shard} {o : Outcome Room Shard} → Sound t → Q (t .slots) → Evicting c at forget least t o → Q (o .after .slots)
-      go {t = t} v r (full-goes p f) = k .drops t p v r
-      go {t = t} v r (owing-goes p below done) = k .drops (withLedger t (debtRecorded c at forget t p .after)) p (debt-recorded-sound c at forget t p v) r
+      go {t = t} v r (full-goes p f) = k .drops t p v (f .below) r
+      go {t = t} v r (owing-goes p below done) = k .drops (withLedger t (debtRecorded c at forget t p .after)) p (debt-recorded-sound c at forget t p v) below r
       go {t = t} v r (none-goes p wait below told) = r
 
   pub evict-keeps-ledger : (Q : Ledger.Ledger → Type 0) → ((l : Ledger.Ledger) (d : Debt) → Ledger.Sound l → Q l → Q (Ledger.recorded l d at forget .after))
@@ -353,7 +361,14 @@ module _ (c : BucketConfig) (at : Nanos) (forget : Bool) (s : Shard) (u : Sound 
 
   -- It leaves the same room for slots and for debts, no more slots than there were, and a sound shard.
   pub evict-cap : capOf (evicted c at forget s .after) ≡ capOf s
-  evict-cap = evict-keeps-slots (λ h. length (h .places) ≡ capOf s) (record { remarks = λ t v r same. r .cap ∙ same; drops = λ t p v same. removal-cap t p ∙ same }) refl
+  evict-cap =
+      evict-keeps-slots (λ h. length (h .places) ≡ capOf s)
+      (record { remarks = λ t v r same. r .cap ∙ same; drops = λ t p v below same. removal-cap t p ∙ same }) refl
+
+  pub evict-kind : kindOf (evicted c at forget s .after .slots .finding) ≡ kindOf (s .slots .finding)
+  evict-kind =
+      evict-keeps-slots (λ h. kindOf (h .finding) ≡ kindOf (s .slots .finding))
+      (record { remarks = λ t v r same. ap kindOf (r .finding) ∙ same; drops = λ t p v below same. removal-kind t p ∙ same }) refl
 
   pub evict-ledger-room : SameRoom (s .ledger) (evicted c at forget s .after .ledger)
   evict-ledger-room = evict-keeps-ledger (SameRoom (s .ledger)) (λ l d v same. same-room-trans same (recorded-room l d at forget v)) (same-room (s .ledger))
@@ -361,13 +376,20 @@ module _ (c : BucketConfig) (at : Nanos) (forget : Bool) (s : Shard) (u : Sound 
   pub evict-count : evicted c at forget s .after .slots .count ≤ s .slots .count
   evict-count =
       evict-keeps-slots (λ h. h .count ≤ s .slots .count)
-      (record { remarks = λ t v r fewer. omega (arith, r .count); drops = λ t p v fewer. omega (arith, removal-count t p) }) (omega arith)
+      (record { remarks = λ t v r fewer. omega (arith, r .count); drops = λ t p v below fewer. omega (arith, removal-count t p) }) (omega arith)
 
   pub evict-sound : Sound (evicted c at forget s .after)
   evict-sound = record {
     room = omega (arith, evict-cap, u .room);
     count-fits = omega (arith, evict-cap, evict-count, u .count-fits);
     ledger = evict-keeps-ledger Ledger.Sound (λ l d v same. recorded-sound l d at forget v) (u .ledger);
+  }
+
+  -- Lookup misses no slot and no debt after it, if it missed none before.
+  pub evict-complete : Complete s → Complete (evicted c at forget s .after)
+  evict-complete complete = record {
+    slots = evict-keeps-slots (Held.Complete slotItems) (record { remarks = remarked-complete; drops = removal-slots-complete }) (complete .slots);
+    ledger = evict-keeps-ledger Ledger.Complete (λ l d v q. recorded-complete l d at forget v q) (complete .ledger);
   }
 
   -- Where room was made one slot has gone, so there is room for another.
@@ -396,7 +418,7 @@ module _ (c : BucketConfig) (at : Nanos) (forget : Bool) (s : Shard) (u : Sound 
             full = rw (← r .ledger) (q .full);
             never = q .never;
             least = omega arith;
-            same = record { count = r .count; cap = r .cap; sweep = r .sweep; ledger = refl; slots = r .slots };
+            same = record { count = r .count; cap = r .cap; sweep = r .sweep; ledger = refl; finding = r .finding; slots = r .slots };
             debts = q .debts ∙ ap (λ (l : Ledger.Ledger). l .debts) (r .ledger);
           }
 

@@ -7,7 +7,8 @@ use lib.ListN.{replicate}
 use Rattle.arith.specs.Arith.{ceilDiv}
 use Rattle.bucket.specs.Bucket.{shortfallAt, waitAt, dueAfter}
 use Rattle.settings.specs.Eviction.{clockScan}
-use Rattle.rows.specs.Held.{lowestFrom, removed}
+use Rattle.rows.specs.Places.{lowestFrom}
+use Rattle.held.specs.Held.{removed}
 use Rattle.rows.specs.Outcome.{outcome}
 use Rattle.ledger.specs.declared.Debt.{Debt}
 use Rattle.ledger.specs.Model as Ledger

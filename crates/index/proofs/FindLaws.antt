@@ -12,7 +12,7 @@ use borrow.Author.Tests.{eq-eqb, ne-eqb, le-leb, lt-leb}
 use Rattle.arith.proofs.Cases.{by-test, by-eq, by-le}
 use Rattle.rows.specs.declared.Place.{Place}
 use Rattle.rows.specs.declared.Place.the-variants.{At, Nowhere}
-use Rattle.rows.specs.Held.{lowest}
+use Rattle.rows.specs.Places.{lowest}
 use Rattle.rows.proofs.LowestLaws.{Found, found-passes, nowhere-passes-none}
 use Rattle.index.specs.Walk.{at, onward, stops, walkFrom, walk, hits, named, findFrom, find, seek, add}
 use Rattle.index.specs.Exact.{Exact}

@@ -6,7 +6,7 @@ pub mod StepLaws
 pub mod RunLaws
 pub mod ExactLaws
 pub mod RemoveLaws
+pub mod WordLaws
 pub mod FindLaws
 pub mod CountedLaws
-pub mod HeldLaws
 pub mod LayoutLaws

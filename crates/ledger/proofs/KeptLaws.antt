@@ -12,15 +12,15 @@ use Rattle.units.specs.declared.OptionNanos.the-variants.{None, Some}
 use Rattle.bucket.specs.declared.BucketConfig.{BucketConfig}
 use Rattle.rows.specs.declared.Place.the-variants.{At, Nowhere}
 use Rattle.rows.specs.Outcome.{Outcome}
-use Rattle.rows.specs.Held.{total}
+use Rattle.held.specs.Held.{total}
 use Rattle.rows.proofs.SumLaws.{sum-of-zeros, sum-le, term-le-sum}
-use Rattle.rows.proofs.RoundLaws as RoundLaws
-use Rattle.rows.proofs.RoundLaws.{sweep-keeps-total}
-use Rattle.rows.proofs.HeldLaws.{total-stored, total-appended, total-removed}
+use Rattle.held.proofs.RoundLaws as RoundLaws
+use Rattle.held.proofs.RoundLaws.{sweep-keeps-total}
+use Rattle.held.proofs.HeldLaws.{total-stored, total-appended, total-removed}
 use Rattle.ledger.specs.declared.Debt.{Debt}
 use Rattle.ledger.specs.declared.Recorded.{Recorded}
 use Rattle.ledger.specs.declared.Recorded.the-variants.{Done, NoRoom}
-use Rattle.ledger.specs.Model.{Ledger, Sound, noDebt, capOf, debtAt, settlesAt, settledBy, withCursor, withDebt, owes, placeOf, removeAt, append, taken, roundOf, sweep}
+use Rattle.ledger.specs.Model.{Ledger, Sound, Complete, debtItems, capOf, debtAt, settlesAt, settledBy, withCursor, withDebt, owes, placeOf, removeAt, append, taken, roundOf, sweep}
 use Rattle.ledger.specs.Model.{later, recorded, credit, paidDown}
 use Rattle.ledger.proofs.StepLaws.{removal-leaves-room, Owing, found-owes, nowhere-owes-none, taken-cases, paid-cases}
 use Rattle.ledger.proofs.StepLaws.{sooner-by}
@@ -32,7 +32,7 @@ weigh h value d = cond (owes h d) (value (d .settles .0)) 0
 
 -- The values of all debts of hash h that a ledger holds.
 unfoldable pub owed : ℕ → (ℕ → ℕ) → Ledger → ℕ
-owed h value l = total noDebt (weigh h value) (l .debts)
+owed h value l = total debtItems (weigh h value) (l .debts)
 
 -- The value that counts the debts.
 abbrev pub one : ℕ → ℕ
@@ -77,15 +77,15 @@ module _ (h : ℕ) (value : ℕ → ℕ) where
   -- The steps: a debt that leaves takes its value away, one that joins adds its own, one that is changed changes its own. The cursor has no part in it.
   pub owed-removed : (l : Ledger) (p : ℕ) → Sound l → p < l .debts .count → owed h value (removeAt l p) + weigh h value (debtAt l p) ≡ owed h value l
   unfolding owed removeAt
-  owed-removed l p s below = total-removed noDebt (weigh h value) (l .debts) p s below
+  owed-removed l p s below = total-removed debtItems (weigh h value) (l .debts) p s below
 
   pub owed-appended : (l : Ledger) (d : Debt) → l .debts .count < capOf l → owed h value (append l d) ≡ owed h value l + weigh h value d
   unfolding owed append
-  owed-appended l d room = total-appended noDebt (weigh h value) (l .debts) d room
+  owed-appended l d room = total-appended debtItems (weigh h value) (l .debts) d room
 
   pub owed-stored : (l : Ledger) (p : ℕ) (d : Debt) → Sound l → p < l .debts .count → owed h value (withDebt l p d) + weigh h value (debtAt l p) ≡ owed h value l + weigh h value d
   unfolding owed
-  owed-stored l p d s below = total-stored noDebt (weigh h value) (l .debts) p d s below
+  owed-stored l p d s below = total-stored debtItems (weigh h value) (l .debts) p d s below
 
   pub owed-cursor : (l : Ledger) (c : ℕ) → owed h value (withCursor l c) ≡ owed h value l
   unfolding owed
@@ -101,18 +101,19 @@ module _ (h : ℕ) (value : ℕ → ℕ) where
   -- A sweep never adds, and of what is unsettled it loses nothing.
   pub sweep-never-adds : (at : Nanos) (n : ℕ) (l : Ledger) → Sound l → owed h value (sweep at n l) ≤ owed h value l
   unfolding owed sweep
-  sweep-never-adds at n l s = RoundLaws.sweep-never-adds noDebt (settledBy at) (weigh h value) n (roundOf l) s
+  sweep-never-adds at n l s = RoundLaws.sweep-never-adds debtItems (settledBy at) (weigh h value) n (roundOf l) s
 
   pub sweep-keeps-unsettled : (at : Nanos) (n : ℕ) (l : Ledger) → Sound l → SettledIsNothing at value → owed h value (sweep at n l) ≡ owed h value l
   unfolding owed sweep
   sweep-keeps-unsettled at n l s nothing =
-      sweep-keeps-total noDebt (settledBy at) (weigh h value) n (roundOf l) s
+      sweep-keeps-total debtItems (settledBy at) (weigh h value) n (roundOf l) s
       (λ d settled. weigh-settled at nothing d (leb-true _ _ settled))
 
--- Where lookup finds no debt of the hash, nothing is owed.
-pub nowhere-owes-nothing : (h : ℕ) (value : ℕ → ℕ) (l : Ledger) → placeOf l h ≡ Nowhere → owed h value l ≡ 0
+-- Where lookup misses no debt and finds none of the hash, nothing is owed.
+pub nowhere-owes-nothing : (h : ℕ) (value : ℕ → ℕ) (l : Ledger) → Complete l → placeOf l h ≡ Nowhere → owed h value l ≡ 0
 unfolding owed
-nowhere-owes-nothing h value l e = sum-of-zeros (l .debts .count) (λ i. weigh h value (debtAt l i)) (λ i below. weigh-other h value (debtAt l i) (nowhere-owes-none l h e i below))
+nowhere-owes-nothing h value l complete e =
+    sum-of-zeros (l .debts .count) (λ i. weigh h value (debtAt l i)) (λ i below. weigh-other h value (debtAt l i) (nowhere-owes-none l complete h e i below))
 
 -- Another value of the same debts: where a debt has by it at most a more, the sum has at most a more for each debt.
 weigh-by-another-value : (h : ℕ) (f g : ℕ → ℕ) (a : ℕ) → ((s : ℕ) → f s ≤ g s + a) → (d : Debt) → weigh h f d ≤ weigh h g d + a * weigh h one d
@@ -181,7 +182,7 @@ module _ (h : ℕ) (value : ℕ → ℕ) (l : Ledger) (s : Sound l) where
   -- A refusal changes no sum.
   pub refusal-keeps : (d : Debt) (at : Nanos) (forget : Bool) (wait : Nanos) → recorded l d at forget .answer ≡ NoRoom wait → owed h value (recorded l d at forget .after) ≡ owed h value l
   unfolding owed
-  refusal-keeps d at forget wait told = ap (total noDebt (weigh h value)) (refusal l d at forget wait s told .debts)
+  refusal-keeps d at forget wait told = ap (total debtItems (weigh h value)) (refusal l d at forget wait s told .debts)
 
   -- Taking a debt out lowers the sum by the value of the moment that is told.
   pub taking-lowers-by-what-it-tells : owed h value (taken l h .after) + worth value (taken l h .answer) ≡ owed h value l
@@ -208,8 +209,8 @@ module _ (h : ℕ) (value : ℕ → ℕ) (l : Ledger) (s : Sound l) where
       (λ e. refl)
 
 -- Once its only debt was taken out, a hash owes nothing.
-pub taking-leaves-none : (l : Ledger) (h : ℕ) → Sound l → owed h one l ≤ 1 → owed h one (taken l h .after) ≡ 0
-taking-leaves-none l h u single =
+pub taking-leaves-none : (l : Ledger) (h : ℕ) → Sound l → Complete l → owed h one l ≤ 1 → owed h one (taken l h .after) ≡ 0
+taking-leaves-none l h u complete single =
     taken-cases l h (λ o. owed h one (o .after) ≡ 0)
     (λ i e. omega (arith, found-leaves h one l u h i e, weigh-own h one (debtAt l i) (found-owes l h i e .own)))
-    (λ e. nowhere-owes-nothing h one l e)
+    (λ e. nowhere-owes-nothing h one l complete e)

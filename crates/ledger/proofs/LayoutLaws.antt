@@ -7,7 +7,7 @@ use mathlib.Core.List.{List, [], _∷_}
 use lib.ListN.{length, getD, set}
 use lib.Seq.{sets}
 use Rattle.rows.proofs.RowLaws.{segment-word, by-listed}
-use Rattle.rows.proofs.LayoutLaws.{table-length, table-word, place-below, place-past, table-item, table-set-word, table-put, table-words}
+use Rattle.held.proofs.LayoutLaws.{table-length, table-word, place-below, place-past, table-item, table-set-word, table-put, table-words}
 use Rattle.ledger.specs.declared.Debt.{Debt}
 use Rattle.ledger.specs.Model.{capOf, debtAt, cursorOf, withCount, withCursor, withDebt}
 use Rattle.ledger.specs.Layout.{countAt, cursorAt, debtsAt, debtWidth, ledgerWords, debtOf, debtWords, ledgerOf, ledger, wordsOf}

@@ -12,18 +12,18 @@ use Rattle.bucket.specs.declared.BucketConfig.{BucketConfig}
 use Rattle.settings.specs.Eviction.{ledgerScan}
 use Rattle.rows.specs.declared.Place.{Place}
 use Rattle.rows.specs.declared.Place.the-variants.{At, Nowhere}
-use Rattle.rows.specs.Held.{removed}
-use Rattle.rows.specs.Round as Round
+use Rattle.held.specs.Held.{removed}
+use Rattle.held.specs.Round as Round
 use Rattle.rows.specs.Outcome.{Outcome, outcome}
 use Rattle.rows.proofs.OutcomeLaws.{answer-is, after-is}
-use Rattle.rows.proofs.LowestLaws.{Searching, search-begins}
-use Rattle.rows.proofs.RoundLaws.{look-goes, look-stays, look-none, ByLooks}
+use Rattle.held.proofs.SearchLaws.{Searching, search-begins}
+use Rattle.held.proofs.RoundLaws.{look-goes, look-stays, look-none, ByLooks}
 use Rattle.ledger.specs.declared.Debt.{Debt}
 use Rattle.ledger.specs.declared.Choice.{Choice}
 use Rattle.ledger.specs.declared.Choice.the-variants.{Settled, Soonest}
 use Rattle.ledger.specs.declared.Recorded.{Recorded}
 use Rattle.ledger.specs.declared.Recorded.the-variants.{Done, NoRoom}
-use Rattle.ledger.specs.Model.{Ledger, Sound, noDebt, capOf, debtAt, settlesAt, settledBy, cursorOf, withCount, withCursor, withDebt, owes, placeOf, removeAt}
+use Rattle.ledger.specs.Model.{Ledger, Sound, noDebt, debtItems, capOf, debtAt, settlesAt, settledBy, cursorOf, withCount, withCursor, withDebt, owes, placeOf, removeAt}
 use Rattle.ledger.specs.Model.{append, takenAt, taken, roundOf, withRound, look, sweep, sooner, scanFrom, scan, dropChosen, makeRoom, joined, later, recordedAt}
 use Rattle.ledger.specs.Model.{recorded, credit, paidAt, paidDown}
 use Rattle.ledger.specs.Layout.{ledger, Intact}
@@ -31,20 +31,24 @@ use Rattle.ledger.proofs.LayoutLaws.{cap-is}
 use Rattle.ledger.proofs.StepLaws.{cursor-below, found-owes, look-sound}
 use Rattle.ledger.proofs.RecordLaws.{sooner-is-either, chosen, scan-chooses-held, scan-sound, make-room-sound, make-room-makes-room}
 
--- Append and removal, store by store, as the code makes them.
-pub append-by-stores : (l : Ledger) (d : Debt) → withCount (withDebt l (l .debts .count) d) (l .debts .count + 1) ≡ append l d
-unfolding append
-append-by-stores l d = refl
+-- Append and removal in words, store by store, as the code makes them.
+module _ (cap : ℕ) (ws : List ℕ) where
+  abbrev stands : Ledger
+  stands = ledger cap ws
 
-pub remove-by-stores : (l : Ledger) (p : ℕ)
-    → withCount (withDebt (withDebt l p (debtAt l (l .debts .count - 1))) (l .debts .count - 1) noDebt) (l .debts .count - 1) ≡ removeAt l p
-unfolding removeAt removed
-remove-by-stores l p = refl
+  pub append-by-stores : (d : Debt) → withCount (withDebt stands (stands .debts .count) d) (stands .debts .count + 1) ≡ append stands d
+  unfolding append ledger
+  append-by-stores d = refl
 
--- Lookup: where its loop begins.
-pub place-begins : (l : Ledger) (hash count : ℕ) → count ≡ l .debts .count → Searching noDebt (l .debts) (owes hash) count 0 (placeOf l hash)
-unfolding placeOf
-place-begins l hash count counted = search-begins noDebt (l .debts) (owes hash) count counted
+  pub remove-by-stores : (p : ℕ)
+      → withCount (withDebt (withDebt stands p (debtAt stands (stands .debts .count - 1))) (stands .debts .count - 1) noDebt) (stands .debts .count - 1) ≡ removeAt stands p
+  unfolding removeAt removed ledger
+  remove-by-stores p = refl
+
+  -- Lookup: where its loop begins.
+  pub place-begins : (hash count : ℕ) → count ≡ stands .debts .count → Searching debtItems (stands .debts) (owes hash) count 0 (placeOf stands hash)
+  unfolding placeOf ledger
+  place-begins hash count counted = search-begins debtItems (stands .debts) hash (owes hash) count refl counted
 
 -- Take and pay down, once lookup has given a place and it is known which.
 module _ (l : Ledger) (hash : ℕ) {place known : Place} (gave : place ≡ placeOf l hash) (is : place ≡ known) where
@@ -60,11 +64,11 @@ module _ (l : Ledger) (hash : ℕ) {place known : Place} (gave : place ≡ place
 module _ (at : Nanos) (l : Ledger) where
   pub look-settled : 0 < l .debts .count → settlesAt l (cursorOf l) .0 ≤ at .0 → removeAt (withCursor l (cursorOf l)) (cursorOf l) ≡ look at l
   unfolding look removeAt
-  look-settled some settled = ap (withRound l) (look-goes noDebt (settledBy at) (roundOf l) some (le-leb _ _ settled))
+  look-settled some settled = ap (withRound l) (look-goes debtItems (settledBy at) (roundOf l) some (le-leb _ _ settled))
 
   pub look-unsettled : 0 < l .debts .count → at .0 < settlesAt l (cursorOf l) .0 → withCursor l (cursorOf l + 1) ≡ look at l
   unfolding look
-  look-unsettled some unsettled = ap (withRound l) (look-stays noDebt (settledBy at) (roundOf l) some (lt-leb _ _ unsettled))
+  look-unsettled some unsettled = ap (withRound l) (look-stays debtItems (settledBy at) (roundOf l) some (lt-leb _ _ unsettled))
 
 -- The scan of a full ledger: its start, no look left, a settled debt, an unsettled one.
 pub scan-start : (at : Nanos) (l : Ledger) → scanFrom at (min ledgerScan (l .debts .count)) l (cursorOf l) ≡ scan at l
@@ -161,7 +165,7 @@ unfolding sweep look Round.sweep
 sweep-by-looks cap at = record {
   none-left = λ l. refl;
   one-more = λ n l. refl;
-  no-item = λ l none. ap (withRound l) (look-none noDebt (settledBy at) (roundOf l) none);
+  no-item = λ l none. ap (withRound l) (look-none debtItems (settledBy at) (roundOf l) none);
   stay-lent = λ {ws} intact same looked. intact-after intact same looked (look-sound at (ledger cap ws) (intact .sound));
 }
 

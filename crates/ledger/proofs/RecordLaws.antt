@@ -1,7 +1,7 @@
 -- How a recording goes: it merges, joins, takes the place of a debt, or is refused. Laws about sums, hashes and lookup go by these four cases and do not
 -- open the looks at a full ledger. What the answer says follows from them here, and so does what each step leaves of the room.
 use Prim.Native.Nat.{ℕ, zero, suc, _-_, _≤_, _<_}
-use mathlib.Core.Path.{_≡_, refl, sym}
+use mathlib.Core.Path.{_≡_, refl, sym, _∙_}
 use mathlib.Core.Bool.{Bool, true, false, true≢false}
 use native.Mathlib.Omega.{arith}
 use lib.ListN.{length-set}
@@ -17,9 +17,10 @@ use Rattle.ledger.specs.declared.Choice.{Choice}
 use Rattle.ledger.specs.declared.Choice.the-variants.{Settled, Soonest}
 use Rattle.ledger.specs.declared.Recorded.{Recorded}
 use Rattle.ledger.specs.declared.Recorded.the-variants.{Done, NoRoom}
-use Rattle.ledger.specs.Model.{Ledger, Sound, capOf, debtAt, hasSettled, settlesAt, cursorOf, withCursor, withDebt, placeOf, removeAt, append, sooner}
+use Rattle.ledger.specs.Model.{Ledger, Sound, Complete, capOf, debtAt, hasSettled, settlesAt, cursorOf, withCursor, withDebt, placeOf, removeAt, append, sooner}
 use Rattle.ledger.specs.Model.{scanFrom, scan, dropChosen, makeRoom, joined, later, recordedAt, recorded}
-use Rattle.ledger.proofs.StepLaws.{cursor-below, change-sound, append-sound, SameRoom, removal-sound, removal-room, removal-leaves-room}
+use Rattle.ledger.proofs.StepLaws.{cursor-below, change-sound, append-sound, SameRoom, removal-sound, removal-room, removal-leaves-room, found-owes}
+use Rattle.ledger.proofs.StepLaws.{change-complete, append-complete, append-kind, removal-complete}
 
 -- What the looks at a full ledger come to: nothing but the cursor moves, and the place told has a settled debt, or an unsettled one.
 data Scanned (at : Nanos) (l : Ledger) : Outcome Choice Ledger → Type 0 where
@@ -148,7 +149,7 @@ record-cases l d at forget s = go (placeOf l (d .hash)) refl
         (λ t. rw (t, recordedAt) (joins e (ltb-true _ _ t)))
         (λ t. let full : capOf l ≤ l .debts .count = ltb-false _ _ t in rw (t, recordedAt) (full-cases l d at forget e full (room-cases l at forget (omega (arith, s .room)))))
 
--- Recording leaves a sound ledger with the same room.
+-- Recording leaves a sound ledger with the same room, and lookup misses none if it missed none.
 pub recorded-sound : (l : Ledger) (d : Debt) (at : Nanos) (forget : Bool) → Sound l → Sound (recorded l d at forget .after)
 recorded-sound l d at forget s = go (record-cases l d at forget s)
   where
@@ -158,17 +159,28 @@ recorded-sound l d at forget s = go (record-cases l d at forget s)
     go (replaces p c new below settled) = append-sound (removeAt (withCursor l c) p) d (removal-leaves-room (withCursor l c) p (s .count-fits) below)
     go (refused p c full below never unsettled) = s
 
+pub recorded-complete : (l : Ledger) (d : Debt) (at : Nanos) (forget : Bool) → Sound l → Complete l → Complete (recorded l d at forget .after)
+recorded-complete l d at forget s complete = go (record-cases l d at forget s)
+  where
+    go : {o : Outcome Recorded Ledger} → Recording l d at forget o → Complete (o .after)
+    go (merged p e) = change-complete l p (later (debtAt l p) (d .settles)) s complete (found-owes l (d .hash) p e .below) refl
+    go (joins new free) = append-complete l d complete free
+    go (replaces p c new below settled) =
+        append-complete (removeAt (withCursor l c) p) d (removal-complete (withCursor l c) p s complete below)
+        (removal-leaves-room (withCursor l c) p (s .count-fits) below)
+    go (refused p c full below never unsettled) = complete
+
 pub recorded-room : (l : Ledger) (d : Debt) (at : Nanos) (forget : Bool) → Sound l → SameRoom l (recorded l d at forget .after)
 unfolding append
 recorded-room l d at forget s = go (record-cases l d at forget s)
   where
     go : {o : Outcome Recorded Ledger} → Recording l d at forget o → SameRoom l (o .after)
-    go (merged p e) = record { cap = simp length-set; others = refl }
-    go (joins new free) = record { cap = simp length-set; others = refl }
+    go (merged p e) = record { cap = simp length-set; kind = refl; others = refl }
+    go (joins new free) = record { cap = simp length-set; kind = append-kind l d; others = refl }
     go (replaces p c new below settled) =
         let removed = removal-room (withCursor l c) p in
-        record { cap = simp length-set (removed .cap); others = removed .others }
-    go (refused p c full below never unsettled) = record { cap = refl; others = refl }
+        record { cap = simp length-set (removed .cap); kind = append-kind (removeAt (withCursor l c) p) d ∙ removed .kind; others = removed .others }
+    go (refused p c full below never unsettled) = record { cap = refl; kind = refl; others = refl }
 
 -- A debt is recorded unless the ledger is full and nothing may be forgotten.
 record-succeeds : (l : Ledger) (d : Debt) (at : Nanos) (forget : Bool) → Sound l → (forget ≡ false → l .debts .count < capOf l) → recorded l d at forget .answer ≡ Done

@@ -12,13 +12,13 @@ use Rattle.bucket.specs.declared.BucketConfig.{BucketConfig}
 use Rattle.rows.specs.declared.Place.{Place}
 use Rattle.rows.specs.declared.Place.the-variants.{At, Nowhere}
 use Rattle.rows.specs.Outcome.{Outcome, outcome}
-use Rattle.rows.specs.Round as Round
-use Rattle.rows.proofs.RoundLaws as RoundLaws
-use Rattle.rows.proofs.RoundLaws.{sweep-length}
-use Rattle.rows.proofs.HeldLaws.{wrapped-below, stored-sound, appended-sound, removed-count, removed-length, removed-sound}
-use Rattle.rows.proofs.LowestLaws.{found-passes, nowhere-passes-none}
+use Rattle.held.specs.Round as Round
+use Rattle.held.proofs.RoundLaws as RoundLaws
+use Rattle.held.proofs.RoundLaws.{sweep-length, sweep-kind}
+use Rattle.held.proofs.HeldLaws.{wrapped-below, stored-sound, appended-sound, removed-count, removed-length, removed-sound}
+use Rattle.held.proofs.FindingLaws.{kindOf, added-kind, removed-kind, found-passes, nowhere-passes-none, stored-complete, appended-complete, removed-complete}
 use Rattle.ledger.specs.declared.Debt.{Debt}
-use Rattle.ledger.specs.Model.{Ledger, Sound, noDebt, capOf, debtAt, settledBy, cursorOf, withDebt, owes, placeOf, removeAt}
+use Rattle.ledger.specs.Model.{Ledger, Sound, Complete, debtItems, capOf, debtAt, settledBy, cursorOf, withDebt, owes, placeOf, removeAt}
 use Rattle.ledger.specs.Model.{append, owedAt, owedBy, takenAt, taken, roundOf, look, sweep, credit, paidAt, paidDown}
 
 -- The cursor, as it is read, stands at a debt.
@@ -32,44 +32,50 @@ pub record Owing (l : Ledger) (h p : ℕ) : Type 0 where
 
 pub found-owes : (l : Ledger) (h p : ℕ) → placeOf l h ≡ At p → Owing l h p
 unfolding placeOf
-found-owes l h p e = let f = found-passes (l .debts .count) (λ i. owes h (debtAt l i)) p e in record { below = f .below; own = eqb-true _ _ (f .passes) }
+found-owes l h p e = let f = found-passes debtItems (l .debts) h (owes h) p e in record { below = f .below; own = eqb-true _ _ (f .passes) }
 
-pub nowhere-owes-none : (l : Ledger) (h : ℕ) → placeOf l h ≡ Nowhere → (i : ℕ) → i < l .debts .count → debtAt l i .hash ≡ h → ⊥
+pub nowhere-owes-none : (l : Ledger) → Complete l → (h : ℕ) → placeOf l h ≡ Nowhere → (i : ℕ) → i < l .debts .count → debtAt l i .hash ≡ h → ⊥
 unfolding placeOf
-nowhere-owes-none l h e i below = eqb-false _ _ (nowhere-passes-none (l .debts .count) (λ j. owes h (debtAt l j)) i e below)
+nowhere-owes-none l complete h e i below =
+    eqb-false _ _ (nowhere-passes-none debtItems (l .debts) complete h (owes h) (λ d passes. eqb-true _ _ passes) e i below)
 
 -- When the debt of a hash settles, once its place is known.
 pub owed-where : (l : Ledger) (h : ℕ) {place : Place} → placeOf l h ≡ place → owedAt l place ≡ owedBy l h
 unfolding owedBy
 owed-where l h looked-up = rw looked-up
 
--- A ledger has the room that another has: as many places for debts, and as many words that are not its own.
+-- A ledger has the room that another has: as many places for debts, found in the same way, and as many words that are not its own.
 pub record SameRoom (l m : Ledger) : Type 0 where
   pub cap : capOf m ≡ capOf l
+  pub kind : kindOf (m .debts .finding) ≡ kindOf (l .debts .finding)
   pub others : length (m .others) ≡ length (l .others)
 
 pub same-room : (l : Ledger) → SameRoom l l
-same-room l = record { cap = refl; others = refl }
+same-room l = record { cap = refl; kind = refl; others = refl }
 
 pub same-room-trans : {l m n : Ledger} → SameRoom l m → SameRoom m n → SameRoom l n
-same-room-trans first second = record { cap = second .cap ∙ first .cap; others = second .others ∙ first .others }
+same-room-trans first second = record { cap = second .cap ∙ first .cap; kind = second .kind ∙ first .kind; others = second .others ∙ first .others }
 
 -- A removal leaves one debt less and the same room.
 pub removal-count : (l : Ledger) (p : ℕ) → removeAt l p .debts .count ≡ l .debts .count - 1
 unfolding removeAt
-removal-count l p = removed-count noDebt (l .debts) p
+removal-count l p = removed-count debtItems (l .debts) p
 
 pub removal-cap : (l : Ledger) (p : ℕ) → capOf (removeAt l p) ≡ capOf l
 unfolding removeAt
-removal-cap l p = removed-length noDebt (l .debts) p
+removal-cap l p = removed-length debtItems (l .debts) p
 
 pub removal-room : (l : Ledger) (p : ℕ) → SameRoom l (removeAt l p)
 unfolding removeAt
-removal-room l p = record { cap = removal-cap l p; others = refl }
+removal-room l p = record { cap = removal-cap l p; kind = removed-kind debtItems (l .debts) p; others = refl }
 
 pub removal-sound : (l : Ledger) (p : ℕ) → Sound l → Sound (removeAt l p)
 unfolding removeAt
-removal-sound l p s = removed-sound noDebt (l .debts) p s
+removal-sound l p s = removed-sound debtItems (l .debts) p s
+
+pub removal-complete : (l : Ledger) (p : ℕ) → Sound l → Complete l → p < l .debts .count → Complete (removeAt l p)
+unfolding removeAt
+removal-complete l p s complete below = removed-complete debtItems (l .debts) s complete p below
 
 -- So there is room for another debt.
 pub removal-leaves-room : (l : Ledger) (p : ℕ) → l .debts .count ≤ capOf l → p < l .debts .count → removeAt l p .debts .count < capOf (removeAt l p)
@@ -81,7 +87,19 @@ change-sound l p d s = stored-sound (l .debts) p d s
 
 pub append-sound : (l : Ledger) (d : Debt) → l .debts .count < capOf l → Sound (append l d)
 unfolding append
-append-sound l d room = appended-sound (l .debts) d room
+append-sound l d room = appended-sound debtItems (l .debts) d room
+
+-- Lookup misses none after either, where the debt that is changed keeps its hash.
+pub change-complete : (l : Ledger) (p : ℕ) (d : Debt) → Sound l → Complete l → p < l .debts .count → d .hash ≡ debtAt l p .hash → Complete (withDebt l p d)
+change-complete l p d s complete below same = stored-complete debtItems (l .debts) complete p d (omega (arith, s .count-fits)) same
+
+pub append-complete : (l : Ledger) (d : Debt) → Complete l → l .debts .count < capOf l → Complete (append l d)
+unfolding append
+append-complete l d complete room = appended-complete debtItems (l .debts) complete d room
+
+pub append-kind : (l : Ledger) (d : Debt) → kindOf (append l d .debts .finding) ≡ kindOf (l .debts .finding)
+unfolding append
+append-kind l d = added-kind (l .debts .finding) (d .hash) (l .debts .count)
 
 -- A debt that settles so much sooner.
 abbrev pub sooner-by : Nanos → Debt → Debt
@@ -106,9 +124,12 @@ paid-cases l h cost c Q found none = go (placeOf l h) refl
     go (At p) e = found p e
     go Nowhere e = none e
 
--- Both leave a sound ledger with the same room.
+-- Both leave a sound ledger with the same room, and lookup misses none if it missed none.
 pub taken-sound : (l : Ledger) (h : ℕ) → Sound l → Sound (taken l h .after)
 taken-sound l h s = taken-cases l h (λ o. Sound (o .after)) (λ p e. removal-sound l p s) (λ e. s)
+
+pub taken-complete : (l : Ledger) (h : ℕ) → Sound l → Complete l → Complete (taken l h .after)
+taken-complete l h s complete = taken-cases l h (λ o. Complete (o .after)) (λ p e. removal-complete l p s complete (found-owes l h p e .below)) (λ e. complete)
 
 pub taken-room : (l : Ledger) (h : ℕ) → SameRoom l (taken l h .after)
 taken-room l h = taken-cases l h (λ o. SameRoom l (o .after)) (λ p e. removal-room l p) (λ e. same-room l)
@@ -116,22 +137,34 @@ taken-room l h = taken-cases l h (λ o. SameRoom l (o .after)) (λ p e. removal-
 pub paid-sound : (l : Ledger) (h cost : ℕ) (c : BucketConfig) → Sound l → Sound (paidDown l h cost c .after)
 paid-sound l h cost c s = paid-cases l h cost c (λ o. Sound (o .after)) (λ p e. change-sound l p _ s) (λ e. s)
 
+pub paid-complete : (l : Ledger) (h cost : ℕ) (c : BucketConfig) → Sound l → Complete l → Complete (paidDown l h cost c .after)
+paid-complete l h cost c s complete =
+    paid-cases l h cost c (λ o. Complete (o .after)) (λ p e. change-complete l p _ s complete (found-owes l h p e .below) refl) (λ e. complete)
+
 pub paid-room : (l : Ledger) (h cost : ℕ) (c : BucketConfig) → SameRoom l (paidDown l h cost c .after)
-paid-room l h cost c = paid-cases l h cost c (λ o. SameRoom l (o .after)) (λ p e. record { cap = simp length-set; others = refl }) (λ e. same-room l)
+paid-room l h cost c = paid-cases l h cost c (λ o. SameRoom l (o .after)) (λ p e. record { cap = simp length-set; kind = refl; others = refl }) (λ e. same-room l)
 
 -- A sweep leaves a sound ledger with the same room, and no more debts than there were. So does a look, which is a sweep of one look.
 module _ (at : Nanos) (n : ℕ) (l : Ledger) where
   pub sweep-room : SameRoom l (sweep at n l)
   unfolding sweep
-  sweep-room = record { cap = sweep-length noDebt (settledBy at) n (roundOf l); others = refl }
+  sweep-room = record {
+    cap = sweep-length debtItems (settledBy at) n (roundOf l);
+    kind = sweep-kind debtItems (settledBy at) n (roundOf l);
+    others = refl;
+  }
 
   pub sweep-count : sweep at n l .debts .count ≤ l .debts .count
   unfolding sweep
-  sweep-count = RoundLaws.sweep-count noDebt (settledBy at) n (roundOf l)
+  sweep-count = RoundLaws.sweep-count debtItems (settledBy at) n (roundOf l)
 
   pub sweep-sound : Sound l → Sound (sweep at n l)
   unfolding sweep
-  sweep-sound s = RoundLaws.sweep-sound noDebt (settledBy at) n (roundOf l) s
+  sweep-sound s = RoundLaws.sweep-sound debtItems (settledBy at) n (roundOf l) s
+
+  pub sweep-complete : Sound l → Complete l → Complete (sweep at n l)
+  unfolding sweep
+  sweep-complete s complete = RoundLaws.sweep-complete debtItems (settledBy at) n (roundOf l) s complete
 
 pub look-sound : (at : Nanos) (l : Ledger) → Sound l → Sound (look at l)
 unfolding look sweep Round.sweep

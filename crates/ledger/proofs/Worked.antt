@@ -8,8 +8,9 @@ use Rattle.units.specs.declared.Nanos.{Nanos}
 use Rattle.units.specs.declared.OptionNanos.the-variants.{Some}
 use Rattle.bucket.specs.declared.BucketConfig.{BucketConfig}
 use Rattle.settings.specs.Eviction.{ledgerScan}
-use Rattle.rows.specs.Held.{lowestFrom, removed}
-use Rattle.rows.specs.Round as Round
+use Rattle.rows.specs.Places.{lowestFrom}
+use Rattle.held.specs.Held.{inOrder, removed}
+use Rattle.held.specs.Round as Round
 use Rattle.rows.specs.Outcome.{outcome}
 use Rattle.ledger.specs.declared.Debt.{Debt}
 use Rattle.ledger.specs.declared.Recorded.the-variants.{Done, NoRoom}
@@ -25,7 +26,7 @@ abbrev owing : ℕ → ℕ → Debt
 owing hash settles = record { hash = hash; settles = moment settles }
 
 abbrev holding : ℕ → ℕ → List Debt → Ledger
-holding count cursor places = record { debts = record { count = count; places = places }; cursor = cursor; others = 6 ∷ 7 ∷ [] }
+holding count cursor places = record { debts = record { count = count; places = places; finding = inOrder }; cursor = cursor; others = 6 ∷ 7 ∷ [] }
 
 -- Two looks from place 1 at moment 5: the settled debt there goes, the last one moves into the gap, is looked at next, and goes too.
 sweep-looks-at-the-moved-debt : sweep (moment 5) 2 (holding 3 1 (owing 1 10 ∷ owing 2 5 ∷ owing 3 5 ∷ [])) ≡ holding 1 1 (owing 1 10 ∷ noDebt ∷ noDebt ∷ [])

@@ -4,7 +4,7 @@ use Prim.Native.Nat.{ℕ, _+_, _*_, _≤_}
 use mathlib.Core.List.{List, [], _∷_, _++_, map}
 use lib.ListN.{length, getD}
 use Rattle.rows.specs.Rows.{unrow}
-use Rattle.rows.specs.Layout.{Table, tableIn, heldOf}
+use Rattle.held.specs.Layout.{Table, tableIn, heldOf}
 use Rattle.ledger.specs.declared.Debt.{Debt}
 use Rattle.ledger.specs.Model.{Ledger, Sound}
 

@@ -12,10 +12,10 @@ use Rattle.bucket.specs.declared.BucketConfig.{BucketConfig}
 use Rattle.settings.specs.Eviction.{ledgerScan}
 use Rattle.rows.specs.declared.Place.{Place}
 use Rattle.rows.specs.declared.Place.the-variants.{At, Nowhere}
-use Rattle.rows.specs.Held.{Held, wrapped, itemAt, position, removed, appended, stored}
-use Rattle.rows.specs.Held as Held
-use Rattle.rows.specs.Round.{Round}
-use Rattle.rows.specs.Round as Round
+use Rattle.held.specs.Held.{Held, Items, wrapped, itemAt, position, removed, appended, stored}
+use Rattle.held.specs.Held as Held
+use Rattle.held.specs.Round.{Round}
+use Rattle.held.specs.Round as Round
 use Rattle.rows.specs.Outcome.{Outcome, outcome}
 use Rattle.ledger.specs.declared.Debt.{Debt}
 use Rattle.ledger.specs.declared.Choice.{Choice}
@@ -33,6 +33,10 @@ pub record Ledger : Type 0 where
 abbrev pub noDebt : Debt
 noDebt = record { hash = 0; settles = record { 0 = 0 } }
 
+-- The debts as items: they are found by their hashes.
+abbrev pub debtItems : Items Debt
+debtItems = record { free = noDebt; hash = λ d. d .hash }
+
 -- How many debts there is room for.
 abbrev pub capOf : Ledger → ℕ
 capOf l = length (l .debts .places)
@@ -41,9 +45,13 @@ capOf l = length (l .debts .places)
 abbrev pub Sound : Ledger → Type 0
 Sound l = Held.Sound (l .debts)
 
+-- Lookup misses no debt.
+abbrev pub Complete : Ledger → Type 0
+Complete l = Held.Complete debtItems (l .debts)
+
 -- The debt at a place, and the moment at which it settles.
 abbrev pub debtAt : Ledger → ℕ → Debt
-debtAt l i = itemAt noDebt (l .debts) i
+debtAt l i = itemAt debtItems (l .debts) i
 
 abbrev pub settlesAt : Ledger → ℕ → Nanos
 settlesAt l i = debtAt l i .settles
@@ -63,7 +71,7 @@ abbrev pub withDebts : Ledger → Held Debt → Ledger
 withDebts l ds = record { debts = ds; cursor = l .cursor; others = l .others }
 
 abbrev pub withCount : Ledger → ℕ → Ledger
-withCount l n = withDebts l (record { count = n; places = l .debts .places })
+withCount l n = withDebts l (record { count = n; places = l .debts .places; finding = l .debts .finding })
 
 abbrev pub withCursor : Ledger → ℕ → Ledger
 withCursor l c = record { debts = l .debts; cursor = c; others = l .others }
@@ -71,19 +79,19 @@ withCursor l c = record { debts = l .debts; cursor = c; others = l .others }
 abbrev pub withDebt : Ledger → ℕ → Debt → Ledger
 withDebt l i d = withDebts l (stored (l .debts) i d)
 
--- Lookup by hash: the lowest place that has it.
+-- Lookup by hash: the place of a debt that has it.
 abbrev pub owes : ℕ → Debt → Bool
 owes hash d = eqb (d .hash) hash
 
 unfoldable pub placeOf : Ledger → ℕ → Place
-placeOf l hash = position noDebt (l .debts) (owes hash)
+placeOf l hash = position debtItems (l .debts) hash (owes hash)
 
 -- A debt leaves, and the last one moves into the gap. A new debt comes last.
 unfoldable pub removeAt : Ledger → ℕ → Ledger
-removeAt l p = withDebts l (removed noDebt (l .debts) p)
+removeAt l p = withDebts l (removed debtItems (l .debts) p)
 
 unfoldable pub append : Ledger → Debt → Ledger
-append l d = withDebts l (appended (l .debts) d)
+append l d = withDebts l (appended debtItems (l .debts) d)
 
 -- When the debt of a hash settles, if there is one.
 abbrev pub owedAt : Ledger → Place → OptionNanos
@@ -110,10 +118,10 @@ withRound l r = record { debts = r .items; cursor = r .next; others = l .others 
 
 -- The next look of the sweep, and a sweep of n looks: settled debts go.
 unfoldable pub look : Nanos → Ledger → Ledger
-look at l = withRound l (Round.look noDebt (settledBy at) (roundOf l))
+look at l = withRound l (Round.look debtItems (settledBy at) (roundOf l))
 
 unfoldable pub sweep : Nanos → ℕ → Ledger → Ledger
-sweep at n l = withRound l (Round.sweep noDebt (settledBy at) n (roundOf l))
+sweep at n l = withRound l (Round.sweep debtItems (settledBy at) n (roundOf l))
 
 -- Of two debts, the place of the one that settles sooner; `best` where both settle at one moment.
 abbrev pub sooner : Ledger → ℕ → ℕ → ℕ

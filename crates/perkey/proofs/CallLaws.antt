@@ -37,7 +37,7 @@ use Rattle.store.specs.Refusals.{memoryRefusal, countRefusal, shapeRefusal, key
 use Rattle.store.proofs.RefusalLaws.{refusals-in-a-row}
 use Rattle.perkey.specs.Rules as Rules
 use Rattle.perkey.proofs.RefusedLaws.{unless-refused-accepts, unless-refused-refuses}
-use Rattle.rows.specs.Held.{sum}
+use Rattle.rows.specs.Places.{sum}
 use Rattle.perkey.specs.Calls.{Look, Call, request, look, undo, len, peeks, tokens, refunds, removes, rules, Answered, numbered, accepted}
 use Rattle.perkey.specs.Calls.{Kind, decides, reserves, counts, knows, kindOf, momentIn}
 use Rattle.bucket.specs.Bucket.{dueAfter}

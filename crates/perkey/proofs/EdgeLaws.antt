@@ -3,9 +3,10 @@ use mathlib.Core.Path.{_≡_, refl}
 use mathlib.Core.Bool.{true}
 use Rattle.arith.specs.Arith.{ceilDiv}
 use Rattle.rows.specs.Rows.{rows, unrow}
-use Rattle.rows.specs.Layout.{tableIn}
-use Rattle.rows.specs.Held.{lowestFrom, removed}
-use Rattle.rows.specs.Round as Round
+use Rattle.held.specs.Layout.{tableIn}
+use Rattle.rows.specs.Places.{lowestFrom}
+use Rattle.held.specs.Held.{removed}
+use Rattle.held.specs.Round as Round
 use Rattle.bucket.specs.Bucket.{shortfallAt, availableAt, waitAt, asked}
 use Rattle.bucket.specs.Debt.{takenOut, lacking, restored}
 use Rattle.settings.specs.Powers.{exponentFrom, exponentFor}

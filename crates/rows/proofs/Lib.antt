@@ -2,9 +2,5 @@ pub mod SegmentLaws
 pub mod RowLaws
 pub mod SumLaws
 pub mod LowestLaws
-pub mod HeldLaws
-pub mod RoundLaws
-pub mod LayoutLaws
 pub mod OutcomeLaws
-pub mod ReadBack
 pub mod ZeroLaws

@@ -4,7 +4,7 @@ use Prim.Native.Nat.{ℕ, zero, suc, _+_, _*_, _≤_, _<_}
 use mathlib.Core.Path.{_≡_, refl}
 use native.Mathlib.Omega.{arith}
 use Rattle.arith.proofs.Cases.{by-eq}
-use Rattle.rows.specs.Held.{sum}
+use Rattle.rows.specs.Places.{sum}
 
 -- A sum over no places, and over one place more.
 pub sum-of-none : (f : ℕ → ℕ) → sum 0 f ≡ 0

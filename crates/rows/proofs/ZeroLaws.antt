@@ -1,14 +1,13 @@
 -- Words that are 0: a part of them, one more of them, all of them.
-use Prim.Native.Nat.{ℕ, suc, _+_, _*_, _≤_, _<_}
+use Prim.Native.Nat.{ℕ, suc, _+_, _≤_, _<_}
 use native.Mathlib.Omega.{arith}
 use native.Mathlib.Nat.{lt-of-lt-of-le}
 use mathlib.Core.Path.{_≡_, refl, _∙_}
 use mathlib.Core.List.{List, [], _∷_}
 use lib.ListN.{length, getD, set, drop, replicate, length-take, List·getD-eq-default}
-use lib.Seq.{getD-set-same, getD-set-other, getD-drop}
+use lib.Seq.{getD-set-same, getD-set-other}
 use Rattle.arith.proofs.Cases.{by-le, by-eq}
 use Rattle.rows.specs.Segments.{segment}
-use Rattle.rows.specs.Layout.{tableIn}
 use Rattle.rows.proofs.RowLaws.{segment-word}
 
 -- A part of words that are all 0 is all 0: its own words are 0, and past its end 0 is read.
@@ -17,16 +16,6 @@ zeros-segment a n ws zeros i =
     by-le n i
     (λ past. List·getD-eq-default (segment a n ws) 0 (omega (arith, length-take n (drop a ws))))
     (λ inside. segment-word a n ws i inside ∙ zeros (a + i))
-
--- A table in words that are all 0: the words before its rows are 0, and so are those past them.
-module _ {A : Type 0} (read : List ℕ → A) (w cap first : ℕ) (ws : List ℕ) (zeros : (i : ℕ) → getD ws i 0 ≡ 0) where
-  pub zeros-head : (k : ℕ) → tableIn read w cap first ws .head k ≡ 0
-  unfolding tableIn
-  zeros-head k = zeros-segment 0 first ws zeros k
-
-  pub zeros-rest : (i : ℕ) → getD (tableIn read w cap first ws .rest) i 0 ≡ 0
-  unfolding tableIn
-  zeros-rest i = getD-drop (first + w * cap) ws i 0 ∙ zeros (first + w * cap + i)
 
 -- The words before place i are 0, and 0 is stored there: the words before the next place are 0.
 pub next-word-zero : (ws : List ℕ) (i : ℕ) → i < length ws → ((j : ℕ) → j < i → getD ws j 0 ≡ 0) → (j : ℕ) → j < i + 1 → getD (set ws i 0) j 0 ≡ 0

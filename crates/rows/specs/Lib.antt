@@ -1,6 +1,4 @@
 pub mod Segments
 pub mod Rows
-pub mod Held
-pub mod Round
-pub mod Layout
+pub mod Places
 pub mod Outcome

@@ -18,15 +18,15 @@ use Rattle.bucket.specs.Debt.{restored}
 use Rattle.bucket.proofs.BucketLaws.{shortfall-falls-slowly}
 use Rattle.bucket.proofs.DebtLaws.{restored-fresh}
 use Rattle.rows.specs.declared.Place.the-variants.{Nowhere}
-use Rattle.rows.specs.Held.{total}
+use Rattle.held.specs.Held.{total}
 use Rattle.rows.proofs.SumLaws.{sum-le, term-le-sum, sum-of-zeros}
-use Rattle.rows.proofs.RoundLaws as RoundLaws
-use Rattle.rows.proofs.RoundLaws.{sweep-keeps-total}
-use Rattle.rows.proofs.HeldLaws.{total-stored, total-appended, total-removed}
+use Rattle.held.proofs.RoundLaws as RoundLaws
+use Rattle.held.proofs.RoundLaws.{sweep-keeps-total}
+use Rattle.held.proofs.HeldLaws.{total-stored, total-appended, total-removed}
 use Rattle.slot.specs.declared.Slot.{Slot}
 use Rattle.ledger.specs.Model as Ledger
 use Rattle.ledger.proofs.KeptLaws.{weigh, owed, one, SettledIsNothing, sweep-never-adds, sweep-keeps-unsettled, owed-by-another-value, none-owed-nothing-owed}
-use Rattle.shard_map.specs.Model.{Shard, Sound, noSlot, capOf, slotAt, withSlot, withLedger, placeOf, removeAt, insert, reclaimable, roundOf, sweepIdle}
+use Rattle.shard_map.specs.Model.{Shard, Sound, Complete, slotItems, capOf, slotAt, withSlot, withLedger, placeOf, removeAt, insert, reclaimable, roundOf, sweepIdle}
 use Rattle.shard_map.proofs.StepLaws.{Holding, nowhere-holds-none, slots-sound, removal-ledger, reclaimable-is-full}
 
 -- What a slot counts for the identity (h, k), and what it lacks at a moment if its hash is h.
@@ -42,7 +42,7 @@ unpaid c at settles = min ((settles - at .0) * c .amount) (mostShortfall c)
 
 -- The values of all slots that a shard holds, and with them the values of its debts of hash h.
 abbrev pub overSlots : (Slot → ℕ) → Shard → ℕ
-overSlots value s = total noSlot value (s .slots)
+overSlots value s = total slotItems value (s .slots)
 
 abbrev pub overAll : ℕ → (Slot → ℕ) → (ℕ → ℕ) → Shard → ℕ
 overAll h slotValue debtValue s = overSlots slotValue s + owed h debtValue (s .ledger)
@@ -88,15 +88,15 @@ module _ (h : ℕ) (slotValue : Slot → ℕ) (debtValue : ℕ → ℕ) where
   all-removed : (s : Shard) (p : ℕ) → Sound s → p < s .slots .count
       → overAll h slotValue debtValue (removeAt s p) + slotValue (slotAt s p) ≡ overAll h slotValue debtValue s
   unfolding removeAt
-  all-removed s p u below = omega (arith, total-removed noSlot slotValue (s .slots) p (slots-sound s u) below)
+  all-removed s p u below = omega (arith, total-removed slotItems slotValue (s .slots) p (slots-sound s u) below)
 
   all-inserted : (s : Shard) (slot : Slot) → s .slots .count < capOf s → overAll h slotValue debtValue (insert s slot) ≡ overAll h slotValue debtValue s + slotValue slot
   unfolding insert
-  all-inserted s slot room = omega (arith, total-appended noSlot slotValue (s .slots) slot room)
+  all-inserted s slot room = omega (arith, total-appended slotItems slotValue (s .slots) slot room)
 
   all-stored : (s : Shard) (p : ℕ) (slot : Slot) → Sound s → p < s .slots .count
       → overAll h slotValue debtValue (withSlot s p slot) + slotValue (slotAt s p) ≡ overAll h slotValue debtValue s + slotValue slot
-  all-stored s p slot u below = omega (arith, total-stored noSlot slotValue (s .slots) p slot (slots-sound s u) below)
+  all-stored s p slot u below = omega (arith, total-stored slotItems slotValue (s .slots) p slot (slots-sound s u) below)
 
 -- A shard without a slot and without a debt has nothing of any hash.
 pub empty-has-nothing : (h : ℕ) (slotValue : Slot → ℕ) (debtValue : ℕ → ℕ) (s : Shard) → s .slots .count ≡ 0 → s .ledger .debts .count ≡ 0
@@ -176,8 +176,8 @@ module _ (c : BucketConfig) (h k : ℕ) where
       let weightless : (slot : Slot) → reclaimable c at limit slot ≡ true → short c h at slot ≡ 0 =
       λ slot goes. short-full c h at slot (reclaimable-is-full c at limit slot goes) in
       record {
-        fewer = omega (arith, RoundLaws.sweep-never-adds noSlot (reclaimable c at limit) (weight h k) n (roundOf s) sound);
-        more = λ single. omega (arith, sweep-keeps-total noSlot (reclaimable c at limit) (short c h at) n (roundOf s) sound weightless);
+        fewer = omega (arith, RoundLaws.sweep-never-adds slotItems (reclaimable c at limit) (weight h k) n (roundOf s) sound);
+        more = λ single. omega (arith, sweep-keeps-total slotItems (reclaimable c at limit) (short c h at) n (roundOf s) sound weightless);
       }
 
   pub ledger-sweep-keeps-shortage : (at : Nanos) (n : ℕ) (s : Shard) → Sound s → Keeps c h k at s (withLedger s (Ledger.sweep at n (s .ledger)))
@@ -214,15 +214,15 @@ module _ (c : BucketConfig) (h k : ℕ) where
   weightless-holds-nothing at s none =
       sum-of-zeros (s .slots .count) (λ i. short c h at (slotAt s i)) (λ i below. short-other c h at (slotAt s i) (weightless-has-no-slot s none i below))
 
-  -- Where no slot of the key is found and the count is at most 1, no slot has its hash: what is held is the debt's.
-  pub nowhere-weighs-nothing : (s : Shard) → placeOf s h k ≡ Nowhere → count h k s ≤ 1 → overSlots (weight h k) s ≡ 0
-  nowhere-weighs-nothing s e single =
+  -- Where lookup misses no slot, none of the key is found and the count is at most 1, no slot has its hash: what is held is the debt's.
+  pub nowhere-weighs-nothing : (s : Shard) → Complete s → placeOf s h k ≡ Nowhere → count h k s ≤ 1 → overSlots (weight h k) s ≡ 0
+  nowhere-weighs-nothing s complete e single =
       sum-of-zeros (s .slots .count) (λ i. weight h k (slotAt s i))
       (λ i below. weight-other h k (slotAt s i) (λ own.
-      omega (arith, weight-shared h k (slotAt s i) own (nowhere-holds-none s h k e i below own), term-le-sum (s .slots .count) (λ j. weight h k (slotAt s j)) i below)))
+      omega (arith, weight-shared h k (slotAt s i) own (nowhere-holds-none s complete h k e i below own), term-le-sum (s .slots .count) (λ j. weight h k (slotAt s j)) i below)))
 
-  pub nowhere-holds-the-debt : (at : Nanos) (s : Shard) → placeOf s h k ≡ Nowhere → count h k s ≤ 1 → shortage c h at s ≡ owed h (unpaid c at) (s .ledger)
-  nowhere-holds-the-debt at s e single = omega (arith, weightless-holds-nothing at s (nowhere-weighs-nothing s e single))
+  pub nowhere-holds-the-debt : (at : Nanos) (s : Shard) → Complete s → placeOf s h k ≡ Nowhere → count h k s ≤ 1 → shortage c h at s ≡ owed h (unpaid c at) (s .ledger)
+  nowhere-holds-the-debt at s complete e single = omega (arith, weightless-holds-nothing at s (nowhere-weighs-nothing s complete e single))
 
   -- A slot of the key with a count of at most 1 is all that there is of the hash: the ledger owes it nothing, and what is held is the slot's shortfall.
   pub record OneSlot (at : Nanos) (s : Shard) (p : ℕ) : Type 0 where

@@ -10,11 +10,11 @@ use mathlib.Core.List.{List, [], _∷_}
 use lib.ListN.{length, getD, set, drop, length-drop}
 use lib.Seq.{sets, take-all}
 use Rattle.rows.specs.Segments.{segment}
-use Rattle.rows.specs.Layout.{Table, tableIn, withItem}
+use Rattle.held.specs.Layout.{Table, tableIn, withItem}
 use Rattle.rows.specs.Outcome.{Outcome, outcome}
 use Rattle.rows.proofs.SegmentLaws.{segment-length}
 use Rattle.rows.proofs.RowLaws.{segment-word, row-end, by-listed}
-use Rattle.rows.proofs.LayoutLaws.{table-length, table-word, place-below, place-past, table-item, table-set-word, table-put, table-put-word, table-lent, table-words}
+use Rattle.held.proofs.LayoutLaws.{table-length, table-word, place-below, place-past, table-item, table-set-word, table-put, table-put-word, table-lent, table-words}
 use Rattle.slot.specs.declared.Slot.{Slot}
 use Rattle.slot.specs.Slot.{withMark}
 use Rattle.ledger.specs.Model as Debts

@@ -9,17 +9,17 @@ use lib.ListN.{length}
 use Rattle.units.specs.declared.Nanos.{Nanos}
 use Rattle.units.specs.declared.Millis.{Millis}
 use Rattle.bucket.specs.declared.BucketConfig.{BucketConfig}
-use Rattle.rows.specs.Held.{removed}
-use Rattle.rows.specs.Round as Round
+use Rattle.held.specs.Held.{removed}
+use Rattle.held.specs.Round as Round
 use Rattle.rows.specs.Segments.{segment}
 use Rattle.rows.specs.Outcome.{Outcome, outcome}
-use Rattle.rows.proofs.LowestLaws.{Searching, search-begins}
-use Rattle.rows.proofs.RoundLaws.{look-goes, look-stays, look-none, ByLooks}
+use Rattle.held.proofs.SearchLaws.{Searching, search-begins}
+use Rattle.held.proofs.RoundLaws.{look-goes, look-stays, look-none, ByLooks}
 use Rattle.rows.proofs.OutcomeLaws.{after-is}
 use Rattle.slot.specs.declared.Slot.{Slot}
 use Rattle.slot.specs.Slot.{isKey}
 use Rattle.ledger.specs.Layout as LedgerLayout
-use Rattle.shard_map.specs.Model.{Shard, Sound, noSlot, capOf, slotAt, withCount, withSlot, withSweep, handOf, sweepOf, placeOf, removeAt, insert}
+use Rattle.shard_map.specs.Model.{Shard, Sound, noSlot, slotItems, capOf, slotAt, withCount, withSlot, withSweep, handOf, sweepOf, placeOf, removeAt, insert}
 use Rattle.shard_map.specs.Model.{reclaimable, roundOf, withRound, idleLook, sweepIdle}
 use Rattle.shard_map.specs.Layout.{ledgerStart, shard, Intact}
 use Rattle.shard_map.proofs.LayoutLaws.{cap-is, ledger-lent, ledger-long}
@@ -52,39 +52,43 @@ module _ {cap : ℕ} {ws ws′ : List ℕ} (intact : Intact cap ws) (same : leng
   pub intact-after-answer : {A : Type 0} {a : A} {o : Outcome A Shard} → outcome a (shard cap ws′) ≡ o → Sound (o .after) → Intact cap ws′
   intact-after-answer gave t = intact-after (after-is gave) t
 
--- Insertion and removal, store by store, as the code makes them.
-pub insert-by-stores : (s : Shard) (slot : Slot) → withCount (withSlot s (s .slots .count) slot) (s .slots .count + 1) ≡ insert s slot
-unfolding insert
-insert-by-stores s slot = refl
+-- Insertion and removal in words, store by store, as the code makes them.
+module _ (cap : ℕ) (ws : List ℕ) where
+  abbrev stands : Shard
+  stands = shard cap ws
 
-pub remove-by-stores : (s : Shard) (p : ℕ)
-    → withCount (withSlot (withSlot s p (slotAt s (s .slots .count - 1))) (s .slots .count - 1) noSlot) (s .slots .count - 1) ≡ removeAt s p
-unfolding removeAt removed
-remove-by-stores s p = refl
+  pub insert-by-stores : (slot : Slot) → withCount (withSlot stands (stands .slots .count) slot) (stands .slots .count + 1) ≡ insert stands slot
+  unfolding insert shard
+  insert-by-stores slot = refl
 
--- Lookup: where its loop begins.
-pub place-begins : (s : Shard) (hash key count : ℕ) → count ≡ s .slots .count → Searching noSlot (s .slots) (isKey hash key) count 0 (placeOf s hash key)
-unfolding placeOf
-place-begins s hash key count counted = search-begins noSlot (s .slots) (isKey hash key) count counted
+  pub remove-by-stores : (p : ℕ)
+      → withCount (withSlot (withSlot stands p (slotAt stands (stands .slots .count - 1))) (stands .slots .count - 1) noSlot) (stands .slots .count - 1) ≡ removeAt stands p
+  unfolding removeAt removed shard
+  remove-by-stores p = refl
+
+  -- Lookup: where its loop begins.
+  pub place-begins : (hash key count : ℕ) → count ≡ stands .slots .count → Searching slotItems (stands .slots) (isKey hash key) count 0 (placeOf stands hash key)
+  unfolding placeOf shard
+  place-begins hash key count counted = search-begins slotItems (stands .slots) hash (isKey hash key) count refl counted
 
 -- A look of the idle sweep at a slot that may go and at one that stays, and the idle sweep by its looks.
 module _ (c : BucketConfig) (at : Nanos) (limit : Millis) where
   pub idle-look-goes : (s : Shard) → 0 < s .slots .count → reclaimable c at limit (slotAt s (sweepOf s)) ≡ true
       → removeAt (withSweep s (sweepOf s)) (sweepOf s) ≡ idleLook c at limit s
   unfolding idleLook removeAt
-  idle-look-goes s some goes = ap (withRound s) (look-goes noSlot (reclaimable c at limit) (roundOf s) some goes)
+  idle-look-goes s some goes = ap (withRound s) (look-goes slotItems (reclaimable c at limit) (roundOf s) some goes)
 
   pub idle-look-stays : (s : Shard) → 0 < s .slots .count → reclaimable c at limit (slotAt s (sweepOf s)) ≡ false
       → withSweep s (sweepOf s + 1) ≡ idleLook c at limit s
   unfolding idleLook
-  idle-look-stays s some stays = ap (withRound s) (look-stays noSlot (reclaimable c at limit) (roundOf s) some stays)
+  idle-look-stays s some stays = ap (withRound s) (look-stays slotItems (reclaimable c at limit) (roundOf s) some stays)
 
   pub idle-sweep-by-looks : (cap : ℕ) → ByLooks (Intact cap) (shard cap) (sweepIdle c at limit) (idleLook c at limit) (λ s. s .slots .count)
   unfolding sweepIdle idleLook Round.sweep
   idle-sweep-by-looks cap = record {
     none-left = λ s. refl;
     one-more = λ n s. refl;
-    no-item = λ s none. ap (withRound s) (look-none noSlot (reclaimable c at limit) (roundOf s) none);
+    no-item = λ s none. ap (withRound s) (look-none slotItems (reclaimable c at limit) (roundOf s) none);
     stay-lent = λ intact same looked. intact-after intact same looked (idle-look-sound c at limit _ (intact .sound));
   }
 

@@ -1,5 +1,6 @@
 -- What lookup by hash and key says, and what the steps leave of the room.
 use Prim.Native.Nat.{ℕ, _-_, _<_}
+use native.Mathlib.Omega.{arith}
 use mathlib.Core.Path.{_≡_, refl, sym, _∙_}
 use mathlib.Core.Bool.{true, false, true≢false}
 use lib.ListN.{length-set}
@@ -11,17 +12,17 @@ use Rattle.units.specs.Units.{millisOf}
 use Rattle.bucket.specs.declared.BucketConfig.{BucketConfig}
 use Rattle.bucket.specs.Bucket.{shortfallAt}
 use Rattle.rows.specs.declared.Place.the-variants.{At, Nowhere}
-use Rattle.rows.specs.Held as Held
-use Rattle.rows.specs.Round as Round
-use Rattle.rows.proofs.RoundLaws as RoundLaws
-use Rattle.rows.proofs.RoundLaws.{sweep-length}
-use Rattle.rows.proofs.HeldLaws.{wrapped-below, stored-sound, appended-sound, removed-count, removed-length, removed-sound}
-use Rattle.rows.proofs.LowestLaws.{found-passes, nowhere-passes-none}
+use Rattle.held.specs.Held as Held
+use Rattle.held.specs.Round as Round
+use Rattle.held.proofs.RoundLaws as RoundLaws
+use Rattle.held.proofs.RoundLaws.{sweep-length, sweep-kind}
+use Rattle.held.proofs.HeldLaws.{wrapped-below, stored-sound, appended-sound, removed-count, removed-length, removed-sound}
+use Rattle.held.proofs.FindingLaws.{kindOf, added-kind, removed-kind, found-passes, nowhere-passes-none, stored-complete, appended-complete, removed-complete}
 use Rattle.slot.specs.declared.Slot.{Slot}
 use Rattle.slot.specs.Slot.{isKey, expired}
 use Rattle.slot.proofs.SlotLaws.{is-key-iff}
 use Rattle.ledger.specs.Model as Ledger
-use Rattle.shard_map.specs.Model.{Shard, Sound, noSlot, capOf, slotAt, withSlot, withSweep, withLedger, handOf, sweepOf, placeOf, removeAt, insert}
+use Rattle.shard_map.specs.Model.{Shard, Sound, Complete, slotItems, capOf, slotAt, withSlot, withSweep, withLedger, handOf, sweepOf, placeOf, removeAt, insert}
 use Rattle.shard_map.specs.Model.{reclaimable, roundOf, idleLook, sweepIdle}
 
 -- The hand and the sweep, as they are read, stand at a slot.
@@ -40,14 +41,16 @@ pub record Holding (s : Shard) (h k p : ℕ) : Type 0 where
 pub found-holds : (s : Shard) (h k p : ℕ) → placeOf s h k ≡ At p → Holding s h k p
 unfolding placeOf
 found-holds s h k p e =
-    let f = found-passes (s .slots .count) (λ i. isKey h k (slotAt s i)) p e in
+    let f = found-passes slotItems (s .slots) h (isKey h k) p e in
     let own : (slotAt s p .hash ≡ h) × (slotAt s p .key ≡ k) = is-key-iff h k (slotAt s p) .0 (f .passes) in
     record { below = f .below; hash = own .0; key = own .1 }
 
-pub nowhere-holds-none : (s : Shard) (h k : ℕ) → placeOf s h k ≡ Nowhere → (i : ℕ) → i < s .slots .count → slotAt s i .hash ≡ h → slotAt s i .key ≡ k → ⊥
+pub nowhere-holds-none : (s : Shard) → Complete s → (h k : ℕ) → placeOf s h k ≡ Nowhere
+    → (i : ℕ) → i < s .slots .count → slotAt s i .hash ≡ h → slotAt s i .key ≡ k → ⊥
 unfolding placeOf
-nowhere-holds-none s h k e i below hash key =
-    let fails : isKey h k (slotAt s i) ≡ false = nowhere-passes-none (s .slots .count) (λ j. isKey h k (slotAt s j)) i e below in
+nowhere-holds-none s complete h k e i below hash key =
+    let fails : isKey h k (slotAt s i) ≡ false =
+    nowhere-passes-none slotItems (s .slots) (complete .slots) h (isKey h k) (λ slot passes. is-key-iff h k slot .0 passes .0) e i below in
     let holds : isKey h k (slotAt s i) ≡ true = is-key-iff h k (slotAt s i) .1 (hash, key) in
     absurd (true≢false (sym holds ∙ fails))
 
@@ -58,14 +61,14 @@ slots-sound s t = record { room = t .room; count-fits = t .count-fits }
 sound-by-parts : (s : Shard) → Held.Sound (s .slots) → Ledger.Sound (s .ledger) → Sound s
 sound-by-parts s t u = record { room = t .room; count-fits = t .count-fits; ledger = u }
 
--- A removal leaves one slot less, the same room and the same ledger.
+-- A removal leaves one slot less, the same room and the same ledger, and lookup misses none if it missed none. So do the other steps.
 pub removal-count : (s : Shard) (p : ℕ) → removeAt s p .slots .count ≡ s .slots .count - 1
 unfolding removeAt
-removal-count s p = removed-count noSlot (s .slots) p
+removal-count s p = removed-count slotItems (s .slots) p
 
 pub removal-cap : (s : Shard) (p : ℕ) → capOf (removeAt s p) ≡ capOf s
 unfolding removeAt
-removal-cap s p = removed-length noSlot (s .slots) p
+removal-cap s p = removed-length slotItems (s .slots) p
 
 pub removal-ledger : (s : Shard) (p : ℕ) → removeAt s p .ledger ≡ s .ledger
 unfolding removeAt
@@ -73,7 +76,19 @@ removal-ledger s p = refl
 
 pub removal-sound : (s : Shard) (p : ℕ) → Sound s → Sound (removeAt s p)
 unfolding removeAt
-removal-sound s p t = sound-by-parts (removeAt s p) (removed-sound noSlot (s .slots) p (slots-sound s t)) (t .ledger)
+removal-sound s p t = sound-by-parts (removeAt s p) (removed-sound slotItems (s .slots) p (slots-sound s t)) (t .ledger)
+
+pub removal-slots-complete : (s : Shard) (p : ℕ) → Sound s → p < s .slots .count → Held.Complete slotItems (s .slots) → Held.Complete slotItems (removeAt s p .slots)
+unfolding removeAt
+removal-slots-complete s p t below complete = removed-complete slotItems (s .slots) (slots-sound s t) complete p below
+
+pub removal-complete : (s : Shard) (p : ℕ) → Sound s → Complete s → p < s .slots .count → Complete (removeAt s p)
+unfolding removeAt
+removal-complete s p t complete below = record { slots = removal-slots-complete s p t below (complete .slots); ledger = complete .ledger }
+
+pub removal-kind : (s : Shard) (p : ℕ) → kindOf (removeAt s p .slots .finding) ≡ kindOf (s .slots .finding)
+unfolding removeAt
+removal-kind s p = removed-kind slotItems (s .slots) p
 
 -- An insertion where there is room leaves the same room and the same ledger.
 pub insert-cap : (s : Shard) (slot : Slot) → capOf (insert s slot) ≡ capOf s
@@ -86,7 +101,15 @@ insert-ledger s slot = refl
 
 pub insert-sound : (s : Shard) (slot : Slot) → Sound s → s .slots .count < capOf s → Sound (insert s slot)
 unfolding insert
-insert-sound s slot t room = sound-by-parts (insert s slot) (appended-sound (s .slots) slot room) (t .ledger)
+insert-sound s slot t room = sound-by-parts (insert s slot) (appended-sound slotItems (s .slots) slot room) (t .ledger)
+
+pub insert-complete : (s : Shard) (slot : Slot) → Complete s → s .slots .count < capOf s → Complete (insert s slot)
+unfolding insert
+insert-complete s slot complete room = record { slots = appended-complete slotItems (s .slots) (complete .slots) slot room; ledger = complete .ledger }
+
+pub insert-kind : (s : Shard) (slot : Slot) → kindOf (insert s slot .slots .finding) ≡ kindOf (s .slots .finding)
+unfolding insert
+insert-kind s slot = added-kind (s .slots .finding) (slot .hash) (s .slots .count)
 
 -- A slot that is changed, a sweep that moves, and a sound ledger put in leave a sound shard; a change leaves the same room.
 pub change-cap : (s : Shard) (p : ℕ) (slot : Slot) → capOf (withSlot s p slot) ≡ capOf s
@@ -95,11 +118,20 @@ change-cap s p slot = simp length-set
 pub change-sound : (s : Shard) (p : ℕ) (slot : Slot) → Sound s → Sound (withSlot s p slot)
 change-sound s p slot t = sound-by-parts (withSlot s p slot) (stored-sound (s .slots) p slot (slots-sound s t)) (t .ledger)
 
+pub change-complete : (s : Shard) (p : ℕ) (slot : Slot) → Sound s → Complete s → p < s .slots .count → slot .hash ≡ slotAt s p .hash → Complete (withSlot s p slot)
+change-complete s p slot t complete below same = record {
+  slots = stored-complete slotItems (s .slots) (complete .slots) p slot (omega (arith, t .count-fits)) same;
+  ledger = complete .ledger;
+}
+
 pub sweep-sound : (s : Shard) (sweep : ℕ) → Sound s → Sound (withSweep s sweep)
 sweep-sound s sweep t = sound-by-parts (withSweep s sweep) (slots-sound s t) (t .ledger)
 
 pub ledger-sound : (s : Shard) (l : Ledger.Ledger) → Sound s → Ledger.Sound l → Sound (withLedger s l)
 ledger-sound s l t u = sound-by-parts (withLedger s l) (slots-sound s t) u
+
+pub ledger-complete : (s : Shard) (l : Ledger.Ledger) → Complete s → Ledger.Complete l → Complete (withLedger s l)
+ledger-complete s l complete debts = record { slots = complete .slots; ledger = debts }
 
 -- A slot that may be reclaimed has a full bucket.
 pub reclaimable-is-full : (c : BucketConfig) (at : Nanos) (limit : Millis) (slot : Slot) → reclaimable c at limit slot ≡ true → shortfallAt c (slot .bucket) at ≡ 0
@@ -109,7 +141,7 @@ reclaimable-is-full c at limit slot = by-test (expired slot (millisOf at) limit)
 module _ (c : BucketConfig) (at : Nanos) (limit : Millis) where
   pub sweep-idle-cap : (n : ℕ) (s : Shard) → capOf (sweepIdle c at limit n s) ≡ capOf s
   unfolding sweepIdle
-  sweep-idle-cap n s = sweep-length noSlot (reclaimable c at limit) n (roundOf s)
+  sweep-idle-cap n s = sweep-length slotItems (reclaimable c at limit) n (roundOf s)
 
   pub sweep-idle-ledger : (n : ℕ) (s : Shard) → sweepIdle c at limit n s .ledger ≡ s .ledger
   unfolding sweepIdle
@@ -118,7 +150,18 @@ module _ (c : BucketConfig) (at : Nanos) (limit : Millis) where
   pub sweep-idle-sound : (n : ℕ) (s : Shard) → Sound s → Sound (sweepIdle c at limit n s)
   unfolding sweepIdle
   sweep-idle-sound n s t =
-      sound-by-parts (sweepIdle c at limit n s) (RoundLaws.sweep-sound noSlot (reclaimable c at limit) n (roundOf s) (slots-sound s t)) (t .ledger)
+      sound-by-parts (sweepIdle c at limit n s) (RoundLaws.sweep-sound slotItems (reclaimable c at limit) n (roundOf s) (slots-sound s t)) (t .ledger)
+
+  pub sweep-idle-complete : (n : ℕ) (s : Shard) → Sound s → Complete s → Complete (sweepIdle c at limit n s)
+  unfolding sweepIdle
+  sweep-idle-complete n s t complete = record {
+    slots = RoundLaws.sweep-complete slotItems (reclaimable c at limit) n (roundOf s) (slots-sound s t) (complete .slots);
+    ledger = complete .ledger;
+  }
+
+  pub sweep-idle-kind : (n : ℕ) (s : Shard) → kindOf (sweepIdle c at limit n s .slots .finding) ≡ kindOf (s .slots .finding)
+  unfolding sweepIdle
+  sweep-idle-kind n s = sweep-kind slotItems (reclaimable c at limit) n (roundOf s)
 
   pub idle-look-sound : (s : Shard) → Sound s → Sound (idleLook c at limit s)
   unfolding idleLook sweepIdle Round.sweep

@@ -9,8 +9,8 @@ use Rattle.units.specs.declared.Millis.{Millis}
 use Rattle.bucket.specs.declared.BucketConfig.{BucketConfig}
 use Rattle.bucket.specs.Bucket.{shortfallAt}
 use Rattle.settings.specs.Eviction.{ttlSweep}
-use Rattle.rows.specs.Held.{removed}
-use Rattle.rows.specs.Round as Round
+use Rattle.held.specs.Held.{inOrder, removed}
+use Rattle.held.specs.Round as Round
 use Rattle.slot.specs.declared.Slot.{Slot}
 use Rattle.ledger.specs.declared.Debt.{Debt}
 use Rattle.ledger.specs.Model as Ledger
@@ -31,10 +31,10 @@ slot number shortfall mark seen = record { hash = number; key = number; bucket =
 
 -- A ledger by its count, its cursor and what stands in all its places, and a shard by its count, its hand, its sweep, its places and its ledger.
 abbrev pub ledger : ℕ → ℕ → List Debt → Ledger.Ledger
-ledger count cursor places = record { debts = record { count = count; places = places }; cursor = cursor; others = [] }
+ledger count cursor places = record { debts = record { count = count; places = places; finding = inOrder }; cursor = cursor; others = [] }
 
 abbrev pub shard : ℕ → ℕ → ℕ → List Slot → Ledger.Ledger → Shard
-shard count hand sweep places l = record { slots = record { count = count; places = places }; hand = hand; sweep = sweep; ledger = l }
+shard count hand sweep places l = record { slots = record { count = count; places = places; finding = inOrder }; hand = hand; sweep = sweep; ledger = l }
 
 abbrev pub noDebts : Ledger.Ledger
 noDebts = ledger 0 0 (Ledger.noDebt ∷ [])

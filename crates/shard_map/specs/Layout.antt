@@ -5,7 +5,7 @@ use mathlib.Core.Path.{_≡_}
 use mathlib.Core.List.{List, [], _∷_, _++_, map}
 use lib.ListN.{length, getD}
 use Rattle.rows.specs.Rows.{unrow}
-use Rattle.rows.specs.Layout.{Table, tableIn, heldOf}
+use Rattle.held.specs.Layout.{Table, tableIn, heldOf}
 use Rattle.slot.specs.declared.Slot.{Slot}
 use Rattle.ledger.specs.Layout as Ledger
 use Rattle.shard_map.specs.Model.{Shard, Sound}

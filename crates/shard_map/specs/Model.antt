@@ -7,9 +7,10 @@ use Rattle.units.specs.declared.Millis.{Millis}
 use Rattle.units.specs.Units.{millisOf}
 use Rattle.bucket.specs.declared.BucketConfig.{BucketConfig}
 use Rattle.rows.specs.declared.Place.{Place}
-use Rattle.rows.specs.Held.{Held, wrapped, itemAt, position, removed, appended, stored}
-use Rattle.rows.specs.Round.{Round}
-use Rattle.rows.specs.Round as Round
+use Rattle.held.specs.Held.{Held, Items, wrapped, itemAt, position, removed, appended, stored}
+use Rattle.held.specs.Held as Held
+use Rattle.held.specs.Round.{Round}
+use Rattle.held.specs.Round as Round
 use Rattle.rows.specs.Outcome.{Outcome, outcome}
 use Rattle.slot.specs.declared.Slot.{Slot}
 use Rattle.slot.specs.Slot.{isKey, expired, lossless}
@@ -25,6 +26,10 @@ pub record Shard : Type 0 where
 abbrev pub noSlot : Slot
 noSlot = record { hash = 0; key = 0; bucket = record { shortfall = 0; stamp = record { 0 = 0 } }; mark = 0; seen = record { 0 = 0 } }
 
+-- The slots as items: they are found by their hashes.
+abbrev pub slotItems : Items Slot
+slotItems = record { free = noSlot; hash = λ slot. slot .hash }
+
 -- How many slots there is room for.
 abbrev pub capOf : Shard → ℕ
 capOf s = length (s .slots .places)
@@ -35,14 +40,19 @@ pub record Sound (s : Shard) : Type 0 where
   pub count-fits : s .slots .count ≤ capOf s
   pub ledger : Ledger.Sound (s .ledger)
 
+-- Lookup misses no slot and no debt.
+pub record Complete (s : Shard) : Type 0 where
+  pub slots : Held.Complete slotItems (s .slots)
+  pub ledger : Ledger.Complete (s .ledger)
+
 abbrev pub slotAt : Shard → ℕ → Slot
-slotAt s i = itemAt noSlot (s .slots) i
+slotAt s i = itemAt slotItems (s .slots) i
 
 abbrev pub withSlots : Shard → Held Slot → Shard
 withSlots s slots = record { slots = slots; hand = s .hand; sweep = s .sweep; ledger = s .ledger }
 
 abbrev pub withCount : Shard → ℕ → Shard
-withCount s n = withSlots s (record { count = n; places = s .slots .places })
+withCount s n = withSlots s (record { count = n; places = s .slots .places; finding = s .slots .finding })
 
 abbrev pub withSlot : Shard → ℕ → Slot → Shard
 withSlot s i slot = withSlots s (stored (s .slots) i slot)
@@ -67,16 +77,16 @@ handOf s = wrapped (s .hand) (s .slots .count)
 abbrev pub sweepOf : Shard → ℕ
 sweepOf s = wrapped (s .sweep) (s .slots .count)
 
--- Lookup by hash and key: the lowest place that has both.
+-- Lookup by hash and key: the place of a slot that has both.
 unfoldable pub placeOf : Shard → ℕ → ℕ → Place
-placeOf s hash key = position noSlot (s .slots) (isKey hash key)
+placeOf s hash key = position slotItems (s .slots) hash (isKey hash key)
 
 -- A slot leaves, and the last one moves into the gap. A new slot comes last.
 unfoldable pub removeAt : Shard → ℕ → Shard
-removeAt s p = withSlots s (removed noSlot (s .slots) p)
+removeAt s p = withSlots s (removed slotItems (s .slots) p)
 
 unfoldable pub insert : Shard → Slot → Shard
-insert s slot = withSlots s (appended (s .slots) slot)
+insert s slot = withSlots s (appended slotItems (s .slots) slot)
 
 -- A slot may go for being idle where it has been idle for the limit and its bucket is full.
 abbrev pub reclaimable : BucketConfig → Nanos → Millis → Slot → Bool
@@ -91,7 +101,7 @@ withRound s r = record { slots = r .items; hand = s .hand; sweep = r .next; ledg
 
 -- The next look of the idle sweep, and an idle sweep of n looks: slots that may be reclaimed go.
 unfoldable pub idleLook : BucketConfig → Nanos → Millis → Shard → Shard
-idleLook c at limit s = withRound s (Round.look noSlot (reclaimable c at limit) (roundOf s))
+idleLook c at limit s = withRound s (Round.look slotItems (reclaimable c at limit) (roundOf s))
 
 unfoldable pub sweepIdle : BucketConfig → Nanos → Millis → ℕ → Shard → Shard
-sweepIdle c at limit n s = withRound s (Round.sweep noSlot (reclaimable c at limit) n (roundOf s))
+sweepIdle c at limit n s = withRound s (Round.sweep slotItems (reclaimable c at limit) n (roundOf s))

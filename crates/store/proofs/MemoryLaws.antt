@@ -20,7 +20,7 @@ use Rattle.shard_map.specs.Model as Shard
 use Rattle.shard_map.specs.Layout as Layout
 use Rattle.shard_map.specs.Layout.{shardWords}
 use Rattle.shard_map.proofs.LayoutLaws.{cap-is}
-use Rattle.shard_map.proofs.ReadBack.{Sized, Empty, words-length, shard-of-words, debt-cap-is, shard-sized, zeros-empty}
+use Rattle.shard_map.proofs.ReadBack.{Sized, Empty, words-length, shard-of-words, debt-cap-is, shard-sized, zeros-empty, zeros-complete}
 use Rattle.shard.proofs.ShardLaws.{SameRoom}
 use Rattle.store.specs.Memory.{withSegment, shardStart, shardEnd, wordsIn, memoryWords, partStart, partOf, Placed, shardAt, inShard}
 
@@ -109,10 +109,16 @@ zeros-read n i =
     (λ past. List·getD-eq-default (replicate n 0) 0 (rw (length-replicate {A = ℕ} n 0) past))
     (λ inside. getD-replicate n i 0 0 inside)
 
--- In memory as set-up leaves it every shard is empty.
-pub fresh-shards-are-empty : (s : Settings) (hash : ℕ) → Empty (shardAt s hash (replicate (memoryWords s) 0))
-fresh-shards-are-empty s hash =
-    zeros-empty (capOf s) _ (zeros-segment (partStart (shapeOf s) hash) (shardWords (capOf s)) (replicate (memoryWords s) 0) (zeros-read (memoryWords s)))
+-- In memory as set-up leaves it every shard is empty, and lookup misses none in it.
+module _ (s : Settings) (hash : ℕ) where
+  fresh-words : (i : ℕ) → getD (segment (partStart (shapeOf s) hash) (shardWords (capOf s)) (replicate (memoryWords s) 0)) i 0 ≡ 0
+  fresh-words = zeros-segment (partStart (shapeOf s) hash) (shardWords (capOf s)) (replicate (memoryWords s) 0) (zeros-read (memoryWords s))
+
+  pub fresh-shards-are-empty : Empty (shardAt s hash (replicate (memoryWords s) 0))
+  fresh-shards-are-empty = zeros-empty (capOf s) _ fresh-words
+
+  pub fresh-shards-are-complete : Shard.Complete (shardAt s hash (replicate (memoryWords s) 0))
+  fresh-shards-are-complete = zeros-complete (capOf s) _ fresh-words
 
 module _ (s : Settings) (hash : ℕ) (ws : List ℕ) where
   -- The shard of a hash has the cap's room for slots and debts.
@@ -126,7 +132,13 @@ module _ (s : Settings) (hash : ℕ) (ws : List ℕ) where
   pub same-room-sized : {t : Shard.Shard} → SameRoom (shardAt s hash ws) t → Sized (capOf s) t
   same-room-sized room =
       let own = shard-sized (capOf s) _ (segment-most (partStart (shapeOf s) hash) (shardWords (capOf s)) ws) in
-      record { slots = room .cap ∙ own .slots; debts = room .ledger-room .cap ∙ own .debts; others = room .ledger-room .others ∙ own .others }
+      record {
+        slots = room .cap ∙ own .slots;
+        slots-kind = room .kind ∙ own .slots-kind;
+        debts = room .ledger-room .cap ∙ own .debts;
+        debts-kind = room .ledger-room .kind ∙ own .debts-kind;
+        others = room .ledger-room .others ∙ own .others;
+      }
 
   -- The shard of a hash is sound where its counts are at most the cap.
   pub sound-shard : (shardAt s hash ws .slots .count ≤ capOf s) × (shardAt s hash ws .ledger .debts .count ≤ capOf s) → Shard.Sound (shardAt s hash ws)

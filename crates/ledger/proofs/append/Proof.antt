@@ -23,7 +23,7 @@ returns : tie.Need-returns
 returns c =
     let counted = c .before .before in
     let stored = counted .before .before .before .before in
-    rw (counted .set-count .ensures, stored .put .ensures, stored .before .before .count .ensures) (append-by-stores _ _)
+    rw (counted .set-count .ensures, stored .put .ensures, stored .before .before .count .ensures) (append-by-stores _ _ _)
 
 pub append-spec : {M : Type 1} → statement M
 append-spec =

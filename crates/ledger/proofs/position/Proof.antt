@@ -4,15 +4,15 @@ use mathlib.Core.Path.{sym, _∙_}
 use Prim.Native.Nat.{_-_}
 use borrow.Author.Tests.{eq-eqb, ne-eqb}
 use borrow.Author.Needs.{needs}
-use Rattle.rows.proofs.LowestLaws.{Searching, search-hits, search-goes-on, search-ends}
-use Rattle.ledger.specs.Model.{noDebt, owes, placeOf}
+use Rattle.held.proofs.SearchLaws.{Searching, search-hits, search-goes-on, search-ends}
+use Rattle.ledger.specs.Model.{debtItems, owes, placeOf}
 use Rattle.ledger.specs.Layout.{ledger}
 use Rattle.ledger.proofs.ModelLaws.{place-begins, intact-cap}
 use Rattle.ledger.proofs.position.Statement.{statement}
 use Rattle.ledger.proofs.position.Tie as tie
 
 abbrev Inv-loop : tie.InvT-loop
-Inv-loop ws cap hash count i₀ i = Searching noDebt (ledger cap ws .debts) (owes hash) count i (placeOf (ledger cap ws) hash)
+Inv-loop ws cap hash count i₀ i = Searching debtItems (ledger cap ws .debts) (owes hash) count i (placeOf (ledger cap ws) hash)
 
 abbrev μ-loop : tie.MeasureT-loop
 μ-loop ws cap hash count i₀ i = count - i
@@ -25,7 +25,7 @@ count-requires : tie.Need-count-requires Inv-loop μ-loop
 count-requires c κs = search needs
 
 loop-holds : tie.Need-loop-holds Inv-loop μ-loop
-loop-holds c = place-begins _ _ _ (c .count .ensures)
+loop-holds c = place-begins _ _ _ _ (c .count .ensures)
 
 hash-at-requires : tie.Need-hash-at-requires Inv-loop μ-loop
 hash-at-requires c κs = let pre′ = c .before .before .before .before .pre in (pre′ .size, omega (arith, intact-cap pre′))

@@ -35,7 +35,7 @@ returns c =
     let cleared = counted-down .before .before .before .before in
     let moved = cleared .before .before .before .before in
     let read = moved .before .before in
-    let stores = remove-by-stores _ _ in
+    let stores = remove-by-stores _ _ _ in
     rw (counted-down .set-count .ensures, cleared .put2 .ensures, moved .put .ensures, read .load .ensures, read .before .before .count .ensures) stores
 
 pub remove-at-spec : {M : Type 1} → statement M

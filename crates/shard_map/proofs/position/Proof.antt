@@ -2,16 +2,16 @@
 use native.Mathlib.Omega.{arith}
 use Prim.Native.Nat.{_-_}
 use borrow.Author.Needs.{needs}
-use Rattle.rows.proofs.LowestLaws.{Searching, search-hits, search-goes-on, search-ends}
+use Rattle.held.proofs.SearchLaws.{Searching, search-hits, search-goes-on, search-ends}
 use Rattle.slot.specs.Slot.{isKey}
-use Rattle.shard_map.specs.Model.{noSlot, placeOf}
+use Rattle.shard_map.specs.Model.{slotItems, placeOf}
 use Rattle.shard_map.specs.Layout.{shard}
 use Rattle.shard_map.proofs.ModelLaws.{place-begins, intact-cap}
 use Rattle.shard_map.proofs.position.Statement.{statement}
 use Rattle.shard_map.proofs.position.Tie as tie
 
 abbrev Inv-loop : tie.InvT-loop
-Inv-loop ws cap hash key count i₀ i = Searching noSlot (shard cap ws .slots) (isKey hash key) count i (placeOf (shard cap ws) hash key)
+Inv-loop ws cap hash key count i₀ i = Searching slotItems (shard cap ws .slots) (isKey hash key) count i (placeOf (shard cap ws) hash key)
 
 abbrev μ-loop : tie.MeasureT-loop
 μ-loop ws cap hash key count i₀ i = count - i
@@ -24,7 +24,7 @@ count-requires : tie.Need-count-requires Inv-loop μ-loop
 count-requires c κs = search needs
 
 loop-holds : tie.Need-loop-holds Inv-loop μ-loop
-loop-holds c = place-begins _ _ _ _ (c .count .ensures)
+loop-holds c = place-begins _ _ _ _ _ (c .count .ensures)
 
 is-key-at-requires : tie.Need-is-key-at-requires Inv-loop μ-loop
 is-key-at-requires c κs = let pre′ = c .before .before .before .before .pre in (pre′, omega (arith, intact-cap pre′))

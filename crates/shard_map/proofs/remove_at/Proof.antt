@@ -40,7 +40,7 @@ returns c =
     let free = first .before .before in
     let moved = free .before .load .ensures in
     let counted = free .before .before .before .count .ensures in
-    rw (n .set-count .ensures, second .put2 .ensures, first .put .ensures, free .free-slot .ensures, moved, counted) (remove-by-stores _ _)
+    rw (n .set-count .ensures, second .put2 .ensures, first .put .ensures, free .free-slot .ensures, moved, counted) (remove-by-stores _ _ _)
 
 pub remove-at-spec : {M : Type 1} → statement M
 remove-at-spec =

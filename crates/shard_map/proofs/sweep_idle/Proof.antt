@@ -1,7 +1,7 @@
 -- `sweep_idle` makes its looks one by one. The loop holds that the looks left, made from here, give what all of them give from the start.
 use mathlib.Core.Path.{sym, _∙_}
 use borrow.Author.Needs.{needs}
-use Rattle.rows.proofs.RoundLaws.{Sweeping, sweep-begins, sweep-goes-on, sweep-ends, sweep-stops}
+use Rattle.held.proofs.RoundLaws.{Sweeping, sweep-begins, sweep-goes-on, sweep-ends, sweep-stops}
 use Rattle.shard_map.specs.Model.{sweepIdle}
 use Rattle.shard_map.specs.Layout.{shard, Intact}
 use Rattle.shard_map.proofs.ModelLaws.{idle-sweep-by-looks}

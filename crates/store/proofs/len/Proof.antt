@@ -9,7 +9,7 @@ use Rattle.store.proofs.LendingLaws.{shards-are-few, numbered-shard-end
 use Rattle.store.proofs.RefusalLaws.{len-not-refused}
 use Rattle.store.specs.Memory.{slotCount}
 use Rattle.rows.proofs.SumLaws.{sum-of-none, sum-next}
-use Rattle.rows.specs.Held.{sum}
+use Rattle.rows.specs.Places.{sum}
 use borrow.Author.Needs.{needs}
 use Rattle.store.proofs.len.Statement.{statement}
 use Rattle.store.proofs.len.Tie as tie

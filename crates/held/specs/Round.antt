@@ -2,7 +2,7 @@
 use Prim.Native.Nat.{ℕ, zero, suc, _+_}
 use mathlib.Core.Bool.{Bool, cond}
 use lib.Dec.{eqb}
-use Rattle.rows.specs.Held.{Held, wrapped, itemAt, removed}
+use Rattle.held.specs.Held.{Held, Items, wrapped, itemAt, removed}
 
 -- The items, and the place at which the next look begins.
 pub record Round (A : Type 0) : Type 0 where
@@ -13,11 +13,11 @@ pub record Round (A : Type 0) : Type 0 where
 abbrev pub nextOf : {A : Type 0} → Round A → ℕ
 nextOf r = wrapped (r .next) (r .items .count)
 
--- `goes` is the test, and `free` what stands in a place that holds no item.
-module _ {A : Type 0} (free : A) (goes : A → Bool) where
+-- `goes` is the test.
+module _ {A : Type 0} (items : Items A) (goes : A → Bool) where
   -- A look at place p: an item that passes goes, and what moves into its place is looked at next; else the next look is one place on.
   unfoldable pub lookAt : Round A → ℕ → Round A
-  lookAt r p = cond (goes (itemAt free (r .items) p)) (record { items = removed free (r .items) p; next = p }) (record { items = r .items; next = p + 1 })
+  lookAt r p = cond (goes (itemAt items (r .items) p)) (record { items = removed items (r .items) p; next = p }) (record { items = r .items; next = p + 1 })
 
   -- The next look; there is none where no item is left.
   unfoldable pub look : Round A → Round A

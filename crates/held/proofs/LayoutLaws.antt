@@ -6,17 +6,18 @@ use mathlib.Core.List.{List, [], _++_, map}
 use native.Mathlib.Omega.{arith}
 use lib.Dec.{eqb}
 use lib.ListN.{length, getD, set, take, length-map, take-append-drop}
-use lib.Seq.{sets, getD-set-same, getD-set-other, getD-take, take-set-lt, take-set-le, drop-set-lt, length-take-le}
+use lib.Seq.{sets, getD-set-same, getD-set-other, getD-take, getD-drop, take-set-lt, take-set-le, drop-set-lt, length-take-le}
 use borrow.Author.Tests.{lt-ltb, le-ltb, eq-eqb, ne-eqb}
 use borrow.Rule.Slice.PartMut.{putMid}
 use Rattle.arith.proofs.Cases.{by-eq}
 use Rattle.rows.specs.Segments.{segment}
 use Rattle.rows.specs.Rows.{rows, unrow}
-use Rattle.rows.specs.Held.{wrapped}
-use Rattle.rows.specs.Layout.{tableIn, withWord, withItem, withRest}
+use Rattle.held.specs.Held.{wrapped}
+use Rattle.held.specs.Layout.{tableIn, withWord, withItem, withRest}
 use Rattle.rows.proofs.SegmentLaws.{segment-set, segment-set-below, segment-sets, segment-length, segment-and-rest, segment-of-segment, segment-kept-below}
 use Rattle.rows.proofs.SegmentLaws.{rest-back, take-sets-above, drop-sets-below}
+use Rattle.rows.proofs.ZeroLaws.{zeros-segment}
 use Rattle.rows.proofs.RowLaws.{rows-length, record-at, record-put, record-put-word, row-end, tabulate, listed, rows-round, unrow-rows}
 
 -- A store to one of the first n words, read among these.
 front-set : (n : ℕ) (ws : List ℕ) (k v : ℕ) → k < n → n ≤ length ws → (m : ℕ) → getD (take n (set ws k v)) m 0 ≡ cond (eqb m k) v (getD (take n ws) m 0)
@@ -115,3 +116,13 @@ module _ {A : Type 0} (read : List ℕ → A) (w cap first : ℕ) where
             segment-and-rest first (w * cap) ws,
           )
           (take-append-drop first ws)
+
+-- A table in words that are all 0: the words before its rows are 0, and so are those past them.
+module _ {A : Type 0} (read : List ℕ → A) (w cap first : ℕ) (ws : List ℕ) (zeros : (i : ℕ) → getD ws i 0 ≡ 0) where
+  pub zeros-head : (k : ℕ) → tableIn read w cap first ws .head k ≡ 0
+  unfolding tableIn
+  zeros-head k = zeros-segment 0 first ws zeros k
+
+  pub zeros-rest : (i : ℕ) → getD (tableIn read w cap first ws .rest) i 0 ≡ 0
+  unfolding tableIn
+  zeros-rest i = getD-drop (first + w * cap) ws i 0 ∙ zeros (first + w * cap + i)

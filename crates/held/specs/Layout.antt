@@ -4,9 +4,9 @@ use mathlib.Core.Bool.{cond}
 use mathlib.Core.List.{List, map}
 use lib.Dec.{eqb}
 use lib.ListN.{getD, set, take, drop}
 use Rattle.rows.specs.Segments.{segment}
 use Rattle.rows.specs.Rows.{rows}
-use Rattle.rows.specs.Held.{Held}
+use Rattle.held.specs.Held.{Held, inOrder}
 
 -- The words before the rows by their places, the item of each row, and the words past the rows.
 pub record Table (A : Type 0) : Type 0 where
@@ -23,9 +23,9 @@ tableIn read width cap first ws = record {
 }
 
 module _ {A : Type 0} where
-  -- The items that a table holds, where its word at `at` counts them.
+  -- The items that a table holds, where its word at `at` counts them. They are found in the order of their places.
   abbrev pub heldOf : ℕ → Table A → Held A
-  heldOf at t = record { count = t .head at; places = t .places }
+  heldOf at t = record { count = t .head at; places = t .places; finding = inOrder }
 
   -- What one write changes: a word before the rows, or the item of a row. Words that come back from a loan change the rest.
   abbrev pub withWord : Table A → ℕ → ℕ → Table A

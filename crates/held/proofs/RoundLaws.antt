@@ -8,81 +8,107 @@ use lib.Dec.{eqb}
 use lib.ListN.{length}
 use borrow.Author.Tests.{eqb-false, eq-eqb, ne-eqb}
 use Rattle.arith.proofs.Cases.{by-test}
-use Rattle.rows.specs.Held.{Held, Sound, itemAt, removed, total}
-use Rattle.rows.specs.Round.{Round, nextOf, lookAt, look, sweep}
-use Rattle.rows.proofs.HeldLaws.{wrapped-below, removed-count, removed-length, removed-sound, total-removed}
+use Rattle.held.specs.Held.{Held, Sound, Items, itemAt, removed, total, inPlaceOrder, Complete}
+use Rattle.held.specs.Round.{Round, nextOf, lookAt, look, sweep}
+use Rattle.held.proofs.HeldLaws.{wrapped-below, removed-count, removed-length, removed-sound, total-removed}
+use Rattle.held.proofs.FindingLaws.{kindOf, removed-kind, removed-complete}
 
-module _ {A : Type 0} (free : A) (goes : A → Bool) where
+module _ {A : Type 0} (items : Items A) (goes : A → Bool) where
   -- A look at an item that goes, at one that stays, and where there is none.
   module _ (r : Round A) where
-    pub look-goes : 0 < r .items .count → goes (itemAt free (r .items) (nextOf r)) ≡ true
-        → record { items = removed free (r .items) (nextOf r); next = nextOf r } ≡ look free goes r
+    pub look-goes : 0 < r .items .count → goes (itemAt items (r .items) (nextOf r)) ≡ true
+        → record { items = removed items (r .items) (nextOf r); next = nextOf r } ≡ look items goes r
     unfolding look lookAt
     look-goes some passes = rw (ne-eqb (r .items .count) 0 (omega arith), lookAt, passes)
 
-    pub look-stays : 0 < r .items .count → goes (itemAt free (r .items) (nextOf r)) ≡ false → record { items = r .items; next = nextOf r + 1 } ≡ look free goes r
+    pub look-stays : 0 < r .items .count → goes (itemAt items (r .items) (nextOf r)) ≡ false → record { items = r .items; next = nextOf r + 1 } ≡ look items goes r
     unfolding look lookAt
     look-stays some fails = rw (ne-eqb (r .items .count) 0 (omega arith), lookAt, fails)
 
-    pub look-none : r .items .count ≡ 0 → look free goes r ≡ r
+    pub look-none : r .items .count ≡ 0 → look items goes r ≡ r
     unfolding look
     look-none none = rw (eq-eqb _ _ none)
 
   -- A look leaves the round as it is, takes out an item that goes, or moves on by a place.
   look-cases : (Q : Round A → Type 0) (r : Round A) → Q r
-      → (nextOf r < r .items .count → goes (itemAt free (r .items) (nextOf r)) ≡ true → Q (record { items = removed free (r .items) (nextOf r); next = nextOf r }))
-      → (nextOf r < r .items .count → Q (record { items = r .items; next = nextOf r + 1 })) → Q (look free goes r)
+      → (nextOf r < r .items .count → goes (itemAt items (r .items) (nextOf r)) ≡ true → Q (record { items = removed items (r .items) (nextOf r); next = nextOf r }))
+      → (nextOf r < r .items .count → Q (record { items = r .items; next = nextOf r + 1 })) → Q (look items goes r)
   unfolding look lookAt
   look-cases Q r same drops moves =
       by-test (eqb (r .items .count) 0)
       (λ none. rw (none, look) same)
       (λ some.
       let below : nextOf r < r .items .count = wrapped-below (r .next) (r .items .count) (omega (arith, eqb-false (r .items .count) 0 some)) in
-      by-test (goes (itemAt free (r .items) (nextOf r)))
+      by-test (goes (itemAt items (r .items) (nextOf r)))
       (λ passes. rw (some, look, passes, lookAt) (drops below passes))
       (λ fails. rw (some, look, fails, lookAt) (moves below)))
 
   -- What a removal of an item that goes keeps, a sweep keeps.
   abbrev pub KeptByRemovals : (Held A → Type 0) → Type 0
-  KeptByRemovals Q = (h : Held A) (p : ℕ) → p < h .count → goes (itemAt free h p) ≡ true → Q h → Q (removed free h p)
+  KeptByRemovals Q = (h : Held A) (p : ℕ) → p < h .count → goes (itemAt items h p) ≡ true → Q h → Q (removed items h p)
 
-  pub sweep-keeps : (Q : Held A → Type 0) → KeptByRemovals Q → (n : ℕ) (r : Round A) → Q (r .items) → Q (sweep free goes n r .items)
+  pub sweep-keeps : (Q : Held A → Type 0) → KeptByRemovals Q → (n : ℕ) (r : Round A) → Q (r .items) → Q (sweep items goes n r .items)
   unfolding sweep
   sweep-keeps Q kept zero r q = q
   sweep-keeps Q kept (suc n) r q =
-      sweep-keeps Q kept n (look free goes r) (look-cases (λ t. Q (t .items)) r q (λ below passes. kept (r .items) (nextOf r) below passes q) (λ below. q))
+      sweep-keeps Q kept n (look items goes r) (look-cases (λ t. Q (t .items)) r q (λ below passes. kept (r .items) (nextOf r) below passes q) (λ below. q))
 
   -- The room stays, and there are no more items than there were.
-  pub sweep-length : (n : ℕ) (r : Round A) → length (sweep free goes n r .items .places) ≡ length (r .items .places)
-  sweep-length n r = sweep-keeps (λ h. length (h .places) ≡ length (r .items .places)) (λ h p below passes same. removed-length free h p ∙ same) n r refl
+  pub sweep-length : (n : ℕ) (r : Round A) → length (sweep items goes n r .items .places) ≡ length (r .items .places)
+  sweep-length n r = sweep-keeps (λ h. length (h .places) ≡ length (r .items .places)) (λ h p below passes same. removed-length items h p ∙ same) n r refl
 
-  pub sweep-count : (n : ℕ) (r : Round A) → sweep free goes n r .items .count ≤ r .items .count
-  sweep-count n r = sweep-keeps (λ h. h .count ≤ r .items .count) (λ h p below passes fewer. omega (arith, removed-count free h p)) n r (omega arith)
+  pub sweep-count : (n : ℕ) (r : Round A) → sweep items goes n r .items .count ≤ r .items .count
+  sweep-count n r = sweep-keeps (λ h. h .count ≤ r .items .count) (λ h p below passes fewer. omega (arith, removed-count items h p)) n r (omega arith)
 
   -- Sound items stay so.
-  pub sweep-sound : (n : ℕ) (r : Round A) → Sound (r .items) → Sound (sweep free goes n r .items)
-  sweep-sound n r s = sweep-keeps Sound (λ h p below passes t. removed-sound free h p t) n r s
+  pub sweep-sound : (n : ℕ) (r : Round A) → Sound (r .items) → Sound (sweep items goes n r .items)
+  sweep-sound n r s = sweep-keeps Sound (λ h p below passes t. removed-sound items h p t) n r s
+
+  -- Complete items stay so, and the finding keeps its kind.
+  pub sweep-complete : (n : ℕ) (r : Round A) → Sound (r .items) → Complete items (r .items) → Complete items (sweep items goes n r .items)
+  sweep-complete n r sound complete =
+      sweep-keeps (λ h. Sound h × Complete items h) (λ h p below passes q. (removed-sound items h p (q .0), removed-complete items h (q .0) (q .1) p below))
+      n r (sound, complete) .1
+
+  pub sweep-kind : (n : ℕ) (r : Round A) → kindOf (sweep items goes n r .items .finding) ≡ kindOf (r .items .finding)
+  sweep-kind n r = sweep-keeps (λ h. kindOf (h .finding) ≡ kindOf (r .items .finding)) (λ h p below passes same. removed-kind items h p ∙ same) n r refl
+
+  -- A sweep does to the items in place order what it does to the items.
+  abbrev pub roundInPlaceOrder : Round A → Round A
+  roundInPlaceOrder r = record { items = inPlaceOrder (r .items); next = r .next }
+
+  look-in-place-order : (r : Round A) → look items goes (roundInPlaceOrder r) ≡ roundInPlaceOrder (look items goes r)
+  unfolding look lookAt removed
+  look-in-place-order r =
+      by-test (eqb (r .items .count) 0)
+      (λ none. rw (none, look))
+      (λ some. by-test (goes (itemAt items (r .items) (nextOf r))) (λ passes. rw (some, look, passes, lookAt)) (λ fails. rw (some, look, fails, lookAt)))
+
+  pub sweep-in-place-order : (n : ℕ) (r : Round A) → sweep items goes n (roundInPlaceOrder r) ≡ roundInPlaceOrder (sweep items goes n r)
+  unfolding sweep
+  sweep-in-place-order zero r = refl
+  sweep-in-place-order (suc n) r = rw (look-in-place-order r) (sweep-in-place-order n (look items goes r))
 
   -- The next look is at a place up to the count, unless there was no look.
-  pub sweep-next : (n : ℕ) (r : Round A) → sweep free goes n r .next ≤ max (r .next) (r .items .count)
+  pub sweep-next : (n : ℕ) (r : Round A) → sweep items goes n r .next ≤ max (r .next) (r .items .count)
   unfolding sweep
   sweep-next zero r = omega arith
   sweep-next (suc n) r =
-      let look-next : look free goes r .next ≤ max (r .next) (r .items .count) =
+      let look-next : look items goes r .next ≤ max (r .next) (r .items .count) =
       look-cases (λ t. t .next ≤ max (r .next) (r .items .count)) r (omega arith) (λ below passes. omega arith) (λ below. omega arith) in
-      omega (arith, sweep-next n (look free goes r), sweep-count 1 r)
+      omega (arith, sweep-next n (look items goes r), sweep-count 1 r)
 
   -- A sweep never adds to a sum of weights, and where an item that goes weighs nothing it takes nothing away.
   module _ (w : A → ℕ) (n : ℕ) (r : Round A) (sound : Sound (r .items)) where
-    pub sweep-never-adds : total free w (sweep free goes n r .items) ≤ total free w (r .items)
+    pub sweep-never-adds : total items w (sweep items goes n r .items) ≤ total items w (r .items)
     sweep-never-adds =
-        sweep-keeps (λ h. Sound h × (total free w h ≤ total free w (r .items)))
-        (λ h p below passes q. (removed-sound free h p (q .0), omega (arith, q .1, total-removed free w h p (q .0) below))) n r (sound, omega arith) .1
+        sweep-keeps (λ h. Sound h × (total items w h ≤ total items w (r .items)))
+        (λ h p below passes q. (removed-sound items h p (q .0), omega (arith, q .1, total-removed items w h p (q .0) below))) n r (sound, omega arith) .1
 
-    pub sweep-keeps-total : ((x : A) → goes x ≡ true → w x ≡ 0) → total free w (sweep free goes n r .items) ≡ total free w (r .items)
+    pub sweep-keeps-total : ((x : A) → goes x ≡ true → w x ≡ 0) → total items w (sweep items goes n r .items) ≡ total items w (r .items)
     sweep-keeps-total weightless =
-        sweep-keeps (λ h. Sound h × (total free w h ≡ total free w (r .items)))
-        (λ h p below passes q. (removed-sound free h p (q .0), omega (arith, q .1, total-removed free w h p (q .0) below, weightless _ passes)))
+        sweep-keeps (λ h. Sound h × (total items w h ≡ total items w (r .items)))
+        (λ h p below passes q. (removed-sound items h p (q .0), omega (arith, q .1, total-removed items w h p (q .0) below, weightless _ passes)))
         n r (sound, refl) .1
 
 -- A sweep by looks over lent words, in which a state lies (`view`): `all n` makes n looks, each of them `one`. Where no item is left a look changes

@@ -1,0 +1,7 @@
+pub mod Worked
+pub mod HeldLaws
+pub mod FindingLaws
+pub mod SearchLaws
+pub mod RoundLaws
+pub mod LayoutLaws
+pub mod ReadBack
