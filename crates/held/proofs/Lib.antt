@@ -3,5 +3,6 @@ pub mod HeldLaws
 pub mod FindingLaws
 pub mod SearchLaws
 pub mod RoundLaws
+pub mod SingleLaws
 pub mod LayoutLaws
 pub mod ReadBack
