@@ -4,5 +4,6 @@ pub mod RecordLaws
 pub mod ModelLaws
 pub mod KeptLaws
 pub mod LookupLaws
+pub mod PlaceOrderLaws
 pub mod Worked
 pub mod ReadBack

@@ -1,0 +1,237 @@
+-- Lookup by an index changes nothing: on a ledger in which lookup finds each debt, every operation gives the answer that it gives where debts are found in
+-- place order, and leaves the same debts, cursor and other words. Every operation leaves such a ledger.
+use Prim.Native.Nat.{ℕ, zero, suc, _<_}
+use mathlib.Core.Path.{_≡_, refl, ap}
+use mathlib.Core.Bool.{Bool, true, false}
+use native.Mathlib.Omega.{arith}
+use lib.Dec.{ltb}
+use borrow.Author.Tests.{eqb-true}
+use Rattle.arith.proofs.Cases.{by-test}
+use Rattle.units.specs.declared.Nanos.{Nanos}
+use Rattle.bucket.specs.declared.BucketConfig.{BucketConfig}
+use Rattle.rows.specs.declared.Place.{Place}
+use Rattle.rows.specs.declared.Place.the-variants.{At, Nowhere}
+use Rattle.rows.specs.Outcome.{Outcome, outcome}
+use Rattle.held.specs.Held as Held
+use Rattle.held.specs.Held.{removed}
+use Rattle.held.specs.Round as Round
+use Rattle.held.proofs.RoundLaws as RoundLaws
+use Rattle.held.proofs.SingleLaws as Singles
+use Rattle.held.proofs.SingleLaws.{ComesFrom, Lacks, single-stays, lacks-stays, removed-comes-from, stored-comes-from, sweep-comes-from}
+use Rattle.held.proofs.SingleLaws.{appended-single, single-position}
+use Rattle.ledger.specs.declared.Debt.{Debt}
+use Rattle.ledger.specs.declared.Choice.{Choice}
+use Rattle.ledger.specs.declared.Choice.the-variants.{Settled, Soonest}
+use Rattle.ledger.specs.declared.Recorded.{Recorded}
+use Rattle.ledger.specs.declared.Recorded.the-variants.{Done, NoRoom}
+use Rattle.ledger.specs.Model.{Ledger, Sound, Complete, debtItems, capOf, debtAt, settledBy, hasSettled, cursorOf, withDebts, withCursor, withDebt, owes}
+use Rattle.ledger.specs.Model.{placeOf, removeAt, append, owedAt, owedBy, takenAt, taken, roundOf, withRound, look, sweep, sooner, scanFrom, scan}
+use Rattle.ledger.specs.Model.{dropChosen, makeRoom, joined, later, recordedAt, recorded, credit, paidAt, paidDown}
+use Rattle.ledger.proofs.StepLaws.{removal-sound, removal-complete, removal-leaves-room, change-sound, change-complete, append-sound, append-complete}
+use Rattle.ledger.proofs.StepLaws.{nowhere-owes-none, found-owes, taken-cases, paid-cases, sweep-sound, sweep-complete}
+use Rattle.ledger.proofs.RecordLaws.{chosen, scan-chooses-held, Recording, merged, joins, replaces, refused, record-cases}
+
+-- The same ledger, with its debts found in the order of their places; and what an operation gave, with that ledger.
+abbrev pub inPlaceOrder : Ledger → Ledger
+inPlaceOrder l = withDebts l (Held.inPlaceOrder (l .debts))
+
+abbrev pub leftInPlaceOrder : {A : Type 0} → Outcome A Ledger → Outcome A Ledger
+leftInPlaceOrder o = outcome (o .answer) (inPlaceOrder (o .after))
+
+-- No two debts have one hash.
+abbrev pub hashOf : Debt → ℕ
+hashOf d = d .hash
+
+abbrev pub Single : Ledger → Type 0
+Single l = Singles.Single debtItems hashOf (l .debts)
+
+-- Lookup finds each debt: it misses none, and no two have one hash.
+pub record FindsEach (l : Ledger) : Type 0 where
+  pub sound : Sound l
+  pub complete : Complete l
+  pub single : Single l
+
+-- The steps that look up nothing do the same on any ledger.
+module _ (l : Ledger) where
+  pub removal-in-place-order : (p : ℕ) → removeAt (inPlaceOrder l) p ≡ inPlaceOrder (removeAt l p)
+  unfolding removeAt removed
+  removal-in-place-order p = refl
+
+  pub append-in-place-order : (d : Debt) → append (inPlaceOrder l) d ≡ inPlaceOrder (append l d)
+  unfolding append
+  append-in-place-order d = refl
+
+  pub look-in-place-order : (at : Nanos) → look at (inPlaceOrder l) ≡ inPlaceOrder (look at l)
+  unfolding look Round.sweep
+  look-in-place-order at = ap (withRound l) (RoundLaws.sweep-in-place-order debtItems (settledBy at) 1 (roundOf l))
+
+  pub sweep-in-place-order : (at : Nanos) (n : ℕ) → sweep at n (inPlaceOrder l) ≡ inPlaceOrder (sweep at n l)
+  unfolding sweep
+  sweep-in-place-order at n = ap (withRound l) (RoundLaws.sweep-in-place-order debtItems (settledBy at) n (roundOf l))
+
+-- So do the looks at a full ledger, and making room.
+scanFrom-in-place-order : (at : Nanos) (left : ℕ) (l : Ledger) (best : ℕ) → scanFrom at left (inPlaceOrder l) best ≡ leftInPlaceOrder (scanFrom at left l best)
+unfolding scanFrom
+scanFrom-in-place-order at zero l best = refl
+scanFrom-in-place-order at (suc left) l best =
+    by-test (hasSettled at l (cursorOf l))
+    (λ settled. rw (settled, scanFrom))
+    (λ unsettled. rw (unsettled, scanFrom) (scanFrom-in-place-order at left (withCursor l _) (sooner l best (cursorOf l))))
+
+pub scan-in-place-order : (at : Nanos) (l : Ledger) → scan at (inPlaceOrder l) ≡ leftInPlaceOrder (scan at l)
+unfolding scan
+scan-in-place-order at l = scanFrom-in-place-order at _ l (cursorOf l)
+
+drop-in-place-order : (at : Nanos) (forget : Bool) (l : Ledger) (choice : Choice)
+    → dropChosen at forget (inPlaceOrder l) choice ≡ leftInPlaceOrder (dropChosen at forget l choice)
+unfolding dropChosen
+drop-in-place-order at forget l (Settled p) = ap (outcome Done) (removal-in-place-order l p)
+drop-in-place-order at true l (Soonest p) = ap (outcome Done) (removal-in-place-order l p)
+drop-in-place-order at false l (Soonest p) = refl
+
+pub make-room-in-place-order : (at : Nanos) (forget : Bool) (l : Ledger) → makeRoom at forget (inPlaceOrder l) ≡ leftInPlaceOrder (makeRoom at forget l)
+unfolding makeRoom
+make-room-in-place-order at forget l = rw (scan-in-place-order at l) (drop-in-place-order at forget (scan at l .after) (scan at l .answer))
+
+-- Recording does the same once the place of the hash is known.
+joined-in-place-order : (d : Debt) (l : Ledger) (r : Recorded) → joined d (inPlaceOrder l) r ≡ leftInPlaceOrder (joined d l r)
+joined-in-place-order d l Done = ap (outcome Done) (append-in-place-order l d)
+joined-in-place-order d l (NoRoom wait) = refl
+
+recordedAt-in-place-order : (l : Ledger) (d : Debt) (at : Nanos) (forget : Bool) (place : Place)
+    → recordedAt (inPlaceOrder l) d at forget place ≡ leftInPlaceOrder (recordedAt l d at forget place)
+unfolding recordedAt
+recordedAt-in-place-order l d at forget (At p) = refl
+recordedAt-in-place-order l d at forget Nowhere =
+    by-test (ltb (l .debts .count) (capOf l))
+    (λ free. rw (free, recordedAt) (joined-in-place-order d l Done))
+    (λ full.
+    rw (full, recordedAt, make-room-in-place-order at forget l) (joined-in-place-order d (makeRoom at forget l .after) (makeRoom at forget l .answer)))
+
+-- Lookup, and what begins with a lookup, on a ledger in which it finds each debt.
+module _ (l : Ledger) (each : FindsEach l) where
+  pub place-in-place-order : (h : ℕ) → placeOf (inPlaceOrder l) h ≡ placeOf l h
+  unfolding placeOf
+  place-in-place-order h =
+      single-position debtItems hashOf (l .debts) (each .complete) (each .single) h h (owes h) (λ d passes. eqb-true _ _ passes) (λ d passes. eqb-true _ _ passes)
+
+  pub owed-in-place-order : (h : ℕ) → owedBy (inPlaceOrder l) h ≡ owedBy l h
+  unfolding owedBy
+  owed-in-place-order h = rw (place-in-place-order h) (go (placeOf l h))
+    where
+      go : (place : Place) → owedAt (inPlaceOrder l) place ≡ owedAt l place
+      go (At p) = refl
+      go Nowhere = refl
+
+  pub taken-in-place-order : (h : ℕ) → taken (inPlaceOrder l) h ≡ leftInPlaceOrder (taken l h)
+  unfolding taken
+  taken-in-place-order h = rw (place-in-place-order h) (go (placeOf l h))
+    where
+      go : (place : Place) → takenAt (inPlaceOrder l) place ≡ leftInPlaceOrder (takenAt l place)
+      go (At p) = ap (outcome _) (removal-in-place-order l p)
+      go Nowhere = refl
+
+  pub paid-in-place-order : (h cost : ℕ) (c : BucketConfig) → paidDown (inPlaceOrder l) h cost c ≡ leftInPlaceOrder (paidDown l h cost c)
+  unfolding paidDown
+  paid-in-place-order h cost c = rw (place-in-place-order h) (go (placeOf l h))
+    where
+      go : (place : Place) → paidAt (inPlaceOrder l) (credit c cost) place ≡ leftInPlaceOrder (paidAt l (credit c cost) place)
+      go (At p) = refl
+      go Nowhere = refl
+
+  pub recorded-in-place-order : (d : Debt) (at : Nanos) (forget : Bool) → recorded (inPlaceOrder l) d at forget ≡ leftInPlaceOrder (recorded l d at forget)
+  unfolding recorded
+  recorded-in-place-order d at forget = rw (place-in-place-order (d .hash)) (recordedAt-in-place-order l d at forget (placeOf l (d .hash)))
+
+-- What a removal makes of the hashes, on any sound ledger.
+removal-comes-from : (l : Ledger) (p : ℕ) → Sound l → ComesFrom debtItems hashOf (l .debts) (removeAt l p .debts)
+unfolding removeAt
+removal-comes-from l p sound = removed-comes-from debtItems hashOf (l .debts) p sound
+
+-- Every operation leaves a ledger in which lookup finds each debt; a debt is appended only where none has its hash.
+module _ (l : Ledger) (each : FindsEach l) where
+  pub removal-finds-each : (p : ℕ) → p < l .debts .count → FindsEach (removeAt l p)
+  removal-finds-each p below = record {
+    sound = removal-sound l p (each .sound);
+    complete = removal-complete l p (each .sound) (each .complete) below;
+    single = single-stays debtItems hashOf (removal-comes-from l p (each .sound)) (each .single);
+  }
+
+  pub change-finds-each : (p : ℕ) (d : Debt) → p < l .debts .count → d .hash ≡ debtAt l p .hash → FindsEach (withDebt l p d)
+  change-finds-each p d below same = record {
+    sound = change-sound l p d (each .sound);
+    complete = change-complete l p d (each .sound) (each .complete) below same;
+    single = single-stays debtItems hashOf (stored-comes-from debtItems hashOf (l .debts) p d (omega (arith, each .sound .count-fits)) same) (each .single);
+  }
+
+  pub append-finds-each : (d : Debt) → l .debts .count < capOf l → Lacks debtItems hashOf (d .hash) (l .debts) → FindsEach (append l d)
+  unfolding append
+  append-finds-each d room lacks = record {
+    sound = append-sound l d room;
+    complete = append-complete l d (each .complete) room;
+    single = appended-single debtItems hashOf (l .debts) d room lacks (each .single);
+  }
+
+  pub sweep-finds-each : (at : Nanos) (n : ℕ) → FindsEach (sweep at n l)
+  unfolding sweep
+  sweep-finds-each at n = record {
+    sound = sweep-sound at n l (each .sound);
+    complete = sweep-complete at n l (each .sound) (each .complete);
+    single = single-stays debtItems hashOf (sweep-comes-from debtItems hashOf (settledBy at) n (roundOf l) (each .sound)) (each .single);
+  }
+
+  pub look-finds-each : (at : Nanos) → FindsEach (look at l)
+  unfolding look sweep Round.sweep
+  look-finds-each at = sweep-finds-each at 1
+
+  pub taken-finds-each : (h : ℕ) → FindsEach (taken l h .after)
+  taken-finds-each h = taken-cases l h (λ o. FindsEach (o .after)) (λ p e. removal-finds-each p (found-owes l h p e .below)) (λ e. each)
+
+  pub paid-finds-each : (h cost : ℕ) (c : BucketConfig) → FindsEach (paidDown l h cost c .after)
+  paid-finds-each h cost c =
+      paid-cases l h cost c (λ o. FindsEach (o .after)) (λ p e. change-finds-each p _ (found-owes l h p e .below) refl) (λ e. each)
+
+-- The looks at a full ledger move only the cursor, and making room removes at most the debt that they chose.
+moved-finds-each : (l : Ledger) (c : ℕ) → FindsEach l → FindsEach (withCursor l c)
+moved-finds-each l c each = record { sound = each .sound; complete = each .complete; single = each .single }
+
+scanFrom-finds-each : (at : Nanos) (left : ℕ) (l : Ledger) (best : ℕ) → FindsEach l → FindsEach (scanFrom at left l best .after)
+unfolding scanFrom
+scanFrom-finds-each at zero l best each = each
+scanFrom-finds-each at (suc left) l best each =
+    by-test (hasSettled at l (cursorOf l))
+    (λ settled. rw (settled, scanFrom) (moved-finds-each l _ each))
+    (λ unsettled. rw (unsettled, scanFrom) (scanFrom-finds-each at left (withCursor l _) _ (moved-finds-each l _ each)))
+
+pub scan-finds-each : (at : Nanos) (l : Ledger) → FindsEach l → FindsEach (scan at l .after)
+unfolding scan
+scan-finds-each at l each = scanFrom-finds-each at _ l (cursorOf l) each
+
+drop-finds-each : (at : Nanos) (forget : Bool) (l : Ledger) (choice : Choice) → chosen choice < l .debts .count → FindsEach l
+    → FindsEach (dropChosen at forget l choice .after)
+unfolding dropChosen
+drop-finds-each at forget l (Settled p) below each = removal-finds-each l each p below
+drop-finds-each at true l (Soonest p) below each = removal-finds-each l each p below
+drop-finds-each at false l (Soonest p) below each = each
+
+pub make-room-finds-each : (at : Nanos) (forget : Bool) (l : Ledger) → 0 < l .debts .count → FindsEach l → FindsEach (makeRoom at forget l .after)
+unfolding makeRoom
+make-room-finds-each at forget l some each =
+    drop-finds-each at forget (scan at l .after) (scan at l .answer) (scan-chooses-held at l some) (scan-finds-each at l each)
+
+-- A debt that is recorded merges, or joins where none has its hash.
+pub recorded-finds-each : (l : Ledger) → FindsEach l → (d : Debt) (at : Nanos) (forget : Bool) → FindsEach (recorded l d at forget .after)
+recorded-finds-each l each d at forget = go (record-cases l d at forget (each .sound))
+  where
+    lacks : placeOf l (d .hash) ≡ Nowhere → Lacks debtItems hashOf (d .hash) (l .debts)
+    lacks new = nowhere-owes-none l (each .complete) (d .hash) new
+
+    go : {o : Outcome Recorded Ledger} → Recording l d at forget o → FindsEach (o .after)
+    go (merged p e) = change-finds-each l each p (later (debtAt l p) (d .settles)) (found-owes l (d .hash) p e .below) refl
+    go (joins new free) = append-finds-each l each d free (lacks new)
+    go (replaces p c new below settled) =
+        let moved = moved-finds-each l c each in
+        append-finds-each (removeAt (withCursor l c) p) (removal-finds-each (withCursor l c) moved p below) d
+        (removal-leaves-room (withCursor l c) p (each .sound .count-fits) below)
+        (lacks-stays debtItems hashOf (removal-comes-from (withCursor l c) p (each .sound)) (d .hash) (lacks new))
+    go (refused p c full below never unsettled) = moved-finds-each l c each
