@@ -1,0 +1,160 @@
+-- Lookup by an index changes nothing: on a shard in which lookup finds each slot and each debt, every step gives what it gives where slots and debts are found
+-- in place order. Every step leaves such a shard.
+use Prim.Native.Nat.{ℕ, _<_}
+use mathlib.Core.Path.{_≡_, refl, ap}
+use native.Mathlib.Omega.{arith}
+use Rattle.units.specs.declared.Nanos.{Nanos}
+use Rattle.units.specs.declared.Millis.{Millis}
+use Rattle.bucket.specs.declared.BucketConfig.{BucketConfig}
+use Rattle.rows.specs.declared.Place.the-variants.{Nowhere}
+use Rattle.rows.specs.Outcome.{Outcome, outcome}
+use Rattle.held.specs.Held as Held
+use Rattle.held.specs.Held.{removed}
+use Rattle.held.specs.Round as Round
+use Rattle.held.proofs.RoundLaws.{sweep-in-place-order}
+use Rattle.held.proofs.SingleLaws as Singles
+use Rattle.held.proofs.SingleLaws.{ComesFrom, Lacks, single-stays, removed-comes-from, stored-comes-from, sweep-comes-from, appended-single, single-position}
+use Rattle.slot.specs.declared.Slot.{Slot}
+use Rattle.slot.specs.Slot.{isKey}
+use Rattle.slot.proofs.SlotLaws.{is-key-iff}
+use Rattle.ledger.specs.Model as Ledger
+use Rattle.ledger.proofs.PlaceOrderLaws as LedgerOrder
+use Rattle.shard_map.specs.Model.{Shard, Sound, Complete, slotItems, capOf, slotAt, withSlot, withHand, withLedger, placeOf, removeAt, insert}
+use Rattle.shard_map.specs.Model.{reclaimable, roundOf, withRound, idleLook, sweepIdle}
+use Rattle.shard_map.proofs.StepLaws.{nowhere-holds-none, slots-sound, removal-sound, removal-complete, insert-sound, insert-complete, change-sound}
+use Rattle.shard_map.proofs.StepLaws.{change-complete, ledger-sound, ledger-complete, sweep-idle-sound, sweep-idle-complete}
+
+-- The same shard, with its slots and its debts found in the order of their places; and what an operation gave, with that shard.
+abbrev pub inPlaceOrder : Shard → Shard
+inPlaceOrder s = record { slots = Held.inPlaceOrder (s .slots); hand = s .hand; sweep = s .sweep; ledger = LedgerOrder.inPlaceOrder (s .ledger) }
+
+abbrev pub leftInPlaceOrder : {A : Type 0} → Outcome A Shard → Outcome A Shard
+leftInPlaceOrder o = outcome (o .answer) (inPlaceOrder (o .after))
+
+-- What a slot is known by: its hash and its key. No two slots have both in common, and no two debts their hash.
+abbrev pub identityOf : Slot → ℕ × ℕ
+identityOf slot = (slot .hash, slot .key)
+
+pub record Single (s : Shard) : Type 0 where
+  pub slots : Singles.Single slotItems identityOf (s .slots)
+  pub ledger : LedgerOrder.Single (s .ledger)
+
+-- Lookup finds each slot and each debt: it misses none, and no two are alike.
+pub record FindsEach (s : Shard) : Type 0 where
+  pub sound : Sound s
+  pub complete : Complete s
+  pub single : Single s
+
+pub ledger-found : {s : Shard} → FindsEach s → LedgerOrder.FindsEach (s .ledger)
+ledger-found each = record { sound = each .sound .ledger; complete = each .complete .ledger; single = each .single .ledger }
+
+-- The slots of a shard come from those of another.
+abbrev pub SlotsFrom : Shard → Shard → Type 0
+SlotsFrom s t = ComesFrom slotItems identityOf (s .slots) (t .slots)
+
+-- The steps that look up nothing do the same on any shard.
+module _ (s : Shard) where
+  pub removal-in-place-order : (p : ℕ) → removeAt (inPlaceOrder s) p ≡ inPlaceOrder (removeAt s p)
+  unfolding removeAt removed
+  removal-in-place-order p = refl
+
+  pub insert-in-place-order : (slot : Slot) → insert (inPlaceOrder s) slot ≡ inPlaceOrder (insert s slot)
+  unfolding insert
+  insert-in-place-order slot = refl
+
+  pub change-in-place-order : (p : ℕ) (slot : Slot) → withSlot (inPlaceOrder s) p slot ≡ inPlaceOrder (withSlot s p slot)
+  change-in-place-order p slot = refl
+
+  pub hand-in-place-order : (hand : ℕ) → withHand (inPlaceOrder s) hand ≡ inPlaceOrder (withHand s hand)
+  hand-in-place-order hand = refl
+
+  pub ledger-in-place-order : (l : Ledger.Ledger) → withLedger (inPlaceOrder s) (LedgerOrder.inPlaceOrder l) ≡ inPlaceOrder (withLedger s l)
+  ledger-in-place-order l = refl
+
+  module _ (c : BucketConfig) (at : Nanos) (limit : Millis) where
+    pub idle-look-in-place-order : idleLook c at limit (inPlaceOrder s) ≡ inPlaceOrder (idleLook c at limit s)
+    unfolding idleLook Round.sweep
+    idle-look-in-place-order = ap (withRound (inPlaceOrder s)) (sweep-in-place-order slotItems (reclaimable c at limit) 1 (roundOf s))
+
+    pub sweep-idle-in-place-order : (n : ℕ) → sweepIdle c at limit n (inPlaceOrder s) ≡ inPlaceOrder (sweepIdle c at limit n s)
+    unfolding sweepIdle
+    sweep-idle-in-place-order n = ap (withRound (inPlaceOrder s)) (sweep-in-place-order slotItems (reclaimable c at limit) n (roundOf s))
+
+-- Lookup does, where it finds each slot.
+pub place-in-place-order : (s : Shard) → FindsEach s → (h k : ℕ) → placeOf (inPlaceOrder s) h k ≡ placeOf s h k
+unfolding placeOf
+place-in-place-order s each h k =
+    single-position slotItems identityOf (s .slots) (each .complete .slots) (each .single .slots) h (h, k) (isKey h k)
+    (λ slot passes. is-key-iff h k slot .0 passes .0)
+    (λ slot passes. let own = is-key-iff h k slot .0 passes in rw (own .0, own .1))
+
+-- Where it finds none, no slot has the hash and the key.
+pub nowhere-lacks : (s : Shard) → Complete s → (h k : ℕ) → placeOf s h k ≡ Nowhere → Lacks slotItems identityOf (h, k) (s .slots)
+nowhere-lacks s complete h k new i below own = nowhere-holds-none s complete h k new i below (ap (λ x. x .0) own) (ap (λ x. x .1) own)
+
+-- The slots that a removal, a changed slot of the same key and an idle sweep leave come from those before.
+module _ (s : Shard) (sound : Sound s) where
+  pub removal-slots-from : (p : ℕ) → SlotsFrom s (removeAt s p)
+  unfolding removeAt
+  removal-slots-from p = removed-comes-from slotItems identityOf (s .slots) p (slots-sound s sound)
+
+  pub change-slots-from : (p : ℕ) (slot : Slot) → p < s .slots .count → slot .hash ≡ slotAt s p .hash → slot .key ≡ slotAt s p .key → SlotsFrom s (withSlot s p slot)
+  change-slots-from p slot below hash key = stored-comes-from slotItems identityOf (s .slots) p slot (omega (arith, sound .count-fits)) (rw (hash, key))
+
+  pub sweep-idle-slots-from : (c : BucketConfig) (at : Nanos) (limit : Millis) (n : ℕ) → SlotsFrom s (sweepIdle c at limit n s)
+  unfolding sweepIdle
+  sweep-idle-slots-from c at limit n = sweep-comes-from slotItems identityOf (reclaimable c at limit) n (roundOf s) (slots-sound s sound)
+
+-- Every step leaves a shard in which lookup finds each slot and each debt; a slot is appended only where none has its hash and its key.
+module _ (s : Shard) (each : FindsEach s) where
+  pub removal-finds-each : (p : ℕ) → p < s .slots .count → FindsEach (removeAt s p)
+  unfolding removeAt
+  removal-finds-each p below = record {
+    sound = removal-sound s p (each .sound);
+    complete = removal-complete s p (each .sound) (each .complete) below;
+    single = record { slots = single-stays slotItems identityOf (removal-slots-from s (each .sound) p) (each .single .slots); ledger = each .single .ledger };
+  }
+
+  pub insert-finds-each : (slot : Slot) → s .slots .count < capOf s → Lacks slotItems identityOf (identityOf slot) (s .slots) → FindsEach (insert s slot)
+  unfolding insert
+  insert-finds-each slot room lacks = record {
+    sound = insert-sound s slot (each .sound) room;
+    complete = insert-complete s slot (each .complete) room;
+    single = record { slots = appended-single slotItems identityOf (s .slots) slot room lacks (each .single .slots); ledger = each .single .ledger };
+  }
+
+  pub change-finds-each : (p : ℕ) (slot : Slot) → p < s .slots .count → slot .hash ≡ slotAt s p .hash → slot .key ≡ slotAt s p .key → FindsEach (withSlot s p slot)
+  change-finds-each p slot below hash key = record {
+    sound = change-sound s p slot (each .sound);
+    complete = change-complete s p slot (each .sound) (each .complete) below hash;
+    single = record {
+      slots = single-stays slotItems identityOf (change-slots-from s (each .sound) p slot below hash key) (each .single .slots);
+      ledger = each .single .ledger;
+    };
+  }
+
+  pub ledger-finds-each : (l : Ledger.Ledger) → LedgerOrder.FindsEach l → FindsEach (withLedger s l)
+  ledger-finds-each l debts = record {
+    sound = ledger-sound s l (each .sound) (debts .sound);
+    complete = ledger-complete s l (each .complete) (debts .complete);
+    single = record { slots = each .single .slots; ledger = debts .single };
+  }
+
+  pub hand-finds-each : (hand : ℕ) → FindsEach (withHand s hand)
+  hand-finds-each hand = record {
+    sound = record { room = each .sound .room; count-fits = each .sound .count-fits; ledger = each .sound .ledger };
+    complete = record { slots = each .complete .slots; ledger = each .complete .ledger };
+    single = record { slots = each .single .slots; ledger = each .single .ledger };
+  }
+
+  pub sweep-idle-finds-each : (c : BucketConfig) (at : Nanos) (limit : Millis) (n : ℕ) → FindsEach (sweepIdle c at limit n s)
+  unfolding sweepIdle
+  sweep-idle-finds-each c at limit n = record {
+    sound = sweep-idle-sound c at limit n s (each .sound);
+    complete = sweep-idle-complete c at limit n s (each .sound) (each .complete);
+    single = record { slots = single-stays slotItems identityOf (sweep-idle-slots-from s (each .sound) c at limit n) (each .single .slots); ledger = each .single .ledger };
+  }
+
+  pub idle-look-finds-each : (c : BucketConfig) (at : Nanos) (limit : Millis) → FindsEach (idleLook c at limit s)
+  unfolding idleLook sweepIdle Round.sweep
+  idle-look-finds-each c at limit = sweep-idle-finds-each c at limit 1
