@@ -1,4 +1,5 @@
 pub mod WalkLaws
 pub mod ModelLaws
 pub mod KeptLaws
+pub mod PlaceOrderLaws
 pub mod Worked
