@@ -3,3 +3,4 @@ pub mod ShardLaws
 pub mod OwnBucketLaws
 pub mod ModelLaws
 pub mod DueLaws
+pub mod PlaceOrderLaws

@@ -80,7 +80,7 @@ module _ (p : Policy) (at : Nanos) (s : Shard) (u : Sound s) where
   swept-idle-sound limit = swept-idle-keeps Sound (sound-by-sweeps p at) u limit
 
   -- What the sweeps keep holds after both.
-  swept-keeps : (Q : Shard → Type 0) → KeptBySweeps p at Q → Q s → Q (swept p at s)
+  pub swept-keeps : (Q : Shard → Type 0) → KeptBySweeps p at Q → Q s → Q (swept p at s)
   swept-keeps Q k q =
       let limit : OptionMillis = idleLimitIn p in
       k .ledger (sweptIdle p at s limit) (swept-idle-sound limit) (swept-idle-keeps Q k q limit)
