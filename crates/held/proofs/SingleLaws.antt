@@ -98,6 +98,10 @@ module _ {A I : Type 0} (items : Items A) (identity : A → I) where
       (λ h p below passes q. (removed-sound items h p (q .0), comes-from-trans (q .1) (removed-comes-from h p (q .0))))
       n r (sound, comes-from-refl (r .items)) .1
 
+  -- No item is held: no two have one identity.
+  pub none-is-single : (h : Held A) → h .count ≡ 0 → Single items identity h
+  none-is-single h none i j belowI belowJ same = omega arith
+
   -- An item comes whose identity no item has.
   pub appended-single : (h : Held A) (x : A) → h .count < length (h .places) → Lacks items identity (identity x) h → Single items identity h
       → Single items identity (appended items h x)

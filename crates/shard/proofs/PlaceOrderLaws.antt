@@ -1,6 +1,6 @@
 -- Lookup by an index changes nothing: on a shard in which lookup finds each slot and each debt, a request, a refund, a removal and the two reads give the
 -- answers that they give where slots and debts are found in place order, and leave the same slots, debts, hand, sweep and cursor. Each leaves such a shard.
--- Laws above cite the last two names.
+-- Laws above cite `every-operation-same` and open none of the operations.
 use Prim.Native.Nat.{ℕ}
 use mathlib.Core.Path.{_≡_, refl, ap, _∙_}
 use mathlib.Core.Bool.{Bool, false, cond}
@@ -34,10 +34,10 @@ use Rattle.evict.specs.Evict.{evicted}
 use Rattle.evict.proofs.PlaceOrderLaws.{evict-in-place-order, evict-slots-from, evict-finds-each}
 use Rattle.shard.specs.declared.Identity.{Identity}
 use Rattle.shard.specs.declared.Policy.{Policy}
-use Rattle.shard.specs.Model.{withExisting, idleLimitIn, sweptIdle, swept, makeRoom, joined, putBack, admitted, admit, askedFrom, withOrInsert}
+use Rattle.shard.specs.Model.{withExisting, idleLimitIn, sweptIdle, swept, makeRoom, putBack, admitted, admit, askedFrom, withOrInsert}
 use Rattle.shard.specs.Model.{viewedFrom, viewed, holds, hasDebt, refundedFrom, refunded, removedFrom, removed}
 use Rattle.shard.proofs.RoomLaws.{sweptLedger, KeptBySweeps, swept-keeps, room-keeps, room-made-leaves-room}
-use Rattle.shard.proofs.ShardLaws.{debtTaken, roomFor, debt-taken-sound, Asking, slot-asked, key-joins, no-space, ask-cases}
+use Rattle.shard.proofs.ShardLaws.{debtTaken, roomFor, Asking, slot-asked, key-joins, no-space, ask-cases}
 use Rattle.shard.proofs.ShardLaws.{Refunding, slot-refunded, debt-paid, refund-cases, Removing, slot-removed, no-slot, remove-cases}
 
 -- The sweeps look up nothing, on any shard. Lookup finds each slot and each debt after them, and their slots come from those before.

@@ -9,11 +9,12 @@ use Rattle.bucket.specs.declared.BucketConfig.{BucketConfig}
 use Rattle.rows.specs.declared.Place.the-variants.{Nowhere}
 use Rattle.rows.specs.Outcome.{Outcome, outcome}
 use Rattle.held.specs.Held as Held
-use Rattle.held.specs.Held.{removed}
+use Rattle.held.specs.Held.{removed, in-order-is-complete}
 use Rattle.held.specs.Round as Round
 use Rattle.held.proofs.RoundLaws.{sweep-in-place-order}
 use Rattle.held.proofs.SingleLaws as Singles
-use Rattle.held.proofs.SingleLaws.{ComesFrom, Lacks, single-stays, removed-comes-from, stored-comes-from, sweep-comes-from, appended-single, single-position}
+use Rattle.held.proofs.SingleLaws.{ComesFrom, Lacks, single-stays, removed-comes-from, stored-comes-from, sweep-comes-from, none-is-single}
+use Rattle.held.proofs.SingleLaws.{appended-single, single-position}
 use Rattle.slot.specs.declared.Slot.{Slot}
 use Rattle.slot.specs.Slot.{isKey}
 use Rattle.slot.proofs.SlotLaws.{is-key-iff}
@@ -47,6 +48,27 @@ pub record FindsEach (s : Shard) : Type 0 where
 
 pub ledger-found : {s : Shard} → FindsEach s → LedgerOrder.FindsEach (s .ledger)
 ledger-found each = record { sound = each .sound .ledger; complete = each .complete .ledger; single = each .single .ledger }
+
+-- So it does in a fresh shard, which holds nothing; and in the same shard in place order.
+pub empty-finds-each : (s : Shard) → Sound s → Complete s → s .slots .count ≡ 0 → s .ledger .debts .count ≡ 0 → FindsEach s
+empty-finds-each s sound complete no-slot no-debt = record {
+  sound = sound;
+  complete = complete;
+  single = record {
+    slots = none-is-single slotItems identityOf (s .slots) no-slot;
+    ledger = none-is-single Ledger.debtItems LedgerOrder.hashOf (s .ledger .debts) no-debt;
+  };
+}
+
+pub in-place-order-finds-each : (s : Shard) → FindsEach s → FindsEach (inPlaceOrder s)
+in-place-order-finds-each s each = record {
+  sound = record { room = each .sound .room; count-fits = each .sound .count-fits; ledger = inPlaceOrder-sound };
+  complete = record { slots = in-order-is-complete refl; ledger = in-order-is-complete refl };
+  single = record { slots = each .single .slots; ledger = each .single .ledger };
+}
+  where
+    inPlaceOrder-sound : Ledger.Sound (LedgerOrder.inPlaceOrder (s .ledger))
+    inPlaceOrder-sound = record { room = each .sound .ledger .room; count-fits = each .sound .ledger .count-fits }
 
 -- The slots of a shard come from those of another.
 abbrev pub SlotsFrom : Shard → Shard → Type 0
