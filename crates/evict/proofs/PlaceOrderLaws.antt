@@ -14,7 +14,9 @@ use Rattle.ledger.specs.Model as Ledger
 use Rattle.ledger.proofs.PlaceOrderLaws as LedgerOrder
 use Rattle.ledger.proofs.PlaceOrderLaws.{recorded-in-place-order, recorded-finds-each}
 use Rattle.shard_map.specs.Model.{Shard, Sound, slotItems, slotAt, withHand, withLedger, handOf}
-use Rattle.shard_map.proofs.PlaceOrderLaws.{inPlaceOrder, leftInPlaceOrder, identityOf, FindsEach, SlotsFrom, ledger-found, removal-in-place-order, removal-slots-from}
+use Rattle.shard_map.proofs.PlaceOrderLaws.{inPlaceOrder, leftInPlaceOrder, identityOf, FindsEach, found-is-sound, found-is-complete, SlotsFrom}
+use Rattle.shard_map.proofs.PlaceOrderLaws.{removal-in-place-order, removal-slots-from}
+use Rattle.shard_map.proofs.StepLaws.{slots-sound}
 use Rattle.evict.specs.declared.Walk.{Walk}
 use Rattle.evict.specs.declared.Victim.{Victim}
 use Rattle.evict.specs.declared.Victim.the-variants.{Free, Owing}
@@ -77,7 +79,7 @@ module _ (c : BucketConfig) (at : Nanos) (forget : Bool) where
   evict-in-place-order s each =
       let w : Walked = walked c at s in
       rw (walk-in-place-order c at s)
-      (victim-in-place-order (w .after) (rw (walk-ledger c at s) (ledger-found each)) (w .walk .least) (victimOf (w .ended) (w .walk) (handOf s)))
+      (victim-in-place-order (w .after) (rw (walk-ledger c at s) (each .ledger)) (w .walk .least) (victimOf (w .ended) (w .walk) (handOf s)))
 
   -- The slots that it leaves come from those before, and lookup finds each slot and each debt.
   pub evict-slots-from : (s : Shard) → Sound s → 0 < s .slots .count → SlotsFrom s (evicted c at forget s .after)
@@ -93,11 +95,13 @@ module _ (c : BucketConfig) (at : Nanos) (forget : Bool) where
       same-keys t v r = same-identities slotItems identityOf (t .slots) (v .slots) (r .count) (λ i below. remarked-slots t v r identityOf (λ slot mark. refl) i)
 
   pub evict-finds-each : (s : Shard) → FindsEach s → 0 < s .slots .count → FindsEach (evicted c at forget s .after)
-  evict-finds-each s each some = record {
-    sound = evict-sound c at forget s (each .sound) some;
-    complete = evict-complete c at forget s (each .sound) some (each .complete);
-    single = record {
-      slots = single-stays slotItems identityOf (evict-slots-from s (each .sound) some) (each .single .slots);
-      ledger = evict-keeps-ledger c at forget s (each .sound) some LedgerOrder.FindsEach (λ l d v debts. recorded-finds-each l debts d at forget) (ledger-found each) .single;
-    };
-  }
+  evict-finds-each s each some =
+      let u : Sound s = found-is-sound each in
+      record {
+        slots = record {
+          sound = slots-sound (evicted c at forget s .after) (evict-sound c at forget s u some);
+          complete = evict-complete c at forget s u some (found-is-complete each) .slots;
+          single = single-stays slotItems identityOf (evict-slots-from s u some) (each .slots .single);
+        };
+        ledger = evict-keeps-ledger c at forget s u some LedgerOrder.FindsEach (λ l d v debts. recorded-finds-each l debts d at forget) (each .ledger);
+      }

@@ -8,10 +8,11 @@ use lib.Dec.{eqb}
 use lib.ListN.{length}
 use borrow.Author.Tests.{eq-eqb, ne-eqb}
 use Rattle.arith.proofs.Cases.{by-eq}
-use Rattle.held.specs.Held.{Held, Sound, Items, itemAt, position, appended, removed, stored, inPlaceOrder, Complete}
+use Rattle.held.specs.Held.{Held, Sound, Items, itemAt, position, appended, removed, stored, inPlaceOrder, Complete, in-order-is-complete}
 use Rattle.held.specs.Round.{Round, sweep}
-use Rattle.held.proofs.HeldLaws.{item-stored, item-stored-other, item-appended, item-appended-other, item-moved, item-kept, removed-count, removed-sound}
-use Rattle.held.proofs.FindingLaws.{position-in-place-order}
+use Rattle.held.proofs.HeldLaws.{item-stored, item-stored-other, item-appended, item-appended-other, item-moved, item-kept, removed-count}
+use Rattle.held.proofs.HeldLaws.{stored-sound, appended-sound, removed-sound}
+use Rattle.held.proofs.FindingLaws.{position-in-place-order, stored-complete, appended-complete, removed-complete}
 use Rattle.held.proofs.RoundLaws.{sweep-keeps}
 
 -- `identity` says what an item is known by: no two items have it in common, and no item has one that is given.
@@ -98,10 +99,6 @@ module _ {A I : Type 0} (items : Items A) (identity : A → I) where
       (λ h p below passes q. (removed-sound items h p (q .0), comes-from-trans (q .1) (removed-comes-from h p (q .0))))
       n r (sound, comes-from-refl (r .items)) .1
 
-  -- No item is held: no two have one identity.
-  pub none-is-single : (h : Held A) → h .count ≡ 0 → Single items identity h
-  none-is-single h none i j belowI belowJ same = omega arith
-
   -- An item comes whose identity no item has.
   pub appended-single : (h : Held A) (x : A) → h .count < length (h .places) → Lacks items identity (identity x) h → Single items identity h
       → Single items identity (appended items h x)
@@ -124,10 +121,58 @@ module _ {A I : Type 0} (items : Items A) (identity : A → I) where
       new : (k : ℕ) → k ≡ h .count → identity (itemAt items (appended items h x) k) ≡ identity x
       new k last = rw last (ap identity (item-appended items h x room))
 
-  -- Complete items are found where they are found in place order, by a test that only items of one hash and of one identity pass.
-  pub single-position : (h : Held A) → Complete items h → Single items identity h → (hash : ℕ) (key : I) (test : A → Bool)
-      → ((x : A) → test x ≡ true → items .hash x ≡ hash) → ((x : A) → test x ≡ true → identity x ≡ key)
+-- Lookup finds each item: it misses none, and no two have one identity.
+pub record FindsEach {A I : Type 0} (items : Items A) (identity : A → I) (h : Held A) : Type 0 where
+  pub sound : Sound h
+  pub complete : Complete items h
+  pub single : Single items identity h
+
+-- So it does where no item is held, and where the same items are found in place order.
+module _ {A I : Type 0} (items : Items A) (identity : A → I) (h : Held A) where
+  pub none-finds-each : Sound h → Complete items h → h .count ≡ 0 → FindsEach items identity h
+  none-finds-each sound complete none = record { sound = sound; complete = complete; single = λ i j belowI belowJ same. omega arith }
+
+  pub in-place-order-finds-each : FindsEach items identity h → FindsEach items identity (inPlaceOrder h)
+  in-place-order-finds-each each = record {
+    sound = record { room = each .sound .room; count-fits = each .sound .count-fits };
+    complete = in-order-is-complete refl;
+    single = each .single;
+  }
+
+module _ {A I : Type 0} (items : Items A) (identity : A → I) (h : Held A) (each : FindsEach items identity h) where
+  -- Items are then found where they are found in place order, by a test that only items of one hash and of one identity pass.
+  pub found-in-place-order : (hash : ℕ) (key : I) (test : A → Bool) → ((x : A) → test x ≡ true → items .hash x ≡ hash) → ((x : A) → test x ≡ true → identity x ≡ key)
       → position items (inPlaceOrder h) hash test ≡ position items h hash test
-  single-position h complete single hash key test own known =
-      sym (position-in-place-order items h complete hash test own
-      (λ i j belowI belowJ passesI passesJ. single i j belowI belowJ (known _ passesI ∙ sym (known _ passesJ))))
+  found-in-place-order hash key test own known =
+      sym (position-in-place-order items h (each .complete) hash test own
+      (λ i j belowI belowJ passesI passesJ. each .single i j belowI belowJ (known _ passesI ∙ sym (known _ passesJ))))
+
+  -- Every step leaves such items; an item is appended only where none has its identity.
+  pub stored-finds-each : (p : ℕ) (x : A) → p < h .count → items .hash x ≡ items .hash (itemAt items h p) → identity x ≡ identity (itemAt items h p)
+      → FindsEach items identity (stored h p x)
+  stored-finds-each p x below hash same =
+      let inside : p < length (h .places) = omega (arith, each .sound .count-fits) in
+      record {
+        sound = stored-sound h p x (each .sound);
+        complete = stored-complete items h (each .complete) p x inside hash;
+        single = single-stays items identity (stored-comes-from items identity h p x inside same) (each .single);
+      }
+
+  pub appended-finds-each : (x : A) → h .count < length (h .places) → Lacks items identity (identity x) h → FindsEach items identity (appended items h x)
+  appended-finds-each x room lacks = record {
+    sound = appended-sound items h x room;
+    complete = appended-complete items h (each .complete) x room;
+    single = appended-single items identity h x room lacks (each .single);
+  }
+
+  pub removed-finds-each : (p : ℕ) → p < h .count → FindsEach items identity (removed items h p)
+  removed-finds-each p below = record {
+    sound = removed-sound items h p (each .sound);
+    complete = removed-complete items h (each .sound) (each .complete) p below;
+    single = single-stays items identity (removed-comes-from items identity h p (each .sound)) (each .single);
+  }
+
+pub sweep-finds-each : {A I : Type 0} (items : Items A) (identity : A → I) (goes : A → Bool) (n : ℕ) (r : Round A) → FindsEach items identity (r .items)
+    → FindsEach items identity (sweep items goes n r .items)
+sweep-finds-each items identity goes n r each =
+    sweep-keeps items goes (FindsEach items identity) (λ h p below passes found. removed-finds-each items identity h found p below) n r each

@@ -3,7 +3,6 @@
 use Prim.Native.Nat.{ℕ, zero, suc, _<_}
 use mathlib.Core.Path.{_≡_, refl, ap}
 use mathlib.Core.Bool.{Bool, true, false}
-use native.Mathlib.Omega.{arith}
 use lib.Dec.{ltb}
 use borrow.Author.Tests.{eqb-true}
 use Rattle.arith.proofs.Cases.{by-test}
@@ -17,18 +16,16 @@ use Rattle.held.specs.Held.{removed}
 use Rattle.held.specs.Round as Round
 use Rattle.held.proofs.RoundLaws as RoundLaws
 use Rattle.held.proofs.SingleLaws as Singles
-use Rattle.held.proofs.SingleLaws.{ComesFrom, Lacks, single-stays, lacks-stays, removed-comes-from, stored-comes-from, sweep-comes-from}
-use Rattle.held.proofs.SingleLaws.{appended-single, single-position}
+use Rattle.held.proofs.SingleLaws.{Lacks, lacks-stays, removed-comes-from, found-in-place-order, stored-finds-each, appended-finds-each, removed-finds-each}
 use Rattle.ledger.specs.declared.Debt.{Debt}
 use Rattle.ledger.specs.declared.Choice.{Choice}
 use Rattle.ledger.specs.declared.Choice.the-variants.{Settled, Soonest}
 use Rattle.ledger.specs.declared.Recorded.{Recorded}
 use Rattle.ledger.specs.declared.Recorded.the-variants.{Done, NoRoom}
-use Rattle.ledger.specs.Model.{Ledger, Sound, Complete, debtItems, capOf, debtAt, settledBy, hasSettled, cursorOf, withDebts, withCursor, withDebt, owes}
+use Rattle.ledger.specs.Model.{Ledger, Sound, debtItems, capOf, debtAt, settledBy, hasSettled, cursorOf, withDebts, withCursor, withDebt, owes}
 use Rattle.ledger.specs.Model.{placeOf, removeAt, append, owedAt, owedBy, takenAt, taken, roundOf, withRound, look, sweep, sooner, scanFrom, scan}
 use Rattle.ledger.specs.Model.{dropChosen, makeRoom, joined, later, recordedAt, recorded, credit, paidAt, paidDown}
-use Rattle.ledger.proofs.StepLaws.{removal-sound, removal-complete, removal-leaves-room, change-sound, change-complete, append-sound, append-complete}
-use Rattle.ledger.proofs.StepLaws.{nowhere-owes-none, found-owes, taken-cases, paid-cases, sweep-sound, sweep-complete}
+use Rattle.ledger.proofs.StepLaws.{removal-leaves-room, nowhere-owes-none, found-owes, taken-cases, paid-cases}
 use Rattle.ledger.proofs.RecordLaws.{chosen, scan-chooses-held, Recording, merged, joins, replaces, refused, record-cases}
 
 -- The same ledger, with its debts found in the order of their places; and what an operation gave, with that ledger.
@@ -38,18 +35,12 @@ inPlaceOrder l = withDebts l (Held.inPlaceOrder (l .debts))
 abbrev pub leftInPlaceOrder : {A : Type 0} → Outcome A Ledger → Outcome A Ledger
 leftInPlaceOrder o = outcome (o .answer) (inPlaceOrder (o .after))
 
--- No two debts have one hash.
+-- Lookup finds each debt: it misses none, and no two have one hash.
 abbrev pub hashOf : Debt → ℕ
 hashOf d = d .hash
 
-abbrev pub Single : Ledger → Type 0
-Single l = Singles.Single debtItems hashOf (l .debts)
-
--- Lookup finds each debt: it misses none, and no two have one hash.
-pub record FindsEach (l : Ledger) : Type 0 where
-  pub sound : Sound l
-  pub complete : Complete l
-  pub single : Single l
+abbrev pub FindsEach : Ledger → Type 0
+FindsEach l = Singles.FindsEach debtItems hashOf (l .debts)
 
 -- The steps that look up nothing do the same on any ledger.
 module _ (l : Ledger) where
@@ -113,7 +104,7 @@ module _ (l : Ledger) (each : FindsEach l) where
   pub place-in-place-order : (h : ℕ) → placeOf (inPlaceOrder l) h ≡ placeOf l h
   unfolding placeOf
   place-in-place-order h =
-      single-position debtItems hashOf (l .debts) (each .complete) (each .single) h h (owes h) (λ d passes. eqb-true _ _ passes) (λ d passes. eqb-true _ _ passes)
+      found-in-place-order debtItems hashOf (l .debts) each h h (owes h) (λ d passes. eqb-true _ _ passes) (λ d passes. eqb-true _ _ passes)
 
   pub owed-in-place-order : (h : ℕ) → owedBy (inPlaceOrder l) h ≡ owedBy l h
   unfolding owedBy
@@ -143,42 +134,22 @@ module _ (l : Ledger) (each : FindsEach l) where
   unfolding recorded
   recorded-in-place-order d at forget = rw (place-in-place-order (d .hash)) (recordedAt-in-place-order l d at forget (placeOf l (d .hash)))
 
--- What a removal makes of the hashes, on any sound ledger.
-removal-comes-from : (l : Ledger) (p : ℕ) → Sound l → ComesFrom debtItems hashOf (l .debts) (removeAt l p .debts)
-unfolding removeAt
-removal-comes-from l p sound = removed-comes-from debtItems hashOf (l .debts) p sound
-
 -- Every operation leaves a ledger in which lookup finds each debt; a debt is appended only where none has its hash.
 module _ (l : Ledger) (each : FindsEach l) where
   pub removal-finds-each : (p : ℕ) → p < l .debts .count → FindsEach (removeAt l p)
-  removal-finds-each p below = record {
-    sound = removal-sound l p (each .sound);
-    complete = removal-complete l p (each .sound) (each .complete) below;
-    single = single-stays debtItems hashOf (removal-comes-from l p (each .sound)) (each .single);
-  }
+  unfolding removeAt
+  removal-finds-each p below = removed-finds-each debtItems hashOf (l .debts) each p below
 
   pub change-finds-each : (p : ℕ) (d : Debt) → p < l .debts .count → d .hash ≡ debtAt l p .hash → FindsEach (withDebt l p d)
-  change-finds-each p d below same = record {
-    sound = change-sound l p d (each .sound);
-    complete = change-complete l p d (each .sound) (each .complete) below same;
-    single = single-stays debtItems hashOf (stored-comes-from debtItems hashOf (l .debts) p d (omega (arith, each .sound .count-fits)) same) (each .single);
-  }
+  change-finds-each p d below same = stored-finds-each debtItems hashOf (l .debts) each p d below same same
 
   pub append-finds-each : (d : Debt) → l .debts .count < capOf l → Lacks debtItems hashOf (d .hash) (l .debts) → FindsEach (append l d)
   unfolding append
-  append-finds-each d room lacks = record {
-    sound = append-sound l d room;
-    complete = append-complete l d (each .complete) room;
-    single = appended-single debtItems hashOf (l .debts) d room lacks (each .single);
-  }
+  append-finds-each d room lacks = appended-finds-each debtItems hashOf (l .debts) each d room lacks
 
   pub sweep-finds-each : (at : Nanos) (n : ℕ) → FindsEach (sweep at n l)
   unfolding sweep
-  sweep-finds-each at n = record {
-    sound = sweep-sound at n l (each .sound);
-    complete = sweep-complete at n l (each .sound) (each .complete);
-    single = single-stays debtItems hashOf (sweep-comes-from debtItems hashOf (settledBy at) n (roundOf l) (each .sound)) (each .single);
-  }
+  sweep-finds-each at n = Singles.sweep-finds-each debtItems hashOf (settledBy at) n (roundOf l) each
 
   pub look-finds-each : (at : Nanos) → FindsEach (look at l)
   unfolding look sweep Round.sweep
@@ -192,16 +163,13 @@ module _ (l : Ledger) (each : FindsEach l) where
       paid-cases l h cost c (λ o. FindsEach (o .after)) (λ p e. change-finds-each p _ (found-owes l h p e .below) refl) (λ e. each)
 
 -- The looks at a full ledger move only the cursor, and making room removes at most the debt that they chose.
-moved-finds-each : (l : Ledger) (c : ℕ) → FindsEach l → FindsEach (withCursor l c)
-moved-finds-each l c each = record { sound = each .sound; complete = each .complete; single = each .single }
-
 scanFrom-finds-each : (at : Nanos) (left : ℕ) (l : Ledger) (best : ℕ) → FindsEach l → FindsEach (scanFrom at left l best .after)
 unfolding scanFrom
 scanFrom-finds-each at zero l best each = each
 scanFrom-finds-each at (suc left) l best each =
     by-test (hasSettled at l (cursorOf l))
-    (λ settled. rw (settled, scanFrom) (moved-finds-each l _ each))
-    (λ unsettled. rw (unsettled, scanFrom) (scanFrom-finds-each at left (withCursor l _) _ (moved-finds-each l _ each)))
+    (λ settled. rw (settled, scanFrom) each)
+    (λ unsettled. rw (unsettled, scanFrom) (scanFrom-finds-each at left (withCursor l _) _ each))
 
 pub scan-finds-each : (at : Nanos) (l : Ledger) → FindsEach l → FindsEach (scan at l .after)
 unfolding scan
@@ -219,7 +187,11 @@ unfolding makeRoom
 make-room-finds-each at forget l some each =
     drop-finds-each at forget (scan at l .after) (scan at l .answer) (scan-chooses-held at l some) (scan-finds-each at l each)
 
--- A debt that is recorded merges, or joins where none has its hash.
+-- A debt that is recorded merges, or joins where none has its hash. A removal brings no hash in.
+removal-brings-none : (l : Ledger) (p : ℕ) → Sound l → (h : ℕ) → Lacks debtItems hashOf h (l .debts) → Lacks debtItems hashOf h (removeAt l p .debts)
+unfolding removeAt
+removal-brings-none l p sound h = lacks-stays debtItems hashOf (removed-comes-from debtItems hashOf (l .debts) p sound) h
+
 pub recorded-finds-each : (l : Ledger) → FindsEach l → (d : Debt) (at : Nanos) (forget : Bool) → FindsEach (recorded l d at forget .after)
 recorded-finds-each l each d at forget = go (record-cases l d at forget (each .sound))
   where
@@ -230,8 +202,7 @@ recorded-finds-each l each d at forget = go (record-cases l d at forget (each .s
     go (merged p e) = change-finds-each l each p (later (debtAt l p) (d .settles)) (found-owes l (d .hash) p e .below) refl
     go (joins new free) = append-finds-each l each d free (lacks new)
     go (replaces p c new below settled) =
-        let moved = moved-finds-each l c each in
-        append-finds-each (removeAt (withCursor l c) p) (removal-finds-each (withCursor l c) moved p below) d
+        append-finds-each (removeAt (withCursor l c) p) (removal-finds-each (withCursor l c) each p below) d
         (removal-leaves-room (withCursor l c) p (each .sound .count-fits) below)
-        (lacks-stays debtItems hashOf (removal-comes-from (withCursor l c) p (each .sound)) (d .hash) (lacks new))
-    go (refused p c full below never unsettled) = moved-finds-each l c each
+        (removal-brings-none (withCursor l c) p (each .sound) (d .hash) (lacks new))
+    go (refused p c full below never unsettled) = each

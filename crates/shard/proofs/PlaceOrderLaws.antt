@@ -25,7 +25,7 @@ use Rattle.ledger.proofs.PlaceOrderLaws as LedgerOrder
 use Rattle.ledger.proofs.PlaceOrderLaws.{owed-in-place-order, taken-in-place-order, paid-in-place-order, recorded-in-place-order}
 use Rattle.ledger.proofs.PlaceOrderLaws.{taken-finds-each, paid-finds-each}
 use Rattle.shard_map.specs.Model.{Shard, slotItems, capOf, withLedger, inLedger, placeOf}
-use Rattle.shard_map.proofs.PlaceOrderLaws.{inPlaceOrder, leftInPlaceOrder, identityOf, FindsEach, SlotsFrom, ledger-found, place-in-place-order}
+use Rattle.shard_map.proofs.PlaceOrderLaws.{inPlaceOrder, leftInPlaceOrder, identityOf, FindsEach, found-is-sound, found-is-complete, SlotsFrom, place-in-place-order}
 use Rattle.shard_map.proofs.PlaceOrderLaws.{removal-in-place-order, insert-in-place-order, sweep-idle-in-place-order, nowhere-lacks, sweep-idle-slots-from}
 use Rattle.shard_map.proofs.PlaceOrderLaws.{removal-finds-each, insert-finds-each, change-finds-each, ledger-finds-each, sweep-idle-finds-each}
 use Rattle.evict.specs.declared.Room.{Room}
@@ -55,7 +55,7 @@ module _ (p : Policy) (at : Nanos) where
   found-after-sweeps : KeptBySweeps p at FindsEach
   found-after-sweeps = record {
     idle = λ s limit u each. sweep-idle-finds-each s each (p .config) at limit ttlSweep;
-    ledger = λ s u each. ledger-finds-each s each _ (LedgerOrder.sweep-finds-each (s .ledger) (ledger-found each) at ledgerScan);
+    ledger = λ s u each. ledger-finds-each s each _ (LedgerOrder.sweep-finds-each (s .ledger) (each .ledger) at ledgerScan);
   }
 
   slots-after-sweeps : (s : Shard) → KeptBySweeps p at (SlotsFrom s)
@@ -69,7 +69,7 @@ module _ (p : Policy) (at : Nanos) (s : Shard) (each : FindsEach s) where
   pub room-in-place-order : makeRoom p at (inPlaceOrder s) ≡ leftInPlaceOrder (makeRoom p at s)
   unfolding makeRoom
   room-in-place-order =
-      go (swept p at (inPlaceOrder s)) (swept p at s) (swept-in-place-order p at s) (swept-keeps p at s (each .sound) FindsEach (found-after-sweeps p at) each)
+      go (swept p at (inPlaceOrder s)) (swept p at s) (swept-in-place-order p at s) (swept-keeps p at s (found-is-sound each) FindsEach (found-after-sweeps p at) each)
     where
       go : (t left : Shard) → t ≡ inPlaceOrder left → FindsEach left
           → cond (ltb (t .slots .count) (capOf t)) (outcome Made t) (evicted (p .config) at (p .«forget_debt») t)
@@ -82,17 +82,17 @@ module _ (p : Policy) (at : Nanos) (s : Shard) (each : FindsEach s) where
 
   pub room-finds-each : FindsEach (makeRoom p at s .after)
   room-finds-each =
-      room-keeps p at s (each .sound) FindsEach (found-after-sweeps p at) (λ t u some found. evict-finds-each (p .config) at (p .«forget_debt») t found some) each
+      room-keeps p at s (found-is-sound each) FindsEach (found-after-sweeps p at) (λ t u some found. evict-finds-each (p .config) at (p .«forget_debt») t found some) each
 
   room-slots-from : SlotsFrom s (makeRoom p at s .after)
   room-slots-from =
-      room-keeps p at s (each .sound) (SlotsFrom s) (slots-after-sweeps p at s)
+      room-keeps p at s (found-is-sound each) (SlotsFrom s) (slots-after-sweeps p at s)
       (λ t u some from. comes-from-trans slotItems identityOf from (evict-slots-from (p .config) at (p .«forget_debt») t u some))
       (comes-from-refl slotItems identityOf (s .slots))
 
 -- A key's debt is taken out.
 debt-taken-finds-each : (id : Identity) (s : Shard) → FindsEach s → FindsEach (debtTaken id s)
-debt-taken-finds-each id s each = ledger-finds-each s each _ (taken-finds-each (s .ledger) (ledger-found each) (id .hash))
+debt-taken-finds-each id s each = ledger-finds-each s each _ (taken-finds-each (s .ledger) (each .ledger) (id .hash))
 
 -- A request: a known key's; and a new key's, with room made or refused.
 module _ (p : Policy) (id : Identity) (request : Request) (cost : ℕ) (at : Nanos) where
@@ -104,7 +104,7 @@ module _ (p : Policy) (id : Identity) (request : Request) (cost : ℕ) (at : Nan
   put-back-in-place-order s each nanos.None = refl
   put-back-in-place-order s each (nanos.Some settles) =
       ap (λ o. withLedger (inPlaceOrder s) (o .after))
-      (recorded-in-place-order (s .ledger) (ledger-found each) (record { hash = id .hash; settles = settles }) at false)
+      (recorded-in-place-order (s .ledger) (each .ledger) (record { hash = id .hash; settles = settles }) at false)
 
   admitted-in-place-order : (s : Shard) → FindsEach s → (owed : OptionNanos) (room : Room)
       → admitted p id request cost at owed (inPlaceOrder s) room ≡ leftInPlaceOrder (admitted p id request cost at owed s room)
@@ -117,7 +117,7 @@ module _ (p : Policy) (id : Identity) (request : Request) (cost : ℕ) (at : Nan
       let own = Ledger.taken (s .ledger) (id .hash) in
       let taken : FindsEach (debtTaken id s) = debt-taken-finds-each id s each in
       let room : Outcome Room Shard = roomFor p id at s in
-      rw (taken-in-place-order (s .ledger) (ledger-found each) (id .hash), room-in-place-order p at (debtTaken id s) taken)
+      rw (taken-in-place-order (s .ledger) (each .ledger) (id .hash), room-in-place-order p at (debtTaken id s) taken)
       (admitted-in-place-order (room .after) (room-finds-each p at (debtTaken id s) taken) (own .answer) (room .answer))
 
   pub ask-in-place-order : (s : Shard) → FindsEach s → withOrInsert p id request cost at (inPlaceOrder s) ≡ leftInPlaceOrder (withOrInsert p id request cost at s)
@@ -130,7 +130,7 @@ module _ (p : Policy) (id : Identity) (request : Request) (cost : ℕ) (at : Nan
 
   -- A slot comes only for a key that lookup did not find. Making room brings none in, so no other slot has its hash and its key.
   pub ask-finds-each : (s : Shard) → FindsEach s → FindsEach (withOrInsert p id request cost at s .after)
-  ask-finds-each s each = go (ask-cases p id request cost at s (each .sound))
+  ask-finds-each s each = go (ask-cases p id request cost at s (found-is-sound each))
     where
       taken : FindsEach (debtTaken id s)
       taken = debt-taken-finds-each id s each
@@ -139,8 +139,8 @@ module _ (p : Policy) (id : Identity) (request : Request) (cost : ℕ) (at : Nan
       go (slot-asked i slot e f r) = change-finds-each s each i slot (f .below) (r .hash) (r .key)
       go (key-joins new made) =
           insert-finds-each (roomFor p id at s .after) (room-finds-each p at (debtTaken id s) taken) _
-          (room-made-leaves-room p at (debtTaken id s) (taken .sound) made)
-          (lacks-stays slotItems identityOf (room-slots-from p at (debtTaken id s) taken) (id .hash, id .key) (nowhere-lacks s (each .complete) (id .hash) (id .key) new))
+          (room-made-leaves-room p at (debtTaken id s) (found-is-sound taken) made)
+          (lacks-stays slotItems identityOf (room-slots-from p at (debtTaken id s) taken) (id .hash, id .key) (nowhere-lacks s (found-is-complete each) (id .hash) (id .key) new))
       go (no-space due new no-debt told) = room-finds-each p at s each
 
 -- The two reads, a refund and a removal.
@@ -151,11 +151,11 @@ module _ (id : Identity) (s : Shard) (each : FindsEach s) where
     where
       go : (place : Place) → viewedFrom c id at (inPlaceOrder s) place ≡ viewedFrom c id at s place
       go (At i) = refl
-      go Nowhere = rw (owed-in-place-order (s .ledger) (ledger-found each) (id .hash))
+      go Nowhere = rw (owed-in-place-order (s .ledger) (each .ledger) (id .hash))
 
   pub holds-in-place-order : holds id (inPlaceOrder s) ≡ holds id s
   unfolding holds
-  holds-in-place-order = rw (place-in-place-order s each (id .hash) (id .key), owed-in-place-order (s .ledger) (ledger-found each) (id .hash))
+  holds-in-place-order = rw (place-in-place-order s each (id .hash) (id .key), owed-in-place-order (s .ledger) (each .ledger) (id .hash))
 
   pub refund-in-place-order : (c : BucketConfig) (cost : ℕ) → refunded c id cost (inPlaceOrder s) ≡ leftInPlaceOrder (refunded c id cost s)
   unfolding refunded
@@ -163,19 +163,19 @@ module _ (id : Identity) (s : Shard) (each : FindsEach s) where
     where
       go : (place : Place) → refundedFrom c id cost (inPlaceOrder s) place ≡ leftInPlaceOrder (refundedFrom c id cost s place)
       go (At i) = refl
-      go Nowhere = ap (inLedger (inPlaceOrder s)) (paid-in-place-order (s .ledger) (ledger-found each) (id .hash) cost c)
+      go Nowhere = ap (inLedger (inPlaceOrder s)) (paid-in-place-order (s .ledger) (each .ledger) (id .hash) cost c)
 
   pub refund-finds-each : (c : BucketConfig) (cost : ℕ) → FindsEach (refunded c id cost s .after)
   refund-finds-each c cost = go (refund-cases c id cost s)
     where
       go : {o : Outcome Bool Shard} → Refunding c id cost s o → FindsEach (o .after)
       go (slot-refunded i slot e f r) = change-finds-each s each i slot (f .below) (r .hash) (r .key)
-      go (debt-paid new) = ledger-finds-each s each _ (paid-finds-each (s .ledger) (ledger-found each) (id .hash) cost c)
+      go (debt-paid new) = ledger-finds-each s each _ (paid-finds-each (s .ledger) (each .ledger) (id .hash) cost c)
 
   pub remove-in-place-order : removed id (inPlaceOrder s) ≡ leftInPlaceOrder (removed id s)
   unfolding removed
   remove-in-place-order =
-      rw (taken-in-place-order (s .ledger) (ledger-found each) (id .hash), place-in-place-order s each (id .hash) (id .key))
+      rw (taken-in-place-order (s .ledger) (each .ledger) (id .hash), place-in-place-order s each (id .hash) (id .key))
       (go (hasDebt (Ledger.taken (s .ledger) (id .hash) .answer)) (placeOf s (id .hash) (id .key)))
     where
       go : (owing : Bool) (place : Place) → removedFrom (inPlaceOrder (debtTaken id s)) owing place ≡ leftInPlaceOrder (removedFrom (debtTaken id s) owing place)

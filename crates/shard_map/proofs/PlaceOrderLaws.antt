@@ -2,19 +2,18 @@
 -- in place order. Every step leaves such a shard.
 use Prim.Native.Nat.{ℕ, _<_}
 use mathlib.Core.Path.{_≡_, refl, ap}
-use native.Mathlib.Omega.{arith}
 use Rattle.units.specs.declared.Nanos.{Nanos}
 use Rattle.units.specs.declared.Millis.{Millis}
 use Rattle.bucket.specs.declared.BucketConfig.{BucketConfig}
 use Rattle.rows.specs.declared.Place.the-variants.{Nowhere}
 use Rattle.rows.specs.Outcome.{Outcome, outcome}
 use Rattle.held.specs.Held as Held
-use Rattle.held.specs.Held.{removed, in-order-is-complete}
+use Rattle.held.specs.Held.{removed}
 use Rattle.held.specs.Round as Round
 use Rattle.held.proofs.RoundLaws.{sweep-in-place-order}
 use Rattle.held.proofs.SingleLaws as Singles
-use Rattle.held.proofs.SingleLaws.{ComesFrom, Lacks, single-stays, removed-comes-from, stored-comes-from, sweep-comes-from, none-is-single}
-use Rattle.held.proofs.SingleLaws.{appended-single, single-position}
+use Rattle.held.proofs.SingleLaws.{ComesFrom, Lacks, removed-comes-from, sweep-comes-from, found-in-place-order, none-finds-each}
+use Rattle.held.proofs.SingleLaws.{stored-finds-each, appended-finds-each, removed-finds-each, sweep-finds-each}
 use Rattle.slot.specs.declared.Slot.{Slot}
 use Rattle.slot.specs.Slot.{isKey}
 use Rattle.slot.proofs.SlotLaws.{is-key-iff}
@@ -22,8 +21,7 @@ use Rattle.ledger.specs.Model as Ledger
 use Rattle.ledger.proofs.PlaceOrderLaws as LedgerOrder
 use Rattle.shard_map.specs.Model.{Shard, Sound, Complete, slotItems, capOf, slotAt, withSlot, withHand, withLedger, placeOf, removeAt, insert}
 use Rattle.shard_map.specs.Model.{reclaimable, roundOf, withRound, idleLook, sweepIdle}
-use Rattle.shard_map.proofs.StepLaws.{nowhere-holds-none, slots-sound, removal-sound, removal-complete, insert-sound, insert-complete, change-sound}
-use Rattle.shard_map.proofs.StepLaws.{change-complete, ledger-sound, ledger-complete, sweep-idle-sound, sweep-idle-complete}
+use Rattle.shard_map.proofs.StepLaws.{nowhere-holds-none, slots-sound}
 
 -- The same shard, with its slots and its debts found in the order of their places; and what an operation gave, with that shard.
 abbrev pub inPlaceOrder : Shard → Shard
@@ -32,43 +30,34 @@ inPlaceOrder s = record { slots = Held.inPlaceOrder (s .slots); hand = s .hand; 
 abbrev pub leftInPlaceOrder : {A : Type 0} → Outcome A Shard → Outcome A Shard
 leftInPlaceOrder o = outcome (o .answer) (inPlaceOrder (o .after))
 
--- What a slot is known by: its hash and its key. No two slots have both in common, and no two debts their hash.
+-- What a slot is known by: its hash and its key.
 abbrev pub identityOf : Slot → ℕ × ℕ
 identityOf slot = (slot .hash, slot .key)
 
-pub record Single (s : Shard) : Type 0 where
-  pub slots : Singles.Single slotItems identityOf (s .slots)
-  pub ledger : LedgerOrder.Single (s .ledger)
-
--- Lookup finds each slot and each debt: it misses none, and no two are alike.
+-- Lookup finds each slot and each debt: it misses none, no two slots have one hash and key, and no two debts have one hash.
 pub record FindsEach (s : Shard) : Type 0 where
-  pub sound : Sound s
-  pub complete : Complete s
-  pub single : Single s
+  pub slots : Singles.FindsEach slotItems identityOf (s .slots)
+  pub ledger : LedgerOrder.FindsEach (s .ledger)
 
-pub ledger-found : {s : Shard} → FindsEach s → LedgerOrder.FindsEach (s .ledger)
-ledger-found each = record { sound = each .sound .ledger; complete = each .complete .ledger; single = each .single .ledger }
+-- Such a shard is sound and complete.
+pub found-is-sound : {s : Shard} → FindsEach s → Sound s
+found-is-sound each = record { room = each .slots .sound .room; count-fits = each .slots .sound .count-fits; ledger = each .ledger .sound }
 
--- So it does in a fresh shard, which holds nothing; and in the same shard in place order.
+pub found-is-complete : {s : Shard} → FindsEach s → Complete s
+found-is-complete each = record { slots = each .slots .complete; ledger = each .ledger .complete }
+
+-- A fresh shard, which holds nothing, is one; and so is the same shard in place order.
 pub empty-finds-each : (s : Shard) → Sound s → Complete s → s .slots .count ≡ 0 → s .ledger .debts .count ≡ 0 → FindsEach s
 empty-finds-each s sound complete no-slot no-debt = record {
-  sound = sound;
-  complete = complete;
-  single = record {
-    slots = none-is-single slotItems identityOf (s .slots) no-slot;
-    ledger = none-is-single Ledger.debtItems LedgerOrder.hashOf (s .ledger .debts) no-debt;
-  };
+  slots = none-finds-each slotItems identityOf (s .slots) (slots-sound s sound) (complete .slots) no-slot;
+  ledger = none-finds-each Ledger.debtItems LedgerOrder.hashOf (s .ledger .debts) (sound .ledger) (complete .ledger) no-debt;
 }
 
 pub in-place-order-finds-each : (s : Shard) → FindsEach s → FindsEach (inPlaceOrder s)
 in-place-order-finds-each s each = record {
-  sound = record { room = each .sound .room; count-fits = each .sound .count-fits; ledger = inPlaceOrder-sound };
-  complete = record { slots = in-order-is-complete refl; ledger = in-order-is-complete refl };
-  single = record { slots = each .single .slots; ledger = each .single .ledger };
+  slots = Singles.in-place-order-finds-each slotItems identityOf (s .slots) (each .slots);
+  ledger = Singles.in-place-order-finds-each Ledger.debtItems LedgerOrder.hashOf (s .ledger .debts) (each .ledger);
 }
-  where
-    inPlaceOrder-sound : Ledger.Sound (LedgerOrder.inPlaceOrder (s .ledger))
-    inPlaceOrder-sound = record { room = each .sound .ledger .room; count-fits = each .sound .ledger .count-fits }
 
 -- The slots of a shard come from those of another.
 abbrev pub SlotsFrom : Shard → Shard → Type 0
@@ -106,7 +95,7 @@ module _ (s : Shard) where
 pub place-in-place-order : (s : Shard) → FindsEach s → (h k : ℕ) → placeOf (inPlaceOrder s) h k ≡ placeOf s h k
 unfolding placeOf
 place-in-place-order s each h k =
-    single-position slotItems identityOf (s .slots) (each .complete .slots) (each .single .slots) h (h, k) (isKey h k)
+    found-in-place-order slotItems identityOf (s .slots) (each .slots) h (h, k) (isKey h k)
     (λ slot passes. is-key-iff h k slot .0 passes .0)
     (λ slot passes. let own = is-key-iff h k slot .0 passes in rw (own .0, own .1))
 
@@ -114,14 +103,11 @@ place-in-place-order s each h k =
 pub nowhere-lacks : (s : Shard) → Complete s → (h k : ℕ) → placeOf s h k ≡ Nowhere → Lacks slotItems identityOf (h, k) (s .slots)
 nowhere-lacks s complete h k new i below own = nowhere-holds-none s complete h k new i below (ap (λ x. x .0) own) (ap (λ x. x .1) own)
 
--- The slots that a removal, a changed slot of the same key and an idle sweep leave come from those before.
+-- The slots that a removal and an idle sweep leave come from those before.
 module _ (s : Shard) (sound : Sound s) where
   pub removal-slots-from : (p : ℕ) → SlotsFrom s (removeAt s p)
   unfolding removeAt
   removal-slots-from p = removed-comes-from slotItems identityOf (s .slots) p (slots-sound s sound)
-
-  pub change-slots-from : (p : ℕ) (slot : Slot) → p < s .slots .count → slot .hash ≡ slotAt s p .hash → slot .key ≡ slotAt s p .key → SlotsFrom s (withSlot s p slot)
-  change-slots-from p slot below hash key = stored-comes-from slotItems identityOf (s .slots) p slot (omega (arith, sound .count-fits)) (rw (hash, key))
 
   pub sweep-idle-slots-from : (c : BucketConfig) (at : Nanos) (limit : Millis) (n : ℕ) → SlotsFrom s (sweepIdle c at limit n s)
   unfolding sweepIdle
@@ -131,50 +117,29 @@ module _ (s : Shard) (sound : Sound s) where
 module _ (s : Shard) (each : FindsEach s) where
   pub removal-finds-each : (p : ℕ) → p < s .slots .count → FindsEach (removeAt s p)
   unfolding removeAt
-  removal-finds-each p below = record {
-    sound = removal-sound s p (each .sound);
-    complete = removal-complete s p (each .sound) (each .complete) below;
-    single = record { slots = single-stays slotItems identityOf (removal-slots-from s (each .sound) p) (each .single .slots); ledger = each .single .ledger };
-  }
+  removal-finds-each p below = record { slots = removed-finds-each slotItems identityOf (s .slots) (each .slots) p below; ledger = each .ledger }
 
   pub insert-finds-each : (slot : Slot) → s .slots .count < capOf s → Lacks slotItems identityOf (identityOf slot) (s .slots) → FindsEach (insert s slot)
   unfolding insert
-  insert-finds-each slot room lacks = record {
-    sound = insert-sound s slot (each .sound) room;
-    complete = insert-complete s slot (each .complete) room;
-    single = record { slots = appended-single slotItems identityOf (s .slots) slot room lacks (each .single .slots); ledger = each .single .ledger };
-  }
+  insert-finds-each slot room lacks = record { slots = appended-finds-each slotItems identityOf (s .slots) (each .slots) slot room lacks; ledger = each .ledger }
 
   pub change-finds-each : (p : ℕ) (slot : Slot) → p < s .slots .count → slot .hash ≡ slotAt s p .hash → slot .key ≡ slotAt s p .key → FindsEach (withSlot s p slot)
   change-finds-each p slot below hash key = record {
-    sound = change-sound s p slot (each .sound);
-    complete = change-complete s p slot (each .sound) (each .complete) below hash;
-    single = record {
-      slots = single-stays slotItems identityOf (change-slots-from s (each .sound) p slot below hash key) (each .single .slots);
-      ledger = each .single .ledger;
-    };
-  }
-
-  pub ledger-finds-each : (l : Ledger.Ledger) → LedgerOrder.FindsEach l → FindsEach (withLedger s l)
-  ledger-finds-each l debts = record {
-    sound = ledger-sound s l (each .sound) (debts .sound);
-    complete = ledger-complete s l (each .complete) (debts .complete);
-    single = record { slots = each .single .slots; ledger = debts .single };
+    slots = stored-finds-each slotItems identityOf (s .slots) (each .slots) p slot below hash (rw (hash, key));
+    ledger = each .ledger;
   }
 
   pub hand-finds-each : (hand : ℕ) → FindsEach (withHand s hand)
-  hand-finds-each hand = record {
-    sound = record { room = each .sound .room; count-fits = each .sound .count-fits; ledger = each .sound .ledger };
-    complete = record { slots = each .complete .slots; ledger = each .complete .ledger };
-    single = record { slots = each .single .slots; ledger = each .single .ledger };
-  }
+  hand-finds-each hand = record { slots = each .slots; ledger = each .ledger }
+
+  pub ledger-finds-each : (l : Ledger.Ledger) → LedgerOrder.FindsEach l → FindsEach (withLedger s l)
+  ledger-finds-each l debts = record { slots = each .slots; ledger = debts }
 
   pub sweep-idle-finds-each : (c : BucketConfig) (at : Nanos) (limit : Millis) (n : ℕ) → FindsEach (sweepIdle c at limit n s)
   unfolding sweepIdle
   sweep-idle-finds-each c at limit n = record {
-    sound = sweep-idle-sound c at limit n s (each .sound);
-    complete = sweep-idle-complete c at limit n s (each .sound) (each .complete);
-    single = record { slots = single-stays slotItems identityOf (sweep-idle-slots-from s (each .sound) c at limit n) (each .single .slots); ledger = each .single .ledger };
+    slots = sweep-finds-each slotItems identityOf (reclaimable c at limit) n (roundOf s) (each .slots);
+    ledger = each .ledger;
   }
 
   pub idle-look-finds-each : (c : BucketConfig) (at : Nanos) (limit : Millis) → FindsEach (idleLook c at limit s)
