@@ -15,11 +15,13 @@ use Rattle.held.proofs.HeldLaws.{stored-sound, appended-sound, removed-
 use Rattle.held.proofs.FindingLaws.{position-in-place-order, stored-complete, appended-complete, removed-complete}
 use Rattle.held.proofs.RoundLaws.{sweep-keeps}
 
--- `identity` says what an item is known by: no two items have it in common, and no item has one that is given.
+-- `identity` says what an item is known by.
 module _ {A I : Type 0} (items : Items A) (identity : A → I) where
+  -- No two items have one identity.
   abbrev pub Single : Held A → Type 0
   Single h = (i j : ℕ) → i < h .count → j < h .count → identity (itemAt items h i) ≡ identity (itemAt items h j) → i ≡ j
 
+  -- No item has the identity that is given.
   abbrev pub Lacks : I → Held A → Type 0
   Lacks key h = (i : ℕ) → i < h .count → identity (itemAt items h i) ≡ key → ⊥
 
@@ -41,7 +43,7 @@ module _ {A I : Type 0} (items : Items A) (identity : A → I) {h g : Held A} (f
   lacks-stays key lacks i below own = lacks (from .origin i) (from .below i below) (sym (from .same i below) ∙ own)
 
 module _ {A I : Type 0} (items : Items A) (identity : A → I) where
-  -- One step after another.
+  -- Two steps, one after the other.
   pub comes-from-trans : {h g f : Held A} → ComesFrom items identity h g → ComesFrom items identity g f → ComesFrom items identity h f
   comes-from-trans first second = record {
     origin = λ i. first .origin (second .origin i);
@@ -92,14 +94,14 @@ module _ {A I : Type 0} (items : Items A) (identity : A → I) where
             (λ other. by-eq j p (λ atJ. omega (arith, kept i other, moved j atJ)) (λ another. omega (arith, kept i other, kept j another)));
       }
 
-  -- A sweep.
+  -- A sweep removes items.
   pub sweep-comes-from : (goes : A → Bool) (n : ℕ) (r : Round A) → Sound (r .items) → ComesFrom items identity (r .items) (sweep items goes n r .items)
   sweep-comes-from goes n r sound =
       sweep-keeps items goes (λ h. Sound h × ComesFrom items identity (r .items) h)
       (λ h p below passes q. (removed-sound items h p (q .0), comes-from-trans (q .1) (removed-comes-from h p (q .0))))
       n r (sound, comes-from-refl (r .items)) .1
 
-  -- An item comes whose identity no item has.
+  -- An item whose identity no item has comes last.
   pub appended-single : (h : Held A) (x : A) → h .count < length (h .places) → Lacks items identity (identity x) h → Single items identity h
       → Single items identity (appended items h x)
   appended-single h x room lacks single i j belowI belowJ same =
@@ -172,6 +174,7 @@ module _ {A I : Type 0} (items : Items A) (identity : A → I) (h : Held A) (eac
     single = single-stays items identity (removed-comes-from items identity h p (each .sound)) (each .single);
   }
 
+-- So does a sweep.
 pub sweep-finds-each : {A I : Type 0} (items : Items A) (identity : A → I) (goes : A → Bool) (n : ℕ) (r : Round A) → FindsEach items identity (r .items)
     → FindsEach items identity (sweep items goes n r .items)
 sweep-finds-each items identity goes n r each =

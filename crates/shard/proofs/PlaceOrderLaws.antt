@@ -189,8 +189,8 @@ module _ (id : Identity) (s : Shard) (each : FindsEach s) where
       go (slot-removed i e f) = removal-finds-each (debtTaken id s) (debt-taken-finds-each id s each) i (f .below)
       go (no-slot new) = debt-taken-finds-each id s each
 
--- What an operation gives where slots and debts are found in place order, it gives: the same answer, and a shard that differs only in how items are found. In
--- that shard lookup finds each slot and each debt.
+-- An operation gives the answer that it gives where slots and debts are found in place order, and leaves a shard that differs from the one left there only in
+-- how items are found. In the shard that it leaves lookup finds each slot and each debt.
 pub record SameAsPlaceOrder {A : Type 0} (operation : Shard → Outcome A Shard) (s : Shard) : Type 0 where
   pub answer : operation (inPlaceOrder s) .answer ≡ operation s .answer
   pub after : operation (inPlaceOrder s) .after ≡ inPlaceOrder (operation s .after)
@@ -200,7 +200,7 @@ same-as-place-order : {A : Type 0} (operation : Shard → Outcome A Shard) (s : 
     → FindsEach (operation s .after) → SameAsPlaceOrder operation s
 same-as-place-order operation s same found = record { answer = ap (λ o. o .answer) same; after = ap (λ o. o .after) same; finds-each = found }
 
--- So it is for every operation of a shard.
+-- So it is for every operation on a shard in which lookup finds each slot and each debt.
 pub record EveryOperationSame (s : Shard) : Type 0 where
   pub asks : (p : Policy) (id : Identity) (request : Request) (cost : ℕ) (at : Nanos) → SameAsPlaceOrder (withOrInsert p id request cost at) s
   pub refunds : (c : BucketConfig) (id : Identity) (cost : ℕ) → SameAsPlaceOrder (refunded c id cost) s
