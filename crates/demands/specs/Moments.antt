@@ -1,5 +1,5 @@
--- The moments told (request 1 of document 02). Every grant and every retry, of a request and of a peek, tells the moment of the call plus its wait. A grant
--- tells so from when its tokens are usable: counted by the moments told, they are those that the window of demand 3 counts (`told-moments-count-alike`).
+-- The moments told (request 1 of document 02). Every grant and every retry, of a request and of a peek, tells the moment of the call plus its wait. From that
+-- moment on the tokens of a grant are usable. So the tokens counted by the moments told are those that the window counts (`told-moments-count-alike`).
 use Prim.Native.Nat.{ℕ, _+_}
 use mathlib.Core.Path.{_≡_}
 use mathlib.Core.Bool.{true}
@@ -16,7 +16,8 @@ use Rattle.perkey.specs.Calls.{Call, request, look, undo, len, Answered, replie
 use Rattle.demands.specs.Widths.{allFit, lendable}
 use Rattle.demands.specs.Demands.{Limiter, usable, usableFrom}
 
--- A try that is granted tells the moment of the call. A reservation, and a retry, tells that moment plus its wait. Of other replies nothing is asked here.
+-- A try that is granted tells the moment of the call. A reservation that is granted tells that moment plus its wait, and so does a retry. Of other replies nothing
+-- is asked here.
 abbrev pub momentTold : Request → Nanos → Reply → Type 0
 momentTold r at (Tried (Acquired due)) = due .moment .0 ≡ usableFrom r at 0
 momentTold r at (Tried (Retry due)) = due .moment .0 ≡ at .0 + due .wait .0

@@ -2,13 +2,11 @@
 -- the code goes through; and that words which are lent stay so. What an eviction keeps is in WalkLaws.
 use Prim.Native.Nat.{ℕ, suc, _+_, _-_, _*_, _≤_, _<_, _^_, min}
 use native.Mathlib.Omega.{arith}
-use native.Mathlib.Nat.{mul-le-mul-left}
 use mathlib.Core.Path.{_≡_, refl, ap, sym, _∙_}
 use mathlib.Core.Bool.{Bool, true, false}
 use mathlib.Core.List.{List}
 use lib.ListN.{length}
 use borrow.Author.Tests.{eq-eqb, ne-eqb}
-use Rattle.arith.proofs.DivisionLaws.{ceilDiv-least}
 use Rattle.units.specs.declared.Nanos.{Nanos}
 use Rattle.settings.specs.Eviction.{clockScan}
 use Rattle.bucket.specs.declared.BucketConfig.{BucketConfig}
@@ -36,7 +34,7 @@ use Rattle.evict.specs.declared.Victim.the-variants.{Free, Owing}
 use Rattle.evict.specs.declared.Room.{Room}
 use Rattle.evict.specs.declared.Room.the-variants.{Made, Refused}
 use Rattle.evict.specs.Evict.{orElse, nothingNoted, noted, looked, goesAtOnce, walkFrom, walked, victimOf, placeOfVictim, evictAt, refusalWait, evictVictim, evicted}
-use Rattle.evict.proofs.WalkLaws.{victimIs, debtRecorded, walk-kept, walk-chooses, remarked-sound}
+use Rattle.evict.proofs.WalkLaws.{victimIs, recovery-at-most-parts, debtRecorded, walk-kept, walk-chooses, remarked-sound}
 
 -- What a look of the walk notes: of a full slot, and of one that is not full, by its mark. The code has worked out the shortfall n.
 module _ (c : BucketConfig) (at : Nanos) (w : Walk) (p : ℕ) (slot : Slot) {n : ℕ} (is : n ≡ shortfallAt c (slot .bucket) at) where
@@ -142,9 +140,7 @@ module _ (c : BucketConfig) (at : Nanos) (forget : Bool) (p least : ℕ) (s : Sh
 -- A recovery takes no longer than the largest shortfall has parts, so the moment at which a debt settles fits 64 bits.
 pub recovery-most : {c : BucketConfig} (b : BucketCore) (at : Nanos) → Accepted c → recoveryAt c b at ≤ mostShortfall c
 recovery-most {c} b at a =
-    let lack : ℕ = shortfallAt c b at in
-    let least : lack ≤ lack * c .amount = omega (arith, mul-le-mul-left lack (a .amount-least)) in
-    rw (← recovery-of-shortfall b at a) (omega (arith, ceilDiv-least lack (c .amount) lack (a .amount-least) least, shortfall-most c b at))
+    rw (← recovery-of-shortfall b at a) (omega (arith, recovery-at-most-parts a (shortfallAt c b at), shortfall-most c b at))
 
 pub debt-fits : {c : BucketConfig} (b : BucketCore) (at : Nanos) {n : ℕ} → Accepted c → at .0 ≤ 2 ^ 62 → n ≡ recoveryAt c b at → at .0 + n < 2 ^ 64
 debt-fits b at a early is = omega (arith, recovery-most b at a, most-shortfall-fits a)

@@ -205,7 +205,7 @@ module _ (c : BucketConfig) (at : Nanos) where
   walk-least-most s = least-falls _ s (nothingNoted c)
 
 -- A shortfall recovers in no more nanoseconds than it has parts.
-recovery-at-most-parts : {c : BucketConfig} → Accepted c → (shortfall : ℕ) → recoveryOf c shortfall ≤ shortfall
+pub recovery-at-most-parts : {c : BucketConfig} → Accepted c → (shortfall : ℕ) → recoveryOf c shortfall ≤ shortfall
 recovery-at-most-parts {c} a shortfall = ceilDiv-least shortfall (c .amount) shortfall (a .amount-least) (omega (arith, mul-le-mul-left shortfall (a .amount-least)))
 
 -- The wait of a refusal is short enough that the moment at which it is over fits 64 bits.

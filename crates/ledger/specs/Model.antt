@@ -79,7 +79,7 @@ withCursor l c = record { debts = l .debts; cursor = c; others = l .others }
 abbrev pub withDebt : Ledger → ℕ → Debt → Ledger
 withDebt l i d = withDebts l (stored (l .debts) i d)
 
--- Lookup by hash: the place of a debt that has it.
+-- Lookup by hash: a place that has it. In place order, as the words have it now, that is the lowest.
 abbrev pub owes : ℕ → Debt → Bool
 owes hash d = eqb (d .hash) hash
 

@@ -11,7 +11,6 @@ ghost use Rattle.shard.specs.Model as Model;
 use bucket::BucketConfig;
 use bucket::BucketCore;
 use bucket::BucketDecision;
-use bucket::Due;
 use bucket::Request;
 use evict::Room;
 use rows::Place;

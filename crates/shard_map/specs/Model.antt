@@ -77,7 +77,7 @@ handOf s = wrapped (s .hand) (s .slots .count)
 abbrev pub sweepOf : Shard → ℕ
 sweepOf s = wrapped (s .sweep) (s .slots .count)
 
--- Lookup by hash and key: the place of a slot that has both.
+-- Lookup by hash and key: a place that has both. In place order, as the words have it now, that is the lowest.
 unfoldable pub placeOf : Shard → ℕ → ℕ → Place
 placeOf s hash key = position slotItems (s .slots) hash (isKey hash key)
 
