@@ -72,17 +72,25 @@ module _ {A : Type 0} (items : Items A) where
     finding = withAdded (h .finding) (items .hash x) (h .count);
   }
 
+  -- How items are found once the item at p leaves.
+  abbrev pub withoutItem : Held A → ℕ → Finding
+  withoutItem h p = withRemoved (h .finding) (hashAt h) (h .count) p
+
   -- The item at p leaves: the last item moves into its place, and the place that comes free holds zeros.
   unfoldable pub removed : Held A → ℕ → Held A
   removed h p = record {
     count = h .count - 1;
     places = set (set (h .places) p (itemAt h (h .count - 1))) (h .count - 1) (items .free);
-    finding = withRemoved (h .finding) (hashAt h) (h .count) p;
+    finding = withoutItem h p;
   }
 
   -- The weights of the items, added up.
   abbrev pub total : (A → ℕ) → Held A → ℕ
   total weight h = sum (h .count) (λ i. weight (itemAt h i))
+
+-- The items are found otherwise.
+abbrev pub foundOtherwise : {A : Type 0} → Held A → Finding → Held A
+foundOtherwise h f = record { count = h .count; places = h .places; finding = f }
 
 -- Another item stands at a place.
 abbrev pub stored : {A : Type 0} → Held A → ℕ → A → Held A
@@ -90,7 +98,7 @@ stored h i x = record { count = h .count; places = set (h .places) i x; finding 
 
 -- The same items, found in the order of their places.
 abbrev pub inPlaceOrder : {A : Type 0} → Held A → Held A
-inPlaceOrder h = record { count = h .count; places = h .places; finding = inOrder }
+inPlaceOrder h = foundOtherwise h inOrder
 
 -- Lookup misses no item: it goes by the order of the places, or by an index that is exact for the items and has two places for each of theirs.
 pub data Complete {A : Type 0} (items : Items A) (h : Held A) : Type 0 where

@@ -1,12 +1,12 @@
 -- How a table of items lies in words: some words before the items, then cap rows of one width, then the rest of the words. So lie the slots, and so the debts.
 use Prim.Native.Nat.{ℕ, _+_, _*_}
 use mathlib.Core.Bool.{cond}
-use mathlib.Core.List.{List, map}
+use mathlib.Core.List.{List, [], map}
 use lib.Dec.{eqb}
 use lib.ListN.{getD, set, take, drop}
 use Rattle.rows.specs.Segments.{segment}
 use Rattle.rows.specs.Rows.{rows}
-use Rattle.held.specs.Held.{Held, inOrder}
+use Rattle.held.specs.Held.{Finding, inOrder, byIndex, Held}
 
 -- The words before the rows by their places, the item of each row, and the words past the rows.
 pub record Table (A : Type 0) : Type 0 where
@@ -22,10 +22,15 @@ tableIn read width cap first ws = record {
   rest = drop (first + width * cap) ws;
 }
 
+-- The words of the index by which items are found. Where they are found in place order there are none.
+abbrev pub indexWords : Finding → List ℕ
+indexWords inOrder = []
+indexWords (byIndex ix) = ix
+
 module _ {A : Type 0} where
-  -- The items that a table holds, where its word at `at` counts them. They are found in the order of their places.
-  abbrev pub heldOf : ℕ → Table A → Held A
-  heldOf at t = record { count = t .head at; places = t .places; finding = inOrder }
+  -- The items that a table holds, where its word at `at` counts them. They are found by the index whose places are given.
+  abbrev pub heldOf : ℕ → List ℕ → Table A → Held A
+  heldOf at ix t = record { count = t .head at; places = t .places; finding = byIndex ix }
 
   -- What one write changes: a word before the rows, or the item of a row. Words that come back from a loan change the rest.
   abbrev pub withWord : Table A → ℕ → ℕ → Table A

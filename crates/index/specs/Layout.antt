@@ -8,6 +8,10 @@ use lib.Dec.{eqb}
 use Rattle.rows.specs.Segments.{segment}
 use Rattle.index.specs.declared.Index.{Index}
 
+-- How many places an index has for the items that there is room for: two for each.
+abbrev pub placesFor : ℕ → ℕ
+placesFor cap = 2 * cap
+
 -- The places of the index.
 unfoldable pub placesOf : Index → List ℕ → List ℕ
 placesOf index ws = segment (index .base) (index .size) ws

@@ -19,6 +19,9 @@ pub struct Index {
     pub key: usize,
 }
 
+// An index has so many places for each item that there is room for.
+pub const PLACES_PER_ITEM: usize = 2;
+
 // The word of a row that has the hash.
 const HASH: usize = 0;
 

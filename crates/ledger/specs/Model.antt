@@ -12,7 +12,7 @@ use Rattle.bucket.specs.declared.BucketConfig.{BucketConfig}
 use Rattle.settings.specs.Eviction.{ledgerScan}
 use Rattle.rows.specs.declared.Place.{Place}
 use Rattle.rows.specs.declared.Place.the-variants.{At, Nowhere}
-use Rattle.held.specs.Held.{Held, Items, wrapped, itemAt, position, removed, appended, stored}
+use Rattle.held.specs.Held.{Held, Items, Finding, wrapped, itemAt, position, removed, appended, stored, foundOtherwise}
 use Rattle.held.specs.Held as Held
 use Rattle.held.specs.Round.{Round}
 use Rattle.held.specs.Round as Round
@@ -76,10 +76,16 @@ withCount l n = withDebts l (record { count = n; places = l .debts .places; find
 abbrev pub withCursor : Ledger → ℕ → Ledger
 withCursor l c = record { debts = l .debts; cursor = c; others = l .others }
 
+abbrev pub withFinding : Ledger → Finding → Ledger
+withFinding l f = withDebts l (foundOtherwise (l .debts) f)
+
+abbrev pub withOthers : Ledger → List ℕ → Ledger
+withOthers l ws = record { debts = l .debts; cursor = l .cursor; others = ws }
+
 abbrev pub withDebt : Ledger → ℕ → Debt → Ledger
 withDebt l i d = withDebts l (stored (l .debts) i d)
 
--- Lookup by hash: a place that has it. In place order, as the words have it now, that is the lowest.
+-- Lookup by hash: a place that has it.
 abbrev pub owes : ℕ → Debt → Bool
 owes hash d = eqb (d .hash) hash
 

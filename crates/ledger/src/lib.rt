@@ -1,10 +1,11 @@
 // The debts of keys that were evicted before their buckets were full, by the hash of the key. A key that comes back starts with its
-// debt, if the ledger still has it. The debts lie in lent words: the count, the cursor, then two words for each of `cap` debts.
+// debt, if the ledger still has it. The debts lie in lent words: the count, the cursor, then two words for each of `cap` debts; their index comes last.
 ghost use mathlib.Core.Path.{_≡_};
-ghost use Prim.Native.Nat.{_≤_, _<_};
+ghost use Prim.Native.Nat.{_<_};
 ghost use lib.ListN.{length};
 ghost use Rattle.rows.specs.declared.Place.the-variants.{Nowhere};
 ghost use Rattle.rows.specs.Outcome.{outcome};
+ghost use Rattle.held.specs.Held.{withAdded, withoutItem};
 ghost use Rattle.bucket.specs.Bucket.{Accepted};
 ghost use Rattle.ledger.specs.Model as Model;
 ghost use Rattle.ledger.specs.Layout.{ledger, ledgerWords, Intact};
@@ -36,26 +37,36 @@ pub enum Recorded {
 
 // How many debts are held. It requires the length alone, so that it can tell a count that is too large.
 pub fn len(ws: &[u64], cap: usize) -> usize
-    requires { ⌜ ledgerWords cap ≤ length (now ws) ⌝ }
+    requires { ⌜ length (now ws) ≡ ledgerWords cap ⌝ }
     ensures { λ r. ⌜ r ≡ ledger cap (now (ws .entry)) .debts .count ⌝ }
 {
     words::count(ws, cap)
 }
 
-// The lowest place that has the hash.
+// A place that has the hash: the first debt on the hash's walk that has it.
 pub fn position(ws: &[u64], cap: usize, hash: u64) -> Place
     requires { ⌜ Intact cap (now ws) ⌝ }
     ensures { λ r. ⌜ r ≡ Model.placeOf (ledger cap (now (ws .entry))) hash ⌝ }
 {
     let count = words::count(ws, cap);
-    let mut i: usize = 0;
-    while i < count {
-        if words::hash_at(ws, cap, i) == hash {
-            return Place::At(i);
-        }
-        i += 1;
-    }
-    Place::Nowhere
+    index::find(ws, words::index(cap), count, hash, hash)
+}
+
+// The debt at a place gets into the index, by the hash that it will have.
+fn add_to_index(ws: &mut [u64], cap: usize, hash: u64, pos: usize)
+    requires { ⌜ Intact cap (now ws) × (pos < cap) ⌝ }
+    ensures { λ _. ⌜ ledger cap (now (ws .exit)) ≡ Model.withFinding (ledger cap (now (ws .entry))) (withAdded (ledger cap (now (ws .entry)) .debts .finding) hash pos) ⌝ }
+{
+    index::add(ws, words::index(cap), hash, pos);
+}
+
+// The debt at a place leaves the index, and the last debt gets its number.
+fn remove_from_index(ws: &mut [u64], cap: usize, pos: usize)
+    requires { ⌜ Intact cap (now ws) × (pos < ledger cap (now ws) .debts .count) ⌝ }
+    ensures { λ _. ⌜ ledger cap (now (ws .exit)) ≡ Model.withFinding (ledger cap (now (ws .entry))) (withoutItem Model.debtItems (ledger cap (now (ws .entry)) .debts) pos) ⌝ }
+{
+    let count = words::count(ws, cap);
+    index::remove(ws, words::index(cap), count, pos);
 }
 
 // When the debt of the hash settles, if there is one.
@@ -74,6 +85,7 @@ pub fn remove_at(ws: &mut [u64], cap: usize, pos: usize)
     requires { ⌜ Intact cap (now ws) × (pos < ledger cap (now ws) .debts .count) ⌝ }
     ensures { λ _. ⌜ ledger cap (now (ws .exit)) ≡ Model.removeAt (ledger cap (now (ws .entry))) pos ⌝ }
 {
+    remove_from_index(ws, cap, pos);
     let last = words::count(ws, cap) - 1;
     let moved = words::load(ws, cap, last);
     words::put(ws, cap, pos, moved);
@@ -193,6 +205,7 @@ fn append(ws: &mut [u64], cap: usize, debt: Debt)
     ensures { λ _. ⌜ ledger cap (now (ws .exit)) ≡ Model.append (ledger cap (now (ws .entry))) debt ⌝ }
 {
     let count = words::count(ws, cap);
+    add_to_index(ws, cap, debt.hash, count);
     words::put(ws, cap, count, debt);
     words::set_count(ws, cap, count + 1);
 }

@@ -1,12 +1,15 @@
--- How a shard lies in its words: the slot count, the hand, the sweep, the slots, then the words of the ledger. Each offset and width stands here once, and
--- once in src/words.rt.
+-- How a shard lies in its words: the slot count, the hand, the sweep, the slots, then the words of the ledger, with the index of the slots among them. Each
+-- offset and width stands here once, and once in src/words.rt.
 use Prim.Native.Nat.{ℕ, _+_, _*_}
 use mathlib.Core.Path.{_≡_}
 use mathlib.Core.List.{List, [], _∷_, _++_, map}
 use lib.ListN.{length, getD}
 use Rattle.rows.specs.Rows.{unrow}
-use Rattle.held.specs.Layout.{Table, tableIn, heldOf}
+use Rattle.index.specs.declared.Index.{Index}
+use Rattle.index.specs.Layout.{placesFor}
+use Rattle.held.specs.Layout.{Table, tableIn, heldOf, indexWords}
 use Rattle.slot.specs.declared.Slot.{Slot}
+use Rattle.ledger.specs.Model.{withOthers}
 use Rattle.ledger.specs.Layout as Ledger
 use Rattle.shard_map.specs.Model.{Shard, Sound}
 
@@ -30,7 +33,10 @@ slotWidth = 6
 abbrev pub slotStart : ℕ → ℕ
 slotStart i = slotsAt + slotWidth * i
 
--- The word of a slot that has the mark.
+-- The words of a slot that have the key and the mark.
+abbrev pub keyIn : ℕ
+keyIn = 1
+
 abbrev pub markIn : ℕ
 markIn = 4
 
@@ -38,7 +44,7 @@ markIn = 4
 abbrev pub slotOf : List ℕ → Slot
 slotOf row = record {
   hash = getD row 0 0;
-  key = getD row 1 0;
+  key = getD row keyIn 0;
   bucket = record { shortfall = getD row 2 0; stamp = record { 0 = getD row 3 0 } };
   mark = getD row markIn 0;
   seen = record { 0 = getD row 5 0 };
@@ -54,15 +60,24 @@ ledgerStart cap = slotsAt + slotWidth * cap
 abbrev pub shardWords : ℕ → ℕ
 shardWords cap = ledgerStart cap + Ledger.ledgerWords cap
 
--- The shard that a table of slots is, the ledger lying in its rest; the shard that lies in some words, and the words of a shard.
+-- Where the index of the slots and the slots lie. The index lies among the ledger's words and is not the ledger's own.
+abbrev pub slotIndex : ℕ → Index
+slotIndex cap = record { base = ledgerStart cap + Ledger.othersAt cap; size = placesFor cap; first = slotsAt; width = slotWidth; key = keyIn }
+
+-- The shard that a table of slots is, the ledger lying in its rest; the shard that lies in some words, and the words of a shard. The words of the slots' index
+-- stand in the shard once: the slots have them, and the ledger has none that are not its own.
 abbrev pub shardOf : ℕ → Table Slot → Shard
-shardOf cap t = record { slots = heldOf countAt t; hand = t .head handAt; sweep = t .head sweepAt; ledger = Ledger.ledger cap (t .rest) }
+shardOf cap t =
+    let l = Ledger.ledger cap (t .rest) in
+    record { slots = heldOf countAt (l .others) t; hand = t .head handAt; sweep = t .head sweepAt; ledger = withOthers l [] }
 
 unfoldable pub shard : ℕ → List ℕ → Shard
 shard cap ws = shardOf cap (tableIn slotOf slotWidth cap slotsAt ws)
 
 unfoldable pub wordsOf : Shard → List ℕ
-wordsOf s = s .slots .count ∷ s .hand ∷ s .sweep ∷ (unrow (map slotWords (s .slots .places)) ++ Ledger.wordsOf (s .ledger))
+wordsOf s =
+    let l = withOthers (s .ledger) (indexWords (s .slots .finding)) in
+    s .slots .count ∷ s .hand ∷ s .sweep ∷ (unrow (map slotWords (s .slots .places)) ++ Ledger.wordsOf l)
 
 -- The words that a function of the shard is lent: just those of a shard that is sound.
 pub record Intact (cap : ℕ) (ws : List ℕ) : Type 0 where

@@ -7,7 +7,7 @@ use Rattle.units.specs.declared.Millis.{Millis}
 use Rattle.units.specs.Units.{millisOf}
 use Rattle.bucket.specs.declared.BucketConfig.{BucketConfig}
 use Rattle.rows.specs.declared.Place.{Place}
-use Rattle.held.specs.Held.{Held, Items, wrapped, itemAt, position, removed, appended, stored}
+use Rattle.held.specs.Held.{Held, Items, Finding, wrapped, itemAt, position, removed, appended, stored, foundOtherwise}
 use Rattle.held.specs.Held as Held
 use Rattle.held.specs.Round.{Round}
 use Rattle.held.specs.Round as Round
@@ -54,6 +54,9 @@ withSlots s slots = record { slots = slots; hand = s .hand; sweep = s .sweep; le
 abbrev pub withCount : Shard → ℕ → Shard
 withCount s n = withSlots s (record { count = n; places = s .slots .places; finding = s .slots .finding })
 
+abbrev pub withFinding : Shard → Finding → Shard
+withFinding s f = withSlots s (foundOtherwise (s .slots) f)
+
 abbrev pub withSlot : Shard → ℕ → Slot → Shard
 withSlot s i slot = withSlots s (stored (s .slots) i slot)
 
@@ -77,7 +80,7 @@ handOf s = wrapped (s .hand) (s .slots .count)
 abbrev pub sweepOf : Shard → ℕ
 sweepOf s = wrapped (s .sweep) (s .slots .count)
 
--- Lookup by hash and key: a place that has both. In place order, as the words have it now, that is the lowest.
+-- Lookup by hash and key: a place that has both.
 unfoldable pub placeOf : Shard → ℕ → ℕ → Place
 placeOf s hash key = position slotItems (s .slots) hash (isKey hash key)
 

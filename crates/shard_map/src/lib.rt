@@ -3,7 +3,7 @@ ghost use mathlib.Core.Path.{_≡_};
 ghost use Prim.Native.Nat.{_<_};
 ghost use lib.ListN.{length};
 ghost use Rattle.bucket.specs.Bucket.{Accepted};
-ghost use Rattle.slot.specs.Slot.{isKey};
+ghost use Rattle.held.specs.Held.{withAdded, withoutItem};
 ghost use Rattle.shard_map.specs.Model as Model;
 ghost use Rattle.shard_map.specs.Layout.{shard, shardWords, Intact};
 use bucket::BucketConfig;
@@ -15,32 +15,30 @@ use units::Nanos;
 pub mod debts;
 pub mod words;
 
-// The lowest place that has the hash and the key.
+// A place that has the hash and the key: the first slot on the hash's walk that has both.
 pub fn position(ws: &[u64], cap: usize, hash: u64, key: u64) -> Place
     requires { ⌜ Intact cap (now ws) ⌝ }
     ensures { λ r. ⌜ r ≡ Model.placeOf (shard cap (now (ws .entry))) hash key ⌝ }
 {
     let count = words::count(ws, cap);
-    let mut i: usize = 0;
-    while i < count {
-        if is_key_at(ws, cap, i, hash, key) {
-            return Place::At(i);
-        }
-        i += 1;
-    }
-    Place::Nowhere
+    index::find(ws, words::index(cap), count, hash, key)
 }
 
-// Whether the slot at a place has the hash and the key.
-fn is_key_at(ws: &[u64], cap: usize, pos: usize, hash: u64, key: u64) -> bool
+// The slot at a place gets into the index, by the hash that it will have.
+fn add_to_index(ws: &mut [u64], cap: usize, hash: u64, pos: usize)
     requires { ⌜ Intact cap (now ws) × (pos < cap) ⌝ }
-    ensures { λ r. ⌜ r ≡ isKey hash key (Model.slotAt (shard cap (now (ws .entry))) pos) ⌝ }
+    ensures { λ _. ⌜ shard cap (now (ws .exit)) ≡ Model.withFinding (shard cap (now (ws .entry))) (withAdded (shard cap (now (ws .entry)) .slots .finding) hash pos) ⌝ }
 {
-    if words::hash_at(ws, cap, pos) == hash {
-        let held = words::key_at(ws, cap, pos);
-        return held == key;
-    }
-    false
+    index::add(ws, words::index(cap), hash, pos);
+}
+
+// The slot at a place leaves the index, and the last slot gets its number.
+fn remove_from_index(ws: &mut [u64], cap: usize, pos: usize)
+    requires { ⌜ Intact cap (now ws) × (pos < shard cap (now ws) .slots .count) ⌝ }
+    ensures { λ _. ⌜ shard cap (now (ws .exit)) ≡ Model.withFinding (shard cap (now (ws .entry))) (withoutItem Model.slotItems (shard cap (now (ws .entry)) .slots) pos) ⌝ }
+{
+    let count = words::count(ws, cap);
+    index::remove(ws, words::index(cap), count, pos);
 }
 
 // The slot at a place.
@@ -73,6 +71,7 @@ pub fn insert(ws: &mut [u64], cap: usize, slot: Slot)
     ensures { λ _. ⌜ shard cap (now (ws .exit)) ≡ Model.insert (shard cap (now (ws .entry))) slot ⌝ }
 {
     let count = words::count(ws, cap);
+    add_to_index(ws, cap, slot.hash, count);
     words::put(ws, cap, count, slot);
     words::set_count(ws, cap, count + 1);
 }
@@ -82,6 +81,7 @@ pub fn remove_at(ws: &mut [u64], cap: usize, pos: usize)
     requires { ⌜ Intact cap (now ws) × (pos < shard cap (now ws) .slots .count) ⌝ }
     ensures { λ _. ⌜ shard cap (now (ws .exit)) ≡ Model.removeAt (shard cap (now (ws .entry))) pos ⌝ }
 {
+    remove_from_index(ws, cap, pos);
     let last = words::count(ws, cap) - 1;
     let moved = words::load(ws, cap, last);
     let free = free_slot();

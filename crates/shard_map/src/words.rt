@@ -5,13 +5,15 @@ ghost use Prim.Native.Nat.{_<_, _^_};
 ghost use lib.ListN.{length};
 ghost use Rattle.slot.specs.Slot.{withMark};
 ghost use Rattle.shard_map.specs.Model as Model;
-ghost use Rattle.shard_map.specs.Layout.{shard, ledgerStart, shardWords};
+ghost use Rattle.shard_map.specs.Layout.{shard, ledgerStart, shardWords, slotIndex};
 use bucket::BucketCore;
+use index::Index;
 use slot::Slot;
 use units::Millis;
 use units::Nanos;
 
-// Where a shard's words lie, counted from its first: the slot count, the hand, the sweep, then the slots; after the slots come the words of the ledger.
+// Where a shard's words lie, counted from its first: the slot count, the hand, the sweep, then the slots; after the slots come the words of the ledger. Among
+// these, past the debts, lies the index of the slots.
 const COUNT: usize = 0;
 
 const HAND: usize = 1;
@@ -36,7 +38,10 @@ const SEEN: usize = 5;
 // The words of a shard that its places do not add to, and those that each place adds, with the ledger's.
 pub const HEAD_WORDS: usize = SLOTS + ledger::words::DEBTS;
 
-pub const PLACE_WORDS: usize = SLOT_WIDTH + ledger::words::DEBT_WIDTH;
+pub const PLACE_WORDS: usize = SLOT_WIDTH + ledger::words::PLACE_WORDS;
+
+// The words that each place adds before the index of the slots.
+const BEFORE_INDEX: usize = SLOT_WIDTH + ledger::words::DEBT_WIDTH;
 
 // The words of a shard of so many places.
 pub fn shard_words(cap: usize) -> usize
@@ -52,6 +57,20 @@ pub(crate) fn ledger_start(cap: usize) -> usize
     ensures { λ r. ⌜ r ≡ ledgerStart cap ⌝ }
 {
     SLOTS + SLOT_WIDTH * cap
+}
+
+// Where the index of the slots lies, and the slots that it names.
+pub(crate) fn index(cap: usize) -> Index
+    requires { ⌜ shardWords cap < 2 ^ 64 ⌝ }
+    ensures { λ r. ⌜ r ≡ slotIndex cap ⌝ }
+{
+    Index {
+        base: HEAD_WORDS + BEFORE_INDEX * cap,
+        size: index::PLACES_PER_ITEM * cap,
+        first: SLOTS,
+        width: SLOT_WIDTH,
+        key: KEY,
+    }
 }
 
 // How many slots are held.
@@ -78,22 +97,6 @@ pub(crate) fn sweep(ws: &[u64], cap: usize) -> usize
 {
     let sweep = ws[SWEEP];
     if sweep < ws[COUNT] { sweep as usize } else { 0 }
-}
-
-// The hash of the slot at a place.
-pub(crate) fn hash_at(ws: &[u64], cap: usize, i: usize) -> u64
-    requires { ⌜ (length (now ws) ≡ shardWords cap) × (i < cap) ⌝ }
-    ensures { λ r. ⌜ r ≡ Model.slotAt (shard cap (now (ws .entry))) i .hash ⌝ }
-{
-    ws[SLOTS + SLOT_WIDTH * i]
-}
-
-// The key of the slot at a place.
-pub(crate) fn key_at(ws: &[u64], cap: usize, i: usize) -> u64
-    requires { ⌜ (length (now ws) ≡ shardWords cap) × (i < cap) ⌝ }
-    ensures { λ r. ⌜ r ≡ Model.slotAt (shard cap (now (ws .entry))) i .key ⌝ }
-{
-    ws[SLOTS + SLOT_WIDTH * i + KEY]
 }
 
 // The slot at a place.
