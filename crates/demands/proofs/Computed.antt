@@ -6,7 +6,8 @@ use mathlib.Core.List.{[], _∷_}
 use Rattle.arith.specs.Arith.{ceilDiv}
 use Rattle.rows.specs.Rows.{rows, unrow}
 use Rattle.held.specs.Layout.{tableIn}
-use Rattle.rows.specs.Places.{lowestFrom, sum}
+use Rattle.rows.specs.Places.{sum}
+use Rattle.index.specs.Walk as Index
 use Rattle.held.specs.Held.{removed}
 use Rattle.held.specs.Round as Round
 use Rattle.bucket.specs.Bucket.{shortfallAt, availableAt, waitAt, asked}
@@ -67,7 +68,9 @@ pub record Computed : Type 0 where
   pub two-at-once : Overgrants 0 rules fast 1 ((7, 1) ∷ (7, 1) ∷ (7, 1) ∷ []) 7 1
 
 pub computed : Computed
-unfolding ceilDiv rows unrow tableIn lowestFrom removed sum Round.lookAt Round.look Round.sweep shortfallAt availableAt waitAt asked takenOut lacking restored
+unfolding ceilDiv rows unrow tableIn removed Index.onward Index.walkFrom Index.walk Index.findFrom Index.find Index.seek Index.add
+    Index.addAgain Index.rehome Index.vacate Index.renumber Index.remove
+    sum Round.lookAt Round.look Round.sweep shortfallAt availableAt waitAt asked takenOut lacking restored
     Rate.unlessWithin Rate.rateRefusal Settings.sizeRefusal Settings.firstRefusal exponentFrom exponentFor
     Debts.ledger Debts.wordsOf Ledger.placeOf Ledger.removeAt Ledger.append Ledger.owedBy Ledger.taken Ledger.sweep
     Ledger.scanFrom Ledger.scan Ledger.dropChosen Ledger.makeRoom Ledger.recordedAt Ledger.recorded

@@ -45,7 +45,7 @@ pub record SoundMemory (s : Settings) (ws : List ℕ) : Type 0 where
 operation-keeps-sound : {A : Type 0} (s : Settings) (hash : ℕ) (ws : List ℕ) (o : Outcome A Shard.Shard) → SameRoom (shardAt s hash ws) (o .after)
     → SoundMemory s ws → SoundMemory s (inShard s hash ws o .after)
 operation-keeps-sound s hash ws o room memory =
-    let sized : Sized (capOf s) (o .after) = same-room-sized s hash ws room in
+    let sized : Sized (capOf s) (o .after) = same-room-sized s hash ws (memory .size) room in
     record {
       size = in-shard-length s hash ws o (memory .size) sized;
       sound = λ other.

@@ -1,15 +1,19 @@
 -- A shard that is read from words that fit 64 bits fits, and one that fits is written as words that fit.
-use Prim.Native.Nat.{ℕ, _+_, _*_}
-use mathlib.Core.List.{List, map}
+use Prim.Native.Nat.{ℕ, suc, _+_, _*_, _^_}
+use mathlib.Core.List.{List, [], _∷_, _++_, map}
 use native.Mathlib.Omega.{arith}
-use lib.ListN.{length, getD, take}
+use lib.ListN.{length, getD, take, drop}
 use Rattle.rows.specs.Segments.{segment}
 use Rattle.rows.specs.Rows.{rows, unrow}
-use Rattle.held.specs.Layout.{Table, tableIn}
+use Rattle.index.specs.Layout.{placesFor}
+use Rattle.index.proofs.WordLaws.{Below}
+use Rattle.held.specs.Held.{Finding, inOrder, byIndex}
+use Rattle.held.specs.Layout.{Table, tableIn, indexWords}
 use Rattle.held.proofs.LayoutLaws.{table-length}
+use Rattle.held.proofs.FindingLaws.{WordsBelow}
 use Rattle.slot.specs.declared.Slot.{Slot}
 use Rattle.ledger.specs.declared.Debt.{Debt}
-use Rattle.ledger.specs.Model.{Ledger}
+use Rattle.ledger.specs.Model.{Ledger, withOthers}
 use Rattle.ledger.specs.Layout as Debts
 use Rattle.shard_map.specs.Model.{Shard}
 use Rattle.shard_map.specs.Layout.{slotOf, slotWords, shard, wordsOf}
@@ -42,6 +46,10 @@ table-read-fits Q read width cap first ws reads room every =
       rest = every-left Word (first + width * cap) ws every;
     }
 
+-- The words of an index.
+index-read-fits : (ix : List ℕ) → Every Word ix → Below (2 ^ 64) ix
+index-read-fits ix every q = word-fits ix q every
+
 -- So a slot, a debt, a ledger and a shard.
 slot-read-fits : (row : List ℕ) → Every Word row → SlotFits (slotOf row)
 slot-read-fits row every = record {
@@ -59,17 +67,22 @@ ledger-read-fits : (cap : ℕ) (ws : List ℕ) → Word cap → Every Word ws �
 unfolding Debts.ledger
 ledger-read-fits cap ws room every =
     let f = table-read-fits DebtFits Debts.debtOf _ cap _ ws debt-read-fits room every in
-    record { debts = record { count = f .head _; room = f .room; items = f .items; finding = tt }; cursor = f .head _; others = f .rest }
+    record {
+      debts = record { count = f .head _; room = f .room; items = f .items; finding = index-read-fits (drop (placesFor cap) _) (every-left Word (placesFor cap) _ (f .rest)) };
+      cursor = f .head _;
+      others = every-taken Word (placesFor cap) _ (f .rest);
+    }
 
 pub shard-read-fits : (cap : ℕ) (ws : List ℕ) → Word cap → Every Word ws → ShardFits (shard cap ws)
 unfolding shard
 shard-read-fits cap ws room every =
     let f = table-read-fits SlotFits slotOf _ cap _ ws slot-read-fits room every in
+    let l = ledger-read-fits cap _ room (f .rest) in
     record {
-      slots = record { count = f .head _; room = f .room; items = f .items; finding = tt };
+      slots = record { count = f .head _; room = f .room; items = f .items; finding = index-read-fits _ (l .others) };
       hand = f .head _;
       sweep = f .head _;
-      ledger = ledger-read-fits cap _ room (f .rest);
+      ledger = record { debts = l .debts; cursor = l .cursor; others = tt };
     }
 
 -- The words of each, where it fits.
@@ -83,15 +96,26 @@ items-written-fit : {A : Type 0} (Q : A → Type 0) (write : A → List ℕ) →
     → Every Word (unrow (map write items))
 items-written-fit Q write writes items every = every-of-rows Word (map write items) (every-made Q (Every Word) write writes items every)
 
+below-every : (ix : List ℕ) → Below (2 ^ 64) ix → Every Word ix
+below-every [] below = tt
+below-every (w ∷ ix) below = (below 0, below-every ix (λ q. below (suc q)))
+
+index-words-fit : (f : Finding) → WordsBelow (2 ^ 64) f → Every Word (indexWords f)
+index-words-fit inOrder below = tt
+index-words-fit (byIndex ix) below = below-every ix below
+
 ledger-words-fit : (l : Ledger) → LedgerFits l → Every Word (Debts.wordsOf l)
 unfolding Debts.wordsOf
 ledger-words-fit l f =
     let debts = items-written-fit DebtFits Debts.debtWords debt-words-fit (l .debts .places) (f .debts .items) in
-    (f .debts .count, (f .cursor, every-joined Word (unrow (map Debts.debtWords (l .debts .places))) (l .others) debts (f .others)))
+    let rest = every-joined Word (l .others) (indexWords (l .debts .finding)) (f .others) (index-words-fit (l .debts .finding) (f .debts .finding)) in
+    (f .debts .count, (f .cursor, every-joined Word (unrow (map Debts.debtWords (l .debts .places))) (l .others ++ indexWords (l .debts .finding)) debts rest))
 
 pub shard-words-fit : (s : Shard) → ShardFits s → Every Word (wordsOf s)
 unfolding wordsOf
 shard-words-fit s f =
     let slots = items-written-fit SlotFits slotWords slot-words-fit (s .slots .places) (f .slots .items) in
-    let both = every-joined Word (unrow (map slotWords (s .slots .places))) (Debts.wordsOf (s .ledger)) slots (ledger-words-fit (s .ledger) (f .ledger)) in
+    let l : Ledger = withOthers (s .ledger) (indexWords (s .slots .finding)) in
+    let fits : LedgerFits l = record { debts = f .ledger .debts; cursor = f .ledger .cursor; others = index-words-fit (s .slots .finding) (f .slots .finding) } in
+    let both = every-joined Word (unrow (map slotWords (s .slots .places))) (Debts.wordsOf l) slots (ledger-words-fit l fits) in
     (f .slots .count, (f .hand, (f .sweep, both)))

@@ -62,7 +62,7 @@ module _ (s : Settings) (hash : ℕ) (ws : List ℕ) (lent : lendable ws ≡ tru
       → lendable (inShard s hash ws o .after) ≡ true
   operation-leaves-lendable o room f =
       let same : length (inShard s hash ws o .after) ≡ memoryWords s =
-      in-shard-length s hash ws o (accepted .set-up .size) (same-room-sized s hash ws room) in
+      in-shard-length s hash ws o (accepted .set-up .size) (same-room-sized s hash ws (accepted .set-up .size) room) in
       let new : Every Word (Layout.wordsOf (o .after)) = shard-words-fit (o .after) f in
       words-are-lendable (inShard s hash ws o .after)
       (omega (arith, same, accepted .set-up .size, lendable-length ws lent))

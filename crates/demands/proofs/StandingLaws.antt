@@ -51,7 +51,7 @@ module _ (s : Settings) (rate : Rate) (k : Identity) (B : BoundOf (configOf rate
   module _ {A : Type 0} (hash n : ℕ) (ws : List ℕ) {g : B .History} (v : Standing n ws g) (o : Outcome A Shard.Shard)
       (room : SameRoom (shardAt s hash ws) (o .after)) (next : B .History) where
     sized : Sized (capOf s) (o .after)
-    sized = same-room-sized s hash ws room
+    sized = same-room-sized s hash ws (v .size) room
 
     pub operation-stands : (shardOf s (k .hash) ≡ shardOf s hash → Bounds n (shardAt s hash ws) g → Bounds n (o .after) next)
         → ((shardOf s (k .hash) ≡ shardOf s hash → ⊥) → next ≡ g) → Standing n (inShard s hash ws o .after) next

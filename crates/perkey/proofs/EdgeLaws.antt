@@ -4,7 +4,7 @@ use mathlib.Core.Bool.{true}
 use Rattle.arith.specs.Arith.{ceilDiv}
 use Rattle.rows.specs.Rows.{rows, unrow}
 use Rattle.held.specs.Layout.{tableIn}
-use Rattle.rows.specs.Places.{lowestFrom}
+use Rattle.index.specs.Walk as Index
 use Rattle.held.specs.Held.{removed}
 use Rattle.held.specs.Round as Round
 use Rattle.bucket.specs.Bucket.{shortfallAt, availableAt, waitAt, asked}
@@ -24,7 +24,9 @@ use Rattle.perkey.specs.Rules as Rules
 use Rattle.perkey.specs.Edges.{allHold, edges}
 
 pub every-edge-holds : allHold edges ≡ true
-unfolding ceilDiv rows unrow tableIn lowestFrom removed Round.lookAt Round.look Round.sweep shortfallAt availableAt waitAt asked takenOut lacking restored
+unfolding ceilDiv rows unrow tableIn removed Index.onward Index.walkFrom Index.walk Index.findFrom Index.find Index.seek Index.add
+    Index.addAgain Index.rehome Index.vacate Index.renumber Index.remove
+    Round.lookAt Round.look Round.sweep shortfallAt availableAt waitAt asked takenOut lacking restored
     Rate.unlessWithin Rate.rateRefusal Settings.sizeRefusal Settings.firstRefusal exponentFrom exponentFor hashFrom
     Debts.ledger Debts.wordsOf Ledger.placeOf Ledger.removeAt Ledger.append Ledger.owedBy Ledger.taken Ledger.sweep
     Ledger.scanFrom Ledger.scan Ledger.dropChosen Ledger.makeRoom Ledger.recordedAt Ledger.recorded Ledger.paidDown

@@ -129,9 +129,9 @@ module _ (s : Settings) (hash : ℕ) (ws : List ℕ) where
   shard-at-debt-cap = debt-cap-is (capOf s) _
 
   -- A shard with the same room has its size.
-  pub same-room-sized : {t : Shard.Shard} → SameRoom (shardAt s hash ws) t → Sized (capOf s) t
-  same-room-sized room =
-      let own = shard-sized (capOf s) _ (segment-most (partStart (shapeOf s) hash) (shardWords (capOf s)) ws) in
+  pub same-room-sized : length ws ≡ memoryWords s → {t : Shard.Shard} → SameRoom (shardAt s hash ws) t → Sized (capOf s) t
+  same-room-sized size room =
+      let own = shard-sized (capOf s) _ (segment-length (partStart (shapeOf s) hash) (shardWords (capOf s)) ws (shard-fits s hash ws size)) in
       record {
         slots = room .cap ∙ own .slots;
         slots-kind = room .kind ∙ own .slots-kind;
