@@ -3,7 +3,7 @@
 use Prim.Native.Nat.{ℕ, suc, _+_, _-_, _≤_, _<_, min}
 use native.Mathlib.Omega.{arith}
 use mathlib.Core.Path.{_≡_, refl, ap, sym, _∙_}
-use mathlib.Core.Bool.{Bool, true, false}
+use mathlib.Core.Bool.{Bool, true, false, cond}
 use mathlib.Core.List.{List}
 use lib.ListN.{length}
 use borrow.Author.Tests.{lt-ltb, le-ltb, le-leb, lt-leb}
@@ -12,43 +12,67 @@ use Rattle.bucket.specs.declared.BucketConfig.{BucketConfig}
 use Rattle.settings.specs.Eviction.{ledgerScan}
 use Rattle.rows.specs.declared.Place.{Place}
 use Rattle.rows.specs.declared.Place.the-variants.{At, Nowhere}
-use Rattle.held.specs.Held.{removed}
+use Rattle.index.specs.Walk as Index
+use Rattle.index.specs.Layout.{Fits, placesOf, withPlaces, hashOf, keyed}
+use Rattle.held.specs.Held.{withAdded, removed, withoutItem}
 use Rattle.held.specs.Round as Round
 use Rattle.rows.specs.Outcome.{Outcome, outcome}
 use Rattle.rows.proofs.OutcomeLaws.{answer-is, after-is}
-use Rattle.held.proofs.SearchLaws.{Searching, search-begins}
+use Rattle.held.proofs.IndexLaws.{indexed-fits, indexed-find, indexed-add, indexed-remove}
 use Rattle.held.proofs.RoundLaws.{look-goes, look-stays, look-none, ByLooks}
 use Rattle.ledger.specs.declared.Debt.{Debt}
 use Rattle.ledger.specs.declared.Choice.{Choice}
 use Rattle.ledger.specs.declared.Choice.the-variants.{Settled, Soonest}
 use Rattle.ledger.specs.declared.Recorded.{Recorded}
 use Rattle.ledger.specs.declared.Recorded.the-variants.{Done, NoRoom}
-use Rattle.ledger.specs.Model.{Ledger, Sound, noDebt, debtItems, capOf, debtAt, settlesAt, settledBy, cursorOf, withCount, withCursor, withDebt, owes, placeOf, removeAt}
-use Rattle.ledger.specs.Model.{append, takenAt, taken, roundOf, withRound, look, sweep, sooner, scanFrom, scan, dropChosen, makeRoom, joined, later, recordedAt}
+use Rattle.ledger.specs.Model.{Ledger, Sound, noDebt, debtItems, capOf, debtAt, settlesAt, settledBy, cursorOf, withCount, withCursor, withFinding, withDebt, owes, placeOf}
+use Rattle.ledger.specs.Model.{removeAt, append, takenAt, taken, roundOf, withRound, look, sweep, sooner, scanFrom, scan, dropChosen, makeRoom, joined, later, recordedAt}
 use Rattle.ledger.specs.Model.{recorded, credit, paidAt, paidDown}
-use Rattle.ledger.specs.Layout.{ledger, Intact}
-use Rattle.ledger.proofs.LayoutLaws.{cap-is}
+use Rattle.ledger.specs.Layout.{debtIndex, ledger, Intact}
+use Rattle.ledger.proofs.LayoutLaws.{cap-is, index-put, debts-indexed}
 use Rattle.ledger.proofs.StepLaws.{cursor-below, found-owes, look-sound}
 use Rattle.ledger.proofs.RecordLaws.{sooner-is-either, chosen, scan-chooses-held, scan-sound, make-room-sound, make-room-makes-room}
 
--- Append and removal in words, store by store, as the code makes them.
-module _ (cap : ℕ) (ws : List ℕ) where
+-- Append and removal, store by store, as the code makes them: first in the index, then in the places, last the count.
+module _ (l : Ledger) where
+  pub append-by-stores : (d : Debt)
+      → withCount (withDebt (withFinding l (withAdded (l .debts .finding) (d .hash) (l .debts .count))) (l .debts .count) d) (l .debts .count + 1) ≡ append l d
+  unfolding append
+  append-by-stores d = refl
+
+  abbrev unnamed : ℕ → Ledger
+  unnamed p = withFinding l (withoutItem debtItems (l .debts) p)
+
+  pub remove-by-stores : (p : ℕ)
+      → withCount (withDebt (withDebt (unnamed p) p (debtAt (unnamed p) (l .debts .count - 1))) (l .debts .count - 1) noDebt) (l .debts .count - 1) ≡ removeAt l p
+  unfolding removeAt removed
+  remove-by-stores p = refl
+
+-- A debt has its hash for a key: a test of the hash and then of the key is a test of the hash.
+tested-twice : (b : Bool) → cond b b false ≡ b
+tested-twice true = refl
+tested-twice false = refl
+
+-- Lookup, addition and removal in the words' index, as the crate `index` makes them.
+module _ {cap : ℕ} {ws : List ℕ} (intact : Intact cap ws) where
   abbrev stands : Ledger
   stands = ledger cap ws
 
-  pub append-by-stores : (d : Debt) → withCount (withDebt stands (stands .debts .count) d) (stands .debts .count + 1) ≡ append stands d
-  unfolding append ledger
-  append-by-stores d = refl
+  pub debts-fit : Fits (debtIndex cap) (stands .debts .count) ws
+  debts-fit = indexed-fits (debts-indexed intact)
 
-  pub remove-by-stores : (p : ℕ)
-      → withCount (withDebt (withDebt stands p (debtAt stands (stands .debts .count - 1))) (stands .debts .count - 1) noDebt) (stands .debts .count - 1) ≡ removeAt stands p
-  unfolding removeAt removed ledger
-  remove-by-stores p = refl
+  pub found-in-index : (hash : ℕ) → Index.find (stands .debts .count) (keyed (debtIndex cap) ws hash hash) (placesOf (debtIndex cap) ws) hash ≡ placeOf stands hash
+  unfolding placeOf
+  found-in-index hash = indexed-find (debts-indexed intact) hash hash (owes hash) (λ d. tested-twice (owes hash d))
 
-  -- Lookup: where its loop begins.
-  pub place-begins : (hash count : ℕ) → count ≡ stands .debts .count → Searching debtItems (stands .debts) (owes hash) count 0 (placeOf stands hash)
-  unfolding placeOf ledger
-  place-begins hash count counted = search-begins debtItems (stands .debts) hash (owes hash) count refl counted
+  pub added-to-index : (hash i : ℕ) → ledger cap (withPlaces (debtIndex cap) ws (Index.add (placesOf (debtIndex cap) ws) hash i))
+      ≡ withFinding stands (withAdded (stands .debts .finding) hash i)
+  added-to-index hash i = indexed-add (debts-indexed intact) (ledger cap) (withFinding stands) (index-put cap ws (intact .size)) hash i
+
+  pub removed-from-index : (p : ℕ) → p < stands .debts .count
+      → ledger cap (withPlaces (debtIndex cap) ws (Index.remove (hashOf (debtIndex cap) ws) (stands .debts .count) (placesOf (debtIndex cap) ws) p))
+      ≡ withFinding stands (withoutItem debtItems (stands .debts) p)
+  removed-from-index p below = indexed-remove (debts-indexed intact) (ledger cap) (withFinding stands) (index-put cap ws (intact .size)) p below
 
 -- Take and pay down, once lookup has given a place and it is known which.
 module _ (l : Ledger) (hash : ℕ) {place known : Place} (gave : place ≡ placeOf l hash) (is : place ≡ known) where
