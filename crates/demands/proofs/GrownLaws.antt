@@ -2,18 +2,18 @@
 -- and no two slots are of one key. Where a shard has indexes, they are exact.
 use Prim.Native.Nat.{ℕ}
 use native.Mathlib.Omega.{arith}
-use mathlib.Core.Path.{_≡_, refl, sym, ap, _∙_}
+use mathlib.Core.Path.{_≡_, sym, _∙_}
 use mathlib.Core.Bool.{false}
 use mathlib.Core.List.{List}
 use lib.ListN.{length, replicate, length-replicate}
 use Rattle.arith.proofs.Cases.{by-eq}
 use Rattle.rows.specs.Outcome.{Outcome}
 use Rattle.index.specs.Exact.{Exact}
-use Rattle.held.specs.Held.{Finding, inOrder, byIndex, Held, Items, hashAt, Complete, in-order-is-complete, exact-is-complete}
+use Rattle.held.specs.Held.{inOrder, byIndex, Held, Items, hashAt, Complete, in-order-is-complete, exact-is-complete}
 use Rattle.settings.specs.declared.Settings.{Settings}
 use Rattle.settings.specs.Settings.{shardOf}
 use Rattle.ledger.specs.Model.{debtItems}
-use Rattle.shard_map.specs.Model.{Shard, slotItems}
+use Rattle.shard_map.specs.Model.{slotItems}
 use Rattle.shard_map.proofs.PlaceOrderLaws.{FindsEach, found-is-complete, empty-finds-each}
 use Rattle.store.specs.Memory.{memoryWords, shardAt}
 use Rattle.store.proofs.MemoryLaws.{fresh-sound, fresh-shards-are-complete, fresh-shards-are-empty}

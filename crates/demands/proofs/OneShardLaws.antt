@@ -9,7 +9,6 @@ use lib.ListN.{length}
 use Rattle.arith.proofs.Cases.{by-test, by-eq}
 use Rattle.rows.specs.Outcome.{Outcome, outcome}
 use Rattle.units.specs.declared.Nanos.{Nanos}
-use Rattle.bucket.specs.declared.BucketCore.{BucketCore}
 use Rattle.bucket.specs.declared.Request.{Request}
 use Rattle.bucket.specs.declared.Request.the-variants.{Acquire, Reserve}
 use Rattle.settings.specs.declared.Limit.{Limit}
@@ -21,7 +20,7 @@ use Rattle.shard_map.specs.Model.{Shard}
 use Rattle.shard_map.proofs.ReadBack.{Sized}
 use Rattle.shard_map.proofs.PlaceOrderLaws.{inPlaceOrder, FindsEach}
 use Rattle.shard.specs.declared.Identity.{Identity}
-use Rattle.shard.specs.Model.{withOrInsert, viewed, refunded, removed}
+use Rattle.shard.specs.Model.{withOrInsert, refunded, removed}
 use Rattle.shard.proofs.ShardLaws.{SameRoom, ask-same-room, refund-same-room, remove-same-room}
 use Rattle.shard.proofs.PlaceOrderLaws.{SameAsPlaceOrder, EveryOperationSame, every-operation-same}
 use Rattle.store.specs.Memory.{memoryWords, shardAt, inShard}

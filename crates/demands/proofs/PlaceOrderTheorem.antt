@@ -3,7 +3,7 @@
 use Prim.Native.Nat.{ℕ, _*_, _/_, _%_, _<_, _^_}
 use native.Mathlib.Omega.{arith}
 use native.Mathlib.Nat.{mul-div-cancel, mod-eq-of-lt}
-use mathlib.Core.Path.{_≡_, refl, sym, ap, _∙_}
+use mathlib.Core.Path.{_≡_, refl, sym, ap, subst, _∙_}
 use mathlib.Core.Bool.{false}
 use mathlib.Core.List.{List, [], _∷_}
 use borrow.Author.Tests.{eq-eqb, ne-eqb}
@@ -14,21 +14,22 @@ use Rattle.settings.specs.declared.Settings.{Settings}
 use Rattle.settings.specs.Settings.{shardCount, shardOf}
 use Rattle.settings.proofs.SettingsLaws.{shard-is-remainder}
 use Rattle.shard_map.specs.Model.{Shard}
+use Rattle.shard_map.proofs.ReadBack.{Empty}
 use Rattle.shard_map.proofs.PlaceOrderLaws.{inPlaceOrder}
 use Rattle.shard.specs.declared.Identity.{Identity}
 use Rattle.shard.proofs.PlaceOrderLaws.{SameAsPlaceOrder}
 use Rattle.store.specs.Memory.{shardAt}
-use Rattle.perkey.specs.declared.Reply.{Reply}
+use Rattle.store.proofs.MemoryLaws.{fresh-shards-are-empty}
 use Rattle.perkey.specs.declared.Reply.the-variants.{Done, Count}
-use Rattle.perkey.specs.Rules.{setUp}
+use Rattle.perkey.specs.Rules.{setUp, clear}
 use Rattle.perkey.specs.Calls.{Call, request, look, undo, len, rules, settingsOf, numbered}
 use Rattle.perkey.proofs.CallLaws.{not-refused-is-ruled}
-use Rattle.demands.specs.Grown.{Grown, cleared, called}
+use Rattle.demands.specs.Grown.{Grown, set-up, cleared, called}
 use Rattle.demands.specs.PlaceOrder.{inItsShard, shardNumbered, Shards, freshShards, inShardOf, onShards, Turn, calls, clears, byRules, withoutIndexes}
-use Rattle.demands.specs.PlaceOrder.{run, Accepted, AllAccepted, SameWithoutIndexes}
+use Rattle.demands.specs.PlaceOrder.{run, Accepted, AllAccepted, IndexesExact, SameWithoutIndexes, NoIndex}
 use Rattle.demands.proofs.Theorem.{set-up-done}
 use Rattle.demands.proofs.OneShardLaws.{taken-not-refused, WorksInOneShard, rules-work-in-one-shard, call-same-as-place-order}
-use Rattle.demands.proofs.GrownLaws.{SoundMemory, sound-kept-by-calls, grown-memory-is-sound}
+use Rattle.demands.proofs.GrownLaws.{SoundMemory, sound-kept-by-calls, grown-indexes-are-exact}
 
 -- Every shard is the shard of some hash: its number, from bit 40 on.
 every-shard-has-a-hash : (s : Settings) (i : ℕ) → i < shardCount s → shardOf s (i * 2 ^ 40) ≡ i
@@ -111,18 +112,38 @@ module _ (s : Settings) where
       let rest = run-same ts (byRules s t ws .after) (withoutIndexes s t shards .after) (turn-keeps-sound t ws memory (accepted .0)) (first .shards) (accepted .1) in
       record { answer = rw (first .answer, rest .answer); shards = rest .shards }
 
-  -- From an accepted set-up, by any accepted calls of one settings record, clear among them.
-  pub grown-store-is-as-without-indexes : (ws : List ℕ) → setUp s ws .answer ≡ Done → (ts : List Turn) → AllAccepted s ts (setUp s ws .after)
-      → SameWithoutIndexes s ts (setUp s ws .after)
-  grown-store-is-as-without-indexes ws done ts accepted =
-      let fresh = fresh-same ws done in
-      let same = run-same ts (setUp s ws .after) (freshShards s) (sound-kept-by-calls s .fresh ws done) (fresh .shards) accepted in
-      record { answers = same .answer; shards = same-by-number s (run (byRules s) ts (setUp s ws .after) .after) _ (same .shards) }
-
-  -- Such a list leaves a grown store, so its indexes are exact (`grown-indexes-are-exact`).
+  -- It leaves a grown store.
   pub run-is-grown : (ts : List Turn) (ws : List ℕ) → Grown s ws → AllAccepted s ts ws → Grown s (run (byRules s) ts ws .after)
   unfolding run AllAccepted
   run-is-grown [] ws grown accepted = grown
-  run-is-grown (calls c ∷ ts) ws grown accepted =
-      run-is-grown ts (rules c ws .after) (called c ws grown (accepted .0 .0) (accepted .0 .1)) (accepted .1)
-  run-is-grown (clears ∷ ts) ws grown accepted = run-is-grown ts (byRules s clears ws .after) (cleared ws grown (accepted .0)) (accepted .1)
+  run-is-grown (calls c ∷ ts) ws grown accepted = run-is-grown ts (rules c ws .after) (called c ws grown (accepted .0 .0) (accepted .0 .1)) (accepted .1)
+  run-is-grown (clears ∷ ts) ws grown accepted = run-is-grown ts (clear s ws .after) (cleared ws grown (accepted .0)) (accepted .1)
+
+  -- The indexes of a grown store are exact, by the numbers of the shards.
+  exact-by-number : (ws : List ℕ) → Grown s ws → (i : ℕ) → i < shardCount s → IndexesExact (shardNumbered s i ws)
+  exact-by-number ws grown i below =
+      let is = ap (λ (j : ℕ). shardNumbered s j ws) (every-shard-has-a-hash s i below) in
+      subst IndexesExact is (grown-indexes-are-exact grown (i * 2 ^ 40))
+
+  -- The theorem: from an accepted set-up, by any accepted calls of one settings record, clear among them.
+  module _ (ws : List ℕ) (done : setUp s ws .answer ≡ Done) (ts : List Turn) (accepted : AllAccepted s ts (setUp s ws .after)) where
+    pub grown-store-is-as-without-indexes : SameWithoutIndexes s ts (setUp s ws .after)
+    grown-store-is-as-without-indexes =
+        let words : List ℕ = run (byRules s) ts (setUp s ws .after) .after in
+        let same = run-same ts (setUp s ws .after) (freshShards s) (sound-kept-by-calls s .fresh ws done) (fresh-same ws done .shards) accepted in
+        record {
+          answers = same .answer;
+          shards = same-by-number s words _ (same .shards);
+          indexes = exact-by-number words (run-is-grown ts (setUp s ws .after) (set-up ws done) accepted);
+        }
+
+    -- The store without indexes has none to the end.
+    pub no-index-comes : (i : ℕ) → i < shardCount s → NoIndex (run (withoutIndexes s) ts (freshShards s) .after i)
+    no-index-comes i below = subst NoIndex (grown-store-is-as-without-indexes .shards i below) (record { slots = refl; debts = refl })
+
+-- A fresh store without indexes holds nothing.
+pub fresh-shards-hold-nothing : (s : Settings) (i : ℕ) → i < shardCount s → Empty (freshShards s i)
+fresh-shards-hold-nothing s i below =
+    let is = ap (freshShards s) (every-shard-has-a-hash s i below) in
+    let empty = fresh-shards-are-empty s (i * 2 ^ 40) in
+    subst Empty is (record { slots = empty .slots; hand = empty .hand; sweep = empty .sweep; debts = empty .debts; cursor = empty .cursor })

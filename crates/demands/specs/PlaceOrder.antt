@@ -1,5 +1,5 @@
--- A store without indexes (request 3 of document 02): slots and debts are found in the order of their places. It answers lists of calls as the rules do
--- on words, and has their shards (`grown-store-is-as-without-indexes`).
+-- A store without indexes (request 3 of document 02): its slots and debts are found in the order of their places. A store that has grown from fresh gives the
+-- same answers and has the same shards (`grown-store-is-as-without-indexes`).
 use Prim.Native.Nat.{ℕ, _<_}
 use mathlib.Core.Path.{_≡_}
 use mathlib.Core.Bool.{false, cond}
@@ -21,7 +21,7 @@ use Rattle.settings.specs.declared.rate.Rate.{Rate}
 use Rattle.settings.specs.Rate.{configOf}
 use Rattle.settings.specs.Settings.{shardCount, capOf, shardOf}
 use Rattle.index.specs.Exact.{Exact}
-use Rattle.held.specs.Held.{byIndex, hashAt}
+use Rattle.held.specs.Held.{inOrder, byIndex, hashAt}
 use Rattle.ledger.specs.Model.{debtItems}
 use Rattle.shard_map.specs.Model.{Shard, slotItems}
 use Rattle.shard_map.specs.Layout.{shard, shardWords}
@@ -125,14 +125,20 @@ unfoldable pub AllAccepted : Settings → List Turn → List ℕ → Type 0
 AllAccepted s [] ws = Unit {0}
 AllAccepted s (t ∷ ts) ws = Accepted s t ws × AllAccepted s ts (byRules s t ws .after)
 
--- A list of turns gives on words, by the rules, what it gives on a fresh store without indexes: the same answers, and in the end every shard of the words is, in
--- place order, the shard of that store. So all slots, debts, counts, hands, sweeps and cursors are the same.
-pub record SameWithoutIndexes (s : Settings) (ts : List Turn) (ws : List ℕ) : Type 0 where
-  pub answers : run (byRules s) ts ws .answer ≡ run (withoutIndexes s) ts (freshShards s) .answer
-  pub shards : (i : ℕ) → i < shardCount s → inPlaceOrder (shardNumbered s i (run (byRules s) ts ws .after)) ≡ run (withoutIndexes s) ts (freshShards s) .after i
-
--- Every item of a shard stands in its index once, on its walk, and no other place is in use (`Exact`): so it is with the slots and with the debts, where they
+-- Every item of a shard stands in its index once, on its walk, and no other place is in use (`Exact`). So it is with the slots and with the debts, where they
 -- are found by an index.
 pub record IndexesExact (own : Shard) : Type 0 where
   pub slots : (ix : List ℕ) → own .slots .finding ≡ byIndex ix → Exact (hashAt slotItems (own .slots)) (own .slots .count) ix
   pub debts : (ix : List ℕ) → own .ledger .debts .finding ≡ byIndex ix → Exact (hashAt debtItems (own .ledger .debts)) (own .ledger .debts .count) ix
+
+-- Indexes change nothing in a list of turns on words. By the rules it gives the answers that it gives on a fresh store without indexes. In the end every shard in
+-- the words is, in place order, the shard of that store: all slots, debts, counts, hands, sweeps and cursors are the same. And all indexes are exact.
+pub record SameWithoutIndexes (s : Settings) (ts : List Turn) (ws : List ℕ) : Type 0 where
+  pub answers : run (byRules s) ts ws .answer ≡ run (withoutIndexes s) ts (freshShards s) .answer
+  pub shards : (i : ℕ) → i < shardCount s → inPlaceOrder (shardNumbered s i (run (byRules s) ts ws .after)) ≡ run (withoutIndexes s) ts (freshShards s) .after i
+  pub indexes : (i : ℕ) → i < shardCount s → IndexesExact (shardNumbered s i (run (byRules s) ts ws .after))
+
+-- A shard that has no index.
+pub record NoIndex (own : Shard) : Type 0 where
+  pub slots : own .slots .finding ≡ inOrder
+  pub debts : own .ledger .debts .finding ≡ inOrder
