@@ -1,107 +1,93 @@
--- What every call keeps, a grown store has. So its shards are sound: none holds more items than it has room for. And lookup misses no item in them.
-use Prim.Native.Nat.{ℕ, _≤_}
-use mathlib.Core.Path.{_≡_, sym, ap, _∙_}
-use mathlib.Core.Bool.{false, true≢false}
+-- What every call keeps, a grown store has. So in its shards lookup finds each slot and each debt: none holds more items than it has room for, lookup misses none,
+-- and no two slots are of one key. Where a shard has indexes, they are exact.
+use Prim.Native.Nat.{ℕ}
+use native.Mathlib.Omega.{arith}
+use mathlib.Core.Path.{_≡_, sym, _∙_}
+use mathlib.Core.Bool.{false}
 use mathlib.Core.List.{List}
-use lib.Dec.{ltb, eqb}
 use lib.ListN.{length, replicate, length-replicate}
-use Rattle.arith.proofs.Cases.{by-test, by-eq}
+use Rattle.arith.proofs.Cases.{by-eq}
 use Rattle.rows.specs.Outcome.{Outcome}
-use Rattle.units.specs.declared.Nanos.{Nanos}
-use Rattle.bucket.specs.declared.Request.{Request}
-use Rattle.settings.specs.declared.Limit.{Limit}
-use Rattle.settings.specs.declared.Limit.the-variants.{Closed, Open}
+use Rattle.index.specs.Exact.{Exact}
+use Rattle.held.specs.Held.{inOrder, byIndex, Held, Items, hashAt, Complete, in-order-is-complete, exact-is-complete}
 use Rattle.settings.specs.declared.Settings.{Settings}
-use Rattle.settings.specs.declared.rate.Rate.{Rate}
-use Rattle.settings.specs.Rate.{configOf}
-use Rattle.settings.specs.Settings.{capOf, shardOf}
-use Rattle.shard_map.specs.Model as Shard
-use Rattle.shard_map.proofs.ReadBack.{Sized}
-use Rattle.shard.specs.declared.Identity.{Identity}
-use Rattle.shard.specs.Model as OneShard
-use Rattle.shard.proofs.ShardLaws.{SameRoom, ask-same-room, refund-same-room, remove-same-room}
-use Rattle.store.specs.Memory.{shardAt, inShard}
-use Rattle.store.proofs.MemoryLaws.{same-room-sized, in-shard-length, in-shard-reads-back-for, in-shard-leaves-others, fresh-sound, fresh-shards-are-complete}
+use Rattle.settings.specs.Settings.{shardOf}
+use Rattle.ledger.specs.Model.{debtItems}
+use Rattle.shard_map.specs.Model.{slotItems}
+use Rattle.shard_map.proofs.PlaceOrderLaws.{FindsEach, found-is-complete, empty-finds-each}
+use Rattle.store.specs.Memory.{memoryWords, shardAt}
+use Rattle.store.proofs.MemoryLaws.{fresh-sound, fresh-shards-are-complete, fresh-shards-are-empty}
 use Rattle.perkey.specs.declared.Reply.{Reply}
-use Rattle.perkey.specs.Rules.{unlessTrivial, askedBy, tooMuch, atOnce, requested, policyOf, replyTo, refundedBy}
-use Rattle.perkey.specs.Calls.{Call, request, look, undo, len, peeks, tokens, refunds, removes, rules, settingsOf, numbered}
-use Rattle.perkey.proofs.CallLaws.{refusalOf, ruleOf, not-refused-is-ruled, refused-is-told}
+use Rattle.perkey.specs.Calls.{Call, request, look, undo, len, rules, settingsOf, numbered}
+use Rattle.perkey.proofs.CallLaws.{counts-keys, looks-change-nothing}
 use Rattle.demands.specs.Grown.{Grown, set-up, cleared, called, KeptByCalls}
+use Rattle.demands.specs.PlaceOrder.{inItsShard, IndexesExact}
 use Rattle.demands.proofs.Theorem.{set-up-done}
-use Rattle.store.specs.Memory.{memoryWords}
+use Rattle.demands.proofs.OneShardLaws.{WorksInOneShard, rules-work-in-one-shard, call-same-as-place-order}
 
 pub grown-keeps : {s : Settings} {ws : List ℕ} {P : List ℕ → Type 0} → KeptByCalls s P → Grown s ws → P ws
 grown-keeps kept (set-up ws done) = kept .fresh ws done
 grown-keeps kept (cleared ws grown done) = kept .fresh ws done
 grown-keeps kept (called c ws grown same taken) = kept .call c ws same taken (grown-keeps kept grown)
 
--- A memory of the right size whose shards are sound, and in which lookup misses no slot and no debt.
+-- A memory of the right size, in whose shards lookup finds each slot and each debt. Such shards are sound and complete.
 pub record SoundMemory (s : Settings) (ws : List ℕ) : Type 0 where
   pub size : length ws ≡ memoryWords s
-  pub sound : (hash : ℕ) → Shard.Sound (shardAt s hash ws)
-  pub complete : (hash : ℕ) → Shard.Complete (shardAt s hash ws)
+  pub finds-each : (hash : ℕ) → FindsEach (shardAt s hash ws)
 
--- An operation in the shard of a hash that keeps its room and leaves it sound.
-operation-keeps-sound : {A : Type 0} (s : Settings) (hash : ℕ) (ws : List ℕ) (o : Outcome A Shard.Shard) → SameRoom (shardAt s hash ws) (o .after)
-    → SoundMemory s ws → SoundMemory s (inShard s hash ws o .after)
-operation-keeps-sound s hash ws o room memory =
-    let sized : Sized (capOf s) (o .after) = same-room-sized s hash ws (memory .size) room in
-    record {
-      size = in-shard-length s hash ws o (memory .size) sized;
-      sound = λ other.
-          by-eq (shardOf s other) (shardOf s hash)
-          (λ same. rw (in-shard-reads-back-for s hash ws o (memory .size) sized other same) (room .sound))
-          (λ apart. rw (in-shard-leaves-others s hash ws o (memory .size) sized other apart) (memory .sound other));
-      complete = λ other.
-          by-eq (shardOf s other) (shardOf s hash)
-          (λ same. rw (in-shard-reads-back-for s hash ws o (memory .size) sized other same) (room .complete (memory .complete hash)))
-          (λ apart. rw (in-shard-leaves-others s hash ws o (memory .size) sized other apart) (memory .complete other));
-    }
+-- A call on a key leaves such a shard for the key, and the other shards as they are; a look at the length changes nothing.
+keyed-call-keeps-sound : (c : Call) (s : Settings) (hash : ℕ) (ws : List ℕ) {gives : Outcome Reply (List ℕ)}
+    → WorksInOneShard s hash ws gives (inItsShard c (shardAt s hash ws)) → SoundMemory s ws → SoundMemory s (gives .after)
+keyed-call-keeps-sound c s hash ws works memory = record {
+  size = works .size;
+  finds-each = λ other.
+      by-eq (shardOf s other) (shardOf s hash)
+      (λ same. rw (works .own other same) (call-same-as-place-order (shardAt s hash ws) (memory .finds-each hash) c .finds-each))
+      (λ apart. rw (works .others other apart) (memory .finds-each other));
+}
 
--- A cost that never reaches the store changes no word.
-trivial-leaves : (Q : List ℕ → Type 0) (rate : Rate) (cost : ℕ) (more none : Reply) (ws : List ℕ) (asked : Outcome Reply (List ℕ)) → Q ws → Q (asked .after)
-    → Q (unlessTrivial rate cost more none ws asked .after)
-unfolding unlessTrivial
-trivial-leaves Q rate cost more none ws asked before after =
-    by-test (ltb (configOf rate .capacity) cost) (λ t. rw t before) (λ t. by-test (eqb cost 0) (λ u. rw (t, u) before) (λ u. rw (t, u) after))
+call-keeps-sound : (c : Call) (ws : List ℕ) → numbered (rules c ws .answer) ≡ false → SoundMemory (settingsOf c) ws
+    → SoundMemory (settingsOf c) (rules c ws .after)
+call-keeps-sound (request s at id r cost) ws taken memory =
+    keyed-call-keeps-sound (request s at id r cost) s (id .hash) ws (rules-work-in-one-shard (request s at id r cost) ws taken) memory
+call-keeps-sound (look s at id l) ws taken memory =
+    keyed-call-keeps-sound (look s at id l) s (id .hash) ws (rules-work-in-one-shard (look s at id l) ws taken) memory
+call-keeps-sound (undo s id u) ws taken memory = keyed-call-keeps-sound (undo s id u) s (id .hash) ws (rules-work-in-one-shard (undo s id u) ws taken) memory
+call-keeps-sound (len s) ws taken memory = rw (looks-change-nothing (len s) ws counts-keys) memory
 
--- A call that is not refused by number.
-taken-not-refused : (c : Call) (ws : List ℕ) → numbered (rules c ws .answer) ≡ false → refusalOf c ws ≡ 0
-taken-not-refused c ws taken =
-    by-eq (refusalOf c ws) 0 (λ none. none)
-    (λ some. absurd (true≢false (sym (ap (λ (o : Outcome Reply (List ℕ)). numbered (o .answer)) (refused-is-told c ws some)) ∙ taken)))
+fresh-shard-finds-each : (s : Settings) (hash : ℕ) → FindsEach (shardAt s hash (replicate (memoryWords s) 0))
+fresh-shard-finds-each s hash =
+    let empty = fresh-shards-are-empty s hash in
+    empty-finds-each _ (fresh-sound s hash) (fresh-shards-are-complete s hash) (empty .slots) (empty .debts)
 
--- Each call does nothing else to the words.
-module _ (s : Settings) (ws : List ℕ) (memory : SoundMemory s ws) where
-  request-keeps-sound : (r : Request) (limit : Limit) (at : Nanos) (id : Identity) (cost : ℕ) → SoundMemory s (askedBy r limit s at id cost ws .after)
-  request-keeps-sound r Closed at id cost = memory
-  request-keeps-sound r (Open rate) at id cost =
-      trivial-leaves (SoundMemory s) rate cost (tooMuch r) (atOnce r at) ws (requested s rate id r cost at ws (replyTo r)) memory
-      (operation-keeps-sound s (id .hash) ws (OneShard.withOrInsert (policyOf s rate) id r cost at (shardAt s (id .hash) ws))
-      (ask-same-room _ (memory .sound (id .hash)) (policyOf s rate) id r cost at) memory)
-
-  refund-keeps-sound : (limit : Limit) (id : Identity) (cost : ℕ) → SoundMemory s (refundedBy limit s id cost ws .after)
-  refund-keeps-sound Closed id cost = memory
-  refund-keeps-sound (Open rate) id cost =
-      operation-keeps-sound s (id .hash) ws (OneShard.refunded (configOf rate) id cost (shardAt s (id .hash) ws))
-      (refund-same-room _ (memory .sound (id .hash)) (configOf rate) id cost) memory
-
-rule-keeps-sound : (c : Call) (ws : List ℕ) → SoundMemory (settingsOf c) ws → SoundMemory (settingsOf c) (ruleOf c ws .after)
-rule-keeps-sound (request s at id r cost) ws memory = request-keeps-sound s ws memory r (s .limit) at id cost
-rule-keeps-sound (look s at id (peeks cost)) ws memory = memory
-rule-keeps-sound (look s at id tokens) ws memory = memory
-rule-keeps-sound (undo s id (refunds cost)) ws memory = refund-keeps-sound s ws memory (s .limit) id cost
-rule-keeps-sound (undo s id removes) ws memory =
-    operation-keeps-sound s (id .hash) ws (OneShard.removed id (shardAt s (id .hash) ws)) (remove-same-room _ (memory .sound (id .hash)) id) memory
-rule-keeps-sound (len s) ws memory = memory
-
-sound-kept-by-calls : (s : Settings) → KeptByCalls s (SoundMemory s)
+pub sound-kept-by-calls : (s : Settings) → KeptByCalls s (SoundMemory s)
 sound-kept-by-calls s = record {
-  fresh = λ ws done. rw (set-up-done s ws done .words) (record { size = length-replicate (memoryWords s) 0; sound = λ hash. fresh-sound s hash; complete = λ hash. fresh-shards-are-complete s hash });
-  call = λ c ws same taken memory.
-      let none = taken-not-refused c ws taken in
-      rw (not-refused-is-ruled c ws none) (rw same at (rule-keeps-sound c ws (rw same memory)));
+  fresh = λ ws done. rw (set-up-done s ws done .words) (record { size = length-replicate (memoryWords s) 0; finds-each = fresh-shard-finds-each s });
+  call = λ c ws same taken memory. rw same at (call-keeps-sound c ws taken (rw same memory));
 }
 
 pub grown-memory-is-sound : {s : Settings} {ws : List ℕ} → Grown s ws → SoundMemory s ws
 grown-memory-is-sound {s} grown = grown-keeps (sound-kept-by-calls s) grown
+
+pub grown-finds-each : {s : Settings} {ws : List ℕ} → Grown s ws → (hash : ℕ) → FindsEach (shardAt s hash ws)
+grown-finds-each grown hash = grown-memory-is-sound grown .finds-each hash
+
+-- Lookup by an index misses no item only where the index is exact.
+same-index : {ix other : List ℕ} → byIndex ix ≡ byIndex other → ix ≡ other
+same-index same = cc
+
+complete-index-is-exact : {A : Type 0} (items : Items A) (h : Held A) → Complete items h → (ix : List ℕ) → h .finding ≡ byIndex ix
+    → Exact (hashAt items h) (h .count) ix
+complete-index-is-exact items h (in-order-is-complete order) ix by =
+    let same : inOrder ≡ byIndex ix = sym order ∙ by in
+    let z : _≡_ {A = ℕ} 0 1 = cc in absurd (omega arith)
+complete-index-is-exact items h (exact-is-complete own is size exact) ix by = rw (same-index (sym is ∙ by)) at exact
+
+-- So every item of a grown store stands in its index once, on its walk, and no other place is in use.
+pub grown-indexes-are-exact : {s : Settings} {ws : List ℕ} → Grown s ws → (hash : ℕ) → IndexesExact (shardAt s hash ws)
+grown-indexes-are-exact {s} {ws} grown hash =
+    let complete = found-is-complete (grown-finds-each grown hash) in
+    record {
+      slots = complete-index-is-exact slotItems (shardAt s hash ws .slots) (complete .slots);
+      debts = complete-index-is-exact debtItems (shardAt s hash ws .ledger .debts) (complete .ledger);
+    }

@@ -22,7 +22,9 @@ pub mod AppearsLaws
 pub mod RunLaws
 pub mod Theorem
 pub mod MomentLaws
+pub mod OneShardLaws
 pub mod GrownLaws
+pub mod PlaceOrderTheorem
 pub mod CodeTheorem
 pub mod WriterLaws
 pub mod ExportTheorem

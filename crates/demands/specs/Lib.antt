@@ -2,6 +2,7 @@ pub mod Widths
 pub mod Demands
 pub mod Impostors
 pub mod Grown
+pub mod PlaceOrder
 pub mod Contracts
 pub mod Exports
 pub mod Moments
