@@ -16,9 +16,9 @@ use Rattle.settings.specs.declared.Limit.the-variants.{Closed, Open}
 use Rattle.settings.specs.declared.Settings.{Settings}
 use Rattle.settings.specs.Rate.{configOf}
 use Rattle.settings.specs.Settings.{capOf, shardOf}
-use Rattle.shard_map.specs.Model.{Shard}
+use Rattle.shard_map.specs.Model.{Shard, inPlaceOrder}
 use Rattle.shard_map.proofs.ReadBack.{Sized}
-use Rattle.shard_map.proofs.PlaceOrderLaws.{inPlaceOrder, FindsEach}
+use Rattle.shard_map.proofs.PlaceOrderLaws.{FindsEach}
 use Rattle.shard.specs.declared.Identity.{Identity}
 use Rattle.shard.specs.Model.{withOrInsert, refunded, removed}
 use Rattle.shard.proofs.ShardLaws.{SameRoom, ask-same-room, refund-same-room, remove-same-room}
@@ -47,78 +47,71 @@ pub record WorksInOneShard (s : Settings) (hash : ℕ) (ws : List ℕ) (gives : 
   pub own : (other : ℕ) → shardOf s other ≡ shardOf s hash → shardAt s other (gives .after) ≡ operation .after
   pub others : (other : ℕ) → (shardOf s other ≡ shardOf s hash → ⊥) → shardAt s other (gives .after) ≡ shardAt s other ws
 
-module _ (s : Settings) (hash : ℕ) (ws : List ℕ) (accepted : Accepted s hash ws) where
+module _ (s : Settings) (id : Identity) (ws : List ℕ) (accepted : Accepted s (id .hash) ws) where
   abbrev Works : Outcome Reply (List ℕ) → Outcome Reply Shard → Type 0
-  Works gives operation = WorksInOneShard s hash ws gives operation
+  Works gives operation = WorksInOneShard s (id .hash) ws gives operation
 
   abbrev own : Shard
-  own = shardAt s hash ws
+  own = shardAt s (id .hash) ws
 
   -- A call that changes no word, and one that changes its shard.
   unchanged-works : (reply : Reply) → Works (outcome reply ws) (outcome reply own)
   unchanged-works reply = record {
     size = accepted .set-up .size;
     answer = refl;
-    own = λ other same. same-shard s hash other ws same;
+    own = λ other same. same-shard s (id .hash) other ws same;
     others = λ other apart. refl;
   }
 
   operation-works : {A : Type 0} (reply : A → Reply) (o : Outcome A Shard) → SameRoom own (o .after)
-      → Works (outcome (reply (o .answer)) (inShard s hash ws o .after)) (toldAs reply o)
+      → Works (outcome (reply (o .answer)) (inShard s (id .hash) ws o .after)) (toldAs reply o)
   operation-works reply o room =
       let size = accepted .set-up .size in
-      let sized : Sized (capOf s) (o .after) = same-room-sized s hash ws size room in
+      let sized : Sized (capOf s) (o .after) = same-room-sized s (id .hash) ws size room in
       record {
-        size = in-shard-length s hash ws o size sized;
+        size = in-shard-length s (id .hash) ws o size sized;
         answer = refl;
-        own = in-shard-reads-back-for s hash ws o size sized;
-        others = in-shard-leaves-others s hash ws o size sized;
+        own = in-shard-reads-back-for s (id .hash) ws o size sized;
+        others = in-shard-leaves-others s (id .hash) ws o size sized;
       }
 
--- Each call does so, by its rule.
-module _ (s : Settings) (id : Identity) (ws : List ℕ) (accepted : Accepted s (id .hash) ws) where
-  abbrev Does : Outcome Reply (List ℕ) → Outcome Reply Shard → Type 0
-  Does gives operation = WorksInOneShard s (id .hash) ws gives operation
-
-  abbrev keysOwn : Shard
-  keysOwn = shardAt s (id .hash) ws
-
-  request-works : (r : Request) (limit : Limit) (at : Nanos) (cost : ℕ) → Does (askedBy r limit s at id cost ws) (askedIn r limit s at id cost keysOwn)
+  -- Each call does one or the other, by its rule.
+  request-works : (r : Request) (limit : Limit) (at : Nanos) (cost : ℕ) → Works (askedBy r limit s at id cost ws) (askedIn r limit s at id cost own)
   unfolding unlessTrivial askedIn
-  request-works r Closed at cost = unchanged-works s (id .hash) ws accepted _
+  request-works r Closed at cost = unchanged-works _
   request-works r (Open rate) at cost =
       by-test (ltb (configOf rate .capacity) cost)
-      (λ more. rw more (unchanged-works s (id .hash) ws accepted _))
+      (λ more. rw more (unchanged-works _))
       (λ most.
       by-test (eqb cost 0)
-      (λ none. rw (most, none) (unchanged-works s (id .hash) ws accepted _))
+      (λ none. rw (most, none) (unchanged-works _))
       (λ some.
       rw (most, some)
-      (operation-works s (id .hash) ws accepted (replyTo r) (withOrInsert (policyOf s rate) id r cost at keysOwn)
+      (operation-works (replyTo r) (withOrInsert (policyOf s rate) id r cost at own)
       (ask-same-room _ (accepted .sound) (policyOf s rate) id r cost at))))
 
-  peek-told : (limit : Limit) (at : Nanos) (cost : ℕ) → peekedBy limit s at id cost ws ≡ lookedIn (peeks cost) limit at id keysOwn
+  peek-told : (limit : Limit) (at : Nanos) (cost : ℕ) → peekedBy limit s at id cost ws ≡ lookedIn (peeks cost) limit at id own
   unfolding peekedAt lookedAt
   peek-told Closed at cost = refl
   peek-told (Open rate) at cost = refl
 
-  tokens-told : (limit : Limit) (at : Nanos) → Count (availableBy limit s at id ws) ≡ lookedIn tokens limit at id keysOwn
+  tokens-told : (limit : Limit) (at : Nanos) → Count (availableBy limit s at id ws) ≡ lookedIn tokens limit at id own
   unfolding lookedAt
   tokens-told Closed at = refl
   tokens-told (Open rate) at = refl
 
-  look-works : (l : Look) (at : Nanos) → Does (ruleOf (look s at id l) ws) (inItsShard (look s at id l) keysOwn)
-  look-works (peeks cost) at = rw (peek-told (s .limit) at cost) (unchanged-works s (id .hash) ws accepted _)
-  look-works tokens at = rw (tokens-told (s .limit) at) (unchanged-works s (id .hash) ws accepted _)
+  look-works : (l : Look) (at : Nanos) → Works (ruleOf (look s at id l) ws) (inItsShard (look s at id l) own)
+  look-works (peeks cost) at = rw (peek-told (s .limit) at cost) (unchanged-works _)
+  look-works tokens at = rw (tokens-told (s .limit) at) (unchanged-works _)
 
-  refund-works : (limit : Limit) (cost : ℕ) → Does (refundedBy limit s id cost ws) (undoneIn (refunds cost) limit id keysOwn)
-  refund-works Closed cost = unchanged-works s (id .hash) ws accepted _
+  refund-works : (limit : Limit) (cost : ℕ) → Works (refundedBy limit s id cost ws) (undoneIn (refunds cost) limit id own)
+  refund-works Closed cost = unchanged-works _
   refund-works (Open rate) cost =
-      operation-works s (id .hash) ws accepted knownReply (refunded (configOf rate) id cost keysOwn) (refund-same-room _ (accepted .sound) (configOf rate) id cost)
+      operation-works knownReply (refunded (configOf rate) id cost own) (refund-same-room _ (accepted .sound) (configOf rate) id cost)
 
-  undo-works : (u : Undo) → Does (ruleOf (undo s id u) ws) (inItsShard (undo s id u) keysOwn)
+  undo-works : (u : Undo) → Works (ruleOf (undo s id u) ws) (inItsShard (undo s id u) own)
   undo-works (refunds cost) = refund-works (s .limit) cost
-  undo-works removes = operation-works s (id .hash) ws accepted knownReply (removed id keysOwn) (remove-same-room _ (accepted .sound) id)
+  undo-works removes = operation-works knownReply (removed id own) (remove-same-room _ (accepted .sound) id)
 
 -- So the rules work in one shard.
 rule-works : (c : Call) (ws : List ℕ) → refusalOf c ws ≡ 0

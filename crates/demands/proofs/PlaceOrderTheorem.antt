@@ -13,9 +13,8 @@ use Rattle.rows.proofs.SumLaws.{sum-same}
 use Rattle.settings.specs.declared.Settings.{Settings}
 use Rattle.settings.specs.Settings.{shardCount, shardOf}
 use Rattle.settings.proofs.SettingsLaws.{shard-is-remainder}
-use Rattle.shard_map.specs.Model.{Shard}
+use Rattle.shard_map.specs.Model.{Shard, inPlaceOrder}
 use Rattle.shard_map.proofs.ReadBack.{Empty}
-use Rattle.shard_map.proofs.PlaceOrderLaws.{inPlaceOrder}
 use Rattle.shard.specs.declared.Identity.{Identity}
 use Rattle.shard.proofs.PlaceOrderLaws.{SameAsPlaceOrder}
 use Rattle.store.specs.Memory.{shardAt}

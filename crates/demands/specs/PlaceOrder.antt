@@ -23,9 +23,8 @@ use Rattle.settings.specs.Settings.{shardCount, capOf, shardOf}
 use Rattle.index.specs.Exact.{Exact}
 use Rattle.held.specs.Held.{inOrder, byIndex, hashAt}
 use Rattle.ledger.specs.Model.{debtItems}
-use Rattle.shard_map.specs.Model.{Shard, slotItems}
+use Rattle.shard_map.specs.Model.{Shard, slotItems, inPlaceOrder}
 use Rattle.shard_map.specs.Layout.{shard, shardWords}
-use Rattle.shard_map.proofs.PlaceOrderLaws.{inPlaceOrder}
 use Rattle.shard.specs.declared.Identity.{Identity}
 use Rattle.shard.specs.Model.{withOrInsert, viewed, refunded, removed}
 use Rattle.store.specs.Memory.{memoryWords, shardStart}

@@ -13,8 +13,8 @@ use Rattle.ledger.specs.declared.Recorded.the-variants.{Done, NoRoom}
 use Rattle.ledger.specs.Model as Ledger
 use Rattle.ledger.proofs.PlaceOrderLaws as LedgerOrder
 use Rattle.ledger.proofs.PlaceOrderLaws.{recorded-in-place-order, recorded-finds-each}
-use Rattle.shard_map.specs.Model.{Shard, Sound, slotItems, slotAt, withHand, withLedger, handOf}
-use Rattle.shard_map.proofs.PlaceOrderLaws.{inPlaceOrder, leftInPlaceOrder, identityOf, FindsEach, found-is-sound, found-is-complete, SlotsFrom}
+use Rattle.shard_map.specs.Model.{inPlaceOrder, Shard, Sound, slotItems, slotAt, withHand, withLedger, handOf}
+use Rattle.shard_map.proofs.PlaceOrderLaws.{leftInPlaceOrder, identityOf, FindsEach, found-is-sound, found-is-complete, SlotsFrom}
 use Rattle.shard_map.proofs.PlaceOrderLaws.{removal-in-place-order, removal-slots-from}
 use Rattle.shard_map.proofs.StepLaws.{slots-sound}
 use Rattle.evict.specs.declared.Walk.{Walk}

@@ -22,16 +22,13 @@ use Rattle.ledger.specs.declared.Choice.{Choice}
 use Rattle.ledger.specs.declared.Choice.the-variants.{Settled, Soonest}
 use Rattle.ledger.specs.declared.Recorded.{Recorded}
 use Rattle.ledger.specs.declared.Recorded.the-variants.{Done, NoRoom}
-use Rattle.ledger.specs.Model.{Ledger, Sound, debtItems, capOf, debtAt, settledBy, hasSettled, cursorOf, withDebts, withCursor, withDebt, owes}
+use Rattle.ledger.specs.Model.{Ledger, Sound, debtItems, capOf, debtAt, settledBy, hasSettled, cursorOf, withCursor, withDebt, inPlaceOrder, owes}
 use Rattle.ledger.specs.Model.{placeOf, removeAt, append, owedAt, owedBy, takenAt, taken, roundOf, withRound, look, sweep, sooner, scanFrom, scan}
 use Rattle.ledger.specs.Model.{dropChosen, makeRoom, joined, later, recordedAt, recorded, credit, paidAt, paidDown}
 use Rattle.ledger.proofs.StepLaws.{removal-leaves-room, nowhere-owes-none, found-owes, taken-cases, paid-cases}
 use Rattle.ledger.proofs.RecordLaws.{chosen, scan-chooses-held, Recording, merged, joins, replaces, refused, record-cases}
 
--- The same ledger, with its debts found in the order of their places; and what an operation gave, with that ledger.
-abbrev pub inPlaceOrder : Ledger → Ledger
-inPlaceOrder l = withDebts l (Held.inPlaceOrder (l .debts))
-
+-- What an operation gave, with the ledger in place order.
 abbrev pub leftInPlaceOrder : {A : Type 0} → Outcome A Ledger → Outcome A Ledger
 leftInPlaceOrder o = outcome (o .answer) (inPlaceOrder (o .after))
 

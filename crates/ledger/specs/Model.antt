@@ -85,6 +85,10 @@ withOthers l ws = record { debts = l .debts; cursor = l .cursor; others = ws }
 abbrev pub withDebt : Ledger → ℕ → Debt → Ledger
 withDebt l i d = withDebts l (stored (l .debts) i d)
 
+-- The same ledger, with its debts found in the order of their places.
+abbrev pub inPlaceOrder : Ledger → Ledger
+inPlaceOrder l = withDebts l (Held.inPlaceOrder (l .debts))
+
 -- Lookup by hash: a place that has it.
 abbrev pub owes : ℕ → Debt → Bool
 owes hash d = eqb (d .hash) hash

@@ -24,8 +24,8 @@ use Rattle.ledger.specs.Model as Ledger
 use Rattle.ledger.proofs.PlaceOrderLaws as LedgerOrder
 use Rattle.ledger.proofs.PlaceOrderLaws.{owed-in-place-order, taken-in-place-order, paid-in-place-order, recorded-in-place-order}
 use Rattle.ledger.proofs.PlaceOrderLaws.{taken-finds-each, paid-finds-each}
-use Rattle.shard_map.specs.Model.{Shard, slotItems, capOf, withLedger, inLedger, placeOf}
-use Rattle.shard_map.proofs.PlaceOrderLaws.{inPlaceOrder, leftInPlaceOrder, identityOf, FindsEach, found-is-sound, found-is-complete, SlotsFrom, place-in-place-order}
+use Rattle.shard_map.specs.Model.{inPlaceOrder, Shard, slotItems, capOf, withLedger, inLedger, placeOf}
+use Rattle.shard_map.proofs.PlaceOrderLaws.{leftInPlaceOrder, identityOf, FindsEach, found-is-sound, found-is-complete, SlotsFrom, place-in-place-order}
 use Rattle.shard_map.proofs.PlaceOrderLaws.{removal-in-place-order, insert-in-place-order, sweep-idle-in-place-order, nowhere-lacks, sweep-idle-slots-from}
 use Rattle.shard_map.proofs.PlaceOrderLaws.{removal-finds-each, insert-finds-each, change-finds-each, ledger-finds-each, sweep-idle-finds-each}
 use Rattle.evict.specs.declared.Room.{Room}

@@ -19,14 +19,11 @@ use Rattle.slot.specs.Slot.{isKey}
 use Rattle.slot.proofs.SlotLaws.{is-key-iff}
 use Rattle.ledger.specs.Model as Ledger
 use Rattle.ledger.proofs.PlaceOrderLaws as LedgerOrder
-use Rattle.shard_map.specs.Model.{Shard, Sound, Complete, slotItems, capOf, slotAt, withSlot, withHand, withLedger, placeOf, removeAt, insert}
+use Rattle.shard_map.specs.Model.{Shard, Sound, Complete, slotItems, capOf, slotAt, withSlot, withHand, withLedger, inPlaceOrder, placeOf, removeAt, insert}
 use Rattle.shard_map.specs.Model.{reclaimable, roundOf, withRound, idleLook, sweepIdle}
 use Rattle.shard_map.proofs.StepLaws.{nowhere-holds-none, slots-sound}
 
--- The same shard, with its slots and its debts found in the order of their places; and what an operation gave, with that shard.
-abbrev pub inPlaceOrder : Shard → Shard
-inPlaceOrder s = record { slots = Held.inPlaceOrder (s .slots); hand = s .hand; sweep = s .sweep; ledger = LedgerOrder.inPlaceOrder (s .ledger) }
-
+-- What an operation gave, with the shard in place order.
 abbrev pub leftInPlaceOrder : {A : Type 0} → Outcome A Shard → Outcome A Shard
 leftInPlaceOrder o = outcome (o .answer) (inPlaceOrder (o .after))
 

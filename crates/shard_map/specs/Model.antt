@@ -69,6 +69,10 @@ withSweep s sweep = record { slots = s .slots; hand = s .hand; sweep = sweep; le
 abbrev pub withLedger : Shard → Ledger.Ledger → Shard
 withLedger s l = record { slots = s .slots; hand = s .hand; sweep = s .sweep; ledger = l }
 
+-- The same shard, with its slots and its debts found in the order of their places.
+abbrev pub inPlaceOrder : Shard → Shard
+inPlaceOrder s = record { slots = Held.inPlaceOrder (s .slots); hand = s .hand; sweep = s .sweep; ledger = Ledger.inPlaceOrder (s .ledger) }
+
 -- What an operation of the ledger gives, in its shard.
 abbrev pub inLedger : {A : Type 0} → Shard → Outcome A Ledger.Ledger → Outcome A Shard
 inLedger s o = outcome (o .answer) (withLedger s (o .after))
