@@ -60,7 +60,7 @@ evict-at-in-place-order s p = ap (λ (t : Shard). withHand t (p + 1)) (removal-i
 
 module _ (c : BucketConfig) (at : Nanos) (forget : Bool) where
   after-recording-in-place-order : (s : Shard) (p least : ℕ) (l : Ledger.Ledger) (r : Recorded)
-      → afterRecording c at (inPlaceOrder s) p least (LedgerOrder.inPlaceOrder l) r ≡ leftInPlaceOrder (afterRecording c at s p least l r)
+      → afterRecording c at (inPlaceOrder s) p least (Ledger.inPlaceOrder l) r ≡ leftInPlaceOrder (afterRecording c at s p least l r)
   after-recording-in-place-order s p least l Done = ap (outcome Made) (evict-at-in-place-order (withLedger s l) p)
   after-recording-in-place-order s p least l (NoRoom wait) = refl
 

@@ -11,7 +11,6 @@ use Rattle.bucket.specs.declared.BucketConfig.{BucketConfig}
 use Rattle.rows.specs.declared.Place.{Place}
 use Rattle.rows.specs.declared.Place.the-variants.{At, Nowhere}
 use Rattle.rows.specs.Outcome.{Outcome, outcome}
-use Rattle.held.specs.Held as Held
 use Rattle.held.specs.Held.{removed}
 use Rattle.held.specs.Round as Round
 use Rattle.held.proofs.RoundLaws as RoundLaws

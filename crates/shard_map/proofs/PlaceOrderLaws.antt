@@ -7,7 +7,6 @@ use Rattle.units.specs.declared.Millis.{Millis}
 use Rattle.bucket.specs.declared.BucketConfig.{BucketConfig}
 use Rattle.rows.specs.declared.Place.the-variants.{Nowhere}
 use Rattle.rows.specs.Outcome.{Outcome, outcome}
-use Rattle.held.specs.Held as Held
 use Rattle.held.specs.Held.{removed}
 use Rattle.held.specs.Round as Round
 use Rattle.held.proofs.RoundLaws.{sweep-in-place-order}
@@ -76,7 +75,7 @@ module _ (s : Shard) where
   pub hand-in-place-order : (hand : ℕ) → withHand (inPlaceOrder s) hand ≡ inPlaceOrder (withHand s hand)
   hand-in-place-order hand = refl
 
-  pub ledger-in-place-order : (l : Ledger.Ledger) → withLedger (inPlaceOrder s) (LedgerOrder.inPlaceOrder l) ≡ inPlaceOrder (withLedger s l)
+  pub ledger-in-place-order : (l : Ledger.Ledger) → withLedger (inPlaceOrder s) (Ledger.inPlaceOrder l) ≡ inPlaceOrder (withLedger s l)
   ledger-in-place-order l = refl
 
   module _ (c : BucketConfig) (at : Nanos) (limit : Millis) where
