@@ -19,6 +19,7 @@ use Rattle.index.proofs.WordLaws.{Below, add-below, remove-below}
 use Rattle.index.proofs.FindLaws.{find-sound, find-nowhere, find-lowest}
 use Rattle.held.specs.Held.{Finding, inOrder, byIndex, Held, Sound, Items, foundBy, withAdded, withRemoved, itemAt, hashAt, position, appended, removed, stored}
 use Rattle.held.specs.Held.{inPlaceOrder, Complete, in-order-is-complete, exact-is-complete}
+use Rattle.held.specs.Layout.{indexWords}
 use Rattle.held.proofs.HeldLaws.{item-stored, item-stored-other, item-appended, item-appended-other, item-moved, item-kept, removed-count, removed-length}
 
 -- The kind of a finding: in place order, or by an index of so many places.
@@ -33,6 +34,15 @@ kindOf (byIndex ix) = indexed (length ix)
 pub ordered-is-in-order : (f : Finding) → kindOf f ≡ ordered → f ≡ inOrder
 ordered-is-in-order inOrder same = refl
 ordered-is-in-order (byIndex ix) same = let z : _≡_ {A = ℕ} 0 1 = cc in absurd (omega arith)
+
+-- By an index of n places: they are the finding's words, and they are n.
+pub indexed-by-words : (f : Finding) (n : ℕ) → kindOf f ≡ indexed n → byIndex (indexWords f) ≡ f
+indexed-by-words inOrder n same = let z : _≡_ {A = ℕ} 0 1 = cc in absurd (omega arith)
+indexed-by-words (byIndex ix) n same = refl
+
+pub index-length : (f : Finding) (n : ℕ) → kindOf f ≡ indexed n → length (indexWords f) ≡ n
+index-length inOrder n same = let z : _≡_ {A = ℕ} 0 1 = cc in absurd (omega arith)
+index-length (byIndex ix) n same = cc
 
 -- An item that comes or leaves keeps the kind.
 pub added-kind : (f : Finding) (key i : ℕ) → kindOf (withAdded f key i) ≡ kindOf f

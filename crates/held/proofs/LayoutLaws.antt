@@ -5,8 +5,8 @@ use mathlib.Core.Path.{_≡_, refl, ap, _∙_}
 use mathlib.Core.List.{List, [], _++_, map}
 use native.Mathlib.Omega.{arith}
 use lib.Dec.{eqb}
-use lib.ListN.{length, getD, set, take, length-map, take-append-drop}
-use lib.Seq.{sets, getD-set-same, getD-set-other, getD-take, getD-drop, take-set-lt, take-set-le, drop-set-lt, length-take-le}
+use lib.ListN.{length, getD, set, take, drop, length-map, take-append-drop}
+use lib.Seq.{sets, getD-set-same, getD-set-other, getD-take, getD-drop, take-set-lt, take-set-le, drop-set-lt, length-take-le, take-add, drop-drop, drop-at, drop-append-le}
 use borrow.Author.Tests.{lt-ltb, le-ltb, eq-eqb, ne-eqb}
 use borrow.Rule.Slice.PartMut.{putMid}
 use Rattle.arith.proofs.Cases.{by-eq}
@@ -27,6 +27,13 @@ front-set n ws k v before long m =
     (by-eq m k
     (λ same. rw (same, eq-eqb k k refl) (getD-set-same (take n ws) k v 0 (omega (arith, front-long))))
     (λ other. rw (ne-eqb m k other) (getD-set-other (take n ws) k m v 0 other)))
+
+-- A part from word s + o on comes back as other words: from word s on, that is the part from word o on.
+past-put : (s o n : ℕ) (ws ys : List ℕ) → s + o ≤ length ws → drop s (putMid (s + o) n ws ys) ≡ putMid o n (drop s ws) ys
+past-put s o n ws ys inside =
+    let front-long = length-take-le (s + o) ws inside in
+    drop-append-le s (take (s + o) ws) (ys ++ drop n (drop (s + o) ws)) (omega (arith, front-long))
+    ∙ rw (take-add s o ws, drop-at (take s ws) (take o (drop s ws)) s (length-take-le s ws (omega arith)), drop-drop o s ws)
 
 module _ {A : Type 0} (read : List ℕ → A) (w cap first : ℕ) where
   -- There are cap items, whatever the words.
@@ -102,6 +109,17 @@ module _ {A : Type 0} (read : List ℕ → A) (w cap first : ℕ) where
           let rows-kept = segment-kept-below start lent ws ys (omega arith) same first (w * cap) (omega arith) in
           let rest-new = rest-back start ws ys room same in
           λ j. record { head = λ m. getD (front-kept j) m 0; places = map read (rows w cap (rows-kept j)); rest = rest-new j }
+
+      -- A part of the rest came back as other words, from word o of the rest on.
+      pub table-part-put : (o n : ℕ) (ys : List ℕ) → first + w * cap + o + n ≤ length ws → length ys ≡ n
+          → tableIn read w cap first (putMid (first + w * cap + o) n ws ys) ≡ withRest (tableIn read w cap first ws) (putMid o n (tableIn read w cap first ws .rest) ys)
+      unfolding tableIn
+      table-part-put o n ys inside same =
+          let start : ℕ = first + w * cap + o in
+          let front-kept = segment-kept-below start n ws ys inside same 0 first (omega arith) in
+          let rows-kept = segment-kept-below start n ws ys inside same first (w * cap) (omega arith) in
+          let rest-put = past-put (first + w * cap) o n ws ys (omega arith) in
+          λ j. record { head = λ m. getD (front-kept j) m 0; places = map read (rows w cap (rows-kept j)); rest = rest-put j }
 
       -- The words before the rows, the items written as rows, and the rest are the words again. `write` gives an item's row back.
       pub table-words : (write : A → List ℕ) → ((row : List ℕ) → length row ≡ w → write (read row) ≡ row)

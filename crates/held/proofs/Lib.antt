@@ -6,3 +6,4 @@ pub mod RoundLaws
 pub mod SingleLaws
 pub mod LayoutLaws
 pub mod ReadBack
+pub mod IndexLaws

@@ -12,43 +12,74 @@ use Rattle.bucket.specs.declared.BucketConfig.{BucketConfig}
 use Rattle.settings.specs.Eviction.{ledgerScan}
 use Rattle.rows.specs.declared.Place.{Place}
 use Rattle.rows.specs.declared.Place.the-variants.{At, Nowhere}
-use Rattle.held.specs.Held.{removed}
+use Rattle.index.specs.Walk as Index
+use Rattle.index.specs.Layout.{Fits, placesFor, placesOf, withPlaces, hashOf, keyed}
+use Rattle.index.proofs.StepLaws.{add-length, remove-length}
+use Rattle.index.proofs.LayoutLaws.{places-length}
+use Rattle.held.specs.Held.{withAdded, removed, withoutItem}
 use Rattle.held.specs.Round as Round
 use Rattle.rows.specs.Outcome.{Outcome, outcome}
 use Rattle.rows.proofs.OutcomeLaws.{answer-is, after-is}
-use Rattle.held.proofs.SearchLaws.{Searching, search-begins}
+use Rattle.held.proofs.IndexLaws.{indexed-fits, indexed-find, indexed-add, indexed-remove}
 use Rattle.held.proofs.RoundLaws.{look-goes, look-stays, look-none, ByLooks}
 use Rattle.ledger.specs.declared.Debt.{Debt}
 use Rattle.ledger.specs.declared.Choice.{Choice}
 use Rattle.ledger.specs.declared.Choice.the-variants.{Settled, Soonest}
 use Rattle.ledger.specs.declared.Recorded.{Recorded}
 use Rattle.ledger.specs.declared.Recorded.the-variants.{Done, NoRoom}
-use Rattle.ledger.specs.Model.{Ledger, Sound, noDebt, debtItems, capOf, debtAt, settlesAt, settledBy, cursorOf, withCount, withCursor, withDebt, owes, placeOf, removeAt}
-use Rattle.ledger.specs.Model.{append, takenAt, taken, roundOf, withRound, look, sweep, sooner, scanFrom, scan, dropChosen, makeRoom, joined, later, recordedAt}
+use Rattle.ledger.specs.Model.{Ledger, Sound, noDebt, debtItems, capOf, debtAt, settlesAt, settledBy, cursorOf, withCount, withCursor, withFinding, withDebt, owes, placeOf}
+use Rattle.ledger.specs.Model.{removeAt, append, takenAt, taken, roundOf, withRound, look, sweep, sooner, scanFrom, scan, dropChosen, makeRoom, joined, later, recordedAt}
 use Rattle.ledger.specs.Model.{recorded, credit, paidAt, paidDown}
-use Rattle.ledger.specs.Layout.{ledger, Intact}
-use Rattle.ledger.proofs.LayoutLaws.{cap-is}
+use Rattle.ledger.specs.Layout.{debtIndex, ledger, Intact}
+use Rattle.ledger.proofs.LayoutLaws.{cap-is, index-put, debts-indexed, twice-tested}
 use Rattle.ledger.proofs.StepLaws.{cursor-below, found-owes, look-sound}
 use Rattle.ledger.proofs.RecordLaws.{sooner-is-either, chosen, scan-chooses-held, scan-sound, make-room-sound, make-room-makes-room}
 
--- Append and removal in words, store by store, as the code makes them.
-module _ (cap : ℕ) (ws : List ℕ) where
+-- Append and removal, store by store, as the code makes them: first in the index, then in the places, last the count.
+module _ (l : Ledger) where
+  pub append-by-stores : (d : Debt)
+      → withCount (withDebt (withFinding l (withAdded (l .debts .finding) (d .hash) (l .debts .count))) (l .debts .count) d) (l .debts .count + 1) ≡ append l d
+  unfolding append
+  append-by-stores d = refl
+
+  abbrev unnamed : ℕ → Ledger
+  unnamed p = withFinding l (withoutItem debtItems (l .debts) p)
+
+  pub remove-by-stores : (p : ℕ)
+      → withCount (withDebt (withDebt (unnamed p) p (debtAt (unnamed p) (l .debts .count - 1))) (l .debts .count - 1) noDebt) (l .debts .count - 1) ≡ removeAt l p
+  unfolding removeAt removed
+  remove-by-stores p = refl
+
+-- Lookup, addition and removal in the words' index, as the crate `index` makes them.
+module _ {cap : ℕ} {ws : List ℕ} (intact : Intact cap ws) where
   abbrev stands : Ledger
   stands = ledger cap ws
 
-  pub append-by-stores : (d : Debt) → withCount (withDebt stands (stands .debts .count) d) (stands .debts .count + 1) ≡ append stands d
-  unfolding append ledger
-  append-by-stores d = refl
+  pub debts-fit : Fits (debtIndex cap) (stands .debts .count) ws
+  debts-fit = indexed-fits (debts-indexed intact)
 
-  pub remove-by-stores : (p : ℕ)
-      → withCount (withDebt (withDebt stands p (debtAt stands (stands .debts .count - 1))) (stands .debts .count - 1) noDebt) (stands .debts .count - 1) ≡ removeAt stands p
-  unfolding removeAt removed ledger
-  remove-by-stores p = refl
+  pub found-in-index : (hash : ℕ) → Index.find (stands .debts .count) (keyed (debtIndex cap) ws hash hash) (placesOf (debtIndex cap) ws) hash ≡ placeOf stands hash
+  unfolding placeOf
+  found-in-index hash = indexed-find (debts-indexed intact) hash hash (owes hash) (λ d. twice-tested (owes hash d))
 
-  -- Lookup: where its loop begins.
-  pub place-begins : (hash count : ℕ) → count ≡ stands .debts .count → Searching debtItems (stands .debts) (owes hash) count 0 (placeOf stands hash)
-  unfolding placeOf ledger
-  place-begins hash count counted = search-begins debtItems (stands .debts) hash (owes hash) count refl counted
+  -- The places that the index then has are as many.
+  places-long : length (placesOf (debtIndex cap) ws) ≡ placesFor cap
+  places-long = places-length (debtIndex cap) ws (debts-fit .inside)
+
+  pub added-to-index : (hash i : ℕ) → ledger cap (withPlaces (debtIndex cap) ws (Index.add (placesOf (debtIndex cap) ws) hash i))
+      ≡ withFinding stands (withAdded (stands .debts .finding) hash i)
+  added-to-index hash i =
+      index-put cap ws (intact .size) (Index.add (placesOf (debtIndex cap) ws) hash i) (add-length (placesOf (debtIndex cap) ws) hash i ∙ places-long)
+      ∙ ap (withFinding stands) (indexed-add (debts-indexed intact) hash i)
+
+  pub removed-from-index : (p : ℕ) → p < stands .debts .count
+      → ledger cap (withPlaces (debtIndex cap) ws (Index.remove (hashOf (debtIndex cap) ws) (stands .debts .count) (placesOf (debtIndex cap) ws) p))
+      ≡ withFinding stands (withoutItem debtItems (stands .debts) p)
+  removed-from-index p below =
+      let hash = hashOf (debtIndex cap) ws in
+      let ix = placesOf (debtIndex cap) ws in
+      index-put cap ws (intact .size) (Index.remove hash (stands .debts .count) ix p) (remove-length hash (stands .debts .count) ix p ∙ places-long)
+      ∙ ap (withFinding stands) (indexed-remove (debts-indexed intact) p below)
 
 -- Take and pay down, once lookup has given a place and it is known which.
 module _ (l : Ledger) (hash : ℕ) {place known : Place} (gave : place ≡ placeOf l hash) (is : place ≡ known) where

@@ -1,30 +1,47 @@
 -- The words of a ledger read back as the ledger, and the ledger that lies in zeros.
-use Prim.Native.Nat.{ℕ, _+_}
-use mathlib.Core.Path.{_≡_, refl, ap, sym, _∙_}
-use mathlib.Core.List.{List, [], _∷_}
-use lib.ListN.{length, getD}
-use Rattle.held.specs.Held.{Finding}
-use Rattle.held.proofs.FindingLaws.{ordered, kindOf, ordered-is-in-order}
+use Prim.Native.Nat.{ℕ, _+_, _*_, _≤_}
+use native.Mathlib.Omega.{arith}
+use mathlib.Core.Path.{_≡_, refl, ap, _∙_}
+use mathlib.Core.List.{List, [], _∷_, _++_}
+use lib.ListN.{length, getD, replicate, length-append}
+use lib.Seq.{take-at, drop-at}
+use Rattle.rows.specs.Segments.{segment}
+use Rattle.rows.proofs.SegmentLaws.{segment-length}
+use Rattle.rows.proofs.ZeroLaws.{zeros-segment, zeros-to-the-end}
+use Rattle.index.specs.Layout.{placesFor, placesOf}
+use Rattle.held.specs.Held.{byIndex}
+use Rattle.held.specs.Layout.{indexWords}
+use Rattle.held.proofs.FindingLaws.{indexed, kindOf, indexed-by-words}
 use Rattle.held.proofs.ReadBack.{between-length, table-of-words}
 use Rattle.held.proofs.LayoutLaws.{zeros-head}
-use Rattle.ledger.specs.Model.{Ledger, capOf, withDebts}
-use Rattle.ledger.specs.Layout.{countAt, cursorAt, debtsAt, debtWidth, ledgerWords, debtOf, debtWords, ledgerOf, ledger, wordsOf}
+use Rattle.ledger.specs.Model.{Ledger, capOf}
+use Rattle.ledger.specs.Layout.{countAt, cursorAt, debtsAt, debtWidth, othersAt, indexAt, ledgerWords, debtIndex, debtOf, debtWords, ledgerOf, ledger, wordsOf}
+use Rattle.ledger.proofs.LayoutLaws.{others-read, finding-read}
 
 -- A ledger with room for cap debts.
 module _ (cap : ℕ) (l : Ledger) (room : capOf l ≡ cap) where
-  -- Its words are its own and the others.
-  pub words-length : length (wordsOf l) ≡ ledgerWords cap + length (l .others)
+  abbrev past : List ℕ
+  past = l .others ++ indexWords (l .debts .finding)
+
+  -- Its words are those of its debts, the others, and the index.
+  pub words-length : length (wordsOf l) ≡ othersAt cap + length (l .others) + length (indexWords (l .debts .finding))
   unfolding wordsOf
-  words-length = between-length debtWords debtWidth (λ d. refl) (l .debts .places) (l .debts .count ∷ l .cursor ∷ []) (l .others) room refl
+  words-length =
+      let all = between-length debtWords debtWidth (λ d. refl) (l .debts .places) (l .debts .count ∷ l .cursor ∷ []) past room refl in
+      all ∙ rw length-append (omega arith)
 
-  -- Nothing of a ledger in place order is lost when it is written as words and read again.
-  pub ledger-of-words : kindOf (l .debts .finding) ≡ ordered → ledger cap (wordsOf l) ≡ l
+  -- Nothing of a ledger that is found by an index is lost when it is written as words and read again.
+  pub ledger-of-words : length (l .others) ≡ placesFor cap → kindOf (l .debts .finding) ≡ indexed (placesFor cap) → ledger cap (wordsOf l) ≡ l
   unfolding ledger wordsOf
-  ledger-of-words kind =
-      ap ledgerOf (table-of-words debtWords debtWidth (λ d. refl) (l .debts .places) (l .debts .count ∷ l .cursor ∷ []) (l .others) room refl debtOf (λ d. refl))
-      ∙ ap (λ (f : Finding). withDebts l (record { count = l .debts .count; places = l .debts .places; finding = f })) (sym (ordered-is-in-order (l .debts .finding) kind))
+  ledger-of-words others kind =
+      ap (ledgerOf cap) (table-of-words debtWords debtWidth (λ d. refl) (l .debts .places) (l .debts .count ∷ l .cursor ∷ []) past room refl debtOf (λ d. refl))
+      ∙ rw (
+        take-at (l .others) (indexWords (l .debts .finding)) (placesFor cap) others,
+        drop-at (l .others) (indexWords (l .debts .finding)) (placesFor cap) others,
+        indexed-by-words (l .debts .finding) (placesFor cap) kind,
+      )
 
--- The ledger in words that are all 0 holds no debt, and its cursor stands at the first place.
+-- The ledger in words that are all 0 holds no debt, its cursor stands at the first place, and so is every word past its debts.
 module _ (cap : ℕ) (ws : List ℕ) (zeros : (i : ℕ) → getD ws i 0 ≡ 0) where
   pub zeros-no-debts : ledger cap ws .debts .count ≡ 0
   unfolding ledger
@@ -33,3 +50,16 @@ module _ (cap : ℕ) (ws : List ℕ) (zeros : (i : ℕ) → getD ws i 0 ≡ 0) w
   pub zeros-cursor : ledger cap ws .cursor ≡ 0
   unfolding ledger
   zeros-cursor = zeros-head debtOf debtWidth cap debtsAt ws zeros cursorAt
+
+  zeros-part : (a n : ℕ) → a + n ≤ length ws → segment a n ws ≡ replicate n 0
+  zeros-part a n inside =
+      let long = segment-length a n ws inside in
+      zeros-to-the-end (segment a n ws) n n long (omega arith) (λ j below. zeros-segment a n ws zeros j)
+
+  module _ (size : length ws ≡ ledgerWords cap) where
+    pub zeros-others : ledger cap ws .others ≡ replicate (placesFor cap) 0
+    zeros-others = others-read cap ws ∙ zeros-part (othersAt cap) (placesFor cap) (omega arith)
+
+    pub zeros-finding : ledger cap ws .debts .finding ≡ byIndex (replicate (placesFor cap) 0)
+    unfolding placesOf
+    zeros-finding = finding-read cap ws size ∙ ap byIndex (zeros-part (indexAt cap) (placesFor cap) (omega arith))

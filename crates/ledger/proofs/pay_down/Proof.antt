@@ -1,5 +1,6 @@
 -- `pay_down` goes by the place that `position` gives, as its definition does; what is taken off is the product of its definition, held to 64 bits.
-use Prim.Native.Nat.{_≤_, _<_}
+use Prim.Native.Nat.{_<_}
+use mathlib.Core.Path.{_≡_}
 use lib.ListN.{length}
 use Rattle.ledger.specs.Layout.{ledgerWords}
 use Rattle.ledger.proofs.ModelLaws.{paid-where, found-below}
@@ -17,8 +18,8 @@ looked-up p = p .before .before
 abbrev place : tie.After-load → tie.After-pos
 place l = l .before .before .before .before .before .before
 
--- The words are at least as long as a ledger's, and the place found stands below the cap.
-held : (p : tie.After-pos) → let a = start (looked-up p) .args in (ledgerWords (a .cap) ≤ length (a .ws .now)) × (p .pos .given .0 .0 < a .cap)
+-- The words are as many as a ledger has, and the place found stands below the cap.
+held : (p : tie.After-pos) → let a = start (looked-up p) .args in (length (a .ws .now) ≡ ledgerWords (a .cap)) × (p .pos .given .0 .0 < a .cap)
 held p = let intact = start (looked-up p) .pre .0 in (intact .size, found-below _ intact (looked-up p .position .ensures) (p .pos .given .1))
 
 position-requires : tie.Need-position-requires
