@@ -7,22 +7,26 @@ use lib.Dec.{lit<}
 use borrow.Rule.Slice.PartMut.{putMid}
 use mathlib.Core.Path.{_≡_, refl, ap, sym, _∙_}
 use mathlib.Core.List.{List, [], _∷_}
-use lib.ListN.{length, getD, set, drop, length-drop}
-use lib.Seq.{sets, take-all}
+use lib.ListN.{length, getD, set, take, drop, length-drop}
+use lib.Seq.{sets, take-all, drop-drop}
 use Rattle.rows.specs.Segments.{segment}
+use Rattle.index.specs.Layout.{placesFor, placesOf, withPlaces}
+use Rattle.held.specs.Held.{byIndex}
 use Rattle.held.specs.Layout.{Table, tableIn, withItem}
 use Rattle.rows.specs.Outcome.{Outcome, outcome}
 use Rattle.rows.proofs.SegmentLaws.{segment-length}
 use Rattle.rows.proofs.RowLaws.{segment-word, row-end, by-listed}
 use Rattle.held.proofs.LayoutLaws.{table-length, table-word, place-below, place-past, table-item, table-set-word, table-put, table-put-word, table-lent, table-words}
+use Rattle.held.proofs.IndexLaws.{table-with-places, Indexed}
 use Rattle.slot.specs.declared.Slot.{Slot}
 use Rattle.slot.specs.Slot.{withMark}
 use Rattle.ledger.specs.Model as Debts
 use Rattle.ledger.specs.Layout as Ledger
-use Rattle.ledger.proofs.LayoutLaws.{words-ledger}
-use Rattle.shard_map.specs.Model.{capOf, slotAt, withCount, withSlot, withHand, withSweep, withLedger, inLedger, handOf, sweepOf}
+use Rattle.ledger.proofs.LayoutLaws.{words-ledger, others-read, others-put}
+use Rattle.ledger.proofs.OthersLaws.{Overlooks, Spares, SparesAnswering}
+use Rattle.shard_map.specs.Model.{slotItems, capOf, slotAt, withCount, withFinding, withSlot, withHand, withSweep, withLedger, inLedger, handOf, sweepOf}
 use Rattle.shard_map.specs.Layout.{countAt, handAt, sweepAt, slotsAt, slotWidth, slotStart, markIn}
-use Rattle.shard_map.specs.Layout.{slotOf, slotWords, ledgerStart, shardWords, shardOf, shard, wordsOf}
+use Rattle.shard_map.specs.Layout.{slotOf, slotWords, ledgerStart, shardWords, slotIndex, shardWith, lentLedger, shardOf, shard, wordsOf, Intact}
 
 -- Whatever the words, the shard in them has room for cap slots.
 pub cap-is : (cap : ℕ) (ws : List ℕ) → capOf (shard cap ws) ≡ cap
@@ -120,36 +124,75 @@ module _ (cap : ℕ) (ws : List ℕ) (size : length ws ≡ shardWords cap) where
       (table-put-word slotOf slotWidth cap slotsAt ws slots-room i markIn mark below (lit< tt)
       ∙ ap (λ (slot : Slot). withItem table i slot) (marked ∙ ap (λ (slot : Slot). withMark slot mark) read)))
 
--- The ledger's part of the words, in the form in which it is lent from its start on, and come back as other words.
-module _ (cap : ℕ) (ws : List ℕ) (size : length ws ≡ shardWords cap) {start : ℕ} (is : start ≡ ledgerStart cap) where
-  lent-length : length (segment start (length ws - start) ws) ≡ length ws - start
-  lent-length = segment-length start (length ws - start) ws (omega arith)
+-- The index of the slots: the places that lookup goes by are those in the words, and other places in the words are other places to go by.
+module _ (cap : ℕ) (ws : List ℕ) (size : length ws ≡ shardWords cap) where
+  pub rest-length : length (drop (ledgerStart cap) ws) ≡ Ledger.ledgerWords cap
+  rest-length = omega (arith, length-drop (ledgerStart cap) ws)
 
-  pub ledger-lent : Ledger.ledger cap (segment start (length ws - start) ws) ≡ shard cap ws .ledger
+  pub finding-read : shard cap ws .slots .finding ≡ byIndex (placesOf (slotIndex cap) ws)
+  unfolding shard tableIn placesOf
+  finding-read = ap byIndex (others-read cap (drop (ledgerStart cap) ws) ∙ ap (take (placesFor cap)) (drop-drop (Ledger.othersAt cap) (ledgerStart cap) ws))
+
+  pub index-put : (ix : List ℕ) → length ix ≡ placesFor cap → shard cap (withPlaces (slotIndex cap) ws ix) ≡ withFinding (shard cap ws) (byIndex ix)
+  unfolding shard tableIn
+  index-put ix long =
+      let table : Table Slot = tableIn slotOf slotWidth cap slotsAt ws in
+      ap (shardOf cap) (table-with-places slotOf slotWidth cap slotsAt (Ledger.othersAt cap) (slotIndex cap) ws ix refl (omega arith) long)
+      ∙ ap (shardWith table) (others-put cap (table .rest) rest-length ix long)
+
+-- The slots in words that are lent are found by the index in these words.
+pub slots-indexed : {cap : ℕ} {ws : List ℕ} → Intact cap ws → Indexed slotItems (λ slot. slot .key) slotOf (slotIndex cap) cap ws (shard cap ws .slots)
+unfolding shard
+slots-indexed {cap} {ws} intact =
+    let room = cap-is cap ws in
+    record {
+      fits = record { room = omega (arith, intact .sound .room, room); inside = omega (arith, intact .size); items = omega arith; within = lit< tt };
+      count-fits = omega (arith, intact .sound .count-fits, room);
+      places = refl;
+      finding = finding-read cap ws (intact .size);
+      free = refl;
+      hash = λ row. refl;
+      keys = λ row. refl;
+    }
+
+-- The ledger's part of the words, in the form in which it is lent from its start on, and come back as other words. In it lies the index of the slots.
+module _ (cap : ℕ) (ws : List ℕ) (size : length ws ≡ shardWords cap) {start : ℕ} (is : start ≡ ledgerStart cap) where
+  pub ledger-lent : Ledger.ledger cap (segment start (length ws - start) ws) ≡ lentLedger (shard cap ws)
   unfolding shard tableIn
   ledger-lent = rw is (ap (Ledger.ledger cap) (take-all (length ws - ledgerStart cap) (drop (ledgerStart cap) ws) (omega (arith, length-drop (ledgerStart cap) ws))))
 
-  pub ledger-long : Ledger.ledgerWords cap ≤ length (segment start (length ws - start) ws)
-  ledger-long = omega (arith, lent-length)
+  pub ledger-long : length (segment start (length ws - start) ws) ≡ Ledger.ledgerWords cap
+  ledger-long = omega (arith, segment-length start (length ws - start) ws (omega arith))
 
-  -- What a function of the ledger tells of its part, it tells of the shard's ledger. `op` is what the function makes of a ledger.
-  pub ledger-tells : {A : Type 0} {a : A} (op : Debts.Ledger → A) → a ≡ op (Ledger.ledger cap (segment start (length ws - start) ws)) → a ≡ op (shard cap ws .ledger)
-  ledger-tells op told = rw ledger-lent at told
+  -- What a function of the ledger tells of its part, it tells of the shard's ledger. `op` is what the function makes of a ledger, whatever the other words.
+  pub ledger-tells : {A : Type 0} {a : A} (op : Debts.Ledger → A) → Overlooks op
+      → a ≡ op (Ledger.ledger cap (segment start (length ws - start) ws)) → a ≡ op (shard cap ws .ledger)
+  ledger-tells op overlooks told = (rw ledger-lent at told) ∙ overlooks (shard cap ws .ledger) _
 
-  -- What it leaves in its part it leaves in the shard, and the rest stays as it is; so with an answer.
+  -- What it leaves in its part it leaves in the shard, and the rest stays as it is, the index of the slots too; so with an answer.
   module _ (ys : List ℕ) (same : length ys ≡ length (segment start (length ws - start) ws)) where
-    ledger-back : shard cap (putMid start (length ws - start) ws ys) ≡ withLedger (shard cap ws) (Ledger.ledger cap ys)
+    ledger-back : shard cap (putMid start (length ws - start) ws ys) ≡ shardWith (tableIn slotOf slotWidth cap slotsAt ws) (Ledger.ledger cap ys)
     unfolding shard
-    ledger-back = rw is (ap (shardOf cap) (table-lent slotOf slotWidth cap slotsAt ws (omega arith) ys (omega (arith, same, lent-length))))
+    ledger-back = rw is (ap (shardOf cap) (table-lent slotOf slotWidth cap slotsAt ws (omega arith) ys (omega (arith, same, ledger-long))))
 
-    pub ledger-leaves : (op : Debts.Ledger → Debts.Ledger) → Ledger.ledger cap ys ≡ op (Ledger.ledger cap (segment start (length ws - start) ws))
+    pub ledger-leaves : (op : Debts.Ledger → Debts.Ledger) → Spares op → Ledger.ledger cap ys ≡ op (Ledger.ledger cap (segment start (length ws - start) ws))
         → shard cap (putMid start (length ws - start) ws ys) ≡ withLedger (shard cap ws) (op (shard cap ws .ledger))
-    ledger-leaves op left = ledger-back ∙ ap (withLedger (shard cap ws)) (ledger-tells op left)
+    unfolding shard
+    ledger-leaves op spares left =
+        let own = shard cap ws .ledger in
+        let kept = (rw ledger-lent at left) ∙ spares own _ in
+        ledger-back ∙ ap (shardWith (tableIn slotOf slotWidth cap slotsAt ws)) kept ∙ ap (withLedger (shard cap ws)) (sym (spares own []))
 
-    pub ledger-answers : {A : Type 0} {a : A} (op : Debts.Ledger → Outcome A Debts.Ledger)
+    pub ledger-answers : {A : Type 0} {a : A} (op : Debts.Ledger → Outcome A Debts.Ledger) → SparesAnswering op
         → outcome a (Ledger.ledger cap ys) ≡ op (Ledger.ledger cap (segment start (length ws - start) ws))
         → outcome a (shard cap (putMid start (length ws - start) ws ys)) ≡ inLedger (shard cap ws) (op (shard cap ws .ledger))
-    ledger-answers op gave = rw ledger-back (ap (λ o. inLedger (shard cap ws) o) (ledger-tells op gave))
+    unfolding shard
+    ledger-answers op spares gave =
+        let own = shard cap ws .ledger in
+        let kept = (rw ledger-lent at gave) ∙ spares own _ in
+        rw ledger-back
+        (ap (λ o. outcome (o .answer) (shardWith (tableIn slotOf slotWidth cap slotsAt ws) (o .after))) kept
+        ∙ ap (λ o. inLedger (shard cap ws) o) (sym (spares own [])))
 
 -- The words of the shard in words of the right length are those words.
 pub words-shard : (cap : ℕ) (ws : List ℕ) → length ws ≡ shardWords cap → wordsOf (shard cap ws) ≡ ws

@@ -9,20 +9,24 @@ use lib.ListN.{length}
 use Rattle.units.specs.declared.Nanos.{Nanos}
 use Rattle.units.specs.declared.Millis.{Millis}
 use Rattle.bucket.specs.declared.BucketConfig.{BucketConfig}
-use Rattle.held.specs.Held.{removed}
+use Rattle.index.specs.Walk as Index
+use Rattle.index.specs.Layout.{Fits, placesFor, placesOf, withPlaces, hashOf, keyed}
+use Rattle.index.proofs.StepLaws.{add-length, remove-length}
+use Rattle.index.proofs.LayoutLaws.{places-length}
+use Rattle.held.specs.Held.{withAdded, removed, withoutItem}
 use Rattle.held.specs.Round as Round
 use Rattle.rows.specs.Segments.{segment}
 use Rattle.rows.specs.Outcome.{Outcome, outcome}
-use Rattle.held.proofs.SearchLaws.{Searching, search-begins}
+use Rattle.held.proofs.IndexLaws.{indexed-fits, indexed-find, indexed-add, indexed-remove}
 use Rattle.held.proofs.RoundLaws.{look-goes, look-stays, look-none, ByLooks}
 use Rattle.rows.proofs.OutcomeLaws.{after-is}
 use Rattle.slot.specs.declared.Slot.{Slot}
 use Rattle.slot.specs.Slot.{isKey}
 use Rattle.ledger.specs.Layout as LedgerLayout
-use Rattle.shard_map.specs.Model.{Shard, Sound, noSlot, slotItems, capOf, slotAt, withCount, withSlot, withSweep, handOf, sweepOf, placeOf, removeAt, insert}
-use Rattle.shard_map.specs.Model.{reclaimable, roundOf, withRound, idleLook, sweepIdle}
-use Rattle.shard_map.specs.Layout.{ledgerStart, shard, Intact}
-use Rattle.shard_map.proofs.LayoutLaws.{cap-is, ledger-lent, ledger-long}
+use Rattle.shard_map.specs.Model.{Shard, Sound, noSlot, slotItems, capOf, slotAt, withCount, withFinding, withSlot, withSweep, handOf, sweepOf, placeOf, removeAt}
+use Rattle.shard_map.specs.Model.{insert, reclaimable, roundOf, withRound, idleLook, sweepIdle}
+use Rattle.shard_map.specs.Layout.{ledgerStart, slotIndex, shard, Intact}
+use Rattle.shard_map.proofs.LayoutLaws.{cap-is, index-put, slots-indexed, ledger-lent, ledger-long}
 use Rattle.shard_map.proofs.StepLaws.{hand-below, sweep-below, sweep-sound, idle-look-sound}
 
 -- Words that are lent have room for cap slots; a slot that is held, and the hand and the sweep where one is, stand below the cap.
@@ -52,24 +56,53 @@ module _ {cap : ℕ} {ws ws′ : List ℕ} (intact : Intact cap ws) (same : leng
   pub intact-after-answer : {A : Type 0} {a : A} {o : Outcome A Shard} → outcome a (shard cap ws′) ≡ o → Sound (o .after) → Intact cap ws′
   intact-after-answer gave t = intact-after (after-is gave) t
 
--- Insertion and removal in words, store by store, as the code makes them.
-module _ (cap : ℕ) (ws : List ℕ) where
+-- Insertion and removal, store by store, as the code makes them: first in the index, then in the places, last the count.
+module _ (s : Shard) where
+  pub insert-by-stores : (slot : Slot)
+      → withCount (withSlot (withFinding s (withAdded (s .slots .finding) (slot .hash) (s .slots .count))) (s .slots .count) slot) (s .slots .count + 1) ≡ insert s slot
+  unfolding insert
+  insert-by-stores slot = refl
+
+  abbrev unnamed : ℕ → Shard
+  unnamed p = withFinding s (withoutItem slotItems (s .slots) p)
+
+  pub remove-by-stores : (p : ℕ)
+      → withCount (withSlot (withSlot (unnamed p) p (slotAt (unnamed p) (s .slots .count - 1))) (s .slots .count - 1) noSlot) (s .slots .count - 1) ≡ removeAt s p
+  unfolding removeAt removed
+  remove-by-stores p = refl
+
+-- Lookup, addition and removal in the words' index, as the crate `index` makes them.
+module _ {cap : ℕ} {ws : List ℕ} (intact : Intact cap ws) where
   abbrev stands : Shard
   stands = shard cap ws
 
-  pub insert-by-stores : (slot : Slot) → withCount (withSlot stands (stands .slots .count) slot) (stands .slots .count + 1) ≡ insert stands slot
-  unfolding insert shard
-  insert-by-stores slot = refl
+  abbrev places : List ℕ
+  places = placesOf (slotIndex cap) ws
 
-  pub remove-by-stores : (p : ℕ)
-      → withCount (withSlot (withSlot stands p (slotAt stands (stands .slots .count - 1))) (stands .slots .count - 1) noSlot) (stands .slots .count - 1) ≡ removeAt stands p
-  unfolding removeAt removed shard
-  remove-by-stores p = refl
+  pub slots-fit : Fits (slotIndex cap) (stands .slots .count) ws
+  slots-fit = indexed-fits (slots-indexed intact)
 
-  -- Lookup: where its loop begins.
-  pub place-begins : (hash key count : ℕ) → count ≡ stands .slots .count → Searching slotItems (stands .slots) (isKey hash key) count 0 (placeOf stands hash key)
-  unfolding placeOf shard
-  place-begins hash key count counted = search-begins slotItems (stands .slots) hash (isKey hash key) count refl counted
+  pub found-in-index : (hash key : ℕ) → Index.find (stands .slots .count) (keyed (slotIndex cap) ws hash key) places hash ≡ placeOf stands hash key
+  unfolding placeOf
+  found-in-index hash key = indexed-find (slots-indexed intact) hash key (isKey hash key) (λ slot. refl)
+
+  -- The places that the index then has are as many.
+  places-long : length places ≡ placesFor cap
+  places-long = places-length (slotIndex cap) ws (slots-fit .inside)
+
+  pub added-to-index : (hash i : ℕ)
+      → shard cap (withPlaces (slotIndex cap) ws (Index.add places hash i)) ≡ withFinding stands (withAdded (stands .slots .finding) hash i)
+  added-to-index hash i =
+      index-put cap ws (intact .size) (Index.add places hash i) (add-length places hash i ∙ places-long)
+      ∙ ap (withFinding stands) (indexed-add (slots-indexed intact) hash i)
+
+  pub removed-from-index : (p : ℕ) → p < stands .slots .count
+      → shard cap (withPlaces (slotIndex cap) ws (Index.remove (hashOf (slotIndex cap) ws) (stands .slots .count) places p))
+      ≡ withFinding stands (withoutItem slotItems (stands .slots) p)
+  removed-from-index p below =
+      let hash = hashOf (slotIndex cap) ws in
+      index-put cap ws (intact .size) (Index.remove hash (stands .slots .count) places p) (remove-length hash (stands .slots .count) places p ∙ places-long)
+      ∙ ap (withFinding stands) (indexed-remove (slots-indexed intact) p below)
 
 -- A look of the idle sweep at a slot that may go and at one that stays, and the idle sweep by its looks.
 module _ (c : BucketConfig) (at : Nanos) (limit : Millis) where

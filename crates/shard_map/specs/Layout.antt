@@ -9,6 +9,7 @@ use Rattle.index.specs.declared.Index.{Index}
 use Rattle.index.specs.Layout.{placesFor}
 use Rattle.held.specs.Layout.{Table, tableIn, heldOf, indexWords}
 use Rattle.slot.specs.declared.Slot.{Slot}
+use Rattle.ledger.specs.Model as Debts
 use Rattle.ledger.specs.Model.{withOthers}
 use Rattle.ledger.specs.Layout as Ledger
 use Rattle.shard_map.specs.Model.{Shard, Sound}
@@ -64,20 +65,24 @@ shardWords cap = ledgerStart cap + Ledger.ledgerWords cap
 abbrev pub slotIndex : ℕ → Index
 slotIndex cap = record { base = ledgerStart cap + Ledger.othersAt cap; size = placesFor cap; first = slotsAt; width = slotWidth; key = keyIn }
 
--- The shard that a table of slots is, the ledger lying in its rest; the shard that lies in some words, and the words of a shard. The words of the slots' index
--- stand in the shard once: the slots have them, and the ledger has none that are not its own.
+-- The shard that a table of slots and a ledger are, where the ledger's other words are the index of the slots. Those words stand in the shard once: the slots have
+-- them, and the shard's ledger has none that are not its own.
+abbrev pub shardWith : Table Slot → Debts.Ledger → Shard
+shardWith t l = record { slots = heldOf countAt (l .others) t; hand = t .head handAt; sweep = t .head sweepAt; ledger = withOthers l [] }
+
+-- The ledger of a shard as it is lent: it has the words of the slots' index with it again.
+abbrev pub lentLedger : Shard → Debts.Ledger
+lentLedger s = withOthers (s .ledger) (indexWords (s .slots .finding))
+
+-- The shard that a table of slots is, the ledger lying in its rest; the shard that lies in some words, and the words of a shard.
 abbrev pub shardOf : ℕ → Table Slot → Shard
-shardOf cap t =
-    let l = Ledger.ledger cap (t .rest) in
-    record { slots = heldOf countAt (l .others) t; hand = t .head handAt; sweep = t .head sweepAt; ledger = withOthers l [] }
+shardOf cap t = shardWith t (Ledger.ledger cap (t .rest))
 
 unfoldable pub shard : ℕ → List ℕ → Shard
 shard cap ws = shardOf cap (tableIn slotOf slotWidth cap slotsAt ws)
 
 unfoldable pub wordsOf : Shard → List ℕ
-wordsOf s =
-    let l = withOthers (s .ledger) (indexWords (s .slots .finding)) in
-    s .slots .count ∷ s .hand ∷ s .sweep ∷ (unrow (map slotWords (s .slots .places)) ++ Ledger.wordsOf l)
+wordsOf s = s .slots .count ∷ s .hand ∷ s .sweep ∷ (unrow (map slotWords (s .slots .places)) ++ Ledger.wordsOf (lentLedger s))
 
 -- The words that a function of the shard is lent: just those of a shard that is sound.
 pub record Intact (cap : ℕ) (ws : List ℕ) : Type 0 where

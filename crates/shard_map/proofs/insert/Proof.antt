@@ -7,8 +7,11 @@ use Rattle.shard_map.proofs.insert.Tie as tie
 count-requires : tie.Need-count-requires
 count-requires c κs = search needs
 
+add-to-index-requires : tie.Need-add-to-index-requires
+add-to-index-requires c κs = search needs
+
 put-requires : tie.Need-put-requires
-put-requires c κs = (c .before .before .before .before .pre .0 .size, search needs)
+put-requires c κs = search needs
 
 add-set-count : tie.Need-add-set-count
 add-set-count c = search needs
@@ -23,9 +26,10 @@ returns : tie.Need-returns
 returns c =
     let counted = c .before .before in
     let stored = counted .before .before .before .before in
-    rw (counted .set-count .ensures, stored .put .ensures, stored .before .before .count .ensures) (insert-by-stores _ _ _)
+    let added = stored .before .before .before .before in
+    rw (counted .set-count .ensures, stored .put .ensures, added .add-to-index .ensures, added .before .before .count .ensures) (insert-by-stores _ _)
 
 pub insert-spec : {M : Type 1} → statement M
 insert-spec =
     tie.close
-    (tie.spec count-requires put-requires add-set-count set-count-requires same-length returns)
+    (tie.spec count-requires add-to-index-requires put-requires add-set-count set-count-requires same-length returns)

@@ -1,4 +1,5 @@
 -- `debts::len` gives what the ledger's own function gives for its part of the words.
+use mathlib.Core.Path.{refl}
 use Rattle.shard_map.proofs.LayoutLaws.{ledger-long, ledger-tells}
 use borrow.Author.Needs.{needs}
 use Rattle.shard_map.proofs.debts.len.Statement.{statement}
@@ -27,7 +28,7 @@ len-requires : tie.Need-len-requires
 len-requires c κs = let l = c .before in ledger-long _ (start l .args .ws .now) (start l .pre) (l .ledger-start .ensures)
 
 returns : tie.Need-returns
-returns c = let l = c .before .before in ledger-tells _ _ (start l .pre) (l .ledger-start .ensures) (λ m. m .debts .count) (c .len .ensures)
+returns c = let l = c .before .before in ledger-tells _ _ (start l .pre) (l .ledger-start .ensures) (λ m. m .debts .count) (λ m ws. refl) (c .len .ensures)
 
 pub len-spec : {M : Type 1} → statement M
 len-spec =

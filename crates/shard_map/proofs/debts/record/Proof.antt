@@ -1,5 +1,6 @@
 -- `debts::record` does to the ledger's part of the words what the ledger's own function does, and nothing to the rest.
 use Rattle.ledger.specs.Model as Ledger
+use Rattle.ledger.proofs.OthersLaws.{recorded-spares}
 use Rattle.shard_map.proofs.ModelLaws.{intact-ledger}
 use Rattle.shard_map.proofs.LayoutLaws.{ledger-answers}
 use borrow.Author.Needs.{needs}
@@ -36,7 +37,10 @@ returns c =
     let gave = c .before .before .«record» in
     let l = c .before .before .before .before in
     let a = start l .args in
-    ledger-answers _ _ (start l .pre .size) (l .ledger-start .ensures) _ (gave .kept .0) (λ m. Ledger.recorded m (a .debt) (a .at) (a .forget)) (gave .ensures)
+    ledger-answers _ _ (start l .pre .size) (l .ledger-start .ensures) _ (gave .kept .0)
+    (λ m. Ledger.recorded m (a .debt) (a .at) (a .forget))
+    (recorded-spares _ _ _)
+    (gave .ensures)
 
 pub record-spec : {M : Type 1} → statement M
 record-spec =
