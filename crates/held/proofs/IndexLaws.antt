@@ -12,9 +12,9 @@ use Rattle.rows.specs.Segments.{segment}
 use Rattle.index.specs.declared.Index.{Index}
 use Rattle.index.specs.Walk as Index
 use Rattle.index.specs.Layout.{Fits, placesOf, withPlaces, itemWord, hashOf, keyOf, keyed}
-use Rattle.index.proofs.StepLaws.{find-agrees, remove-agrees}
-use Rattle.index.proofs.LayoutLaws.{word-in-row, with-is-back}
-use Rattle.held.specs.Held.{Held, Items, byIndex, withAdded, withoutItem, itemAt, hashAt, position}
+use Rattle.index.proofs.StepLaws.{add-length, remove-length, find-agrees, remove-agrees}
+use Rattle.index.proofs.LayoutLaws.{word-in-row, places-length, with-is-back}
+use Rattle.held.specs.Held.{Held, Items, Finding, byIndex, withAdded, withoutItem, itemAt, hashAt, position}
 use Rattle.held.specs.Layout.{tableIn, withRest}
 use Rattle.held.proofs.LayoutLaws.{table-item, table-part-put}
 
@@ -68,10 +68,21 @@ module _ {A : Type 0} {items : Items A} {key : A → ℕ} {read : List ℕ → A
       (λ i below. rw (indexed-hash i below, indexed-key i below) (is (itemAt items h i)))
       (placesOf index ws) hash)
 
-  -- An item is added, and removed.
-  pub indexed-add : (hash i : ℕ) → byIndex (Index.add (placesOf index ws) hash i) ≡ withAdded (h .finding) hash i
-  indexed-add hash i = rw (I .finding)
+  -- An item is added to the words' index, and removed from it. `whole` is what lies in the words, and `with` is that where the items are found otherwise:
+  -- other places in the index change the finding alone.
+  module _ {S : Type 0} (whole : List ℕ → S) (with : Finding → S)
+      (put : (ix : List ℕ) → length ix ≡ index .size → whole (withPlaces index ws ix) ≡ with (byIndex ix)) where
+    long : length (placesOf index ws) ≡ index .size
+    long = places-length index ws (I .fits .inside)
 
-  pub indexed-remove : (p : ℕ) → p < h .count → byIndex (Index.remove (hashOf index ws) (h .count) (placesOf index ws) p) ≡ withoutItem items h p
-  indexed-remove p below =
-      rw (I .finding) (ap byIndex (remove-agrees (hashOf index ws) (hashAt items h) (h .count) indexed-hash (placesOf index ws) p below))
+    pub indexed-add : (hash i : ℕ) → whole (withPlaces index ws (Index.add (placesOf index ws) hash i)) ≡ with (withAdded (h .finding) hash i)
+    indexed-add hash i =
+        let added : List ℕ = Index.add (placesOf index ws) hash i in
+        put added (add-length (placesOf index ws) hash i ∙ long) ∙ rw (I .finding)
+
+    pub indexed-remove : (p : ℕ) → p < h .count
+        → whole (withPlaces index ws (Index.remove (hashOf index ws) (h .count) (placesOf index ws) p)) ≡ with (withoutItem items h p)
+    indexed-remove p below =
+        let left : List ℕ = Index.remove (hashOf index ws) (h .count) (placesOf index ws) p in
+        let same = remove-agrees (hashOf index ws) (hashAt items h) (h .count) indexed-hash (placesOf index ws) p below in
+        put left (remove-length (hashOf index ws) (h .count) (placesOf index ws) p ∙ long) ∙ rw (I .finding, same)

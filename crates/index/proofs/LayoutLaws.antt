@@ -10,7 +10,6 @@ use lib.Seq.{getD-take, getD-drop, length-take-le, take-at, drop-at, take-set-lt
 use lib.Dec.{eqb}
 use borrow.Rule.Slice.PartMut.{putMid}
 use borrow.Author.Tests.{eq-eqb, ne-eqb}
-use Rattle.arith.proofs.Cases.{by-eq}
 use Rattle.rows.specs.Segments.{segment}
 use Rattle.rows.proofs.SegmentLaws.{segment-length, segment-back, word-kept}
 use Rattle.rows.proofs.RowLaws.{segment-word}
@@ -26,7 +25,7 @@ item-before {index} {n} fits i f h inside =
     let m : index .width * (i + 1) ≤ index .width * n = mul-le-mul-left {m = i + 1} {n = n} (index .width) (omega arith) in
     omega (arith, fits .items)
 
--- Does an item have the hash and the key: by the tests of the code; and where the key is the hash itself.
+-- Does an item have the hash and the key: by the tests of the code.
 module _ (index : Index) (ws : List ℕ) (h k i : ℕ) where
   pub keyed-by-key : hashOf index ws i ≡ h → eqb (keyOf index ws i) k ≡ keyed index ws h k i
   unfolding keyed
@@ -35,13 +34,6 @@ module _ (index : Index) (ws : List ℕ) (h k i : ℕ) where
   pub keyed-not : (hashOf index ws i ≡ h → ⊥) → false ≡ keyed index ws h k i
   unfolding keyed
   keyed-not n = rw (ne-eqb _ _ n)
-
-pub keyed-by-hash : (index : Index) (ws : List ℕ) (h i : ℕ) → index .key ≡ 0 → keyed index ws h h i ≡ eqb (hashOf index ws i) h
-unfolding keyed
-keyed-by-hash index ws h i none =
-    by-eq (hashOf index ws i) h
-    (λ e. rw (eq-eqb (hashOf index ws i) h e, eq-eqb (keyOf index ws i) h (ap (λ (f : ℕ). itemWord index f ws i) none ∙ e)))
-    (λ n. rw (ne-eqb (hashOf index ws i) h n))
 
 -- A word of an item as a word of its row.
 pub word-in-row : (index : Index) (ws : List ℕ) (i f : ℕ) → f < index .width

@@ -5,18 +5,17 @@ use native.Mathlib.Nat.{add-zero}
 use lib.Dec.{lit<}
 use mathlib.Core.Path.{_≡_, refl, ap, sym, _∙_}
 use mathlib.Core.List.{List, [], _∷_}
-use mathlib.Core.Bool.{Bool, true, false, cond}
-use lib.ListN.{length, getD, set, take, drop, length-drop, take-append-drop}
+use lib.ListN.{length, getD, set, drop, length-drop, take-append-drop}
 use lib.Seq.{sets, take-all, take-at, drop-at, drop-drop}
 use borrow.Rule.Slice.PartMut.{putMid}
 use Rattle.rows.specs.Segments.{segment}
+use Rattle.index.specs.Layout.{placesFor, placesOf, withPlaces}
+use Rattle.held.specs.Held.{byIndex}
+use Rattle.held.specs.Layout.{Table, tableIn, withRest}
 use Rattle.rows.proofs.SegmentLaws.{segment-kept-below, rest-back}
 use Rattle.rows.proofs.RowLaws.{segment-word, by-listed}
 use Rattle.held.proofs.LayoutLaws.{table-length, table-word, place-below, place-past, table-item, table-set-word, table-put, table-part-put, table-words}
 use Rattle.held.proofs.IndexLaws.{table-with-places, Indexed}
-use Rattle.held.specs.Held.{byIndex}
-use Rattle.held.specs.Layout.{Table, withRest, tableIn}
-use Rattle.index.specs.Layout.{Fits, placesFor, placesOf, withPlaces}
 use Rattle.ledger.specs.declared.Debt.{Debt}
 use Rattle.ledger.specs.Model.{debtItems, capOf, debtAt, cursorOf, withCount, withCursor, withDebt, withFinding, withOthers}
 use Rattle.ledger.specs.Layout.{countAt, cursorAt, debtsAt, debtWidth, othersAt, indexAt, ledgerWords, debtIndex, debtOf, debtWords, ledgerOf, ledger, wordsOf, Intact}
@@ -132,8 +131,3 @@ debts-indexed {cap} {ws} intact =
       hash = λ row. refl;
       keys = λ row. refl;
     }
-
--- A test of the hash and then of the hash again is a test of the hash.
-pub twice-tested : (b : Bool) → cond b b false ≡ b
-twice-tested true = refl
-twice-tested false = refl

@@ -3,7 +3,7 @@
 use Prim.Native.Nat.{ℕ, suc, _+_, _-_, _≤_, _<_, min}
 use native.Mathlib.Omega.{arith}
 use mathlib.Core.Path.{_≡_, refl, ap, sym, _∙_}
-use mathlib.Core.Bool.{Bool, true, false}
+use mathlib.Core.Bool.{Bool, true, false, cond}
 use mathlib.Core.List.{List}
 use lib.ListN.{length}
 use borrow.Author.Tests.{lt-ltb, le-ltb, le-leb, lt-leb}
@@ -13,9 +13,7 @@ use Rattle.settings.specs.Eviction.{ledgerScan}
 use Rattle.rows.specs.declared.Place.{Place}
 use Rattle.rows.specs.declared.Place.the-variants.{At, Nowhere}
 use Rattle.index.specs.Walk as Index
-use Rattle.index.specs.Layout.{Fits, placesFor, placesOf, withPlaces, hashOf, keyed}
-use Rattle.index.proofs.StepLaws.{add-length, remove-length}
-use Rattle.index.proofs.LayoutLaws.{places-length}
+use Rattle.index.specs.Layout.{Fits, placesOf, withPlaces, hashOf, keyed}
 use Rattle.held.specs.Held.{withAdded, removed, withoutItem}
 use Rattle.held.specs.Round as Round
 use Rattle.rows.specs.Outcome.{Outcome, outcome}
@@ -31,7 +29,7 @@ use Rattle.ledger.specs.Model.{Ledger, Sound, noDebt, debtItems, capOf, 
 use Rattle.ledger.specs.Model.{removeAt, append, takenAt, taken, roundOf, withRound, look, sweep, sooner, scanFrom, scan, dropChosen, makeRoom, joined, later, recordedAt}
 use Rattle.ledger.specs.Model.{recorded, credit, paidAt, paidDown}
 use Rattle.ledger.specs.Layout.{debtIndex, ledger, Intact}
-use Rattle.ledger.proofs.LayoutLaws.{cap-is, index-put, debts-indexed, twice-tested}
+use Rattle.ledger.proofs.LayoutLaws.{cap-is, index-put, debts-indexed}
 use Rattle.ledger.proofs.StepLaws.{cursor-below, found-owes, look-sound}
 use Rattle.ledger.proofs.RecordLaws.{sooner-is-either, chosen, scan-chooses-held, scan-sound, make-room-sound, make-room-makes-room}
 
@@ -50,6 +48,11 @@ module _ (l : Ledger) where
   unfolding removeAt removed
   remove-by-stores p = refl
 
+-- A debt has its hash for a key: a test of the hash and then of the key is a test of the hash.
+tested-twice : (b : Bool) → cond b b false ≡ b
+tested-twice true = refl
+tested-twice false = refl
+
 -- Lookup, addition and removal in the words' index, as the crate `index` makes them.
 module _ {cap : ℕ} {ws : List ℕ} (intact : Intact cap ws) where
   abbrev stands : Ledger
@@ -60,26 +63,16 @@ module _ {cap : ℕ} {ws : List ℕ} (intact : Intact cap ws) where
 
   pub found-in-index : (hash : ℕ) → Index.find (stands .debts .count) (keyed (debtIndex cap) ws hash hash) (placesOf (debtIndex cap) ws) hash ≡ placeOf stands hash
   unfolding placeOf
-  found-in-index hash = indexed-find (debts-indexed intact) hash hash (owes hash) (λ d. twice-tested (owes hash d))
-
-  -- The places that the index then has are as many.
-  places-long : length (placesOf (debtIndex cap) ws) ≡ placesFor cap
-  places-long = places-length (debtIndex cap) ws (debts-fit .inside)
+  found-in-index hash = indexed-find (debts-indexed intact) hash hash (owes hash) (λ d. tested-twice (owes hash d))
 
   pub added-to-index : (hash i : ℕ) → ledger cap (withPlaces (debtIndex cap) ws (Index.add (placesOf (debtIndex cap) ws) hash i))
       ≡ withFinding stands (withAdded (stands .debts .finding) hash i)
-  added-to-index hash i =
-      index-put cap ws (intact .size) (Index.add (placesOf (debtIndex cap) ws) hash i) (add-length (placesOf (debtIndex cap) ws) hash i ∙ places-long)
-      ∙ ap (withFinding stands) (indexed-add (debts-indexed intact) hash i)
+  added-to-index hash i = indexed-add (debts-indexed intact) (ledger cap) (withFinding stands) (index-put cap ws (intact .size)) hash i
 
   pub removed-from-index : (p : ℕ) → p < stands .debts .count
       → ledger cap (withPlaces (debtIndex cap) ws (Index.remove (hashOf (debtIndex cap) ws) (stands .debts .count) (placesOf (debtIndex cap) ws) p))
       ≡ withFinding stands (withoutItem debtItems (stands .debts) p)
-  removed-from-index p below =
-      let hash = hashOf (debtIndex cap) ws in
-      let ix = placesOf (debtIndex cap) ws in
-      index-put cap ws (intact .size) (Index.remove hash (stands .debts .count) ix p) (remove-length hash (stands .debts .count) ix p ∙ places-long)
-      ∙ ap (withFinding stands) (indexed-remove (debts-indexed intact) p below)
+  removed-from-index p below = indexed-remove (debts-indexed intact) (ledger cap) (withFinding stands) (index-put cap ws (intact .size)) p below
 
 -- Take and pay down, once lookup has given a place and it is known which.
 module _ (l : Ledger) (hash : ℕ) {place known : Place} (gave : place ≡ placeOf l hash) (is : place ≡ known) where

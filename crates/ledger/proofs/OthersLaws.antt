@@ -1,4 +1,5 @@
--- No operation of the ledger goes by the lent words that are not its own, and each leaves them as they are. So a shard may keep other things in them.
+-- The steps of a ledger ask neither how its debts are found, once a place is known, nor for the words that are not its own. So no operation changes those words,
+-- and with others in their place it gives the same answer and leaves the same debts and cursor.
 use Prim.Native.Nat.{ℕ, zero, suc}
 use mathlib.Core.Path.{_≡_, refl, ap}
 use mathlib.Core.Bool.{Bool, true, false}
@@ -10,113 +11,124 @@ use Rattle.bucket.specs.declared.BucketConfig.{BucketConfig}
 use Rattle.rows.specs.declared.Place.{Place}
 use Rattle.rows.specs.declared.Place.the-variants.{At, Nowhere}
 use Rattle.rows.specs.Outcome.{Outcome, outcome}
+use Rattle.held.specs.Held.{Finding, withAdded, withRemoved, foundOtherwise, removed}
 use Rattle.ledger.specs.declared.Debt.{Debt}
 use Rattle.ledger.specs.declared.Choice.{Choice}
 use Rattle.ledger.specs.declared.Choice.the-variants.{Settled, Soonest}
 use Rattle.ledger.specs.declared.Recorded.{Recorded}
 use Rattle.ledger.specs.declared.Recorded.the-variants.{Done, NoRoom}
-use Rattle.ledger.specs.Model.{Ledger, capOf, hasSettled, cursorOf, withCursor, withOthers, placeOf, removeAt, append, owedAt, owedBy, takenAt, taken, sweep}
+use Rattle.ledger.specs.Model.{Ledger, capOf, hasSettled, cursorOf, withCursor, withOthers, placeOf, removeAt, append, owedAt, owedBy, takenAt, taken, look, sweep}
 use Rattle.ledger.specs.Model.{sooner, scanFrom, scan, dropChosen, makeRoom, joined, recordedAt, recorded, credit, paidAt, paidDown}
 
--- What an operation gave, with other words in its ledger.
-abbrev pub afterWith : {A : Type 0} → List ℕ → Outcome A Ledger → Outcome A Ledger
-afterWith ws o = outcome (o .answer) (withOthers (o .after) ws)
+-- The same ledger with its finding and the other words changed; and what an operation gave, with that ledger.
+abbrev pub changed : (Finding → Finding) → (List ℕ → List ℕ) → Ledger → Ledger
+changed f g l = record { debts = foundOtherwise (l .debts) (f (l .debts .finding)); cursor = l .cursor; others = g (l .others) }
 
--- Whatever the other words are, an operation tells the same; and it leaves the same and those words, alone or with an answer.
-abbrev pub Overlooks : {A : Type 0} → (Ledger → A) → Type 0
-Overlooks op = (l : Ledger) (ws : List ℕ) → op (withOthers l ws) ≡ op l
+abbrev pub leftChanged : {A : Type 0} → (Finding → Finding) → (List ℕ → List ℕ) → Outcome A Ledger → Outcome A Ledger
+leftChanged f g o = outcome (o .answer) (changed f g (o .after))
 
-abbrev pub Spares : (Ledger → Ledger) → Type 0
-Spares op = (l : Ledger) (ws : List ℕ) → op (withOthers l ws) ≡ withOthers (op l) ws
+-- A change that it does not matter to make before or after a debt comes or leaves.
+module _ (f : Finding → Finding) (g : List ℕ → List ℕ) (adds : (x : Finding) (key i : ℕ) → withAdded (f x) key i ≡ f (withAdded x key i))
+    (removes : (x : Finding) (hash : ℕ → ℕ) (n p : ℕ) → withRemoved (f x) hash n p ≡ f (withRemoved x hash n p)) where
+  pub removal-changed : (l : Ledger) (p : ℕ) → removeAt (changed f g l) p ≡ changed f g (removeAt l p)
+  unfolding removeAt removed
+  removal-changed l p = rw (removes (l .debts .finding))
 
-abbrev pub SparesAnswering : {A : Type 0} → (Ledger → Outcome A Ledger) → Type 0
-SparesAnswering op = (l : Ledger) (ws : List ℕ) → op (withOthers l ws) ≡ afterWith ws (op l)
+  pub append-changed : (l : Ledger) (d : Debt) → append (changed f g l) d ≡ changed f g (append l d)
+  unfolding append
+  append-changed l d = rw (adds (l .debts .finding))
 
--- So such an operation keeps the other words.
-pub spared : (op : Ledger → Ledger) → Spares op → (l : Ledger) → op l .others ≡ l .others
-spared op spares l = ap (λ m. m .others) (spares l (l .others))
+  -- The looks at a full ledger, and making room.
+  scanFrom-changed : (at : Nanos) (left : ℕ) (l : Ledger) (best : ℕ) → scanFrom at left (changed f g l) best ≡ leftChanged f g (scanFrom at left l best)
+  unfolding scanFrom
+  scanFrom-changed at zero l best = refl
+  scanFrom-changed at (suc left) l best =
+      by-test (hasSettled at l (cursorOf l))
+      (λ settled. rw (settled, scanFrom))
+      (λ unsettled. rw (unsettled, scanFrom) (scanFrom-changed at left (withCursor l _) (sooner l best (cursorOf l))))
 
-pub spared-answering : {A : Type 0} (op : Ledger → Outcome A Ledger) → SparesAnswering op → (l : Ledger) → op l .after .others ≡ l .others
-spared-answering op spares l = ap (λ o. o .after .others) (spares l (l .others))
+  pub scan-changed : (at : Nanos) (l : Ledger) → scan at (changed f g l) ≡ leftChanged f g (scan at l)
+  unfolding scan
+  scan-changed at l = scanFrom-changed at _ l (cursorOf l)
 
--- Lookup, removal, append and the sweep.
-place-overlooks : (h : ℕ) → Overlooks (λ l. placeOf l h)
-unfolding placeOf
-place-overlooks h l ws = refl
+  drop-changed : (at : Nanos) (forget : Bool) (l : Ledger) (choice : Choice)
+      → dropChosen at forget (changed f g l) choice ≡ leftChanged f g (dropChosen at forget l choice)
+  unfolding dropChosen
+  drop-changed at forget l (Settled p) = ap (outcome Done) (removal-changed l p)
+  drop-changed at true l (Soonest p) = ap (outcome Done) (removal-changed l p)
+  drop-changed at false l (Soonest p) = refl
 
-removal-spares : (p : ℕ) → Spares (λ l. removeAt l p)
-unfolding removeAt
-removal-spares p l ws = refl
+  pub make-room-changed : (at : Nanos) (forget : Bool) (l : Ledger) → makeRoom at forget (changed f g l) ≡ leftChanged f g (makeRoom at forget l)
+  unfolding makeRoom
+  make-room-changed at forget l = rw (scan-changed at l) (drop-changed at forget (scan at l .after) (scan at l .answer))
 
-append-spares : (d : Debt) → Spares (λ l. append l d)
-unfolding append
-append-spares d l ws = refl
+  -- Once the place of the hash is known: the debt is owed, taken out, paid down, recorded.
+  joined-changed : (d : Debt) (l : Ledger) (r : Recorded) → joined d (changed f g l) r ≡ leftChanged f g (joined d l r)
+  joined-changed d l Done = ap (outcome Done) (append-changed l d)
+  joined-changed d l (NoRoom wait) = refl
 
-pub sweep-spares : (at : Nanos) (n : ℕ) → Spares (sweep at n)
-unfolding sweep
-sweep-spares at n l ws = refl
+  pub owedAt-changed : (l : Ledger) (place : Place) → owedAt (changed f g l) place ≡ owedAt l place
+  owedAt-changed l (At p) = refl
+  owedAt-changed l Nowhere = refl
 
--- The looks at a full ledger, and making room.
-scanFrom-spares : (at : Nanos) (left : ℕ) (l : Ledger) (best : ℕ) (ws : List ℕ) → scanFrom at left (withOthers l ws) best ≡ afterWith ws (scanFrom at left l best)
-unfolding scanFrom
-scanFrom-spares at zero l best ws = refl
-scanFrom-spares at (suc left) l best ws =
-    by-test (hasSettled at l (cursorOf l))
-    (λ settled. rw (settled, scanFrom))
-    (λ unsettled. rw (unsettled, scanFrom) (scanFrom-spares at left (withCursor l _) (sooner l best (cursorOf l)) ws))
+  pub takenAt-changed : (l : Ledger) (place : Place) → takenAt (changed f g l) place ≡ leftChanged f g (takenAt l place)
+  takenAt-changed l (At p) = ap (outcome _) (removal-changed l p)
+  takenAt-changed l Nowhere = refl
 
-scan-spares : (at : Nanos) → SparesAnswering (scan at)
-unfolding scan
-scan-spares at l ws = scanFrom-spares at _ l (cursorOf l) ws
+  pub paidAt-changed : (l : Ledger) (off : Nanos) (place : Place) → paidAt (changed f g l) off place ≡ leftChanged f g (paidAt l off place)
+  paidAt-changed l off (At p) = refl
+  paidAt-changed l off Nowhere = refl
 
-drop-spares : (at : Nanos) (forget : Bool) (choice : Choice) → SparesAnswering (λ l. dropChosen at forget l choice)
-unfolding dropChosen
-drop-spares at forget (Settled p) l ws = ap (outcome Done) (removal-spares p l ws)
-drop-spares at true (Soonest p) l ws = ap (outcome Done) (removal-spares p l ws)
-drop-spares at false (Soonest p) l ws = refl
+  pub recordedAt-changed : (l : Ledger) (d : Debt) (at : Nanos) (forget : Bool) (place : Place)
+      → recordedAt (changed f g l) d at forget place ≡ leftChanged f g (recordedAt l d at forget place)
+  unfolding recordedAt
+  recordedAt-changed l d at forget (At p) = refl
+  recordedAt-changed l d at forget Nowhere =
+      by-test (ltb (l .debts .count) (capOf l))
+      (λ free. rw (free, recordedAt) (joined-changed d l Done))
+      (λ full. rw (full, recordedAt, make-room-changed at forget l) (joined-changed d (makeRoom at forget l .after) (makeRoom at forget l .answer)))
 
-make-room-spares : (at : Nanos) (forget : Bool) → SparesAnswering (makeRoom at forget)
-unfolding makeRoom
-make-room-spares at forget l ws = rw (scan-spares at l ws) (drop-spares at forget (scan at l .answer) (scan at l .after) ws)
+-- What an operation gave, with other words in the place of those that are not the ledger's own.
+abbrev pub leftWithOthers : {A : Type 0} → Outcome A Ledger → List ℕ → Outcome A Ledger
+leftWithOthers o ws = outcome (o .answer) (withOthers (o .after) ws)
 
--- Recording, once the place of the hash is known.
-joined-spares : (d : Debt) (r : Recorded) → SparesAnswering (λ l. joined d l r)
-joined-spares d Done l ws = ap (outcome Done) (append-spares d l ws)
-joined-spares d (NoRoom wait) l ws = refl
+-- The operations with such words. Where they are the ledger's others, that says that the operation keeps the others.
+module _ (l : Ledger) (ws : List ℕ) where
+  pub owed-with-others : (h : ℕ) → owedBy (withOthers l ws) h ≡ owedBy l h
+  unfolding owedBy placeOf
+  owed-with-others h = owedAt-changed (λ x. x) (λ _. ws) (λ x key i. refl) (λ x hash n p. refl) l (placeOf l h)
 
-recordedAt-spares : (d : Debt) (at : Nanos) (forget : Bool) (place : Place) → SparesAnswering (λ l. recordedAt l d at forget place)
-unfolding recordedAt
-recordedAt-spares d at forget (At p) l ws = refl
-recordedAt-spares d at forget Nowhere l ws =
-    by-test (ltb (l .debts .count) (capOf l))
-    (λ free. rw (free, recordedAt) (joined-spares d Done l ws))
-    (λ full. rw (full, recordedAt, make-room-spares at forget l ws) (joined-spares d (makeRoom at forget l .answer) (makeRoom at forget l .after) ws))
+  pub taken-with-others : (h : ℕ) → taken (withOthers l ws) h ≡ leftWithOthers (taken l h) ws
+  unfolding taken placeOf
+  taken-with-others h = takenAt-changed (λ x. x) (λ _. ws) (λ x key i. refl) (λ x hash n p. refl) l (placeOf l h)
 
--- What begins with a lookup.
-pub owed-overlooks : (h : ℕ) → Overlooks (λ l. owedBy l h)
-unfolding owedBy
-owed-overlooks h l ws = rw (place-overlooks h l ws) (go (placeOf l h))
-  where
-    go : (place : Place) → owedAt (withOthers l ws) place ≡ owedAt l place
-    go (At p) = refl
-    go Nowhere = refl
+  pub paid-with-others : (h cost : ℕ) (c : BucketConfig) → paidDown (withOthers l ws) h cost c ≡ leftWithOthers (paidDown l h cost c) ws
+  unfolding paidDown placeOf
+  paid-with-others h cost c = paidAt-changed (λ x. x) (λ _. ws) (λ x key i. refl) (λ x hash n p. refl) l (credit c cost) (placeOf l h)
 
-pub taken-spares : (h : ℕ) → SparesAnswering (λ l. taken l h)
-unfolding taken
-taken-spares h l ws = rw (place-overlooks h l ws) (go (placeOf l h))
-  where
-    go : (place : Place) → takenAt (withOthers l ws) place ≡ afterWith ws (takenAt l place)
-    go (At p) = ap (outcome _) (removal-spares p l ws)
-    go Nowhere = refl
+  pub recorded-with-others : (d : Debt) (at : Nanos) (forget : Bool) → recorded (withOthers l ws) d at forget ≡ leftWithOthers (recorded l d at forget) ws
+  unfolding recorded placeOf
+  recorded-with-others d at forget = recordedAt-changed (λ x. x) (λ _. ws) (λ x key i. refl) (λ x hash n p. refl) l d at forget (placeOf l (d .hash))
 
-pub paid-spares : (h cost : ℕ) (c : BucketConfig) → SparesAnswering (λ l. paidDown l h cost c)
-unfolding paidDown
-paid-spares h cost c l ws = rw (place-overlooks h l ws) (go (placeOf l h))
-  where
-    go : (place : Place) → paidAt (withOthers l ws) (credit c cost) place ≡ afterWith ws (paidAt l (credit c cost) place)
-    go (At p) = refl
-    go Nowhere = refl
+  pub look-with-others : (at : Nanos) → look at (withOthers l ws) ≡ withOthers (look at l) ws
+  unfolding look
+  look-with-others at = refl
 
-pub recorded-spares : (d : Debt) (at : Nanos) (forget : Bool) → SparesAnswering (λ l. recorded l d at forget)
-unfolding recorded
-recorded-spares d at forget l ws = rw (place-overlooks (d .hash) l ws) (recordedAt-spares d at forget (placeOf l (d .hash)) l ws)
+  pub sweep-with-others : (at : Nanos) (n : ℕ) → sweep at n (withOthers l ws) ≡ withOthers (sweep at n l) ws
+  unfolding sweep
+  sweep-with-others at n = refl
+
+-- The operations keep the others.
+module _ (l : Ledger) where
+  pub taken-keeps-others : (h : ℕ) → taken l h .after .others ≡ l .others
+  taken-keeps-others h = ap (λ o. o .after .others) (taken-with-others l (l .others) h)
+
+  pub paid-keeps-others : (h cost : ℕ) (c : BucketConfig) → paidDown l h cost c .after .others ≡ l .others
+  paid-keeps-others h cost c = ap (λ o. o .after .others) (paid-with-others l (l .others) h cost c)
+
+  pub recorded-keeps-others : (d : Debt) (at : Nanos) (forget : Bool) → recorded l d at forget .after .others ≡ l .others
+  recorded-keeps-others d at forget = ap (λ o. o .after .others) (recorded-with-others l (l .others) d at forget)
+
+  pub sweep-keeps-others : (at : Nanos) (n : ℕ) → sweep at n l .others ≡ l .others
+  unfolding sweep
+  sweep-keeps-others at n = refl

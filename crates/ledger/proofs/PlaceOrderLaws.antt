@@ -3,16 +3,14 @@
 use Prim.Native.Nat.{ℕ, zero, suc, _<_}
 use mathlib.Core.Path.{_≡_, refl, ap}
 use mathlib.Core.Bool.{Bool, true, false}
-use lib.Dec.{ltb}
 use borrow.Author.Tests.{eqb-true}
 use Rattle.arith.proofs.Cases.{by-test}
 use Rattle.units.specs.declared.Nanos.{Nanos}
 use Rattle.bucket.specs.declared.BucketConfig.{BucketConfig}
-use Rattle.rows.specs.declared.Place.{Place}
-use Rattle.rows.specs.declared.Place.the-variants.{At, Nowhere}
+use Rattle.rows.specs.declared.Place.the-variants.{Nowhere}
 use Rattle.rows.specs.Outcome.{Outcome, outcome}
 use Rattle.held.specs.Held as Held
-use Rattle.held.specs.Held.{removed}
+use Rattle.held.specs.Held.{inOrder}
 use Rattle.held.specs.Round as Round
 use Rattle.held.proofs.RoundLaws as RoundLaws
 use Rattle.held.proofs.SingleLaws as Singles
@@ -21,11 +19,11 @@ use Rattle.ledger.specs.declared.Debt.{Debt}
 use Rattle.ledger.specs.declared.Choice.{Choice}
 use Rattle.ledger.specs.declared.Choice.the-variants.{Settled, Soonest}
 use Rattle.ledger.specs.declared.Recorded.{Recorded}
-use Rattle.ledger.specs.declared.Recorded.the-variants.{Done, NoRoom}
 use Rattle.ledger.specs.Model.{Ledger, Sound, debtItems, capOf, debtAt, settledBy, hasSettled, cursorOf, withDebts, withCursor, withDebt, owes}
-use Rattle.ledger.specs.Model.{placeOf, removeAt, append, owedAt, owedBy, takenAt, taken, roundOf, withRound, look, sweep, sooner, scanFrom, scan}
-use Rattle.ledger.specs.Model.{dropChosen, makeRoom, joined, later, recordedAt, recorded, credit, paidAt, paidDown}
+use Rattle.ledger.specs.Model.{placeOf, removeAt, append, owedBy, taken, roundOf, withRound, look, sweep, scanFrom, scan}
+use Rattle.ledger.specs.Model.{dropChosen, makeRoom, later, recorded, credit, paidDown}
 use Rattle.ledger.proofs.StepLaws.{removal-leaves-room, nowhere-owes-none, found-owes, taken-cases, paid-cases}
+use Rattle.ledger.proofs.OthersLaws.{owedAt-changed, takenAt-changed, paidAt-changed, recordedAt-changed}
 use Rattle.ledger.proofs.RecordLaws.{chosen, scan-chooses-held, Recording, merged, joins, replaces, refused, record-cases}
 
 -- The same ledger, with its debts found in the order of their places; and what an operation gave, with that ledger.
@@ -44,14 +42,6 @@ FindsEach l = Singles.FindsEach debtItems hashOf (l .debts)
 
 -- The steps that look up nothing do the same on any ledger.
 module _ (l : Ledger) where
-  pub removal-in-place-order : (p : ℕ) → removeAt (inPlaceOrder l) p ≡ inPlaceOrder (removeAt l p)
-  unfolding removeAt removed
-  removal-in-place-order p = refl
-
-  pub append-in-place-order : (d : Debt) → append (inPlaceOrder l) d ≡ inPlaceOrder (append l d)
-  unfolding append
-  append-in-place-order d = refl
-
   pub look-in-place-order : (at : Nanos) → look at (inPlaceOrder l) ≡ inPlaceOrder (look at l)
   unfolding look Round.sweep
   look-in-place-order at = ap (withRound l) (RoundLaws.sweep-in-place-order debtItems (settledBy at) 1 (roundOf l))
@@ -59,45 +49,6 @@ module _ (l : Ledger) where
   pub sweep-in-place-order : (at : Nanos) (n : ℕ) → sweep at n (inPlaceOrder l) ≡ inPlaceOrder (sweep at n l)
   unfolding sweep
   sweep-in-place-order at n = ap (withRound l) (RoundLaws.sweep-in-place-order debtItems (settledBy at) n (roundOf l))
-
--- So do the looks at a full ledger, and making room.
-scanFrom-in-place-order : (at : Nanos) (left : ℕ) (l : Ledger) (best : ℕ) → scanFrom at left (inPlaceOrder l) best ≡ leftInPlaceOrder (scanFrom at left l best)
-unfolding scanFrom
-scanFrom-in-place-order at zero l best = refl
-scanFrom-in-place-order at (suc left) l best =
-    by-test (hasSettled at l (cursorOf l))
-    (λ settled. rw (settled, scanFrom))
-    (λ unsettled. rw (unsettled, scanFrom) (scanFrom-in-place-order at left (withCursor l _) (sooner l best (cursorOf l))))
-
-pub scan-in-place-order : (at : Nanos) (l : Ledger) → scan at (inPlaceOrder l) ≡ leftInPlaceOrder (scan at l)
-unfolding scan
-scan-in-place-order at l = scanFrom-in-place-order at _ l (cursorOf l)
-
-drop-in-place-order : (at : Nanos) (forget : Bool) (l : Ledger) (choice : Choice)
-    → dropChosen at forget (inPlaceOrder l) choice ≡ leftInPlaceOrder (dropChosen at forget l choice)
-unfolding dropChosen
-drop-in-place-order at forget l (Settled p) = ap (outcome Done) (removal-in-place-order l p)
-drop-in-place-order at true l (Soonest p) = ap (outcome Done) (removal-in-place-order l p)
-drop-in-place-order at false l (Soonest p) = refl
-
-pub make-room-in-place-order : (at : Nanos) (forget : Bool) (l : Ledger) → makeRoom at forget (inPlaceOrder l) ≡ leftInPlaceOrder (makeRoom at forget l)
-unfolding makeRoom
-make-room-in-place-order at forget l = rw (scan-in-place-order at l) (drop-in-place-order at forget (scan at l .after) (scan at l .answer))
-
--- Recording does the same once the place of the hash is known.
-joined-in-place-order : (d : Debt) (l : Ledger) (r : Recorded) → joined d (inPlaceOrder l) r ≡ leftInPlaceOrder (joined d l r)
-joined-in-place-order d l Done = ap (outcome Done) (append-in-place-order l d)
-joined-in-place-order d l (NoRoom wait) = refl
-
-recordedAt-in-place-order : (l : Ledger) (d : Debt) (at : Nanos) (forget : Bool) (place : Place)
-    → recordedAt (inPlaceOrder l) d at forget place ≡ leftInPlaceOrder (recordedAt l d at forget place)
-unfolding recordedAt
-recordedAt-in-place-order l d at forget (At p) = refl
-recordedAt-in-place-order l d at forget Nowhere =
-    by-test (ltb (l .debts .count) (capOf l))
-    (λ free. rw (free, recordedAt) (joined-in-place-order d l Done))
-    (λ full.
-    rw (full, recordedAt, make-room-in-place-order at forget l) (joined-in-place-order d (makeRoom at forget l .after) (makeRoom at forget l .answer)))
 
 -- Lookup, and what begins with a lookup, on a ledger in which it finds each debt.
 module _ (l : Ledger) (each : FindsEach l) where
@@ -108,31 +59,22 @@ module _ (l : Ledger) (each : FindsEach l) where
 
   pub owed-in-place-order : (h : ℕ) → owedBy (inPlaceOrder l) h ≡ owedBy l h
   unfolding owedBy
-  owed-in-place-order h = rw (place-in-place-order h) (go (placeOf l h))
-    where
-      go : (place : Place) → owedAt (inPlaceOrder l) place ≡ owedAt l place
-      go (At p) = refl
-      go Nowhere = refl
+  owed-in-place-order h = rw (place-in-place-order h) (owedAt-changed (λ _. inOrder) (λ ws. ws) (λ x key i. refl) (λ x hash n p. refl) l (placeOf l h))
 
   pub taken-in-place-order : (h : ℕ) → taken (inPlaceOrder l) h ≡ leftInPlaceOrder (taken l h)
   unfolding taken
-  taken-in-place-order h = rw (place-in-place-order h) (go (placeOf l h))
-    where
-      go : (place : Place) → takenAt (inPlaceOrder l) place ≡ leftInPlaceOrder (takenAt l place)
-      go (At p) = ap (outcome _) (removal-in-place-order l p)
-      go Nowhere = refl
+  taken-in-place-order h = rw (place-in-place-order h) (takenAt-changed (λ _. inOrder) (λ ws. ws) (λ x key i. refl) (λ x hash n p. refl) l (placeOf l h))
 
   pub paid-in-place-order : (h cost : ℕ) (c : BucketConfig) → paidDown (inPlaceOrder l) h cost c ≡ leftInPlaceOrder (paidDown l h cost c)
   unfolding paidDown
-  paid-in-place-order h cost c = rw (place-in-place-order h) (go (placeOf l h))
-    where
-      go : (place : Place) → paidAt (inPlaceOrder l) (credit c cost) place ≡ leftInPlaceOrder (paidAt l (credit c cost) place)
-      go (At p) = refl
-      go Nowhere = refl
+  paid-in-place-order h cost c =
+      rw (place-in-place-order h) (paidAt-changed (λ _. inOrder) (λ ws. ws) (λ x key i. refl) (λ x hash n p. refl) l (credit c cost) (placeOf l h))
 
   pub recorded-in-place-order : (d : Debt) (at : Nanos) (forget : Bool) → recorded (inPlaceOrder l) d at forget ≡ leftInPlaceOrder (recorded l d at forget)
   unfolding recorded
-  recorded-in-place-order d at forget = rw (place-in-place-order (d .hash)) (recordedAt-in-place-order l d at forget (placeOf l (d .hash)))
+  recorded-in-place-order d at forget =
+      rw (place-in-place-order (d .hash))
+      (recordedAt-changed (λ _. inOrder) (λ ws. ws) (λ x key i. refl) (λ x hash n p. refl) l d at forget (placeOf l (d .hash)))
 
 -- Every operation leaves a ledger in which lookup finds each debt; a debt is appended only where none has its hash.
 module _ (l : Ledger) (each : FindsEach l) where

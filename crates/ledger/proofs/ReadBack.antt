@@ -1,5 +1,5 @@
 -- The words of a ledger read back as the ledger, and the ledger that lies in zeros.
-use Prim.Native.Nat.{ℕ, _+_, _*_, _≤_}
+use Prim.Native.Nat.{ℕ, _+_, _≤_}
 use native.Mathlib.Omega.{arith}
 use mathlib.Core.Path.{_≡_, refl, ap, _∙_}
 use mathlib.Core.List.{List, [], _∷_, _++_}
@@ -15,7 +15,7 @@ use Rattle.held.proofs.FindingLaws.{indexed, kindOf, indexed-by-words}
 use Rattle.held.proofs.ReadBack.{between-length, table-of-words}
 use Rattle.held.proofs.LayoutLaws.{zeros-head}
 use Rattle.ledger.specs.Model.{Ledger, capOf}
-use Rattle.ledger.specs.Layout.{countAt, cursorAt, debtsAt, debtWidth, othersAt, indexAt, ledgerWords, debtIndex, debtOf, debtWords, ledgerOf, ledger, wordsOf}
+use Rattle.ledger.specs.Layout.{countAt, cursorAt, debtsAt, debtWidth, othersAt, indexAt, ledgerWords, debtOf, debtWords, ledgerOf, ledger, wordsOf}
 use Rattle.ledger.proofs.LayoutLaws.{others-read, finding-read}
 
 -- A ledger with room for cap debts.
@@ -30,7 +30,7 @@ module _ (cap : ℕ) (l : Ledger) (room : capOf l ≡ cap) where
       let all = between-length debtWords debtWidth (λ d. refl) (l .debts .places) (l .debts .count ∷ l .cursor ∷ []) past room refl in
       all ∙ rw length-append (omega arith)
 
-  -- Nothing of a ledger that is found by an index is lost when it is written as words and read again.
+  -- Nothing of a ledger is lost when it is written as words and read again, where its index and the others have the places that they should have.
   pub ledger-of-words : length (l .others) ≡ placesFor cap → kindOf (l .debts .finding) ≡ indexed (placesFor cap) → ledger cap (wordsOf l) ≡ l
   unfolding ledger wordsOf
   ledger-of-words others kind =
@@ -41,7 +41,7 @@ module _ (cap : ℕ) (l : Ledger) (room : capOf l ≡ cap) where
         indexed-by-words (l .debts .finding) (placesFor cap) kind,
       )
 
--- The ledger in words that are all 0 holds no debt, its cursor stands at the first place, and so is every word past its debts.
+-- The ledger in words that are all 0 holds no debt, and its cursor stands at the first place. The words past its debts are zeros.
 module _ (cap : ℕ) (ws : List ℕ) (zeros : (i : ℕ) → getD ws i 0 ≡ 0) where
   pub zeros-no-debts : ledger cap ws .debts .count ≡ 0
   unfolding ledger

@@ -9,13 +9,18 @@ use Rattle.units.specs.declared.OptionNanos.the-variants.{Some}
 use Rattle.bucket.specs.declared.BucketConfig.{BucketConfig}
 use Rattle.settings.specs.Eviction.{ledgerScan}
 use Rattle.rows.specs.Places.{lowestFrom}
-use Rattle.held.specs.Held.{inOrder, removed}
+use Rattle.rows.specs.Rows.{rows}
+use Rattle.rows.specs.declared.Place.the-variants.{At}
+use Rattle.index.specs.Walk as Index
+use Rattle.held.specs.Held.{inOrder, byIndex, removed}
+use Rattle.held.specs.Layout.{tableIn}
 use Rattle.held.specs.Round as Round
 use Rattle.rows.specs.Outcome.{outcome}
 use Rattle.ledger.specs.declared.Debt.{Debt}
 use Rattle.ledger.specs.declared.Recorded.the-variants.{Done, NoRoom}
 use Rattle.ledger.specs.Model.{Ledger, noDebt, placeOf, removeAt, append, taken, sweep, scanFrom, scan, dropChosen, makeRoom, recordedAt}
 use Rattle.ledger.specs.Model.{recorded, paidDown}
+use Rattle.ledger.specs.Layout.{ledger}
 
 -- A moment by its nanoseconds.
 abbrev moment : ℕ → Nanos
@@ -27,6 +32,27 @@ owing hash settles = record { hash = hash; settles = moment settles }
 
 abbrev holding : ℕ → ℕ → List Debt → Ledger
 holding count cursor places = record { debts = record { count = count; places = places; finding = inOrder }; cursor = cursor; others = 6 ∷ 7 ∷ [] }
+
+-- A ledger with room for one debt in its words: the count, the cursor, the debt, two words that are not its own, and the two places of the index. The debt of
+-- hash 5 stands in the second place, its hash's home, and lookup finds it by that.
+abbrev inWords : List ℕ
+inWords = 1 ∷ 0 ∷ 5 ∷ 9 ∷ 6 ∷ 7 ∷ 0 ∷ 1 ∷ []
+
+abbrev indexedFive : Ledger
+indexedFive = record { debts = record { count = 1; places = owing 5 9 ∷ []; finding = byIndex (0 ∷ 1 ∷ []) }; cursor = 0; others = 6 ∷ 7 ∷ [] }
+
+a-ledger-in-words : ledger 1 inWords ≡ indexedFive
+unfolding ledger tableIn rows
+a-ledger-in-words = refl
+
+found-by-the-index : placeOf indexedFive 5 ≡ At 0
+unfolding placeOf Index.find Index.findFrom Index.walkFrom Index.onward
+found-by-the-index = refl
+
+-- Once the debt is taken out, its place in the index is empty.
+taken-out-of-the-index : taken indexedFive 5 .after .debts .finding ≡ byIndex (0 ∷ 0 ∷ [])
+unfolding taken placeOf removeAt removed Index.find Index.findFrom Index.walkFrom Index.onward Index.remove Index.vacate Index.renumber Index.seek Index.walk Index.rehome
+taken-out-of-the-index = refl
 
 -- Two looks from place 1 at moment 5: the settled debt there goes, the last one moves into the gap, is looked at next, and goes too.
 sweep-looks-at-the-moved-debt : sweep (moment 5) 2 (holding 3 1 (owing 1 10 ∷ owing 2 5 ∷ owing 3 5 ∷ [])) ≡ holding 1 1 (owing 1 10 ∷ noDebt ∷ noDebt ∷ [])

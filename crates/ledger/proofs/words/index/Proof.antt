@@ -4,7 +4,7 @@ use native.Mathlib.Omega.{arith}
 use mathlib.Core.Path.{_≡_, ap}
 use Rattle.index.specs.declared.Index.{Index}
 use Rattle.index.specs.Layout.{placesFor}
-use Rattle.ledger.specs.Layout.{debtsAt, debtWidth, indexAt, debtIndex}
+use Rattle.ledger.specs.Layout.{debtsAt, debtWidth, indexAt}
 use borrow.Author.Needs.{needs}
 use Rattle.ledger.proofs.words.index.Statement.{statement}
 use Rattle.ledger.proofs.words.index.Tie as tie
