@@ -17,7 +17,7 @@ use Rattle.ledger.specs.declared.Choice.{Choice}
 use Rattle.ledger.specs.declared.Choice.the-variants.{Settled, Soonest}
 use Rattle.ledger.specs.declared.Recorded.{Recorded}
 use Rattle.ledger.specs.declared.Recorded.the-variants.{Done, NoRoom}
-use Rattle.ledger.specs.Model.{Ledger, capOf, hasSettled, cursorOf, withCursor, withOthers, placeOf, removeAt, append, owedAt, owedBy, takenAt, taken, sweep}
+use Rattle.ledger.specs.Model.{Ledger, capOf, hasSettled, cursorOf, withCursor, withOthers, placeOf, removeAt, append, owedAt, owedBy, takenAt, taken, look, sweep}
 use Rattle.ledger.specs.Model.{sooner, scanFrom, scan, dropChosen, makeRoom, joined, recordedAt, recorded, credit, paidAt, paidDown}
 
 -- The same ledger with its finding and the other words changed; and what an operation gave, with that ledger.
@@ -88,44 +88,47 @@ module _ (f : Finding → Finding) (g : List ℕ → List ℕ) (adds : (x : Find
       (λ free. rw (free, recordedAt) (joined-changed d l Done))
       (λ full. rw (full, recordedAt, make-room-changed at forget l) (joined-changed d (makeRoom at forget l .after) (makeRoom at forget l .answer)))
 
--- What an operation gave, with other words in its ledger.
-abbrev pub afterWith : {A : Type 0} → List ℕ → Outcome A Ledger → Outcome A Ledger
-afterWith ws o = outcome (o .answer) (withOthers (o .after) ws)
+-- What an operation gave, with other words in the place of those that are not the ledger's own.
+abbrev pub leftWithOthers : {A : Type 0} → Outcome A Ledger → List ℕ → Outcome A Ledger
+leftWithOthers o ws = outcome (o .answer) (withOthers (o .after) ws)
 
--- Whatever the other words are, an operation tells the same; and it leaves the same and those words, alone or with an answer.
-abbrev pub Overlooks : {A : Type 0} → (Ledger → A) → Type 0
-Overlooks op = (l : Ledger) (ws : List ℕ) → op (withOthers l ws) ≡ op l
+-- The operations with such words. Where they are the ledger's others, that says that the operation keeps the others.
+module _ (l : Ledger) (ws : List ℕ) where
+  pub owed-with-others : (h : ℕ) → owedBy (withOthers l ws) h ≡ owedBy l h
+  unfolding owedBy placeOf
+  owed-with-others h = owedAt-changed (λ x. x) (λ _. ws) (λ x key i. refl) (λ x hash n p. refl) l (placeOf l h)
 
-abbrev pub Spares : (Ledger → Ledger) → Type 0
-Spares op = (l : Ledger) (ws : List ℕ) → op (withOthers l ws) ≡ withOthers (op l) ws
+  pub taken-with-others : (h : ℕ) → taken (withOthers l ws) h ≡ leftWithOthers (taken l h) ws
+  unfolding taken placeOf
+  taken-with-others h = takenAt-changed (λ x. x) (λ _. ws) (λ x key i. refl) (λ x hash n p. refl) l (placeOf l h)
 
-abbrev pub SparesAnswering : {A : Type 0} → (Ledger → Outcome A Ledger) → Type 0
-SparesAnswering op = (l : Ledger) (ws : List ℕ) → op (withOthers l ws) ≡ afterWith ws (op l)
+  pub paid-with-others : (h cost : ℕ) (c : BucketConfig) → paidDown (withOthers l ws) h cost c ≡ leftWithOthers (paidDown l h cost c) ws
+  unfolding paidDown placeOf
+  paid-with-others h cost c = paidAt-changed (λ x. x) (λ _. ws) (λ x key i. refl) (λ x hash n p. refl) l (credit c cost) (placeOf l h)
 
--- So such an operation keeps the other words.
-pub spared : (op : Ledger → Ledger) → Spares op → (l : Ledger) → op l .others ≡ l .others
-spared op spares l = ap (λ m. m .others) (spares l (l .others))
+  pub recorded-with-others : (d : Debt) (at : Nanos) (forget : Bool) → recorded (withOthers l ws) d at forget ≡ leftWithOthers (recorded l d at forget) ws
+  unfolding recorded placeOf
+  recorded-with-others d at forget = recordedAt-changed (λ x. x) (λ _. ws) (λ x key i. refl) (λ x hash n p. refl) l d at forget (placeOf l (d .hash))
 
-pub spared-answering : {A : Type 0} (op : Ledger → Outcome A Ledger) → SparesAnswering op → (l : Ledger) → op l .after .others ≡ l .others
-spared-answering op spares l = ap (λ o. o .after .others) (spares l (l .others))
+  pub look-with-others : (at : Nanos) → look at (withOthers l ws) ≡ withOthers (look at l) ws
+  unfolding look
+  look-with-others at = refl
 
--- The operations that shards call are such. They go by the laws above, with the finding as it is.
-pub sweep-spares : (at : Nanos) (n : ℕ) → Spares (sweep at n)
-unfolding sweep
-sweep-spares at n l ws = refl
+  pub sweep-with-others : (at : Nanos) (n : ℕ) → sweep at n (withOthers l ws) ≡ withOthers (sweep at n l) ws
+  unfolding sweep
+  sweep-with-others at n = refl
 
-pub owed-overlooks : (h : ℕ) → Overlooks (λ l. owedBy l h)
-unfolding owedBy placeOf
-owed-overlooks h l ws = owedAt-changed (λ x. x) (λ _. ws) (λ x key i. refl) (λ x hash n p. refl) l (placeOf l h)
+-- The operations keep the others.
+module _ (l : Ledger) where
+  pub taken-keeps-others : (h : ℕ) → taken l h .after .others ≡ l .others
+  taken-keeps-others h = ap (λ o. o .after .others) (taken-with-others l (l .others) h)
 
-pub taken-spares : (h : ℕ) → SparesAnswering (λ l. taken l h)
-unfolding taken placeOf
-taken-spares h l ws = takenAt-changed (λ x. x) (λ _. ws) (λ x key i. refl) (λ x hash n p. refl) l (placeOf l h)
+  pub paid-keeps-others : (h cost : ℕ) (c : BucketConfig) → paidDown l h cost c .after .others ≡ l .others
+  paid-keeps-others h cost c = ap (λ o. o .after .others) (paid-with-others l (l .others) h cost c)
 
-pub paid-spares : (h cost : ℕ) (c : BucketConfig) → SparesAnswering (λ l. paidDown l h cost c)
-unfolding paidDown placeOf
-paid-spares h cost c l ws = paidAt-changed (λ x. x) (λ _. ws) (λ x key i. refl) (λ x hash n p. refl) l (credit c cost) (placeOf l h)
+  pub recorded-keeps-others : (d : Debt) (at : Nanos) (forget : Bool) → recorded l d at forget .after .others ≡ l .others
+  recorded-keeps-others d at forget = ap (λ o. o .after .others) (recorded-with-others l (l .others) d at forget)
 
-pub recorded-spares : (d : Debt) (at : Nanos) (forget : Bool) → SparesAnswering (λ l. recorded l d at forget)
-unfolding recorded placeOf
-recorded-spares d at forget l ws = recordedAt-changed (λ x. x) (λ _. ws) (λ x key i. refl) (λ x hash n p. refl) l d at forget (placeOf l (d .hash))
+  pub sweep-keeps-others : (at : Nanos) (n : ℕ) → sweep at n l .others ≡ l .others
+  unfolding sweep
+  sweep-keeps-others at n = refl

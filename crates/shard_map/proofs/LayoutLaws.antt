@@ -23,7 +23,7 @@ use Rattle.slot.specs.Slot.{withMark}
 use Rattle.ledger.specs.Model as Debts
 use Rattle.ledger.specs.Layout as Ledger
 use Rattle.ledger.proofs.LayoutLaws.{words-ledger, others-read, others-put}
-use Rattle.ledger.proofs.OthersLaws.{Overlooks, Spares, SparesAnswering}
+use Rattle.ledger.proofs.OthersLaws.{leftWithOthers}
 use Rattle.shard_map.specs.Model.{slotItems, capOf, slotAt, withCount, withFinding, withSlot, withHand, withSweep, withLedger, inLedger, handOf, sweepOf}
 use Rattle.shard_map.specs.Layout.{countAt, handAt, sweepAt, slotsAt, slotWidth, slotStart, markIn}
 use Rattle.shard_map.specs.Layout.{slotOf, slotWords, ledgerStart, shardWords, slotIndex, shardWith, lentLedger, shardOf, shard, wordsOf, Intact}
@@ -154,6 +154,17 @@ slots-indexed {cap} {ws} intact =
       hash = λ row. refl;
       keys = λ row. refl;
     }
+
+-- What holds of an operation of the ledger, whatever the words that are not the ledger's own: it tells the same; it leaves the same with those words, alone or with
+-- an answer.
+abbrev Overlooks : {A : Type 0} → (Debts.Ledger → A) → Type 0
+Overlooks op = (l : Debts.Ledger) (ws : List ℕ) → op (Debts.withOthers l ws) ≡ op l
+
+abbrev Spares : (Debts.Ledger → Debts.Ledger) → Type 0
+Spares op = (l : Debts.Ledger) (ws : List ℕ) → op (Debts.withOthers l ws) ≡ Debts.withOthers (op l) ws
+
+abbrev SparesAnswering : {A : Type 0} → (Debts.Ledger → Outcome A Debts.Ledger) → Type 0
+SparesAnswering op = (l : Debts.Ledger) (ws : List ℕ) → op (Debts.withOthers l ws) ≡ leftWithOthers (op l) ws
 
 -- The ledger's part of the words, in the form in which it is lent from its start on, and come back as other words. In it lies the index of the slots.
 module _ (cap : ℕ) (ws : List ℕ) (size : length ws ≡ shardWords cap) {start : ℕ} (is : start ≡ ledgerStart cap) where

@@ -10,9 +10,7 @@ use Rattle.units.specs.declared.Nanos.{Nanos}
 use Rattle.units.specs.declared.Millis.{Millis}
 use Rattle.bucket.specs.declared.BucketConfig.{BucketConfig}
 use Rattle.index.specs.Walk as Index
-use Rattle.index.specs.Layout.{Fits, placesFor, placesOf, withPlaces, hashOf, keyed}
-use Rattle.index.proofs.StepLaws.{add-length, remove-length}
-use Rattle.index.proofs.LayoutLaws.{places-length}
+use Rattle.index.specs.Layout.{Fits, placesOf, withPlaces, hashOf, keyed}
 use Rattle.held.specs.Held.{withAdded, removed, withoutItem}
 use Rattle.held.specs.Round as Round
 use Rattle.rows.specs.Segments.{segment}
@@ -86,23 +84,14 @@ module _ {cap : ℕ} {ws : List ℕ} (intact : Intact cap ws) where
   unfolding placeOf
   found-in-index hash key = indexed-find (slots-indexed intact) hash key (isKey hash key) (λ slot. refl)
 
-  -- The places that the index then has are as many.
-  places-long : length places ≡ placesFor cap
-  places-long = places-length (slotIndex cap) ws (slots-fit .inside)
-
   pub added-to-index : (hash i : ℕ)
       → shard cap (withPlaces (slotIndex cap) ws (Index.add places hash i)) ≡ withFinding stands (withAdded (stands .slots .finding) hash i)
-  added-to-index hash i =
-      index-put cap ws (intact .size) (Index.add places hash i) (add-length places hash i ∙ places-long)
-      ∙ ap (withFinding stands) (indexed-add (slots-indexed intact) hash i)
+  added-to-index hash i = indexed-add (slots-indexed intact) (shard cap) (withFinding stands) (index-put cap ws (intact .size)) hash i
 
   pub removed-from-index : (p : ℕ) → p < stands .slots .count
       → shard cap (withPlaces (slotIndex cap) ws (Index.remove (hashOf (slotIndex cap) ws) (stands .slots .count) places p))
       ≡ withFinding stands (withoutItem slotItems (stands .slots) p)
-  removed-from-index p below =
-      let hash = hashOf (slotIndex cap) ws in
-      index-put cap ws (intact .size) (Index.remove hash (stands .slots .count) places p) (remove-length hash (stands .slots .count) places p ∙ places-long)
-      ∙ ap (withFinding stands) (indexed-remove (slots-indexed intact) p below)
+  removed-from-index p below = indexed-remove (slots-indexed intact) (shard cap) (withFinding stands) (index-put cap ws (intact .size)) p below
 
 -- A look of the idle sweep at a slot that may go and at one that stays, and the idle sweep by its looks.
 module _ (c : BucketConfig) (at : Nanos) (limit : Millis) where

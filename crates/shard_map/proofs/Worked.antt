@@ -1,5 +1,5 @@
--- The sentences of document 01 on the idle sweep, each worked on a small shard. A slot's hash and key are the same small number, and its stamp is moment 0;
--- a free place is `noSlot`. Two parts come back each nanosecond.
+-- A shard in its words, found by the index in them; and the sentences of document 01 on the idle sweep, each worked on a small shard in place order. There a slot's
+-- hash and key are the same small number, its stamp is moment 0, and a free place is `noSlot`. Two parts come back each nanosecond.
 use Prim.Native.Nat.{ℕ, _+_}
 use mathlib.Core.Path.{_≡_, refl}
 use mathlib.Core.List.{List, [], _∷_}
@@ -9,12 +9,18 @@ use Rattle.units.specs.declared.Millis.{Millis}
 use Rattle.bucket.specs.declared.BucketConfig.{BucketConfig}
 use Rattle.bucket.specs.Bucket.{shortfallAt}
 use Rattle.settings.specs.Eviction.{ttlSweep}
-use Rattle.held.specs.Held.{inOrder, removed}
+use Rattle.rows.specs.Rows.{rows, unrow}
+use Rattle.rows.specs.declared.Place.the-variants.{At, Nowhere}
+use Rattle.index.specs.Walk as Index
+use Rattle.held.specs.Held.{inOrder, byIndex, removed}
+use Rattle.held.specs.Layout.{tableIn}
 use Rattle.held.specs.Round as Round
 use Rattle.slot.specs.declared.Slot.{Slot}
 use Rattle.ledger.specs.declared.Debt.{Debt}
 use Rattle.ledger.specs.Model as Ledger
-use Rattle.shard_map.specs.Model.{Shard, noSlot, sweepIdle}
+use Rattle.ledger.specs.Layout as LedgerLayout
+use Rattle.shard_map.specs.Model.{Shard, noSlot, placeOf, removeAt, insert, sweepIdle}
+use Rattle.shard_map.specs.Layout as Layout
 
 abbrev pub rate : BucketConfig
 rate = record { capacity = 4; amount = 2; period = record { 0 = 10 }; initial = 4 }
@@ -38,6 +44,48 @@ shard count hand sweep places l = record { slots = record { count = count; place
 
 abbrev pub noDebts : Ledger.Ledger
 noDebts = ledger 0 0 (Ledger.noDebt ∷ [])
+
+-- A shard with room for one slot in its words: the count, the hand, the sweep and the slot; then the ledger's count, its cursor and its debt, the two places of
+-- the slots' index, and the two of the debts'. The slot of hash 5 and key 7 stands in the second place, its hash's home. Lookup finds it by that, for its own key.
+abbrev inWords : List ℕ
+inWords = 1 ∷ 0 ∷ 0 ∷ 5 ∷ 7 ∷ 0 ∷ 0 ∷ 0 ∷ 0 ∷ 0 ∷ 0 ∷ 0 ∷ 0 ∷ 0 ∷ 1 ∷ 0 ∷ 0 ∷ []
+
+abbrev fiveSeven : Slot
+fiveSeven = record { hash = 5; key = 7; bucket = record { shortfall = 0; stamp = moment 0 }; mark = 0; seen = ms 0 }
+
+abbrev emptyLedger : Ledger.Ledger
+emptyLedger = record { debts = record { count = 0; places = Ledger.noDebt ∷ []; finding = byIndex (0 ∷ 0 ∷ []) }; cursor = 0; others = [] }
+
+abbrev indexed : Shard
+indexed = record { slots = record { count = 1; places = fiveSeven ∷ []; finding = byIndex (0 ∷ 1 ∷ []) }; hand = 0; sweep = 0; ledger = emptyLedger }
+
+abbrev emptied : Shard
+emptied = record { slots = record { count = 0; places = noSlot ∷ []; finding = byIndex (0 ∷ 0 ∷ []) }; hand = 0; sweep = 0; ledger = emptyLedger }
+
+a-shard-in-words : Layout.shard 1 inWords ≡ indexed
+unfolding Layout.shard LedgerLayout.ledger tableIn rows
+a-shard-in-words = refl
+
+a-shard-as-words : Layout.wordsOf indexed ≡ inWords
+unfolding Layout.wordsOf LedgerLayout.wordsOf unrow
+a-shard-as-words = refl
+
+found-by-the-index : placeOf indexed 5 7 ≡ At 0
+unfolding placeOf Index.find Index.findFrom Index.walkFrom Index.onward
+found-by-the-index = refl
+
+another-key-is-not-found : placeOf indexed 5 8 ≡ Nowhere
+unfolding placeOf Index.find Index.findFrom Index.walkFrom Index.onward
+another-key-is-not-found = refl
+
+-- Once the slot is removed, its place in the index is empty; inserted again, it stands there again.
+removed-from-the-index : removeAt indexed 0 ≡ emptied
+unfolding removeAt removed Index.remove Index.vacate Index.renumber Index.seek Index.walk Index.walkFrom Index.onward Index.rehome
+removed-from-the-index = refl
+
+inserted-into-the-index : insert emptied fiveSeven ≡ indexed
+unfolding insert Index.add Index.seek Index.walk Index.walkFrom Index.onward
+inserted-into-the-index = refl
 
 -- The idle sweep, with a limit of 2 ms, at 2 ms: by then 4,000,000 parts have come back.
 abbrev sweptAtTwo : ℕ → Shard → Shard

@@ -1,6 +1,6 @@
 -- `debts::pay_down` does to the ledger's part of the words what the ledger's own function does, and nothing to the rest.
 use Rattle.ledger.specs.Model as Ledger
-use Rattle.ledger.proofs.OthersLaws.{paid-spares}
+use Rattle.ledger.proofs.OthersLaws.{paid-with-others}
 use Rattle.shard_map.proofs.ModelLaws.{intact-ledger}
 use Rattle.shard_map.proofs.LayoutLaws.{ledger-answers}
 use borrow.Author.Needs.{needs}
@@ -39,7 +39,7 @@ returns c =
     let a = start l .args in
     ledger-answers _ _ (start l .pre .0 .size) (l .ledger-start .ensures) _ (gave .kept .0)
     (λ m. Ledger.paidDown m (a .hash) (a .cost) (a .config))
-    (paid-spares _ _ _)
+    (λ m ws. paid-with-others m ws _ _ _)
     (gave .ensures)
 
 pub pay-down-spec : {M : Type 1} → statement M

@@ -1,6 +1,6 @@
 -- `debts::sweep` does to the ledger's part of the words what the ledger's own function does, and nothing to the rest.
 use Rattle.ledger.specs.Model as Ledger
-use Rattle.ledger.proofs.OthersLaws.{sweep-spares}
+use Rattle.ledger.proofs.OthersLaws.{sweep-with-others}
 use Rattle.shard_map.proofs.ModelLaws.{intact-ledger}
 use Rattle.shard_map.proofs.LayoutLaws.{ledger-leaves}
 use borrow.Author.Needs.{needs}
@@ -36,7 +36,7 @@ returns : tie.Need-returns
 returns c =
     let gave = c .before .before .sweep in
     let l = c .before .before .before .before in
-    ledger-leaves _ _ (start l .pre .size) (l .ledger-start .ensures) _ (gave .kept .0) (Ledger.sweep _ _) (sweep-spares _ _) (gave .ensures)
+    ledger-leaves _ _ (start l .pre .size) (l .ledger-start .ensures) _ (gave .kept .0) (Ledger.sweep _ _) (λ m ws. sweep-with-others m ws _ _) (gave .ensures)
 
 pub sweep-spec : {M : Type 1} → statement M
 sweep-spec =

@@ -1,6 +1,6 @@
 -- `debts::take` does to the ledger's part of the words what the ledger's own function does, and nothing to the rest.
 use Rattle.ledger.specs.Model as Ledger
-use Rattle.ledger.proofs.OthersLaws.{taken-spares}
+use Rattle.ledger.proofs.OthersLaws.{taken-with-others}
 use Rattle.shard_map.proofs.ModelLaws.{intact-ledger}
 use Rattle.shard_map.proofs.LayoutLaws.{ledger-answers}
 use borrow.Author.Needs.{needs}
@@ -36,7 +36,7 @@ returns : tie.Need-returns
 returns c =
     let gave = c .before .before .take in
     let l = c .before .before .before .before in
-    ledger-answers _ _ (start l .pre .size) (l .ledger-start .ensures) _ (gave .kept .0) (λ m. Ledger.taken m (start l .args .hash)) (taken-spares _) (gave .ensures)
+    ledger-answers _ _ (start l .pre .size) (l .ledger-start .ensures) _ (gave .kept .0) (λ m. Ledger.taken m (start l .args .hash)) (λ m ws. taken-with-others m ws _) (gave .ensures)
 
 pub take-spec : {M : Type 1} → statement M
 take-spec =
