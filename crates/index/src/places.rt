@@ -1,4 +1,4 @@
-// The places of an index, lent without the items: the next place, the walk to a word, an item added, an item renumbered.
+// The places of an index, lent without the items: the next place, the home of a hash, the walk to a word, an item added, an item renumbered.
 ghost use mathlib.Core.Path.{_≡_};
 ghost use Prim.Native.Nat.{_+_, _%_, _^_, _<_};
 ghost use lib.ListN.{length};
