@@ -1,4 +1,5 @@
 pub mod Worked
+pub mod MaskLaws
 pub mod CycleLaws
 pub mod CopyLaws
 pub mod WalkLaws

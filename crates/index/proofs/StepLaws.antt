@@ -136,11 +136,11 @@ module _ (n : ℕ) (test : ℕ → Bool) (ix : List ℕ) (q left : ℕ) where
   unfolding findFrom
   find-over h = rw (walk-over ix (hits n test) q left h, at-past ix (length ix) (omega arith))
 
--- The same at the home of a hash, with all places left.
-pub find-home : (n : ℕ) (test : ℕ → Bool) (ix : List ℕ) (h : ℕ) {p p′ : Probed} (size : ℕ) → length ix ≡ size → 0 < size → p ≡ probed n test (at ix (h % size)) → p ≡ p′
-    → afterLook p′ (findFrom n test ix (onward size (h % size)) (size - 1)) ≡ find n test ix h
+-- The same at the home q of a hash, with all places left.
+pub find-home : (n : ℕ) (test : ℕ → Bool) (ix : List ℕ) (h : ℕ) {p p′ : Probed} (size q : ℕ) → length ix ≡ size → 0 < size → q ≡ h % size
+    → p ≡ probed n test (at ix q) → p ≡ p′ → afterLook p′ (findFrom n test ix (onward size q) (size - 1)) ≡ find n test ix h
 unfolding find
-find-home n test ix h size len room e which = rw len (find-turn n test ix (h % size) size size len room e which)
+find-home n test ix h size q len room home e which = rw (len, ← home) (find-turn n test ix q size size len room e which)
 
 -- A word that names an item is added again, and one that names none is not.
 pub add-again-named : (hash : ℕ → ℕ) (n : ℕ) (ix : List ℕ) (v : ℕ) → v ≤ n → addAgain hash n ix v ≡ add ix (hash (v - 1)) (v - 1)

@@ -111,7 +111,7 @@ pub fn find(ws: &[u64], index: Index, n: usize, hash: u64, key: u64) -> Place
     requires { ⌜ Fits index n (now ws) ⌝ }
     ensures { λ r. ⌜ r ≡ Walk.find n (keyed index (now (ws .entry)) hash key) (placesOf index (now (ws .entry))) hash ⌝ }
 {
-    let home = (hash % (index.size as u64)) as usize;
+    let home = places::home(index.size, hash);
     match probe(ws, index, n, hash, key, home) {
         Probed::Hit(i) => Place::At(i),
         Probed::Empty => Place::Nowhere,

@@ -1,6 +1,6 @@
-// The places of an index, lent without the items: the next place, the walk to a word, an item added, an item renumbered.
+// The places of an index, lent without the items: the next place, the home of a hash, the walk to a word, an item added, an item renumbered.
 ghost use mathlib.Core.Path.{_≡_};
-ghost use Prim.Native.Nat.{_+_, _^_, _<_};
+ghost use Prim.Native.Nat.{_+_, _%_, _^_, _<_};
 ghost use lib.ListN.{length};
 ghost use Rattle.index.specs.Walk as Walk;
 
@@ -15,13 +15,25 @@ pub(crate) fn onward(size: usize, q: usize) -> usize
     0
 }
 
+// The place at which the walk of a hash starts. Where the number of places is a power of two a mask gives the remainder, and no division is made.
+pub(crate) fn home(size: usize, hash: u64) -> usize
+    requires { ⌜ 0 < size ⌝ }
+    ensures { λ r. ⌜ r ≡ hash % size ⌝ }
+{
+    let mask = size as u64 - 1;
+    if (size as u64) & mask == 0 {
+        return (hash & mask) as usize;
+    }
+    (hash % (size as u64)) as usize
+}
+
 // The first place on the hash's walk that holds the word. If there is none, it is the place at which the walk stops, or the number of places.
 pub(crate) fn seek(ix: &[u64], hash: u64, word: u64) -> usize
     requires { ⌜ 0 < length (now ix) ⌝ }
     ensures { λ r. ⌜ r ≡ Walk.seek (now (ix .entry)) hash word ⌝ }
 {
     let size = ix.len();
-    let mut q = (hash % (size as u64)) as usize;
+    let mut q = home(size, hash);
     let mut left = size;
     while 0 < left {
         let v = ix[q];

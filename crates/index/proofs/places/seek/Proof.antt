@@ -25,11 +25,13 @@ Inv-loop ix hash word size q₀ left₀ q left = Walking ix hash word size q lef
 abbrev μ-loop : tie.MeasureT-loop
 μ-loop ix hash word size q₀ left₀ q left = left
 
-rem-q : tie.Need-rem-q Inv-loop μ-loop
-rem-q c = search needs
+home-requires : tie.Need-home-requires Inv-loop μ-loop
+home-requires c κs = search needs
 
 loop-holds : tie.Need-loop-holds Inv-loop μ-loop
-loop-holds c = record { below = mod-lt _ (omega arith); sized = refl; same = seek-start _ _ _ }
+loop-holds c =
+    let at-home = c .home .ensures in
+    record { below = rw at-home (mod-lt _ (omega arith)); sized = refl; same = rw at-home (seek-start _ _ _) }
 
 mul-v : tie.Need-mul-v Inv-loop μ-loop
 mul-v c = search needs
@@ -80,7 +82,7 @@ seek-spec =
     (tie.spec
     Inv-loop
     μ-loop
-    rem-q
+    home-requires
     loop-holds
     mul-v
     shared-slice-read-v
