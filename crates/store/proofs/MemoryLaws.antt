@@ -9,7 +9,7 @@ use borrow.Rule.Slice.PartMut.{same-len-mid}
 use Rattle.arith.proofs.Cases.{by-le}
 use Rattle.rows.specs.Segments.{segment}
 use Rattle.rows.specs.Outcome.{Outcome}
-use Rattle.rows.proofs.SegmentLaws.{segment-most, segment-length, segment-back, segment-kept-below, segment-kept-above}
+use Rattle.rows.proofs.SegmentLaws.{segment-length, segment-back, segment-kept-below, segment-kept-above}
 use Rattle.rows.proofs.ZeroLaws.{zeros-segment}
 use Rattle.settings.specs.declared.Settings.{Settings}
 use Rattle.settings.specs.declared.Shape.{Shape}
@@ -118,7 +118,10 @@ module _ (s : Settings) (hash : ℕ) where
   fresh-shards-are-empty = zeros-empty (capOf s) _ fresh-words
 
   pub fresh-shards-are-complete : Shard.Complete (shardAt s hash (replicate (memoryWords s) 0))
-  fresh-shards-are-complete = zeros-complete (capOf s) _ fresh-words
+  fresh-shards-are-complete =
+      let fresh : List ℕ = replicate (memoryWords s) 0 in
+      let fits = shard-fits s hash fresh (length-replicate (memoryWords s) 0) in
+      zeros-complete (capOf s) _ (cap-least s) (segment-length (partStart (shapeOf s) hash) (shardWords (capOf s)) fresh fits) fresh-words
 
 module _ (s : Settings) (hash : ℕ) (ws : List ℕ) where
   -- The shard of a hash has the cap's room for slots and debts.
