@@ -1,22 +1,24 @@
 -- What every call keeps, a grown store has. So in its shards lookup finds each slot and each debt: none holds more items than it has room for, lookup misses none,
--- and no two slots are of one key. Where a shard has indexes, they are exact.
+-- and no two slots are of one key. And their indexes are exact.
 use Prim.Native.Nat.{ℕ}
 use native.Mathlib.Omega.{arith}
-use mathlib.Core.Path.{_≡_, sym, _∙_}
+use mathlib.Core.Path.{_≡_}
 use mathlib.Core.Bool.{false}
 use mathlib.Core.List.{List}
 use lib.ListN.{length, replicate, length-replicate}
 use Rattle.arith.proofs.Cases.{by-eq}
 use Rattle.rows.specs.Outcome.{Outcome}
 use Rattle.index.specs.Exact.{Exact}
-use Rattle.held.specs.Held.{inOrder, byIndex, Held, Items, hashAt, Complete, in-order-is-complete, exact-is-complete}
+use Rattle.held.specs.Held.{Held, Items, hashAt, Complete, in-order-is-complete, exact-is-complete}
+use Rattle.held.specs.Layout.{indexWords}
+use Rattle.held.proofs.FindingLaws.{ordered, indexed, kindOf}
 use Rattle.settings.specs.declared.Settings.{Settings}
 use Rattle.settings.specs.Settings.{shardOf}
 use Rattle.ledger.specs.Model.{debtItems}
 use Rattle.shard_map.specs.Model.{slotItems}
 use Rattle.shard_map.proofs.PlaceOrderLaws.{FindsEach, found-is-complete, empty-finds-each}
 use Rattle.store.specs.Memory.{memoryWords, shardAt}
-use Rattle.store.proofs.MemoryLaws.{fresh-sound, fresh-shards-are-complete, fresh-shards-are-empty}
+use Rattle.store.proofs.MemoryLaws.{shard-at-sized, fresh-sound, fresh-shards-are-complete, fresh-shards-are-empty}
 use Rattle.perkey.specs.declared.Reply.{Reply}
 use Rattle.perkey.specs.Calls.{Call, request, look, undo, len, rules, settingsOf, numbered}
 use Rattle.perkey.proofs.CallLaws.{counts-keys, looks-change-nothing}
@@ -73,21 +75,19 @@ pub grown-finds-each : {s : Settings} {ws : List ℕ} → Grown s ws → (hash :
 grown-finds-each grown hash = grown-memory-is-sound grown .finds-each hash
 
 -- Lookup by an index misses no item only where the index is exact.
-same-index : {ix other : List ℕ} → byIndex ix ≡ byIndex other → ix ≡ other
-same-index same = cc
-
-complete-index-is-exact : {A : Type 0} (items : Items A) (h : Held A) → Complete items h → (ix : List ℕ) → h .finding ≡ byIndex ix
-    → Exact (hashAt items h) (h .count) ix
-complete-index-is-exact items h (in-order-is-complete order) ix by =
-    let same : inOrder ≡ byIndex ix = sym order ∙ by in
+complete-index-is-exact : {A : Type 0} (items : Items A) (h : Held A) (n : ℕ) → kindOf (h .finding) ≡ indexed n → Complete items h
+    → Exact (hashAt items h) (h .count) (indexWords (h .finding))
+complete-index-is-exact items h n kind (in-order-is-complete order) =
+    let no-index : ordered ≡ indexed n = rw order at kind in
     let z : _≡_ {A = ℕ} 0 1 = cc in absurd (omega arith)
-complete-index-is-exact items h (exact-is-complete own is size exact) ix by = rw (same-index (sym is ∙ by)) at exact
+complete-index-is-exact items h n kind (exact-is-complete ix by size exact) = rw by exact
 
 -- So every item of a grown store stands in its index once, on its walk, and no other place is in use.
 pub grown-indexes-are-exact : {s : Settings} {ws : List ℕ} → Grown s ws → (hash : ℕ) → IndexesExact (shardAt s hash ws)
 grown-indexes-are-exact {s} {ws} grown hash =
     let complete = found-is-complete (grown-finds-each grown hash) in
+    let sized = shard-at-sized s hash ws (grown-memory-is-sound grown .size) in
     record {
-      slots = complete-index-is-exact slotItems (shardAt s hash ws .slots) (complete .slots);
-      debts = complete-index-is-exact debtItems (shardAt s hash ws .ledger .debts) (complete .ledger);
+      slots = complete-index-is-exact slotItems (shardAt s hash ws .slots) _ (sized .slots-kind) (complete .slots);
+      debts = complete-index-is-exact debtItems (shardAt s hash ws .ledger .debts) _ (sized .debts-kind) (complete .ledger);
     }

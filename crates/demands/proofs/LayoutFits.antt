@@ -16,7 +16,7 @@ use Rattle.ledger.specs.declared.Debt.{Debt}
 use Rattle.ledger.specs.Model.{Ledger, withOthers}
 use Rattle.ledger.specs.Layout as Debts
 use Rattle.shard_map.specs.Model.{Shard}
-use Rattle.shard_map.specs.Layout.{slotOf, slotWords, shard, wordsOf}
+use Rattle.shard_map.specs.Layout.{slotsAt, slotWidth, slotOf, slotWords, shard, wordsOf}
 use Rattle.perkey.specs.Calls.{Every}
 use Rattle.demands.proofs.EveryLaws.{of-item, every-taken, every-left, every-joined, every-made, every-in-part, every-in-rows, every-of-rows}
 use Rattle.demands.proofs.WordFits.{Word}
@@ -77,9 +77,10 @@ pub shard-read-fits : (cap : ℕ) (ws : List ℕ) → Word cap → Every Word ws
 unfolding shard
 shard-read-fits cap ws room every =
     let f = table-read-fits SlotFits slotOf _ cap _ ws slot-read-fits room every in
-    let l = ledger-read-fits cap _ room (f .rest) in
+    let lent : Ledger = Debts.ledger cap (tableIn slotOf slotWidth cap slotsAt ws .rest) in
+    let l : LedgerFits lent = ledger-read-fits cap _ room (f .rest) in
     record {
-      slots = record { count = f .head _; room = f .room; items = f .items; finding = index-read-fits _ (l .others) };
+      slots = record { count = f .head _; room = f .room; items = f .items; finding = index-read-fits (lent .others) (l .others) };
       hand = f .head _;
       sweep = f .head _;
       ledger = record { debts = l .debts; cursor = l .cursor; others = tt };

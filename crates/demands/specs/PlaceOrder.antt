@@ -21,7 +21,8 @@ use Rattle.settings.specs.declared.rate.Rate.{Rate}
 use Rattle.settings.specs.Rate.{configOf}
 use Rattle.settings.specs.Settings.{shardCount, capOf, shardOf}
 use Rattle.index.specs.Exact.{Exact}
-use Rattle.held.specs.Held.{inOrder, byIndex, hashAt}
+use Rattle.held.specs.Held.{inOrder, hashAt}
+use Rattle.held.specs.Layout.{indexWords}
 use Rattle.ledger.specs.Model.{debtItems}
 use Rattle.shard_map.specs.Model.{Shard, slotItems, inPlaceOrder}
 use Rattle.shard_map.specs.Layout.{shard, shardWords}
@@ -124,11 +125,10 @@ unfoldable pub AllAccepted : Settings → List Turn → List ℕ → Type 0
 AllAccepted s [] ws = Unit {0}
 AllAccepted s (t ∷ ts) ws = Accepted s t ws × AllAccepted s ts (byRules s t ws .after)
 
--- Every item of a shard stands in its index once, on its walk, and no other place is in use (`Exact`). So it is with the slots and with the debts, where they
--- are found by an index.
+-- Every item of a shard stands in its index once, on its walk, and no other place is in use (`Exact`). So it is with the slots and with the debts.
 pub record IndexesExact (own : Shard) : Type 0 where
-  pub slots : (ix : List ℕ) → own .slots .finding ≡ byIndex ix → Exact (hashAt slotItems (own .slots)) (own .slots .count) ix
-  pub debts : (ix : List ℕ) → own .ledger .debts .finding ≡ byIndex ix → Exact (hashAt debtItems (own .ledger .debts)) (own .ledger .debts .count) ix
+  pub slots : Exact (hashAt slotItems (own .slots)) (own .slots .count) (indexWords (own .slots .finding))
+  pub debts : Exact (hashAt debtItems (own .ledger .debts)) (own .ledger .debts .count) (indexWords (own .ledger .debts .finding))
 
 -- Indexes change nothing in a list of turns on words. By the rules it gives the answers that it gives on a fresh store without indexes. In the end every shard in
 -- the words is, in place order, the shard of that store: all slots, debts, counts, hands, sweeps and cursors are the same. And all indexes are exact.

@@ -31,10 +31,6 @@ abbrev pub kindOf : Finding → Kind
 kindOf inOrder = ordered
 kindOf (byIndex ix) = indexed (length ix)
 
-pub ordered-is-in-order : (f : Finding) → kindOf f ≡ ordered → f ≡ inOrder
-ordered-is-in-order inOrder same = refl
-ordered-is-in-order (byIndex ix) same = let z : _≡_ {A = ℕ} 0 1 = cc in absurd (omega arith)
-
 -- By an index of n places: they are the finding's words, and they are n.
 pub indexed-by-words : (f : Finding) (n : ℕ) → kindOf f ≡ indexed n → byIndex (indexWords f) ≡ f
 indexed-by-words inOrder n same = let z : _≡_ {A = ℕ} 0 1 = cc in absurd (omega arith)

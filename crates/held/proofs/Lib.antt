@@ -1,7 +1,6 @@
 pub mod Worked
 pub mod HeldLaws
 pub mod FindingLaws
-pub mod SearchLaws
 pub mod RoundLaws
 pub mod SingleLaws
 pub mod LayoutLaws

@@ -131,10 +131,13 @@ module _ (s : Settings) (hash : ℕ) (ws : List ℕ) where
   pub shard-at-debt-cap : Ledger.capOf (shardAt s hash ws .ledger) ≡ capOf s
   shard-at-debt-cap = debt-cap-is (capOf s) _
 
-  -- A shard with the same room has its size.
+  -- It has the size of a shard, and so has one with the same room.
+  pub shard-at-sized : length ws ≡ memoryWords s → Sized (capOf s) (shardAt s hash ws)
+  shard-at-sized size = shard-sized (capOf s) _ (segment-length (partStart (shapeOf s) hash) (shardWords (capOf s)) ws (shard-fits s hash ws size))
+
   pub same-room-sized : length ws ≡ memoryWords s → {t : Shard.Shard} → SameRoom (shardAt s hash ws) t → Sized (capOf s) t
   same-room-sized size room =
-      let own = shard-sized (capOf s) _ (segment-length (partStart (shapeOf s) hash) (shardWords (capOf s)) ws (shard-fits s hash ws size)) in
+      let own = shard-at-sized size in
       record {
         slots = room .cap ∙ own .slots;
         slots-kind = room .kind ∙ own .slots-kind;
