@@ -4,7 +4,7 @@ use oracle::Shape;
 use oracle::layout::{self, debt, slot};
 use oracle::refusals::{LATEST_MOMENT, LONGEST_PERIOD, LONGEST_WAIT, MOST_KEYS, MOST_SHARDS};
 
-use super::{LARGE, Plan, SMALL};
+use super::{LARGE, Plan, SMALL, indexes};
 use crate::call::Call;
 use crate::library::{self, RawSettings};
 use crate::random::Random;
@@ -31,6 +31,9 @@ impl Aside {
             _ => plan.contents(random),
         };
         damage(random, &mut words, plan.shape, plan.now);
+        if random.chance(60) {
+            indexes::damage(random, &mut words, plan.shape);
+        }
         plan.pace = 0;
         let call = plan.any_call(random);
         let mut aside = Self {
@@ -48,6 +51,15 @@ impl Aside {
                 .for_each(|word| *word = random.word());
         }
         aside
+    }
+
+    /// A call of a trace on damaged words.
+    pub fn damaged(random: &mut Random, plan: &mut Plan, words: &[u64]) -> Self {
+        Self {
+            raw: library::given(&plan.settings, random),
+            words: words.to_vec(),
+            call: plan.call(random, words),
+        }
     }
 
     /// A call that differs from a sound one on `words` in one or more things, most of which are refused.
@@ -132,6 +144,17 @@ impl Aside {
 }
 
 impl Plan {
+    /// Contents with damaged indexes, and perhaps damaged otherwise. The counts are at most the cap.
+    pub fn damaged_contents(&self, random: &mut Random) -> Vec<u64> {
+        let mut words = self.contents(random);
+        if random.chance(30) {
+            damage(random, &mut words, self.shape, self.now);
+            hold_counts(&mut words, self.shape);
+        }
+        indexes::damage(random, &mut words, self.shape);
+        words
+    }
+
     /// Any call, each kind as often as the others.
     fn any_call(&mut self, random: &mut Random) -> Call {
         let (now, key, cost) = (self.now, self.key(random), self.cost(random));
@@ -162,6 +185,16 @@ fn other(random: &mut Random, raw: &RawSettings) -> RawSettings {
     let closed = random.chance(20);
     let settings = Plan::new(random, sizes, closed).settings;
     library::given(&settings, random)
+}
+
+/// Makes every count at most the cap.
+fn hold_counts(words: &mut [u64], shape: Shape) {
+    for shard in 0..shape.shards {
+        let row = &mut words[shape.shard(shard)];
+        for items in [layout::SLOTS, layout::debts(shape.room())] {
+            row[items.count] = row[items.count].min(shape.cap);
+        }
+    }
 }
 
 /// The first words of a slot, hash and key, are its identity.

@@ -4,6 +4,7 @@ mod aside;
 mod calls;
 mod contents;
 mod domain;
+mod indexes;
 mod time;
 
 use oracle::{Key, Rate, Settings, Shape, WhenFull};

@@ -1,38 +1,36 @@
 //! Stand-in for the `hashbrown` package: the calls of `HashTable` that the store makes, over the standard library's map.
 //!
-//! The table holds values under hashes; several values may share a hash. The map underneath uses the hash as it stands.
+//! The table holds values under hashes; several values may share a hash. The map underneath uses the hash as it stands. A table that is given
+//! places keeps its values in them too, as request 3 of 02 says; they are shown, and nothing is found by them.
+
+mod places;
 
 use core::hash::{BuildHasherDefault, Hasher};
 use std::collections::HashMap;
 
-/// The values of one hash: the first in place, others (only when hashes are shared) in a list.
+use places::Places;
+
+/// The values of one hash, by handle: the first in place, others (only when hashes are shared) in a list.
 #[derive(Debug)]
-struct Group<T> {
-    first: T,
-    others: Vec<T>,
+struct Group {
+    first: usize,
+    others: Vec<usize>,
 }
 
-impl<T> Group<T> {
-    fn place(&self, mut eq: impl FnMut(&T) -> bool) -> Option<usize> {
-        if eq(&self.first) {
+impl Group {
+    fn place(&self, mut eq: impl FnMut(usize) -> bool) -> Option<usize> {
+        if eq(self.first) {
             return Some(0);
         }
-        self.others.iter().position(eq).map(|place| place + 1)
+        let other = self.others.iter().position(|&handle| eq(handle));
+        other.map(|place| place + 1)
     }
 
-    fn at(&self, place: usize) -> &T {
+    fn at(&self, place: usize) -> usize {
         if place == 0 {
-            &self.first
+            self.first
         } else {
-            &self.others[place - 1]
-        }
-    }
-
-    fn at_mut(&mut self, place: usize) -> &mut T {
-        if place == 0 {
-            &mut self.first
-        } else {
-            &mut self.others[place - 1]
+            self.others[place - 1]
         }
     }
 }
@@ -58,7 +56,11 @@ impl Hasher for AsItStands {
 /// A table of values that are found by their hash and a test.
 #[derive(Debug)]
 pub struct HashTable<T> {
-    groups: HashMap<u64, Group<T>, BuildHasherDefault<AsItStands>>,
+    groups: HashMap<u64, Group, BuildHasherDefault<AsItStands>>,
+    /// The values by handle, and the handles that are free.
+    values: Vec<Option<T>>,
+    free: Vec<usize>,
+    places: Places,
 }
 
 impl<T> Default for HashTable<T> {
@@ -67,27 +69,26 @@ impl<T> Default for HashTable<T> {
     }
 }
 
+/// The published calls.
 impl<T> HashTable<T> {
-    /// An empty table.
+    /// An empty table, without places.
     #[must_use]
     pub fn new() -> Self {
-        Self {
-            groups: HashMap::default(),
-        }
+        Self::with_places(0)
     }
 
     /// A value put in under `hash` that passes `eq`.
     #[inline]
     pub fn find(&self, hash: u64, eq: impl FnMut(&T) -> bool) -> Option<&T> {
-        let group = self.groups.get(&hash)?;
-        group.place(eq).map(|place| group.at(place))
+        let (_place, handle) = self.seek(hash, eq)?;
+        self.values[handle].as_ref()
     }
 
     /// The same, to be changed.
     #[inline]
     pub fn find_mut(&mut self, hash: u64, eq: impl FnMut(&T) -> bool) -> Option<&mut T> {
-        let group = self.groups.get_mut(&hash)?;
-        group.place(eq).map(|place| group.at_mut(place))
+        let (_place, handle) = self.seek(hash, eq)?;
+        self.values[handle].as_mut()
     }
 
     /// The same, to be removed.
@@ -101,8 +102,8 @@ impl<T> HashTable<T> {
         hash: u64,
         eq: impl FnMut(&T) -> bool,
     ) -> Result<OccupiedEntry<'_, T>, AbsentEntry> {
-        match self.groups.get(&hash).and_then(|group| group.place(eq)) {
-            Some(place) => Ok(OccupiedEntry {
+        match self.seek(hash, eq) {
+            Some((place, _handle)) => Ok(OccupiedEntry {
                 table: self,
                 hash,
                 place,
@@ -119,27 +120,98 @@ impl<T> HashTable<T> {
         value: T,
         _hasher: impl Fn(&T) -> u64,
     ) -> OccupiedEntry<'_, T> {
-        let place = match self.groups.get_mut(&hash) {
-            Some(group) => {
-                group.others.push(value);
-                group.others.len()
-            }
-            None => {
-                let _none = self.groups.insert(
-                    hash,
-                    Group {
-                        first: value,
-                        others: Vec::new(),
-                    },
-                );
-                0
-            }
-        };
+        let handle = self.keep(value);
+        self.places.add(hash, handle);
+        let place = self.join(hash, handle);
         OccupiedEntry {
             table: self,
             hash,
             place,
         }
+    }
+}
+
+/// The places.
+impl<T> HashTable<T> {
+    /// An empty table with so many places.
+    #[must_use]
+    pub fn with_places(size: usize) -> Self {
+        Self {
+            groups: HashMap::default(),
+            values: Vec::new(),
+            free: Vec::new(),
+            places: Places::new(size),
+        }
+    }
+
+    /// A table with these places, each empty or with a hash and a value under it; none unless every value is on its walk.
+    #[must_use]
+    pub fn placed(rows: Vec<Option<(u64, T)>>) -> Option<Self> {
+        let mut table = Self::with_places(rows.len());
+        for (place, row) in rows.into_iter().enumerate() {
+            if let Some((hash, value)) = row {
+                let handle = table.keep(value);
+                table.places.put(place, hash, handle);
+                let _place = table.join(hash, handle);
+            }
+        }
+        table.places.is_sound().then_some(table)
+    }
+
+    /// The value at each place.
+    pub fn places(&self) -> impl Iterator<Item = Option<&T>> {
+        let value = |handle: usize| self.values[handle].as_ref();
+        self.places.handles().map(move |handle| handle.and_then(value))
+    }
+}
+
+/// What the calls are made of.
+impl<T> HashTable<T> {
+    /// Where a value under `hash` that passes `eq` stands in its group, and its handle.
+    fn seek(&self, hash: u64, mut eq: impl FnMut(&T) -> bool) -> Option<(usize, usize)> {
+        let group = self.groups.get(&hash)?;
+        let place = group.place(|handle| self.values[handle].as_ref().is_some_and(&mut eq))?;
+        Some((place, group.at(place)))
+    }
+
+    /// Keeps a value; its handle.
+    fn keep(&mut self, value: T) -> usize {
+        if let Some(handle) = self.free.pop() {
+            self.values[handle] = Some(value);
+            return handle;
+        }
+        self.values.push(Some(value));
+        self.values.len() - 1
+    }
+
+    /// Puts a handle into the group of its hash; its place there.
+    fn join(&mut self, hash: u64, handle: usize) -> usize {
+        if let Some(group) = self.groups.get_mut(&hash) {
+            group.others.push(handle);
+            return group.others.len();
+        }
+        let others = Vec::new();
+        let first = handle;
+        let _none = self.groups.insert(hash, Group { first, others });
+        0
+    }
+
+    /// Takes a handle out of the group of its hash.
+    fn part(&mut self, hash: u64, place: usize) -> usize {
+        let group = self
+            .groups
+            .get_mut(&hash)
+            .expect("the entry is in the table");
+        if place > 0 {
+            return group.others.swap_remove(place - 1);
+        }
+        if let Some(next) = group.others.pop() {
+            return core::mem::replace(&mut group.first, next);
+        }
+        self.groups
+            .remove(&hash)
+            .expect("the group was just seen")
+            .first
     }
 }
 
@@ -156,22 +228,11 @@ impl<T> OccupiedEntry<'_, T> {
     #[inline]
     pub fn remove(self) -> (T, VacantEntry) {
         let Self { table, hash, place } = self;
-        let group = table
-            .groups
-            .get_mut(&hash)
-            .expect("the entry is in the table");
-        let value = if place > 0 {
-            group.others.swap_remove(place - 1)
-        } else if let Some(next) = group.others.pop() {
-            core::mem::replace(&mut group.first, next)
-        } else {
-            table
-                .groups
-                .remove(&hash)
-                .expect("the group was just seen")
-                .first
-        };
-        (value, VacantEntry)
+        let handle = table.part(hash, place);
+        table.places.remove(hash, handle);
+        table.free.push(handle);
+        let value = table.values[handle].take();
+        (value.expect("a handle has a value"), VacantEntry)
     }
 }
 
@@ -187,10 +248,21 @@ pub struct AbsentEntry;
 mod tests {
     use super::*;
 
+    /// The places once more, and whether they are sound: read anew, and each held value just once.
+    fn are_sound(table: &HashTable<u32>, list: &[(u64, u32)]) -> bool {
+        let hash = |value| list.iter().find(|held| held.1 == value).expect("held").0;
+        let rows: Vec<_> = table
+            .places()
+            .map(|value| value.map(|&value| (hash(value), value)))
+            .collect();
+        let count = rows.iter().flatten().count();
+        count == list.len() && HashTable::placed(rows).is_some()
+    }
+
     /// Values put in and taken out at random, three hashes for all, against a plain list.
     #[test]
     fn agrees_with_a_list() {
-        let mut table = HashTable::new();
+        let mut table = HashTable::with_places(24);
         let mut list: Vec<(u64, u32)> = Vec::new();
         let mut random = 1_u64;
         for value in 0..20_000_u32 {
@@ -217,6 +289,7 @@ mod tests {
                 );
                 assert!(table.find_entry(hash, |&held| held == gone).is_err());
             }
+            assert!(are_sound(&table, &list));
             for &(hash, held) in &list {
                 assert_eq!(table.find(hash, |&other| other == held), Some(&held));
                 assert_eq!(table.find(hash + 1, |&other| other == held), None);
