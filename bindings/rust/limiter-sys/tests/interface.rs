@@ -6,7 +6,9 @@ use limiter_sys::*;
 
 const HEADER: &str = include_str!("../../../c/limiter.h");
 
-/// 2 tokens a second, one key, one shard: 13 words.
+/// The words of a store for one key.
+const ONE: usize = 17;
+/// 2 tokens a second, one key, one shard.
 const SMALL: LimiterSettings = LimiterSettings {
     period: 1_000_000_000,
     max_keys: 1,
@@ -55,7 +57,7 @@ fn no_words_may_be_null() {
 
 #[test]
 fn a_reply_is_three_numbers() {
-    let (mut words, now) = ([0; 13], 5_000_000_000);
+    let (mut words, now) = ([0; ONE], 5_000_000_000);
     assert_eq!(slices::set_up(SMALL, &mut words), reply(LIMITER_DONE, 0, 0));
     let granted = slices::try_acquire(SMALL, &mut words, now, 7, 7, 2);
     assert_eq!(granted, reply(LIMITER_DONE, 0, now));
@@ -68,12 +70,12 @@ fn a_reply_is_three_numbers() {
 
 #[test]
 fn the_words_to_lend() {
-    assert_eq!(limiter_words(SMALL), 13);
-    assert_eq!(limiter_words(LimiterSettings::default()), 13);
+    assert_eq!(limiter_words(SMALL), ONE as u64);
+    assert_eq!(limiter_words(LimiterSettings::default()), ONE as u64);
     let keys = |max_keys| limiter_words(LimiterSettings { max_keys, ..SMALL });
-    assert_eq!([keys(4_096), keys(4_097), keys(u64::MAX)], [32_773, 0, 0]);
+    assert_eq!([keys(4_096), keys(4_097), keys(u64::MAX)], [49_157, 0, 0]);
     let shards = |shards| limiter_words(LimiterSettings { shards, ..SMALL });
-    assert_eq!([shards(64), shards(65), shards(u64::MAX)], [64 * 13, 0, 0]);
+    assert_eq!([shards(64), shards(65), shards(u64::MAX)], [64 * ONE as u64, 0, 0]);
 }
 
 #[test]
