@@ -8,29 +8,43 @@ mod places;
 use core::hash::{BuildHasherDefault, Hasher};
 use std::collections::HashMap;
 
-use places::Places;
+use places::{Placed, Places};
 
-/// The values of one hash, by handle: the first in place, others (only when hashes are shared) in a list.
+/// A value, and the number by which a place knows it.
 #[derive(Debug)]
-struct Group {
-    first: usize,
-    others: Vec<usize>,
+struct Held<T> {
+    name: u32,
+    value: T,
 }
 
-impl Group {
-    fn place(&self, mut eq: impl FnMut(usize) -> bool) -> Option<usize> {
-        if eq(self.first) {
+/// The values of one hash: the first in place, others (only when hashes are shared) in a list.
+#[derive(Debug)]
+struct Group<T> {
+    first: Held<T>,
+    others: Vec<Held<T>>,
+}
+
+impl<T> Group<T> {
+    fn place(&self, mut eq: impl FnMut(&Held<T>) -> bool) -> Option<usize> {
+        if eq(&self.first) {
             return Some(0);
         }
-        let other = self.others.iter().position(|&handle| eq(handle));
-        other.map(|place| place + 1)
+        self.others.iter().position(eq).map(|place| place + 1)
     }
 
-    fn at(&self, place: usize) -> usize {
+    fn at(&self, place: usize) -> &T {
         if place == 0 {
-            self.first
+            &self.first.value
         } else {
-            self.others[place - 1]
+            &self.others[place - 1].value
+        }
+    }
+
+    fn at_mut(&mut self, place: usize) -> &mut T {
+        if place == 0 {
+            &mut self.first.value
+        } else {
+            &mut self.others[place - 1].value
         }
     }
 }
@@ -56,10 +70,7 @@ impl Hasher for AsItStands {
 /// A table of values that are found by their hash and a test.
 #[derive(Debug)]
 pub struct HashTable<T> {
-    groups: HashMap<u64, Group, BuildHasherDefault<AsItStands>>,
-    /// The values by handle, and the handles that are free.
-    values: Vec<Option<T>>,
-    free: Vec<usize>,
+    groups: HashMap<u64, Group<T>, BuildHasherDefault<AsItStands>>,
     places: Places,
 }
 
@@ -79,16 +90,18 @@ impl<T> HashTable<T> {
 
     /// A value put in under `hash` that passes `eq`.
     #[inline]
-    pub fn find(&self, hash: u64, eq: impl FnMut(&T) -> bool) -> Option<&T> {
-        let (_place, handle) = self.seek(hash, eq)?;
-        self.values[handle].as_ref()
+    pub fn find(&self, hash: u64, mut eq: impl FnMut(&T) -> bool) -> Option<&T> {
+        let group = self.groups.get(&hash)?;
+        let place = group.place(|held| eq(&held.value));
+        place.map(|place| group.at(place))
     }
 
     /// The same, to be changed.
     #[inline]
-    pub fn find_mut(&mut self, hash: u64, eq: impl FnMut(&T) -> bool) -> Option<&mut T> {
-        let (_place, handle) = self.seek(hash, eq)?;
-        self.values[handle].as_mut()
+    pub fn find_mut(&mut self, hash: u64, mut eq: impl FnMut(&T) -> bool) -> Option<&mut T> {
+        let group = self.groups.get_mut(&hash)?;
+        let place = group.place(|held| eq(&held.value));
+        place.map(|place| group.at_mut(place))
     }
 
     /// The same, to be removed.
@@ -100,10 +113,11 @@ impl<T> HashTable<T> {
     pub fn find_entry(
         &mut self,
         hash: u64,
-        eq: impl FnMut(&T) -> bool,
+        mut eq: impl FnMut(&T) -> bool,
     ) -> Result<OccupiedEntry<'_, T>, AbsentEntry> {
-        match self.seek(hash, eq) {
-            Some((place, _handle)) => Ok(OccupiedEntry {
+        let group = self.groups.get(&hash);
+        match group.and_then(|group| group.place(|held| eq(&held.value))) {
+            Some(place) => Ok(OccupiedEntry {
                 table: self,
                 hash,
                 place,
@@ -120,13 +134,27 @@ impl<T> HashTable<T> {
         value: T,
         _hasher: impl Fn(&T) -> u64,
     ) -> OccupiedEntry<'_, T> {
-        let handle = self.keep(value);
-        self.places.add(hash, handle);
-        let place = self.join(hash, handle);
+        let name = self.places.add(hash);
+        let place = self.join(hash, Held { name, value });
         OccupiedEntry {
             table: self,
             hash,
             place,
+        }
+    }
+
+    /// Puts a value into the group of its hash; its place there.
+    fn join(&mut self, hash: u64, held: Held<T>) -> usize {
+        match self.groups.get_mut(&hash) {
+            Some(group) => {
+                group.others.push(held);
+                group.others.len()
+            }
+            None => {
+                let (first, others) = (held, Vec::new());
+                let _none = self.groups.insert(hash, Group { first, others });
+                0
+            }
         }
     }
 }
@@ -138,8 +166,6 @@ impl<T> HashTable<T> {
     pub fn with_places(size: usize) -> Self {
         Self {
             groups: HashMap::default(),
-            values: Vec::new(),
-            free: Vec::new(),
             places: Places::new(size),
         }
     }
@@ -150,9 +176,8 @@ impl<T> HashTable<T> {
         let mut table = Self::with_places(rows.len());
         for (place, row) in rows.into_iter().enumerate() {
             if let Some((hash, value)) = row {
-                let handle = table.keep(value);
-                table.places.put(place, hash, handle);
-                let _place = table.join(hash, handle);
+                let name = table.places.put(place, hash);
+                let _place = table.join(hash, Held { name, value });
             }
         }
         table.places.is_sound().then_some(table)
@@ -160,58 +185,12 @@ impl<T> HashTable<T> {
 
     /// The value at each place.
     pub fn places(&self) -> impl Iterator<Item = Option<&T>> {
-        let value = |handle: usize| self.values[handle].as_ref();
-        self.places.handles().map(move |handle| handle.and_then(value))
-    }
-}
-
-/// What the calls are made of.
-impl<T> HashTable<T> {
-    /// Where a value under `hash` that passes `eq` stands in its group, and its handle.
-    fn seek(&self, hash: u64, mut eq: impl FnMut(&T) -> bool) -> Option<(usize, usize)> {
-        let group = self.groups.get(&hash)?;
-        let place = group.place(|handle| self.values[handle].as_ref().is_some_and(&mut eq))?;
-        Some((place, group.at(place)))
-    }
-
-    /// Keeps a value; its handle.
-    fn keep(&mut self, value: T) -> usize {
-        if let Some(handle) = self.free.pop() {
-            self.values[handle] = Some(value);
-            return handle;
-        }
-        self.values.push(Some(value));
-        self.values.len() - 1
-    }
-
-    /// Puts a handle into the group of its hash; its place there.
-    fn join(&mut self, hash: u64, handle: usize) -> usize {
-        if let Some(group) = self.groups.get_mut(&hash) {
-            group.others.push(handle);
-            return group.others.len();
-        }
-        let others = Vec::new();
-        let first = handle;
-        let _none = self.groups.insert(hash, Group { first, others });
-        0
-    }
-
-    /// Takes a handle out of the group of its hash.
-    fn part(&mut self, hash: u64, place: usize) -> usize {
-        let group = self
-            .groups
-            .get_mut(&hash)
-            .expect("the entry is in the table");
-        if place > 0 {
-            return group.others.swap_remove(place - 1);
-        }
-        if let Some(next) = group.others.pop() {
-            return core::mem::replace(&mut group.first, next);
-        }
-        self.groups
-            .remove(&hash)
-            .expect("the group was just seen")
-            .first
+        let value = |placed: Placed| {
+            let group = self.groups.get(&placed.hash)?;
+            let place = group.place(|held| held.name == placed.name)?;
+            Some(group.at(place))
+        };
+        self.places.all().map(move |placed| placed.and_then(value))
     }
 }
 
@@ -228,11 +207,23 @@ impl<T> OccupiedEntry<'_, T> {
     #[inline]
     pub fn remove(self) -> (T, VacantEntry) {
         let Self { table, hash, place } = self;
-        let handle = table.part(hash, place);
-        table.places.remove(hash, handle);
-        table.free.push(handle);
-        let value = table.values[handle].take();
-        (value.expect("a handle has a value"), VacantEntry)
+        let group = table
+            .groups
+            .get_mut(&hash)
+            .expect("the entry is in the table");
+        let Held { name, value } = if place > 0 {
+            group.others.swap_remove(place - 1)
+        } else if let Some(next) = group.others.pop() {
+            core::mem::replace(&mut group.first, next)
+        } else {
+            table
+                .groups
+                .remove(&hash)
+                .expect("the group was just seen")
+                .first
+        };
+        table.places.remove(Placed { hash, name });
+        (value, VacantEntry)
     }
 }
 

@@ -1,73 +1,93 @@
 //! Where a table's values stand by request 3 of 02. Nothing is found by these places: they are kept beside the map, so that they can be shown.
 
-/// A value of the table: its hash, and its handle there.
-#[derive(Debug, Clone, Copy)]
-struct Placed {
-    hash: u64,
-    handle: usize,
+/// A value of the table: its hash, and a number that is its own.
+#[derive(Debug, Clone, Copy, PartialEq, Eq)]
+pub struct Placed {
+    pub hash: u64,
+    pub name: u32,
 }
 
 /// Places, each empty or with one value. A table that was given none keeps none.
-#[derive(Debug, Default)]
-pub struct Places(Vec<Option<Placed>>);
+#[derive(Debug)]
+pub struct Places {
+    places: Vec<Option<Placed>>,
+    /// The number of the next value.
+    next: u32,
+}
 
 impl Places {
     /// So many empty places.
     pub fn new(size: usize) -> Self {
-        Self(vec![None; size])
+        Self {
+            places: vec![None; size],
+            next: 0,
+        }
     }
 
-    /// The handle at each place.
-    pub fn handles(&self) -> impl Iterator<Item = Option<usize>> {
-        self.0.iter().map(|place| place.map(|placed| placed.handle))
+    /// What each place has.
+    pub fn all(&self) -> impl Iterator<Item = Option<Placed>> {
+        self.places.iter().copied()
+    }
+
+    /// A number that no value has.
+    fn name(&mut self) -> u32 {
+        self.next = self.next.wrapping_add(1);
+        self.next
     }
 
     /// All places once, from the hash's own on, round.
     fn from_home(&self, hash: u64) -> impl Iterator<Item = usize> + use<> {
-        let size = self.0.len();
+        let size = self.places.len();
         let home = hash.checked_rem(size as u64).map_or(0, |home| home as usize);
         (home..size).chain(0..home)
     }
 
-    /// The first place, from the hash's own on, that has no value.
-    fn vacant(&self, hash: u64) -> Option<usize> {
-        self.from_home(hash).find(|&place| self.0[place].is_none())
+    /// Adds a new value; its number.
+    pub fn add(&mut self, hash: u64) -> u32 {
+        let name = self.name();
+        self.stand(Placed { hash, name });
+        name
     }
 
-    /// Adds a value: it stands at the first vacant place of its walk.
-    pub fn add(&mut self, hash: u64, handle: usize) {
-        if let Some(place) = self.vacant(hash) {
-            self.0[place] = Some(Placed { hash, handle });
+    /// A value comes to stand at the first vacant place, from its hash's own on.
+    fn stand(&mut self, placed: Placed) {
+        let vacant = self
+            .from_home(placed.hash)
+            .find(|&place| self.places[place].is_none());
+        if let Some(place) = vacant {
+            self.places[place] = Some(placed);
         }
     }
 
     /// Takes a value off its place. Each value after it, up to the first vacant place, is then taken off too and added again.
-    pub fn remove(&mut self, hash: u64, handle: usize) {
-        let is_here = |place: &usize| self.0[*place].is_some_and(|placed| placed.handle == handle);
-        let Some(gone) = self.from_home(hash).find(is_here) else {
+    pub fn remove(&mut self, placed: Placed) {
+        let is_here = |place: &usize| self.places[*place] == Some(placed);
+        let Some(gone) = self.from_home(placed.hash).find(is_here) else {
             return;
         };
-        self.0[gone] = None;
+        self.places[gone] = None;
         for place in self.from_home(gone as u64).skip(1) {
-            let Some(placed) = self.0[place].take() else {
+            let Some(placed) = self.places[place].take() else {
                 return;
             };
-            self.add(placed.hash, placed.handle);
+            self.stand(placed);
         }
     }
 
-    /// Puts a value at a given place.
-    pub fn put(&mut self, place: usize, hash: u64, handle: usize) {
-        self.0[place] = Some(Placed { hash, handle });
+    /// Puts a new value at a given place; its number.
+    pub fn put(&mut self, place: usize, hash: u64) -> u32 {
+        let name = self.name();
+        self.places[place] = Some(Placed { hash, name });
+        name
     }
 
     /// Whether every value is on its walk: no place from its own up to where it stands is vacant.
     pub fn is_sound(&self) -> bool {
-        self.0.iter().enumerate().all(|(place, placed)| {
+        let used = |&place: &usize| self.places[place].is_some();
+        self.places.iter().enumerate().all(|(place, placed)| {
             placed.is_none_or(|placed| {
-                self.from_home(placed.hash)
-                    .take_while(|&on| self.0[on].is_some())
-                    .any(|on| on == place)
+                let mut walk = self.from_home(placed.hash).take_while(used);
+                walk.any(|on| on == place)
             })
         })
     }
