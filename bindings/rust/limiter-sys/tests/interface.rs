@@ -75,7 +75,10 @@ fn the_words_to_lend() {
     let keys = |max_keys| limiter_words(LimiterSettings { max_keys, ..SMALL });
     assert_eq!([keys(4_096), keys(4_097), keys(u64::MAX)], [49_157, 0, 0]);
     let shards = |shards| limiter_words(LimiterSettings { shards, ..SMALL });
-    assert_eq!([shards(64), shards(65), shards(u64::MAX)], [64 * ONE as u64, 0, 0]);
+    assert_eq!(
+        [shards(64), shards(65), shards(u64::MAX)],
+        [64 * ONE as u64, 0, 0]
+    );
 }
 
 #[test]

@@ -36,9 +36,11 @@ impl Places {
     }
 
     /// All places once, from the hash's own on, round.
-    fn from_home(&self, hash: u64) -> impl Iterator<Item = usize> + use<> {
+    fn round_from(&self, hash: u64) -> impl Iterator<Item = usize> + use<> {
         let size = self.places.len();
-        let home = hash.checked_rem(size as u64).map_or(0, |home| home as usize);
+        let home = hash
+            .checked_rem(size as u64)
+            .map_or(0, |home| home as usize);
         (home..size).chain(0..home)
     }
 
@@ -52,7 +54,7 @@ impl Places {
     /// A value comes to stand at the first vacant place, from its hash's own on.
     fn stand(&mut self, placed: Placed) {
         let vacant = self
-            .from_home(placed.hash)
+            .round_from(placed.hash)
             .find(|&place| self.places[place].is_none());
         if let Some(place) = vacant {
             self.places[place] = Some(placed);
@@ -62,11 +64,11 @@ impl Places {
     /// Takes a value off its place. Each value after it, up to the first vacant place, is then taken off too and added again.
     pub fn remove(&mut self, placed: Placed) {
         let is_here = |place: &usize| self.places[*place] == Some(placed);
-        let Some(gone) = self.from_home(placed.hash).find(is_here) else {
+        let Some(gone) = self.round_from(placed.hash).find(is_here) else {
             return;
         };
         self.places[gone] = None;
-        for place in self.from_home(gone as u64).skip(1) {
+        for place in self.round_from(gone as u64).skip(1) {
             let Some(placed) = self.places[place].take() else {
                 return;
             };
@@ -86,7 +88,7 @@ impl Places {
         let used = |&place: &usize| self.places[place].is_some();
         self.places.iter().enumerate().all(|(place, placed)| {
             placed.is_none_or(|placed| {
-                let mut walk = self.from_home(placed.hash).take_while(used);
+                let mut walk = self.round_from(placed.hash).take_while(used);
                 walk.any(|on| on == place)
             })
         })
