@@ -68,6 +68,24 @@ fn a_reply_is_three_numbers() {
     assert_eq!(slices::length(SMALL, &words), reply(LIMITER_DONE, 1, 0));
 }
 
+/// Damaged words: the index of the slots, two places, has none that is empty. A new key of hash 8, whose home is the first of them, takes all
+/// its tokens and gets no place. It is found again only if a place names it already.
+#[test]
+fn the_index_decides_what_is_found() {
+    for (places, then) in [
+        ([1, 9], reply(LIMITER_RETRY, HALF, HALF)),
+        ([9, 9], reply(LIMITER_DONE, 0, 0)),
+    ] {
+        let mut words = [0; ONE];
+        words[13..15].copy_from_slice(&places);
+        let granted = slices::try_acquire(SMALL, &mut words, 0, 8, 8, 2);
+        assert_eq!(granted, reply(LIMITER_DONE, 0, 0));
+        assert_eq!(words[13..15], places);
+        assert_eq!(slices::length(SMALL, &words), reply(LIMITER_DONE, 1, 0));
+        assert_eq!(slices::peek(SMALL, &words, 0, 8, 8, 1), then);
+    }
+}
+
 #[test]
 fn the_words_to_lend() {
     assert_eq!(limiter_words(SMALL), ONE as u64);
