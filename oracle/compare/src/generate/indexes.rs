@@ -2,8 +2,8 @@
 
 use core::ops::Range;
 
-use oracle::layout::{self, Items};
-use oracle::{Shape, layout::debt, layout::slot};
+use oracle::Shape;
+use oracle::layout::{self, Items, debt, slot};
 
 use crate::random::Random;
 
@@ -118,8 +118,8 @@ fn swap(random: &mut Random, places: &mut [u64]) {
 /// The place after one in use has the same word: an item is named twice.
 fn repeat(random: &mut Random, places: &mut [u64]) {
     let from = random.below(places.len() as u64) as usize;
-    let used = (0..places.len()).map(|step| (from + step) % places.len());
-    if let Some(place) = used.into_iter().find(|&place| places[place] != 0) {
+    let mut round = (from..places.len()).chain(0..from);
+    if let Some(place) = round.find(|&place| places[place] != 0) {
         places[(place + 1) % places.len()] = places[place];
     }
 }

@@ -3,6 +3,7 @@
 mod aside;
 mod calls;
 mod contents;
+mod damage;
 mod domain;
 mod indexes;
 mod time;
