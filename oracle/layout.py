@@ -2,6 +2,7 @@
 
 HEAD_WORDS, SLOT_WORDS = 3, 6
 LEDGER_HEAD_WORDS, DEBT_WORDS = 2, 2
+PLACES_PER_ITEM = 2
 
 
 def slot(place):
@@ -19,9 +20,14 @@ def debt(cap, place):
     return ledger(cap) + LEDGER_HEAD_WORDS + DEBT_WORDS * place
 
 
+def places(cap):
+    """The places of each of the two indexes, that of the slots and that of the debts. They come after the debts."""
+    return PLACES_PER_ITEM * cap
+
+
 def shard_words(cap):
     """The words of a shard."""
-    return debt(cap, cap)
+    return debt(cap, cap) + 2 * places(cap)
 
 
 def cap_of(words):

@@ -6,7 +6,10 @@
 #include "limiter.h"
 
 #define SECOND UINT64_C(1000000000)
-#define MOST_WORDS 40000
+#define MOST_WORDS 60000
+/* The words of a store for one key, and for two, in one shard. */
+#define ONE 17
+#define TWO 29
 
 static uint64_t words[MOST_WORDS];
 static int checks;
@@ -72,9 +75,9 @@ static void no_words(void)
 static void words_to_lend(void)
 {
     limiter_settings s = small();
-    CHECK(limiter_words(s) == 13);
+    CHECK(limiter_words(s) == ONE);
     s.max_keys = 4096;
-    CHECK(set_up(s) == 32773);
+    CHECK(set_up(s) == 49157);
     s.shards = 64;
     CHECK(set_up_code(s, set_up(s) + 1) == LIMITER_REFUSED + LIMITER_BAD_MEMORY);
     s.max_keys = 4097;
@@ -85,7 +88,7 @@ static void words_to_lend(void)
     /* The rate is not looked at. */
     s = small();
     s.amount = 0;
-    CHECK(limiter_words(s) == 13);
+    CHECK(limiter_words(s) == ONE);
 }
 
 /* The eight bytes "chongo w" of the FNV authors' test suite, and keys as crates/test_fnv_vectors has them. */
@@ -102,24 +105,24 @@ static void rate_fields(void)
 {
     limiter_settings s = small();
     s.amount = 65536;
-    CHECK(set_up_code(s, 13) == LIMITER_REFUSED + LIMITER_BAD_AMOUNT);
+    CHECK(set_up_code(s, ONE) == LIMITER_REFUSED + LIMITER_BAD_AMOUNT);
     s = small();
     s.period = (UINT64_C(1) << 46) + 1;
-    CHECK(set_up_code(s, 13) == LIMITER_REFUSED + LIMITER_BAD_PERIOD);
+    CHECK(set_up_code(s, ONE) == LIMITER_REFUSED + LIMITER_BAD_PERIOD);
     s = small();
     s.burst = 65536;
-    CHECK(set_up_code(s, 13) == LIMITER_DONE);
+    CHECK(set_up_code(s, ONE) == LIMITER_DONE);
     s.has_burst = 1;
-    CHECK(set_up_code(s, 13) == LIMITER_REFUSED + LIMITER_BAD_BURST);
+    CHECK(set_up_code(s, ONE) == LIMITER_REFUSED + LIMITER_BAD_BURST);
     s.closed = 1;
-    CHECK(set_up_code(s, 13) == LIMITER_DONE);
-    CHECK(limiter_try(s, words, 13, 0, 7, 7, 1).code == LIMITER_IMPOSSIBLE);
+    CHECK(set_up_code(s, ONE) == LIMITER_DONE);
+    CHECK(limiter_try(s, words, ONE, 0, 7, 7, 1).code == LIMITER_IMPOSSIBLE);
     s = small();
     s.initial = 1;
     set_up(s);
-    CHECK(limiter_available(s, words, 13, 0, 7, 7).number == 2);
+    CHECK(limiter_available(s, words, ONE, 0, 7, 7).number == 2);
     s.has_initial = 1;
-    CHECK(limiter_available(s, words, 13, 0, 7, 7).number == 1);
+    CHECK(limiter_available(s, words, ONE, 0, 7, 7).number == 1);
 }
 
 /* The other fields: what a full store does, and whom it forgets. */
@@ -127,21 +130,21 @@ static void store_fields(void)
 {
     limiter_settings s = small();
     set_up(s);
-    CHECK(limiter_try(s, words, 13, 0, 7, 7, 2).code == LIMITER_DONE);
-    CHECK(limiter_try(s, words, 13, 0, 8, 8, 2).code == LIMITER_DONE);
-    CHECK(limiter_try(s, words, 13, 0, 9, 9, 2).code == LIMITER_RETRY);
+    CHECK(limiter_try(s, words, ONE, 0, 7, 7, 2).code == LIMITER_DONE);
+    CHECK(limiter_try(s, words, ONE, 0, 8, 8, 2).code == LIMITER_DONE);
+    CHECK(limiter_try(s, words, ONE, 0, 9, 9, 2).code == LIMITER_RETRY);
     s.forget_debt = 1;
-    CHECK(limiter_try(s, words, 13, 0, 9, 9, 2).code == LIMITER_DONE);
+    CHECK(limiter_try(s, words, ONE, 0, 9, 9, 2).code == LIMITER_DONE);
     s = small();
     s.max_keys = 2;
     s.idle = 2 * SECOND;
     set_up(s);
-    CHECK(limiter_try(s, words, 21, 0, 7, 7, 1).code == LIMITER_DONE);
-    CHECK(limiter_try(s, words, 21, 9 * SECOND, 8, 8, 1).code == LIMITER_DONE);
-    CHECK(limiter_length(s, words, 21).number == 2);
+    CHECK(limiter_try(s, words, TWO, 0, 7, 7, 1).code == LIMITER_DONE);
+    CHECK(limiter_try(s, words, TWO, 9 * SECOND, 8, 8, 1).code == LIMITER_DONE);
+    CHECK(limiter_length(s, words, TWO).number == 2);
     s.has_idle = 1;
-    CHECK(limiter_try(s, words, 21, 18 * SECOND, 9, 9, 1).code == LIMITER_DONE);
-    CHECK(limiter_length(s, words, 21).number == 1);
+    CHECK(limiter_try(s, words, TWO, 18 * SECOND, 9, 9, 1).code == LIMITER_DONE);
+    CHECK(limiter_length(s, words, TWO).number == 1);
 }
 
 static void moments_and_waits(void)
@@ -149,13 +152,13 @@ static void moments_and_waits(void)
     limiter_settings s = small();
     uint64_t last = UINT64_C(1) << 62, longest = UINT64_C(1) << 46;
     set_up(s);
-    CHECK(tells(limiter_peek(s, words, 13, last, 7, 7, 1), LIMITER_DONE, 0, last));
-    CHECK(tells(limiter_peek(s, words, 13, last + 1, 7, 7, 1), LIMITER_REFUSED + LIMITER_BAD_MOMENT, 0, 0));
-    CHECK(tells(limiter_reserve(s, words, 13, 1, 7, 7, 1, longest + 1), LIMITER_REFUSED + LIMITER_BAD_MAX_WAIT, 0, 0));
-    CHECK(tells(limiter_reserve(s, words, 13, 1, 7, 7, 1, longest), LIMITER_DONE, 0, 1));
+    CHECK(tells(limiter_peek(s, words, ONE, last, 7, 7, 1), LIMITER_DONE, 0, last));
+    CHECK(tells(limiter_peek(s, words, ONE, last + 1, 7, 7, 1), LIMITER_REFUSED + LIMITER_BAD_MOMENT, 0, 0));
+    CHECK(tells(limiter_reserve(s, words, ONE, 1, 7, 7, 1, longest + 1), LIMITER_REFUSED + LIMITER_BAD_MAX_WAIT, 0, 0));
+    CHECK(tells(limiter_reserve(s, words, ONE, 1, 7, 7, 1, longest), LIMITER_DONE, 0, 1));
     /* A wait that begins at the last moment is over after it. */
-    CHECK(limiter_try(s, words, 13, last, 7, 7, 2).code == LIMITER_DONE);
-    CHECK(tells(limiter_try(s, words, 13, last, 7, 7, 1), LIMITER_RETRY, SECOND / 2, last + SECOND / 2));
+    CHECK(limiter_try(s, words, ONE, last, 7, 7, 2).code == LIMITER_DONE);
+    CHECK(tells(limiter_try(s, words, ONE, last, 7, 7, 1), LIMITER_RETRY, SECOND / 2, last + SECOND / 2));
 }
 
 /* The moment of a grant is now, for a peek and a cost of 0 too, and now + the wait for a reservation; of a retry it is now + the wait. */
@@ -164,25 +167,25 @@ static void moments_told(void)
     const uint64_t now = 5 * SECOND, later = now + SECOND / 2;
     limiter_settings s = small();
     set_up(s);
-    CHECK(tells(limiter_peek(s, words, 13, now, 7, 7, 2), LIMITER_DONE, 0, now));
-    CHECK(tells(limiter_try(s, words, 13, now, 7, 7, 2), LIMITER_DONE, 0, now));
-    CHECK(tells(limiter_try(s, words, 13, now, 7, 7, 0), LIMITER_DONE, 0, now));
-    CHECK(tells(limiter_peek(s, words, 13, now, 7, 7, 0), LIMITER_DONE, 0, now));
-    CHECK(tells(limiter_reserve(s, words, 13, now, 7, 7, 0, 0), LIMITER_DONE, 0, now));
-    CHECK(tells(limiter_try(s, words, 13, now, 7, 7, 1), LIMITER_RETRY, SECOND / 2, later));
-    CHECK(tells(limiter_peek(s, words, 13, now, 7, 7, 1), LIMITER_RETRY, SECOND / 2, later));
-    CHECK(tells(limiter_reserve(s, words, 13, now, 7, 7, 1, SECOND), LIMITER_DONE, SECOND / 2, later));
-    CHECK(tells(limiter_reserve(s, words, 13, now, 7, 7, 1, SECOND / 2), LIMITER_NONE, 0, 0));
-    CHECK(tells(limiter_reserve(s, words, 13, now, 7, 7, 3, SECOND), LIMITER_NONE, 0, 0));
-    CHECK(tells(limiter_try(s, words, 13, now, 7, 7, 3), LIMITER_IMPOSSIBLE, 0, 0));
-    CHECK(tells(limiter_peek(s, words, 13, now, 7, 7, 3), LIMITER_IMPOSSIBLE, 0, 0));
+    CHECK(tells(limiter_peek(s, words, ONE, now, 7, 7, 2), LIMITER_DONE, 0, now));
+    CHECK(tells(limiter_try(s, words, ONE, now, 7, 7, 2), LIMITER_DONE, 0, now));
+    CHECK(tells(limiter_try(s, words, ONE, now, 7, 7, 0), LIMITER_DONE, 0, now));
+    CHECK(tells(limiter_peek(s, words, ONE, now, 7, 7, 0), LIMITER_DONE, 0, now));
+    CHECK(tells(limiter_reserve(s, words, ONE, now, 7, 7, 0, 0), LIMITER_DONE, 0, now));
+    CHECK(tells(limiter_try(s, words, ONE, now, 7, 7, 1), LIMITER_RETRY, SECOND / 2, later));
+    CHECK(tells(limiter_peek(s, words, ONE, now, 7, 7, 1), LIMITER_RETRY, SECOND / 2, later));
+    CHECK(tells(limiter_reserve(s, words, ONE, now, 7, 7, 1, SECOND), LIMITER_DONE, SECOND / 2, later));
+    CHECK(tells(limiter_reserve(s, words, ONE, now, 7, 7, 1, SECOND / 2), LIMITER_NONE, 0, 0));
+    CHECK(tells(limiter_reserve(s, words, ONE, now, 7, 7, 3, SECOND), LIMITER_NONE, 0, 0));
+    CHECK(tells(limiter_try(s, words, ONE, now, 7, 7, 3), LIMITER_IMPOSSIBLE, 0, 0));
+    CHECK(tells(limiter_peek(s, words, ONE, now, 7, 7, 3), LIMITER_IMPOSSIBLE, 0, 0));
     s.closed = 1;
-    CHECK(tells(limiter_try(s, words, 13, now, 7, 7, 0), LIMITER_DONE, 0, now));
-    CHECK(tells(limiter_peek(s, words, 13, now, 7, 7, 0), LIMITER_DONE, 0, now));
-    CHECK(tells(limiter_try(s, words, 13, now, 7, 7, 1), LIMITER_IMPOSSIBLE, 0, 0));
-    CHECK(tells(limiter_peek(s, words, 13, now, 7, 7, 1), LIMITER_IMPOSSIBLE, 0, 0));
-    CHECK(tells(limiter_reserve(s, words, 13, now, 7, 7, 0, 0), LIMITER_NONE, 0, 0));
-    CHECK(tells(limiter_available(s, words, 13, now, 7, 7), LIMITER_DONE, 0, 0));
+    CHECK(tells(limiter_try(s, words, ONE, now, 7, 7, 0), LIMITER_DONE, 0, now));
+    CHECK(tells(limiter_peek(s, words, ONE, now, 7, 7, 0), LIMITER_DONE, 0, now));
+    CHECK(tells(limiter_try(s, words, ONE, now, 7, 7, 1), LIMITER_IMPOSSIBLE, 0, 0));
+    CHECK(tells(limiter_peek(s, words, ONE, now, 7, 7, 1), LIMITER_IMPOSSIBLE, 0, 0));
+    CHECK(tells(limiter_reserve(s, words, ONE, now, 7, 7, 0, 0), LIMITER_NONE, 0, 0));
+    CHECK(tells(limiter_available(s, words, ONE, now, 7, 7), LIMITER_DONE, 0, 0));
 }
 
 /* A retry for want of space: modem 7 has a debt, 8 the slot, and both are settled a second after `now`. The wait is at least 1 ms. */
@@ -191,26 +194,26 @@ static void moments_for_space(void)
     const uint64_t now = 5 * SECOND, late = now + SECOND - 1000, least = 1000000;
     limiter_settings s = small();
     set_up(s);
-    CHECK(tells(limiter_try(s, words, 13, now, 7, 7, 2), LIMITER_DONE, 0, now));
-    CHECK(tells(limiter_try(s, words, 13, now, 8, 8, 2), LIMITER_DONE, 0, now));
-    CHECK(tells(limiter_try(s, words, 13, now, 9, 9, 2), LIMITER_RETRY, SECOND, now + SECOND));
-    CHECK(tells(limiter_try(s, words, 13, late, 9, 9, 2), LIMITER_RETRY, least, late + least));
-    CHECK(tells(limiter_reserve(s, words, 13, late, 9, 9, 2, SECOND), LIMITER_NONE, 0, 0));
+    CHECK(tells(limiter_try(s, words, ONE, now, 7, 7, 2), LIMITER_DONE, 0, now));
+    CHECK(tells(limiter_try(s, words, ONE, now, 8, 8, 2), LIMITER_DONE, 0, now));
+    CHECK(tells(limiter_try(s, words, ONE, now, 9, 9, 2), LIMITER_RETRY, SECOND, now + SECOND));
+    CHECK(tells(limiter_try(s, words, ONE, late, 9, 9, 2), LIMITER_RETRY, least, late + least));
+    CHECK(tells(limiter_reserve(s, words, ONE, late, 9, 9, 2, SECOND), LIMITER_NONE, 0, 0));
 }
 
 /* No other answer has a moment. */
 static void no_moments(void)
 {
     limiter_settings s = small();
-    CHECK(tells(limiter_set_up(s, words, 13), LIMITER_DONE, 0, 0));
-    CHECK(tells(limiter_try(s, words, 13, SECOND, 7, 7, 1), LIMITER_DONE, 0, SECOND));
-    CHECK(tells(limiter_available(s, words, 13, SECOND, 7, 7), LIMITER_DONE, 1, 0));
-    CHECK(tells(limiter_length(s, words, 13), LIMITER_DONE, 1, 0));
-    CHECK(tells(limiter_refund(s, words, 13, 7, 7, 1), LIMITER_DONE, 0, 0));
-    CHECK(tells(limiter_refund(s, words, 13, 8, 8, 1), LIMITER_NONE, 0, 0));
-    CHECK(tells(limiter_remove(s, words, 13, 7, 7), LIMITER_DONE, 0, 0));
-    CHECK(tells(limiter_remove(s, words, 13, 7, 7), LIMITER_NONE, 0, 0));
-    CHECK(tells(limiter_clear(s, words, 13), LIMITER_DONE, 0, 0));
+    CHECK(tells(limiter_set_up(s, words, ONE), LIMITER_DONE, 0, 0));
+    CHECK(tells(limiter_try(s, words, ONE, SECOND, 7, 7, 1), LIMITER_DONE, 0, SECOND));
+    CHECK(tells(limiter_available(s, words, ONE, SECOND, 7, 7), LIMITER_DONE, 1, 0));
+    CHECK(tells(limiter_length(s, words, ONE), LIMITER_DONE, 1, 0));
+    CHECK(tells(limiter_refund(s, words, ONE, 7, 7, 1), LIMITER_DONE, 0, 0));
+    CHECK(tells(limiter_refund(s, words, ONE, 8, 8, 1), LIMITER_NONE, 0, 0));
+    CHECK(tells(limiter_remove(s, words, ONE, 7, 7), LIMITER_DONE, 0, 0));
+    CHECK(tells(limiter_remove(s, words, ONE, 7, 7), LIMITER_NONE, 0, 0));
+    CHECK(tells(limiter_clear(s, words, ONE), LIMITER_DONE, 0, 0));
 }
 
 /* Every refusal has a text of its own, and so has any other code. */

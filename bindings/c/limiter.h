@@ -20,9 +20,9 @@
 /* The version of this interface. A change that a caller has to know of raises the minor number while the major one is 0. Compile every
  * caller with the header of the library that it links: the library cannot tell which one a caller had. */
 #define LIMITER_VERSION_MAJOR 0
-#define LIMITER_VERSION_MINOR 3
+#define LIMITER_VERSION_MINOR 4
 #define LIMITER_VERSION_PATCH 0
-#define LIMITER_VERSION "0.3.0"
+#define LIMITER_VERSION "0.4.0"
 
 #ifdef __cplusplus
 extern "C" {

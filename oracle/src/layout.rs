@@ -1,7 +1,8 @@
 //! The words of a memory: every width and offset. Nothing else in the oracle or the comparison states one.
 //!
 //! A memory is its shards, one after another. A shard is a head (slot count, hand, sweep), `cap` slots, the ledger's head (debt count,
-//! cursor) and `cap` debts. Offsets are counted from the start of the shard, but for those in [`slot`] and [`debt`].
+//! cursor), `cap` debts, and the places of two indexes, of the slots and of the debts. Offsets are counted from the start of the shard, but
+//! for those in [`slot`] and [`debt`].
 
 use core::ops::Range;
 
@@ -15,6 +16,8 @@ pub const SWEEP: usize = 2;
 const HEAD_WORDS: usize = 3;
 /// The words before the debts, from where the ledger starts: the debt count and the cursor.
 const LEDGER_HEAD_WORDS: usize = 2;
+/// The places of an index for each item that there is room for.
+const PLACES_PER_ITEM: usize = 2;
 
 /// The words of a slot.
 pub mod slot {
@@ -102,10 +105,30 @@ pub const fn cursor(cap: usize) -> usize {
     ledger(cap) + 1
 }
 
+/// The places of each of the two indexes of a shard.
+#[must_use]
+pub const fn places(cap: usize) -> usize {
+    PLACES_PER_ITEM * cap
+}
+
+/// The places of the index of the slots: they come after the debts.
+#[must_use]
+pub const fn slot_index(cap: usize) -> Range<usize> {
+    let start = debts(cap).at(cap);
+    start..start + places(cap)
+}
+
+/// The places of the index of the debts.
+#[must_use]
+pub const fn debt_index(cap: usize) -> Range<usize> {
+    let start = slot_index(cap).end;
+    start..start + places(cap)
+}
+
 /// The words of a shard.
 #[must_use]
 pub const fn shard_words(cap: usize) -> usize {
-    debts(cap).at(cap)
+    debt_index(cap).end
 }
 
 /// The words of the shard of this number, in the memory.

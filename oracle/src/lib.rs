@@ -5,10 +5,10 @@
 //! ```text
 //! let rate = Rate { amount: 2, period: 1_000_000_000, burst: Some(4), initial: None };
 //! let settings = Settings { rate: Some(rate), max_keys: 2, shards: 1, idle: None, when_full: WhenFull::RefuseNew };
-//! let (limiter, answer) = Limiter::set_up(settings, 21);         // 0: accepted
+//! let (limiter, answer) = Limiter::set_up(settings, 29);         // 0: accepted
 //! limiter.try_(0, Key { hash: 7, key: 7 }, 4);                   // 0 0: granted
 //! limiter.try_(0, Key { hash: 7, key: 7 }, 1);                   // 1 500000000: retry
-//! limiter.words();                                               // 21 words
+//! limiter.words();                                               // 29 words
 //! ```
 //!
 //! - [`Limiter`]: the operations, with refusals, answers and words.

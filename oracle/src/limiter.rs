@@ -97,6 +97,7 @@ impl Limiter {
             "the Rust's cap"
         );
         limiter.published = Some(published);
+        limiter.give_places();
         (limiter, Answer::done(0))
     }
 
@@ -179,6 +180,7 @@ impl Limiter {
             Some(number) => Answer::refused(number),
             None => {
                 self.published().clear();
+                self.give_places();
                 Answer::done(0)
             }
         }
@@ -229,6 +231,12 @@ impl Limiter {
         (0..shape.shards)
             .filter_map(|index| Some((self.shard(index as usize)?, &words[shape.shard(index)])))
             .try_for_each(|(shard, row)| shard.load(row))
+    }
+
+    /// Gives the indexes of all shards, which are empty, their places.
+    fn give_places(&self) {
+        let shards = (0..self.shards()).filter_map(|index| self.shard(index));
+        shards.for_each(|shard| shard.give_places());
     }
 
     /// The published limiter, for a call that is not refused.

@@ -32,7 +32,7 @@ macro_rules! answers {
 
 #[test]
 fn answers_by_number() {
-    let (limiter, accepted) = Limiter::set_up(settings(1, 1), 13);
+    let (limiter, accepted) = Limiter::set_up(settings(1, 1), 17);
     let got = answers![
         accepted,
         limiter.try_(0, key(7), 4),
@@ -75,10 +75,15 @@ fn answers_by_number() {
         1,
         7,
         1_500_000_000,
+        // The indexes: the slot of 8 is at an even place, the debt of 7 at an odd one.
+        1,
+        0,
+        0,
+        1,
     ];
     assert_eq!(limiter.words(), words);
     assert_eq!(answers![limiter.clear(), limiter.len()], [(0, 0), (0, 0)]);
-    assert_eq!(limiter.words(), [0; 13]);
+    assert_eq!(limiter.words(), [0; 17]);
 }
 
 #[test]
@@ -106,20 +111,20 @@ fn loads_what_it_shows() {
 fn loads_only_what_the_rust_can_hold() {
     let (limiter, _accepted) = Limiter::new(settings(2, 1));
     let with = |changes: &[(usize, u64)]| {
-        let mut words = vec![0; 21];
+        let mut words = vec![0; 29];
         changes
             .iter()
             .for_each(|&(place, word)| words[place] = word);
         limiter.load(&words)
     };
-    assert_eq!(limiter.load(&[0; 20]), Err(LoadError::Length));
+    assert_eq!(limiter.load(&[0; 28]), Err(LoadError::Length));
     assert_eq!(with(&[(0, 3)]), Err(LoadError::Count));
     assert_eq!(with(&[(15, 3)]), Err(LoadError::Count));
     assert_eq!(with(&[(0, 2)]), Err(LoadError::SameIdentity));
     assert_eq!(with(&[(15, 2)]), Err(LoadError::SameDebt));
     assert_eq!(with(&[(0, 1), (9, 1)]), Err(LoadError::PastCount));
     assert_eq!(
-        with(&[(0, 1), (7, 5), (1, u64::MAX), (5, u64::MAX)]),
+        with(&[(0, 1), (7, 5), (1, u64::MAX), (5, u64::MAX), (21, 1)]),
         Ok(())
     );
     // A mark of 5 is set; a shortfall of any size is kept.
@@ -128,13 +133,37 @@ fn loads_only_what_the_rust_can_hold() {
 }
 
 #[test]
+fn loads_only_sound_indexes() {
+    let (limiter, _accepted) = Limiter::new(settings(2, 1));
+    // Two slots, of hash 3 and 7, whose home is the last of four places from word 21 on; a debt of hash 6, at home at word 27.
+    let with = |places: [u64; 4], debt: [u64; 4]| {
+        let mut words = vec![0; 29];
+        (words[0], words[3], words[9]) = (2, 3, 7);
+        (words[15], words[17]) = (1, 6);
+        words[21..25].copy_from_slice(&places);
+        words[25..29].copy_from_slice(&debt);
+        limiter.load(&words)
+    };
+    let sound = [0, 0, 1, 0];
+    assert_eq!(with([2, 0, 0, 1], sound), Ok(()));
+    assert_eq!(with([1, 0, 0, 2], sound), Ok(()));
+    // Not named, named twice, off its walk, no item, and the same in the index of the debts.
+    for places in [[0, 0, 0, 1], [2, 1, 0, 1], [0, 2, 0, 1], [2, 3, 0, 1]] {
+        assert_eq!(with(places, sound), Err(LoadError::Index));
+    }
+    for debt in [[0; 4], [0, 0, 0, 1], [0, 0, 1, 2]] {
+        assert_eq!(with([2, 0, 0, 1], debt), Err(LoadError::Index));
+    }
+}
+
+#[test]
 fn refuses_counts_over_the_cap() {
     let settings = settings(4, 2);
     let shape = Shape::of(&settings);
-    assert_eq!((shape.shards, shape.cap, shape.words()), (2, 2, 42));
+    assert_eq!((shape.shards, shape.cap, shape.words()), (2, 2, 58));
     let second_shard = 1 << 40;
-    for (place, length) in [(21, Some(5)), (21 + 15, None)] {
-        let mut words = [0; 42];
+    for (place, length) in [(29, Some(5)), (29 + 15, None)] {
+        let mut words = [0; 58];
         words[place] = 3;
         let words = words.as_slice();
         assert_eq!(refusals::set_up(&settings, words), None);
@@ -168,6 +197,8 @@ fn parts_can_be_called_alone() {
     shard.insert(key(9), 5, 6, 7_000_000);
     assert!(shard.touch(0, 8_000_000));
     // The looks in recording left the cursor at 1; nothing was there to look at since.
-    assert_eq!(shard.words(), [1, 1, 0, 9, 9, 5, 6, 1, 7, 0, 1, 0, 0]);
+    let before_the_indexes = [1, 1, 0, 9, 9, 5, 6, 1, 7, 0, 1, 0, 0];
+    assert_eq!(shard.words()[..13], before_the_indexes);
+    assert_eq!(shard.words()[13..], [0, 1, 0, 0]);
     assert_eq!(shard.remove_at(0), Some(key(9)));
 }

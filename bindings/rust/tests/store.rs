@@ -10,6 +10,9 @@ const SECOND: Duration = Duration::from_secs(1);
 const HALF: Duration = Duration::from_millis(500);
 const ZERO: Duration = Duration::ZERO;
 
+/// The words of a store for one key.
+const ONE: usize = 17;
+
 /// 2 tokens a second, at most 4.
 const R: Rate = Rate::per_second(2).burst(4);
 
@@ -40,14 +43,14 @@ fn told(answer: Result<Decision, Refusal>) -> (Option<Duration>, Option<Duration
 
 #[test]
 fn words_to_lend() {
-    assert_eq!(Settings::new(R, 0).shards(0).words(), Ok(13));
-    assert_eq!(Settings::new(R, 5).shards(3).words(), Ok(84));
+    assert_eq!(Settings::new(R, 0).shards(0).words(), Ok(ONE));
+    assert_eq!(Settings::new(R, 5).shards(3).words(), Ok(116));
     assert_eq!(Settings::new(R, 4_097).words(), Err(Refusal::Sizes));
     let many_shards = Settings::new(R, 1).shards(65);
     assert_eq!(many_shards.words(), Err(Refusal::Sizes));
     // The rate is not looked at.
     let no_rate = Settings::new(Rate::per_second(0), 5).shards(3);
-    assert_eq!(no_rate.words(), Ok(84));
+    assert_eq!(no_rate.words(), Ok(116));
     // Every size that has words is accepted with these, and with no others.
     for (keys, shards) in [(0, 0), (1, 1), (100, 3), (4_096, 1), (4_096, 64)] {
         let settings = Settings::new(R, keys).shards(shards);
@@ -222,13 +225,13 @@ fn every_refusal() {
         set_up.expect_err("refused")
     };
     let rate = |rate| Settings::new(rate, 1);
-    assert_eq!(refusal(rate(Rate::per_second(0)), 13), Refusal::Amount);
-    assert_eq!(refusal(rate(Rate::new(1, ZERO)), 13), Refusal::Period);
+    assert_eq!(refusal(rate(Rate::per_second(0)), ONE), Refusal::Amount);
+    assert_eq!(refusal(rate(Rate::new(1, ZERO)), ONE), Refusal::Period);
     let longest = Rate::new(1, Duration::MAX);
-    assert_eq!(refusal(rate(longest), 13), Refusal::Period);
-    assert_eq!(refusal(rate(R.burst(65_536)), 13), Refusal::Burst);
-    assert_eq!(refusal(Settings::new(R, 4_097), 13), Refusal::Sizes);
-    assert_eq!(refusal(rate(R), 14), Refusal::Memory);
+    assert_eq!(refusal(rate(longest), ONE), Refusal::Period);
+    assert_eq!(refusal(rate(R.burst(65_536)), ONE), Refusal::Burst);
+    assert_eq!(refusal(Settings::new(R, 4_097), ONE), Refusal::Sizes);
+    assert_eq!(refusal(rate(R), ONE + 1), Refusal::Memory);
     assert_eq!(refusal(rate(R), 0), Refusal::Memory);
 
     let mut store = store(rate(R));

@@ -25,6 +25,8 @@ enum Kind {
     LargeLoaded,
     /// Any settings, words and arguments.
     Any,
+    /// Loaded with contents whose indexes are damaged.
+    Damaged,
     /// Grown from set-up, with so many shards asked for.
     Asked(u64),
 }
@@ -43,6 +45,7 @@ fn kind(trace: u64) -> Kind {
         place => match place % 9 {
             0 => Kind::Grown,
             1 => Kind::Any,
+            2 | 3 => Kind::Damaged,
             _ => Kind::Loaded,
         },
     }
@@ -95,6 +98,7 @@ impl Run {
         let round = (trace / ROUND) as usize;
         match kind(trace) {
             Kind::Any => self.asides(&mut random, 250),
+            Kind::Damaged => (0..10).try_for_each(|_| self.damaged(&mut random, 25)),
             Kind::Asked(shards) => {
                 let keys = random.pick(&[0, 1, 64, 65, 130, 200]);
                 let plan = Plan::new(&mut random, (keys, shards), false);
@@ -155,7 +159,7 @@ impl Run {
                 .map_err(|difference| self.failed(&start, &steps, difference))?;
             if random.chance(wrong) {
                 let aside = Aside::wrong(random, &mut plan, trio.words());
-                self.aside(&aside)?;
+                let _left = self.aside(&aside)?;
                 self.bench.hits.origin = origin;
             }
         }
@@ -166,11 +170,27 @@ impl Run {
     fn asides(&mut self, random: &mut Random, calls: u64) -> Result<(), Failed> {
         (0..calls).try_for_each(|_| {
             let aside = Aside::any(random);
-            self.aside(&aside)
+            self.aside(&aside).map(drop)
         })
     }
 
-    fn aside(&mut self, aside: &Aside) -> Result<(), Failed> {
+    /// So many calls, one after another, on a memory with damaged indexes.
+    fn damaged(&mut self, random: &mut Random, calls: u64) -> Result<(), Failed> {
+        let mut plan = if random.chance(50) {
+            Plan::crowded(random)
+        } else {
+            Plan::small(random)
+        };
+        let mut words = plan.damaged_contents(random);
+        for _ in 0..calls {
+            let aside = Aside::damaged(random, &mut plan, &words);
+            words = self.aside(&aside)?;
+        }
+        Ok(())
+    }
+
+    /// One call on words of any content; the words that it leaves.
+    fn aside(&mut self, aside: &Aside) -> Result<Vec<u64>, Failed> {
         self.count(&Step {
             raw: aside.raw,
             call: aside.call,

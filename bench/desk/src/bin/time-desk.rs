@@ -50,24 +50,27 @@ fn main() -> ExitCode {
     ExitCode::SUCCESS
 }
 
-/// Scenarios of bench/run, all with 1,000 keys in 8 shards: 8,040 words of the desk's 8,192.
+/// Max keys and shards of all scenarios: 8,104 words of the desk's 8,192.
+const SIZES: (usize, usize) = (672, 8);
+
+/// Scenarios of bench/run, all of these sizes.
 fn scenarios(lines: usize) -> [Scenario; 3] {
     let mut all = [
         hot(Op::Try, lines, None),
         hot_denied(lines),
-        known(Op::Try, lines, (1_000, 8), Hash::Fnv1a),
+        known(Op::Try, lines, SIZES, Hash::Fnv1a),
     ];
     let names = [
         "hot key, granted",
         "hot key, denied",
-        "1000 known keys, 8 shards",
+        "672 known keys, 8 shards",
     ];
     for (scenario, name) in all.iter_mut().zip(names) {
-        scenario.setup.shards = 8;
+        (scenario.setup.max_keys, scenario.setup.shards) = SIZES;
         scenario.name = name.to_owned();
     }
     // Ten times the tokens that are asked for: at just as many some keys would run out in a million calls.
-    all[2].setup.amount = 10_000;
+    all[2].setup.amount = 15_000;
     all
 }
 

@@ -6,7 +6,9 @@ use limiter_sys::*;
 
 const HEADER: &str = include_str!("../../../c/limiter.h");
 
-/// 2 tokens a second, one key, one shard: 13 words.
+/// The words of a store for one key.
+const ONE: usize = 17;
+/// 2 tokens a second, one key, one shard.
 const SMALL: LimiterSettings = LimiterSettings {
     period: 1_000_000_000,
     max_keys: 1,
@@ -55,7 +57,7 @@ fn no_words_may_be_null() {
 
 #[test]
 fn a_reply_is_three_numbers() {
-    let (mut words, now) = ([0; 13], 5_000_000_000);
+    let (mut words, now) = ([0; ONE], 5_000_000_000);
     assert_eq!(slices::set_up(SMALL, &mut words), reply(LIMITER_DONE, 0, 0));
     let granted = slices::try_acquire(SMALL, &mut words, now, 7, 7, 2);
     assert_eq!(granted, reply(LIMITER_DONE, 0, now));
@@ -66,14 +68,35 @@ fn a_reply_is_three_numbers() {
     assert_eq!(slices::length(SMALL, &words), reply(LIMITER_DONE, 1, 0));
 }
 
+/// Damaged words: the index of the slots, two places, has none that is empty. A new key of hash 8, whose home is the first of them, takes all
+/// its tokens and gets no place. It is found again only if a place names it already.
+#[test]
+fn the_index_decides_what_is_found() {
+    for (places, then) in [
+        ([1, 9], reply(LIMITER_RETRY, HALF, HALF)),
+        ([9, 9], reply(LIMITER_DONE, 0, 0)),
+    ] {
+        let mut words = [0; ONE];
+        words[13..15].copy_from_slice(&places);
+        let granted = slices::try_acquire(SMALL, &mut words, 0, 8, 8, 2);
+        assert_eq!(granted, reply(LIMITER_DONE, 0, 0));
+        assert_eq!(words[13..15], places);
+        assert_eq!(slices::length(SMALL, &words), reply(LIMITER_DONE, 1, 0));
+        assert_eq!(slices::peek(SMALL, &words, 0, 8, 8, 1), then);
+    }
+}
+
 #[test]
 fn the_words_to_lend() {
-    assert_eq!(limiter_words(SMALL), 13);
-    assert_eq!(limiter_words(LimiterSettings::default()), 13);
+    assert_eq!(limiter_words(SMALL), ONE as u64);
+    assert_eq!(limiter_words(LimiterSettings::default()), ONE as u64);
     let keys = |max_keys| limiter_words(LimiterSettings { max_keys, ..SMALL });
-    assert_eq!([keys(4_096), keys(4_097), keys(u64::MAX)], [32_773, 0, 0]);
+    assert_eq!([keys(4_096), keys(4_097), keys(u64::MAX)], [49_157, 0, 0]);
     let shards = |shards| limiter_words(LimiterSettings { shards, ..SMALL });
-    assert_eq!([shards(64), shards(65), shards(u64::MAX)], [64 * 13, 0, 0]);
+    assert_eq!(
+        [shards(64), shards(65), shards(u64::MAX)],
+        [64 * ONE as u64, 0, 0]
+    );
 }
 
 #[test]

@@ -1,4 +1,4 @@
-//! Every branch of 01's rules that a call can take.
+//! Every branch of the rules that a call can take.
 
 macro_rules! branches {
     ($($group:literal { $($name:ident = $text:literal),+ $(,)? })+) => {
@@ -23,6 +23,28 @@ branches! {
         SeenRaised = "last-seen raised",
         SeenKept = "last-seen is not earlier: kept",
         SeenUntracked = "no idle time: last-seen kept",
+    }
+    "lookup" {
+        LookedHome = "found at its home",
+        LookedOn = "found further on",
+        LookedToEmpty = "not found, up to an empty place",
+        LookedAllRound = "not found, once round a full index",
+        LookedRound = "goes on at the first place",
+        LookedOver = "passes over a place that names no item",
+    }
+    "add to an index" {
+        AddPlace = "at the end of its walk",
+        AddNoPlace = "no place: the index is full",
+    }
+    "remove from an index" {
+        GoneUnnamed = "no place on its walk names it",
+        GoneUpToEmpty = "up to a place met empty",
+        GoneAllRound = "once round: no place met empty",
+        GoneAddedAgain = "another item is added again",
+        GoneAgain = "the item itself, named twice, is added again",
+        GoneNoItem = "a place that names no item is emptied",
+        Renumbered = "the moved item gets its number",
+        RenumberedNowhere = "the moved item has no place",
     }
     "take the debt" {
         TakeNone = "none",
@@ -165,9 +187,20 @@ branches! {
 /// Proved never to happen: a debt that was taken out leaves room in the ledger, so no refusal for space follows.
 const DEAD: [Branch; 1] = [Branch::SpacePutBack];
 
-/// Not to be had in stores grown from set-up under one settings record: grants leave no shortfall over the largest, and a closed
-/// limiter gets no keys.
-const ONLY_LOADED: [Branch; 2] = [Branch::BucketReadCut, Branch::ClosedRemove];
+/// Not to be had in stores grown from set-up under one settings record: grants leave no shortfall over the largest, a closed limiter gets
+/// no keys, and an index names every item once, on its walk, and nothing else, so that half of its places or more are empty.
+const ONLY_LOADED: [Branch; 10] = [
+    Branch::BucketReadCut,
+    Branch::ClosedRemove,
+    Branch::LookedAllRound,
+    Branch::LookedOver,
+    Branch::AddNoPlace,
+    Branch::GoneUnnamed,
+    Branch::GoneAllRound,
+    Branch::GoneAgain,
+    Branch::GoneNoItem,
+    Branch::RenumberedNowhere,
+];
 
 /// What is said beside a branch that need not be taken.
 pub fn note(branch: Branch) -> &'static str {

@@ -15,8 +15,8 @@ use crate::{library, rules};
 const REFUSED: u8 = 10;
 
 impl Bench {
-    /// One call on words of any content. The rules decide; where the Rust can hold the words, it is asked too.
-    pub fn aside(&mut self, aside: &Aside) -> Checked<()> {
+    /// One call on words of any content. The rules decide; where the Rust can hold the words, it is asked too. The words that the call leaves.
+    pub fn aside(&mut self, aside: &Aside) -> Checked<Vec<u64>> {
         self.hits.origin = Origin::Any;
         let settings = library::meaning(&aside.raw);
         let step = Step {
@@ -38,7 +38,8 @@ impl Bench {
             let (sides, lent) = ("the library and the rules", self.scratch.words());
             return Err(differing(sides, &step, answers, lent, &words));
         }
-        compare_the_rust(&settings, aside, ruled, words)
+        compare_the_rust(&settings, aside, ruled, words.clone())?;
+        Ok(words)
     }
 }
 

@@ -97,8 +97,20 @@ fn name_in_shard(word: usize, cap: usize) -> String {
     }
     if word < slots.at(cap) {
         name_in_item("slot", &slot::NAMES, slots, word)
-    } else {
+    } else if word < debts.at(cap) {
         name_in_item("debt", &debt::NAMES, debts, word)
+    } else {
+        name_in_index(word, cap)
+    }
+}
+
+/// Which place of which index a word is.
+fn name_in_index(word: usize, cap: usize) -> String {
+    let (slots, debts) = (layout::slot_index(cap), layout::debt_index(cap));
+    if slots.contains(&word) {
+        format!("slot index place {}", word - slots.start)
+    } else {
+        format!("debt index place {}", word - debts.start)
     }
 }
 

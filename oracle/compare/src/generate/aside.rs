@@ -1,10 +1,11 @@
 //! Calls with settings, words and arguments of any content.
 
 use oracle::Shape;
-use oracle::layout::{self, debt, slot};
+use oracle::layout;
 use oracle::refusals::{LATEST_MOMENT, LONGEST_PERIOD, LONGEST_WAIT, MOST_KEYS, MOST_SHARDS};
 
-use super::{LARGE, Plan, SMALL};
+use super::damage::damage;
+use super::{LARGE, Plan, SMALL, indexes};
 use crate::call::Call;
 use crate::library::{self, RawSettings};
 use crate::random::Random;
@@ -31,6 +32,9 @@ impl Aside {
             _ => plan.contents(random),
         };
         damage(random, &mut words, plan.shape, plan.now);
+        if random.chance(60) {
+            indexes::damage(random, &mut words, plan.shape);
+        }
         plan.pace = 0;
         let call = plan.any_call(random);
         let mut aside = Self {
@@ -48,6 +52,15 @@ impl Aside {
                 .for_each(|word| *word = random.word());
         }
         aside
+    }
+
+    /// A call of a trace on damaged words.
+    pub fn damaged(random: &mut Random, plan: &mut Plan, words: &[u64]) -> Self {
+        Self {
+            raw: library::given(&plan.settings, random),
+            words: words.to_vec(),
+            call: plan.call(random, words),
+        }
     }
 
     /// A call that differs from a sound one on `words` in one or more things, most of which are refused.
@@ -162,39 +175,4 @@ fn other(random: &mut Random, raw: &RawSettings) -> RawSettings {
     let closed = random.chance(20);
     let settings = Plan::new(random, sizes, closed).settings;
     library::given(&settings, random)
-}
-
-/// The first words of a slot, hash and key, are its identity.
-const IDENTITY: usize = slot::KEY + 1;
-
-/// Damages words in ways that the Rust's memory cannot be damaged: items twice, words past a count, odd marks and counts.
-fn damage(random: &mut Random, words: &mut [u64], shape: Shape, now: u64) {
-    let any = random.word();
-    let numbers = [
-        0,
-        1,
-        2,
-        5,
-        shape.cap,
-        shape.cap + 1,
-        now,
-        now + 1,
-        1 << 62,
-        u64::MAX,
-        any,
-    ];
-    for _ in 0..random.pick(&[0, 1, 3, 20]) {
-        let row = &mut words[shape.shard(random.below(shape.shards))];
-        let place = |random: &mut Random| random.below(shape.cap) as usize;
-        let (one, other) = (place(random), place(random));
-        let (slots, debts) = (layout::SLOTS, layout::debts(shape.room()));
-        match random.below(6) {
-            0 => row.copy_within(slots.at(one)..slots.at(one) + IDENTITY, slots.at(other)),
-            1 => row[debts.at(one) + debt::HASH] = row[debts.at(other) + debt::HASH],
-            2 => row[slots.at(one) + slot::MARK] = random.pick(&[2, 1 << 63, u64::MAX]),
-            3 => row[slots.count] = random.within(0, shape.cap),
-            4 => row[debts.count] = random.within(0, shape.cap),
-            _ => row[random.below(row.len() as u64) as usize] = random.pick(&numbers),
-        }
-    }
 }

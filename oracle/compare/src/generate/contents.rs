@@ -5,7 +5,7 @@ use std::collections::HashSet;
 use oracle::Key;
 use oracle::layout::{self, debt, slot};
 
-use super::{MS, Plan};
+use super::{MS, Plan, indexes};
 use crate::random::Random;
 
 /// How a shard is filled.
@@ -43,7 +43,7 @@ impl Fill {
 }
 
 impl Plan {
-    /// Contents that the Rust can hold, sound or not: any hand, sweep, cursor, shortfall, stamp and settling moment.
+    /// Contents that the Rust can hold, sound or not: any hand, sweep, cursor, shortfall, stamp and settling moment; sound indexes.
     pub fn contents(&self, random: &mut Random) -> Vec<u64> {
         let mut words = Vec::new();
         for shard in 0..self.shape.shards {
@@ -73,6 +73,7 @@ impl Plan {
         let mut words = vec![0; self.shape.shard_words()];
         self.fill_slots(random, &mut words, &keys, &fill);
         self.fill_debts(random, &mut words, &keys, &fill);
+        indexes::fill(random, &mut words, self.shape.room());
         words
     }
 

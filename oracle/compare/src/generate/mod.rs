@@ -3,7 +3,9 @@
 mod aside;
 mod calls;
 mod contents;
+mod damage;
 mod domain;
+mod indexes;
 mod time;
 
 use oracle::{Key, Rate, Settings, Shape, WhenFull};

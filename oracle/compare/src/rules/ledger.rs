@@ -34,6 +34,7 @@ impl Ledger<'_> {
         Rows {
             words: self.words,
             items: layout::debts(self.cap),
+            index: layout::debt_index(self.cap),
             hits: self.hits,
         }
     }
@@ -43,9 +44,9 @@ impl Ledger<'_> {
         &mut self.words[layout::debts(self.cap).item(place)]
     }
 
-    /// The lowest place of a hash.
+    /// The place of the debt of a hash.
     pub fn position(&mut self, hash: u64) -> Option<usize> {
-        self.debts().position(|debt| debt[debt::HASH] == hash)
+        self.debts().position(hash, |debt| debt[debt::HASH] == hash)
     }
 
     /// When the debt of a hash settles, if there is one.

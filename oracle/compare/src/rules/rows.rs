@@ -1,15 +1,22 @@
-//! The items of one kind in a shard, slots or debts: what 01 says of both alike.
+//! The items of one kind in a shard, slots or debts: what 01 says of both alike, and 02 of their indexes.
+
+use core::ops::Range;
 
 use oracle::layout::Items;
 
+use super::index::Index;
 use crate::branches::{Branch, Hits};
 
-/// The items, in the words of their shard.
+/// The items, in the words of their shard, and where their index lies.
 pub struct Rows<'a> {
     pub words: &'a mut [u64],
     pub items: Items,
+    pub index: Range<usize>,
     pub hits: &'a mut Hits,
 }
+
+/// The word of an item that has its hash: the first, of slots and of debts.
+const HASH: usize = 0;
 
 /// What a removal leaves: the item was the last, or the last one fills its place.
 #[derive(PartialEq, Eq, Clone, Copy)]
@@ -37,20 +44,43 @@ impl Rows<'_> {
         &mut self.words[self.items.item(place)]
     }
 
-    /// The lowest place of an item that is looked for.
-    pub fn position(&self, sought: impl Fn(&[u64]) -> bool) -> Option<usize> {
-        (0..self.count()).find(|&place| sought(&self.words[self.items.item(place)]))
+    /// The items, to be read, and their index. It lies after them.
+    fn parts(&mut self) -> (&[u64], Index<'_, impl Fn(usize) -> u64>) {
+        let (count, items) = (self.count(), self.items);
+        let (before, from) = self.words.split_at_mut(self.index.start);
+        let before: &[u64] = before;
+        let index = Index {
+            places: &mut from[..self.index.len()],
+            count,
+            hash_of: move |place| before[items.item(place)][HASH],
+            hits: self.hits,
+        };
+        (before, index)
+    }
+
+    /// The place of an item of this hash that is looked for, by the index.
+    pub fn position(&mut self, hash: u64, sought: impl Fn(&[u64]) -> bool) -> Option<usize> {
+        let items = self.items;
+        let (words, mut index) = self.parts();
+        index.find(hash, |place| sought(&words[items.item(place)]))
+    }
+
+    /// Whether there is such an item, wherever it is.
+    pub fn any(&self, sought: impl Fn(&[u64]) -> bool) -> bool {
+        (0..self.count()).any(|place| sought(&self.words[self.items.item(place)]))
     }
 
     /// Adds one, last.
     pub fn push(&mut self, item: &[u64]) {
         let place = self.count();
+        self.parts().1.add(item[HASH], place);
         self.item(place).copy_from_slice(item);
         self.words[self.items.count] += 1;
     }
 
-    /// Removes one: the last moves into the gap, and the place that comes free is zeroed.
+    /// Removes one, first from the index: the last moves into the gap, and the place that comes free is zeroed.
     pub fn remove_at(&mut self, place: usize) -> Gap {
+        self.parts().1.remove(place);
         let last = self.count() - 1;
         self.words
             .copy_within(self.items.item(last), self.items.at(place));

@@ -30,6 +30,7 @@ impl ShardMap<'_> {
         Rows {
             words: self.words,
             items: layout::SLOTS,
+            index: layout::slot_index(self.cap),
             hits: self.hits,
         }
     }
@@ -51,17 +52,15 @@ impl ShardMap<'_> {
         }
     }
 
-    /// The lowest place of a key: of its hash and the key itself.
+    /// The place of a key, by its hash and the key itself.
     pub fn position(&mut self, key: Key) -> Option<usize> {
-        self.slots()
-            .position(|slot| slot[slot::HASH] == key.hash && slot[slot::KEY] == key.key)
+        let is_key = |slot: &[u64]| slot[slot::HASH] == key.hash && slot[slot::KEY] == key.key;
+        self.slots().position(key.hash, is_key)
     }
 
     /// Whether any slot has this hash.
     pub fn has_hash(&mut self, hash: u64) -> bool {
-        self.slots()
-            .position(|slot| slot[slot::HASH] == hash)
-            .is_some()
+        self.slots().any(|slot| slot[slot::HASH] == hash)
     }
 
     /// Adds a new key's slot, last; its place.

@@ -6,6 +6,7 @@ use std::sync::atomic::{AtomicBool, AtomicU64, Ordering};
 use std::sync::{RwLockReadGuard, RwLockWriteGuard};
 
 use better_bucket::{BucketConfig, BucketCore, Decision};
+use hashbrown::HashTable;
 
 use super::{
     Debt, Entry, LEDGER_SCAN, ShardMap, Slot, Store, TTL_SWEEP, millis, read, restore_debt, write,
@@ -34,6 +35,8 @@ pub enum LoadError {
     SameDebt,
     /// A word past a count is not 0.
     PastCount,
+    /// An index does not name every item just once, on its walk, and nothing else.
+    Index,
 }
 
 /// What is done with a bucket: the published closures of `decide` and `reserve`.
@@ -96,6 +99,13 @@ impl<'a> OneShard<'a> {
         self.read().ledger.debts.len()
     }
 
+    /// Gives the tables of an empty shard the places of its indexes, so that they can be shown. The published code knows of none.
+    pub(crate) fn give_places(&self) {
+        let (mut map, places) = (self.write(), layout::places(self.cap()));
+        map.index = HashTable::with_places(places);
+        map.ledger.index = HashTable::with_places(places);
+    }
+
     /// The contents as words, 0 past the counts.
     ///
     /// # Panics
@@ -115,6 +125,8 @@ impl<'a> OneShard<'a> {
         words[layout::cursor(cap)] = map.ledger.cursor as u64;
         put(&mut words, layout::SLOTS, map.slots.iter().map(slot_words));
         put(&mut words, layout::debts(cap), debts.iter().map(debt_words));
+        put_index(&mut words[layout::slot_index(cap)], &map.index);
+        put_index(&mut words[layout::debt_index(cap)], &map.ledger.index);
         words
     }
 
@@ -153,6 +165,10 @@ impl<'a> OneShard<'a> {
             // Without a cap, and with a hash that is not there, recording appends and does nothing else.
             let _appended = map.ledger.record(debt, Duration::ZERO, usize::MAX, false);
         }
+        let slots: Vec<u64> = map.slots.iter().map(|slot| slot.hash).collect();
+        map.index = index(&words[layout::slot_index(cap)], &slots)?;
+        let debts: Vec<u64> = map.ledger.debts.iter().map(|debt| debt.hash).collect();
+        map.ledger.index = index(&words[layout::debt_index(cap)], &debts)?;
         *self.write() = map;
         Ok(())
     }
@@ -383,6 +399,39 @@ fn put<const N: usize>(words: &mut [u64], items: Items, rows: impl Iterator<Item
         words[items.item(place)].copy_from_slice(&row);
         words[items.count] += 1;
     }
+}
+
+/// Writes the places of an index: 0, or the number of an item plus 1.
+fn put_index(words: &mut [u64], index: &HashTable<u32>) {
+    for (word, number) in words.iter_mut().zip(index.places()) {
+        *word = number.map_or(0, |&number| u64::from(number) + 1);
+    }
+}
+
+/// The index that these places are of items with these hashes, if it names each just once, on its walk, and nothing else.
+fn index(places: &[u64], hashes: &[u64]) -> Result<HashTable<u32>, LoadError> {
+    let mut named = vec![false; hashes.len()];
+    let mut rows = Vec::new();
+    for &word in places {
+        rows.push(row(word, hashes, &mut named)?);
+    }
+    let all = named.iter().all(|&named| named);
+    let table = all.then(|| HashTable::placed(rows)).flatten();
+    table.ok_or(LoadError::Index)
+}
+
+/// What a place of an index has: nothing, or a number with its hash. The number is that of an item which no place before has named.
+fn row(word: u64, hashes: &[u64], named: &mut [bool]) -> Result<Option<(u64, u32)>, LoadError> {
+    let Some(number) = word.checked_sub(1) else {
+        return Ok(None);
+    };
+    let item = usize::try_from(number).map_err(|_| LoadError::Index)?;
+    let new = named.get_mut(item).ok_or(LoadError::Index)?;
+    if core::mem::replace(new, true) {
+        return Err(LoadError::Index);
+    }
+    let number = u32::try_from(item).map_err(|_| LoadError::Index)?;
+    Ok(Some((hashes[item], number)))
 }
 
 /// The items that are held, each its words, if their count is at most the cap and the words past them are 0.

@@ -1,19 +1,31 @@
 //! Stand-in for the `hashbrown` package: the calls of `HashTable` that the store makes, over the standard library's map.
 //!
-//! The table holds values under hashes; several values may share a hash. The map underneath uses the hash as it stands.
+//! The table holds values under hashes; several values may share a hash. The map underneath uses the hash as it stands. A table that is given
+//! places keeps its values in them too, as request 3 of 02 says; they are shown, and nothing is found by them.
+
+mod places;
 
 use core::hash::{BuildHasherDefault, Hasher};
 use std::collections::HashMap;
 
+use places::{Placed, Places};
+
+/// A value, and the number by which a place knows it.
+#[derive(Debug)]
+struct Held<T> {
+    name: u32,
+    value: T,
+}
+
 /// The values of one hash: the first in place, others (only when hashes are shared) in a list.
 #[derive(Debug)]
 struct Group<T> {
-    first: T,
-    others: Vec<T>,
+    first: Held<T>,
+    others: Vec<Held<T>>,
 }
 
 impl<T> Group<T> {
-    fn place(&self, mut eq: impl FnMut(&T) -> bool) -> Option<usize> {
+    fn place(&self, mut eq: impl FnMut(&Held<T>) -> bool) -> Option<usize> {
         if eq(&self.first) {
             return Some(0);
         }
@@ -22,17 +34,17 @@ impl<T> Group<T> {
 
     fn at(&self, place: usize) -> &T {
         if place == 0 {
-            &self.first
+            &self.first.value
         } else {
-            &self.others[place - 1]
+            &self.others[place - 1].value
         }
     }
 
     fn at_mut(&mut self, place: usize) -> &mut T {
         if place == 0 {
-            &mut self.first
+            &mut self.first.value
         } else {
-            &mut self.others[place - 1]
+            &mut self.others[place - 1].value
         }
     }
 }
@@ -59,6 +71,7 @@ impl Hasher for AsItStands {
 #[derive(Debug)]
 pub struct HashTable<T> {
     groups: HashMap<u64, Group<T>, BuildHasherDefault<AsItStands>>,
+    places: Places,
 }
 
 impl<T> Default for HashTable<T> {
@@ -67,27 +80,28 @@ impl<T> Default for HashTable<T> {
     }
 }
 
+/// The published calls.
 impl<T> HashTable<T> {
-    /// An empty table.
+    /// An empty table, without places.
     #[must_use]
     pub fn new() -> Self {
-        Self {
-            groups: HashMap::default(),
-        }
+        Self::with_places(0)
     }
 
     /// A value put in under `hash` that passes `eq`.
     #[inline]
-    pub fn find(&self, hash: u64, eq: impl FnMut(&T) -> bool) -> Option<&T> {
+    pub fn find(&self, hash: u64, mut eq: impl FnMut(&T) -> bool) -> Option<&T> {
         let group = self.groups.get(&hash)?;
-        group.place(eq).map(|place| group.at(place))
+        let place = group.place(|held| eq(&held.value));
+        place.map(|place| group.at(place))
     }
 
     /// The same, to be changed.
     #[inline]
-    pub fn find_mut(&mut self, hash: u64, eq: impl FnMut(&T) -> bool) -> Option<&mut T> {
+    pub fn find_mut(&mut self, hash: u64, mut eq: impl FnMut(&T) -> bool) -> Option<&mut T> {
         let group = self.groups.get_mut(&hash)?;
-        group.place(eq).map(|place| group.at_mut(place))
+        let place = group.place(|held| eq(&held.value));
+        place.map(|place| group.at_mut(place))
     }
 
     /// The same, to be removed.
@@ -99,9 +113,10 @@ impl<T> HashTable<T> {
     pub fn find_entry(
         &mut self,
         hash: u64,
-        eq: impl FnMut(&T) -> bool,
+        mut eq: impl FnMut(&T) -> bool,
     ) -> Result<OccupiedEntry<'_, T>, AbsentEntry> {
-        match self.groups.get(&hash).and_then(|group| group.place(eq)) {
+        let group = self.groups.get(&hash);
+        match group.and_then(|group| group.place(|held| eq(&held.value))) {
             Some(place) => Ok(OccupiedEntry {
                 table: self,
                 hash,
@@ -119,27 +134,63 @@ impl<T> HashTable<T> {
         value: T,
         _hasher: impl Fn(&T) -> u64,
     ) -> OccupiedEntry<'_, T> {
-        let place = match self.groups.get_mut(&hash) {
-            Some(group) => {
-                group.others.push(value);
-                group.others.len()
-            }
-            None => {
-                let _none = self.groups.insert(
-                    hash,
-                    Group {
-                        first: value,
-                        others: Vec::new(),
-                    },
-                );
-                0
-            }
-        };
+        let name = self.places.add(hash);
+        let place = self.join(hash, Held { name, value });
         OccupiedEntry {
             table: self,
             hash,
             place,
         }
+    }
+
+    /// Puts a value into the group of its hash; its place there.
+    fn join(&mut self, hash: u64, held: Held<T>) -> usize {
+        match self.groups.get_mut(&hash) {
+            Some(group) => {
+                group.others.push(held);
+                group.others.len()
+            }
+            None => {
+                let (first, others) = (held, Vec::new());
+                let _none = self.groups.insert(hash, Group { first, others });
+                0
+            }
+        }
+    }
+}
+
+/// The places.
+impl<T> HashTable<T> {
+    /// An empty table with so many places.
+    #[must_use]
+    pub fn with_places(size: usize) -> Self {
+        Self {
+            groups: HashMap::default(),
+            places: Places::new(size),
+        }
+    }
+
+    /// A table with these places, each empty or with a hash and a value under it; none unless every value is on its walk.
+    #[must_use]
+    pub fn placed(rows: Vec<Option<(u64, T)>>) -> Option<Self> {
+        let mut table = Self::with_places(rows.len());
+        for (place, row) in rows.into_iter().enumerate() {
+            if let Some((hash, value)) = row {
+                let name = table.places.put(place, hash);
+                let _place = table.join(hash, Held { name, value });
+            }
+        }
+        table.places.is_sound().then_some(table)
+    }
+
+    /// The value at each place.
+    pub fn places(&self) -> impl Iterator<Item = Option<&T>> {
+        let value = |placed: Placed| {
+            let group = self.groups.get(&placed.hash)?;
+            let place = group.place(|held| held.name == placed.name)?;
+            Some(group.at(place))
+        };
+        self.places.all().map(move |placed| placed.and_then(value))
     }
 }
 
@@ -160,7 +211,7 @@ impl<T> OccupiedEntry<'_, T> {
             .groups
             .get_mut(&hash)
             .expect("the entry is in the table");
-        let value = if place > 0 {
+        let Held { name, value } = if place > 0 {
             group.others.swap_remove(place - 1)
         } else if let Some(next) = group.others.pop() {
             core::mem::replace(&mut group.first, next)
@@ -171,6 +222,7 @@ impl<T> OccupiedEntry<'_, T> {
                 .expect("the group was just seen")
                 .first
         };
+        table.places.remove(Placed { hash, name });
         (value, VacantEntry)
     }
 }
@@ -187,10 +239,21 @@ pub struct AbsentEntry;
 mod tests {
     use super::*;
 
+    /// The places once more, and whether they are sound: read anew, and each held value just once.
+    fn are_sound(table: &HashTable<u32>, list: &[(u64, u32)]) -> bool {
+        let hash = |value| list.iter().find(|held| held.1 == value).expect("held").0;
+        let rows: Vec<_> = table
+            .places()
+            .map(|value| value.map(|&value| (hash(value), value)))
+            .collect();
+        let count = rows.iter().flatten().count();
+        count == list.len() && HashTable::placed(rows).is_some()
+    }
+
     /// Values put in and taken out at random, three hashes for all, against a plain list.
     #[test]
     fn agrees_with_a_list() {
-        let mut table = HashTable::new();
+        let mut table = HashTable::with_places(24);
         let mut list: Vec<(u64, u32)> = Vec::new();
         let mut random = 1_u64;
         for value in 0..20_000_u32 {
@@ -217,6 +280,7 @@ mod tests {
                 );
                 assert!(table.find_entry(hash, |&held| held == gone).is_err());
             }
+            assert!(are_sound(&table, &list));
             for &(hash, held) in &list {
                 assert_eq!(table.find(hash, |&other| other == held), Some(&held));
                 assert_eq!(table.find(hash + 1, |&other| other == held), None);
