@@ -26,23 +26,18 @@ pub fn times(row: &Row, calls: usize, rounds: usize) -> Result<String, String> {
         same(&one, &other)?;
         c_call.push(one.nanos);
         rust.push(other.nanos);
-        // Where the lookup is long, what the crate adds is lost in it.
-        if !scenario.setup.is_long() {
-            let third = checked::<ThroughCrate>(&scenario)?;
-            same(&third, &other)?;
-            through.push(third.nanos);
-        }
+        let third = checked::<ThroughCrate>(&scenario)?;
+        same(&third, &other)?;
+        through.push(third.nanos);
     }
-    let (crate_time, crate_ratio) = match through.as_slice() {
-        [] => ("-".to_owned(), "- | -".to_owned()),
-        _ => (time(&through), ratio(&through, &rust)),
-    };
     Ok(format!(
-        "| {} | {} | {crate_time} | {} | {} | {crate_ratio} |",
+        "| {} | {} | {} | {} | {} | {} |",
         scenario.name,
         time(&c_call),
+        time(&through),
         time(&rust),
-        ratio(&c_call, &rust)
+        ratio(&c_call, &rust),
+        ratio(&through, &rust)
     ))
 }
 

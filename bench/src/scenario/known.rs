@@ -2,9 +2,9 @@
 
 use published::Key;
 
-use super::{BASE, Call, Hash, Op, Scenario, Setup, fewer, try_};
+use super::{BASE, Call, Hash, MS, Op, Scenario, Setup, try_};
 
-/// A call every microsecond, each on a random one of the keys.
+/// A call every microsecond, or less often where the keys are few, each on a random one of the keys.
 pub fn known(op: Op, calls: usize, (max_keys, shards): (usize, usize), hash: Hash) -> Scenario {
     let setup = Setup {
         max_keys,
@@ -14,10 +14,12 @@ pub fn known(op: Op, calls: usize, (max_keys, shards): (usize, usize), hash: Has
     let keys = fitting(&setup, max_keys, hash);
     // Tokens can be given back only to keys that lack some.
     let spent = if matches!(op, Op::Refund) { 100 } else { 1 };
+    // A key gets a token back every millisecond. Where the keys are few it is asked every other millisecond, so that it never lacks one.
+    let step = (2 * MS / max_keys as u64).max(1_000);
     let mut random = Random(1);
-    let timed = (0..fewer(calls, &setup, 4) as u64).map(|i| Call {
+    let timed = (0..calls as u64).map(|i| Call {
         op,
-        ..try_(i * 1_000, random.pick(&keys), 1)
+        ..try_(i * step, random.pick(&keys), 1)
     });
     Scenario {
         name: String::new(),

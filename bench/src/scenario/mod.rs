@@ -27,11 +27,6 @@ impl Setup {
     pub const fn cap(&self) -> usize {
         self.max_keys.div_ceil(self.shards)
     }
-
-    /// Whether our lookup, which goes from slot to slot, has far to go.
-    pub const fn is_long(&self) -> bool {
-        self.cap() > 256
-    }
 }
 
 /// What a call asks.
@@ -84,9 +79,4 @@ const BASE: Setup = Setup {
 pub const fn try_(now: u64, key: Key, cost: u32) -> Call {
     let op = Op::Try;
     Call { op, now, key, cost }
-}
-
-/// Fewer calls where our lookup is long, so that a round takes much the same time.
-const fn fewer(calls: usize, setup: &Setup, by: usize) -> usize {
-    if setup.is_long() { calls / by } else { calls }
 }

@@ -1,7 +1,7 @@
 //! Every call a modem never seen.
 
 use super::rows::Row;
-use super::{BASE, Call, Hash, MS, Scenario, Setup, fewer, try_};
+use super::{BASE, Call, Hash, MS, Scenario, Setup, try_};
 
 /// A microsecond apart, each empties its bucket: slots and ledgers are full of keys that owe. Nothing settles meanwhile: a bucket takes 1,000 seconds
 /// to be full.
@@ -35,7 +35,7 @@ pub fn recovered(calls: usize, row: &Row) -> Scenario {
 /// New keys before the timing, four times as many as there is room for, and new keys to be timed: each call like `call`, and `call.now` after the
 /// one before.
 fn flood(calls: usize, setup: Setup, hash: Hash, call: Call, code: u64) -> Scenario {
-    let (first, calls) = (4 * setup.max_keys, fewer(calls, &setup, 8));
+    let first = 4 * setup.max_keys;
     let at = |i: usize| Call {
         now: i as u64 * call.now,
         key: hash.key(1_000_000 + i as u64),

@@ -38,9 +38,11 @@ const MANY: (usize, usize) = (1_000, 64);
 const MANY_IN_ONE: (usize, usize) = (1_000, 1);
 const MOST: (usize, usize) = (4_096, 64);
 const MOST_IN_ONE: (usize, usize) = (4_096, 1);
+const FEW_IN_ONE: (usize, usize) = (64, 1);
+const SOME_IN_ONE: (usize, usize) = (512, 1);
 
 /// Every row, in the order of the table.
-pub const ROWS: [Row; 37] = [
+pub const ROWS: [Row; 39] = [
     row(Hot(Op::Try), MANY),
     row(Hot(Op::Try), MANY).idle(),
     row(HotDenied, MANY),
@@ -48,6 +50,8 @@ pub const ROWS: [Row; 37] = [
     row(Hot(Op::Peek), MANY),
     row(Known(Op::Try), MANY),
     row(Known(Op::Try), MANY).hashed(Mixed),
+    row(Known(Op::Try), FEW_IN_ONE),
+    row(Known(Op::Try), SOME_IN_ONE),
     row(Known(Op::Try), MANY_IN_ONE),
     row(Known(Op::Try), MOST),
     row(Known(Op::Try), MOST).hashed(Mixed),

@@ -3,17 +3,22 @@
 //! The table holds values under hashes; several values may share a hash. The map underneath uses the hash as it stands. A table that is given
 //! places keeps its values in them too, as request 3 of 02 says; they are shown, and nothing is found by them.
 
+#[cfg(feature = "places")]
+mod places;
+
+#[cfg(not(feature = "places"))]
+#[path = "no_places.rs"]
 mod places;
 
 use core::hash::{BuildHasherDefault, Hasher};
 use std::collections::HashMap;
 
-use places::{Placed, Places};
+use places::{Name, Placed, Places};
 
 /// A value, and the number by which a place knows it.
 #[derive(Debug)]
 struct Held<T> {
-    name: u32,
+    name: Name,
     value: T,
 }
 
@@ -235,7 +240,7 @@ pub struct VacantEntry;
 #[derive(Debug)]
 pub struct AbsentEntry;
 
-#[cfg(test)]
+#[cfg(all(test, feature = "places"))]
 mod tests {
     use super::*;
 

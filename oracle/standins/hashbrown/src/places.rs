@@ -1,10 +1,13 @@
 //! Where a table's values stand by request 3 of 02. Nothing is found by these places: they are kept beside the map, so that they can be shown.
 
+/// The number by which a place knows a value.
+pub type Name = u32;
+
 /// A value of the table: its hash, and a number that is its own.
 #[derive(Debug, Clone, Copy, PartialEq, Eq)]
 pub struct Placed {
     pub hash: u64,
-    pub name: u32,
+    pub name: Name,
 }
 
 /// Places, each empty or with one value. A table that was given none keeps none.
@@ -12,7 +15,7 @@ pub struct Placed {
 pub struct Places {
     places: Vec<Option<Placed>>,
     /// The number of the next value.
-    next: u32,
+    next: Name,
 }
 
 impl Places {
@@ -30,7 +33,7 @@ impl Places {
     }
 
     /// A number that no value has.
-    fn name(&mut self) -> u32 {
+    fn name(&mut self) -> Name {
         self.next = self.next.wrapping_add(1);
         self.next
     }
@@ -45,7 +48,7 @@ impl Places {
     }
 
     /// Adds a new value; its number.
-    pub fn add(&mut self, hash: u64) -> u32 {
+    pub fn add(&mut self, hash: u64) -> Name {
         let name = self.name();
         self.stand(Placed { hash, name });
         name
@@ -77,7 +80,7 @@ impl Places {
     }
 
     /// Puts a new value at a given place; its number.
-    pub fn put(&mut self, place: usize, hash: u64) -> u32 {
+    pub fn put(&mut self, place: usize, hash: u64) -> Name {
         let name = self.name();
         self.places[place] = Some(Placed { hash, name });
         name
