@@ -70,11 +70,11 @@ found-by (byIndex ix) n test key p found = find-sound n test ix key p found
 module _ {A : Type 0} (items : Items A) (h : Held A) where
   pub removed-kind : (p : ℕ) → kindOf (removed items h p .finding) ≡ kindOf (h .finding)
   unfolding removed
-  removed-kind p = without-kind (h .finding) (hashAt items h) (h .count) p
+  removed-kind p = without-kind (h .finding) _ _ p
 
   pub removed-below : (bound p : ℕ) → p + 1 < bound → WordsBelow bound (h .finding) → WordsBelow bound (removed items h p .finding)
   unfolding removed
-  removed-below bound p small words = without-below bound (h .finding) (hashAt items h) (h .count) p small words
+  removed-below bound p small words = without-below bound (h .finding) _ _ p small words
 
   -- On any value: what is found is below the count and passes.
   pub found-passes : (key : ℕ) (test : A → Bool) (p : ℕ) → position items h key test ≡ At p → Found (λ i. test (itemAt items h i)) (h .count) p
