@@ -13,7 +13,7 @@ pub data Grown (s : Settings) : List ℕ → Type 0 where
   cleared : (ws : List ℕ) → Grown s ws → clear s ws .answer ≡ Done → Grown s (clear s ws .after)
   called : (c : Call) (ws : List ℕ) → Grown s ws → settingsOf c ≡ s → numbered (rules c ws .answer) ≡ false → Grown s (rules c ws .after)
 
--- A property that every fresh store has and every accepted call keeps.
+-- A property that every fresh store has and every accepted call keeps. Clear leaves what set-up leaves.
 pub record KeptByCalls (s : Settings) (P : List ℕ → Type 0) : Type 0 where
   pub fresh : (ws : List ℕ) → setUp s ws .answer ≡ Done → P (setUp s ws .after)
   pub call : (c : Call) (ws : List ℕ) → settingsOf c ≡ s → numbered (rules c ws .answer) ≡ false → P ws → P (rules c ws .after)

@@ -1,7 +1,7 @@
 -- Items held in the first places of a fixed number of places. What stands in the places past the count is part of the value, so that a definition
--- over `Held` fixes every word. An operation changes which items are held by three definitions: `appended` adds an item, `removed` takes one out, and
--- `stored` puts one in the place of another. Only set-up and clear do otherwise: all words become 0. `position` finds an item and changes nothing. What the
--- four do with the way in which items are found is said here alone; definitions above say the same for both ways.
+-- over `Held` fixes every word. Three definitions change the held items: `appended` adds an item, `removed` takes one out, and `stored` puts one in the place of
+-- another. Only set-up and clear do otherwise: all words become 0. `position` finds an item and changes nothing. Only these four read or change an index.
+-- Definitions in higher crates are the same with an index and without.
 use Prim.Native.Nat.{ℕ, _+_, _-_, _*_, _≤_, _<_}
 use mathlib.Core.Path.{_≡_}
 use mathlib.Core.Bool.{Bool, cond}
@@ -39,13 +39,13 @@ wrapped i count = cond (ltb i count) i 0
 
 -- The lookup of a hash among n items: the lowest place that passes a test, or the first item on the hash's walk that does.
 abbrev pub foundBy : Finding → ℕ → (ℕ → Bool) → ℕ → Place
-foundBy inOrder n test key = lowest n test
-foundBy (byIndex ix) n test key = Index.find n test ix key
+foundBy inOrder n test h = lowest n test
+foundBy (byIndex ix) n test h = Index.find n test ix h
 
--- Item i comes, of a hash that is given: an index gets it.
+-- Item i comes, of hash h: an index gets it.
 abbrev pub withAdded : Finding → ℕ → ℕ → Finding
-withAdded inOrder key i = inOrder
-withAdded (byIndex ix) key i = byIndex (Index.add ix key i)
+withAdded inOrder h i = inOrder
+withAdded (byIndex ix) h i = byIndex (Index.add ix h i)
 
 -- Item p of n leaves, and the last item gets its number: an index loses it. `hash i` is the hash of item i, before that.
 abbrev pub withRemoved : Finding → (ℕ → ℕ) → ℕ → ℕ → Finding
@@ -62,7 +62,7 @@ module _ {A : Type 0} (items : Items A) where
 
   -- The place of an item of a hash that passes a test.
   abbrev pub position : Held A → ℕ → (A → Bool) → Place
-  position h key test = foundBy (h .finding) (h .count) (λ i. test (itemAt h i)) key
+  position h hash test = foundBy (h .finding) (h .count) (λ i. test (itemAt h i)) hash
 
   -- An item comes last.
   abbrev pub appended : Held A → A → Held A

@@ -7,7 +7,7 @@ use lib.ListN.{length}
 use lib.Dec.{eqb}
 use Rattle.index.specs.Walk.{at}
 
--- How many places hold a word.
+-- How many places hold the given word.
 unfoldable pub copies : ℕ → List ℕ → ℕ
 copies word [] = 0
 copies word (x ∷ xs) = cond (eqb x word) 1 0 + copies word xs

@@ -51,7 +51,7 @@ find n test ix h = findFrom n test ix (h % length ix) (length ix)
 unfoldable pub probed : ℕ → (ℕ → Bool) → ℕ → Probed
 probed n test word = cond (eqb word 0) Empty (cond (hits n test word) (Hit (word - 1)) Other)
 
--- The first place on the walk of a hash that holds a word. If there is none, it is the place at which the walk stops, or the number of places.
+-- The first place on the walk of a hash that holds the given word. If there is none, it is the place at which the walk stops, or the number of places.
 unfoldable pub seek : List ℕ → ℕ → ℕ → ℕ
 seek ix h word = walk ix (λ v. eqb v word) h
 
@@ -70,7 +70,7 @@ rehome hash n ix q zero = ix
 rehome hash n ix q (suc left) =
     cond (eqb (at ix q) 0) ix (rehome hash n (addAgain hash n (set ix q 0) (at ix q)) (onward (length ix) q) left)
 
--- A place in use is emptied, and the pass goes over the other places. An empty place stays as it is, and so do the others then.
+-- A place in use is emptied, and the pass goes over the other places. If the place is empty, nothing changes.
 unfoldable pub vacate : (ℕ → ℕ) → ℕ → List ℕ → ℕ → List ℕ
 vacate hash n ix z = cond (eqb (at ix z) 0) ix (rehome hash n (set ix z 0) (onward (length ix) z) (length ix - 1))
 
@@ -78,6 +78,7 @@ vacate hash n ix z = cond (eqb (at ix z) 0) ix (rehome hash n (set ix z 0) (onwa
 unfoldable pub renumber : List ℕ → ℕ → ℕ → ℕ → List ℕ
 renumber ix h m r = cond (eqb (at ix (seek ix h (m + 1))) 0) ix (set ix (seek ix h (m + 1)) (r + 1))
 
--- Item r of n leaves, before the last item moves into its number: its place is vacated, and then the last item gets its number.
+-- Item r of n leaves, before the last item moves into its number: its place is vacated, and then the last item gets its number. Item r still counts while its
+-- place is vacated, so a second place that names it adds it again.
 unfoldable pub remove : (ℕ → ℕ) → ℕ → List ℕ → ℕ → List ℕ
 remove hash n ix r = renumber (vacate hash n ix (seek ix (hash r) (r + 1))) (hash (n - 1)) (n - 1) r

@@ -1,5 +1,6 @@
 // An index by hash over lent words. A place holds 0, or the number of an item plus 1. A hash has a home place, and its walk goes from there, round, up to the
-// first empty place. Removal empties the places after the item's own, up to the first empty one, and adds their items again.
+// first empty place. Removal empties the item's place. Then it empties each place after it, up to the first empty one, and adds its item again. Last, the last
+// item gets the number that came free.
 ghost use mathlib.Core.Path.{_≡_};
 ghost use Prim.Native.Nat.{_+_, _*_, _-_, _^_, _≤_, _<_};
 ghost use lib.ListN.{length, set};
@@ -106,7 +107,8 @@ fn find_on(ws: &[u64], index: Index, n: usize, hash: u64, key: u64, home: usize)
     Place::Nowhere
 }
 
-// The first item on the hash's walk that has the hash and the key. For items without a key the caller gives the hash for it. The look at the home place stands here, so that a caller has it in line.
+// The first item on the hash's walk that has the hash and the key. For items without a key the caller gives the hash for it. This function makes the first look
+// itself, so that the compiler can inline it.
 pub fn find(ws: &[u64], index: Index, n: usize, hash: u64, key: u64) -> Place
     requires { ⌜ Fits index n (now ws) ⌝ }
     ensures { λ r. ⌜ r ≡ Walk.find n (keyed index (now (ws .entry)) hash key) (placesOf index (now (ws .entry))) hash ⌝ }
@@ -159,7 +161,8 @@ fn rehome_one(ws: &mut [u64], index: Index, n: usize, q: usize, word: u64)
     add_again(ws, index, n, word);
 }
 
-// The places from `from` on, up to the first one that is met empty, are emptied one by one and their items added again. The place before `from` is left out.
+// The places from `from` on, up to the first one that is met empty, are emptied one by one and their items added again. The pass looks at one
+// place fewer than there are, so that it never comes back to the place before `from`.
 fn rehome(ws: &mut [u64], index: Index, n: usize, from: usize)
     requires { ⌜ Fits index n (now ws) × (from < index .size) ⌝ }
     ensures { λ _. ⌜ now (ws .exit) ≡ withPlaces index (now (ws .entry)) (Walk.rehome (hashOf index (now (ws .entry))) n (placesOf index (now (ws .entry))) from (index .size - 1)) ⌝ }
@@ -178,7 +181,7 @@ fn rehome(ws: &mut [u64], index: Index, n: usize, from: usize)
     }
 }
 
-// A place in use is emptied, and the items after it are added again.
+// A place in use is emptied, and the items after it are added again. If the place is empty, or there is no such place, nothing changes.
 fn vacate(ws: &mut [u64], index: Index, n: usize, z: usize)
     requires { ⌜ Fits index n (now ws) ⌝ }
     ensures { λ _. ⌜ now (ws .exit) ≡ withPlaces index (now (ws .entry)) (Walk.vacate (hashOf index (now (ws .entry))) n (placesOf index (now (ws .entry))) z) ⌝ }

@@ -89,7 +89,7 @@ withDebt l i d = withDebts l (stored (l .debts) i d)
 abbrev pub inPlaceOrder : Ledger → Ledger
 inPlaceOrder l = withDebts l (Held.inPlaceOrder (l .debts))
 
--- Lookup by hash: a place that has it.
+-- Lookup by hash: the first place with it on its walk, or the lowest where there is no index.
 abbrev pub owes : ℕ → Debt → Bool
 owes hash d = eqb (d .hash) hash
 

@@ -43,7 +43,7 @@ pub fn len(ws: &[u64], cap: usize) -> usize
     words::count(ws, cap)
 }
 
-// A place that has the hash: the first debt on the hash's walk that has it.
+// The place of the first debt on the hash's walk that has the hash.
 pub fn position(ws: &[u64], cap: usize, hash: u64) -> Place
     requires { ⌜ Intact cap (now ws) ⌝ }
     ensures { λ r. ⌜ r ≡ Model.placeOf (ledger cap (now (ws .entry))) hash ⌝ }
@@ -52,7 +52,7 @@ pub fn position(ws: &[u64], cap: usize, hash: u64) -> Place
     index::find(ws, words::index(cap), count, hash, hash)
 }
 
-// The debt at a place gets into the index, by the hash that it will have.
+// The index gets the debt of this hash that the caller will put at the place.
 fn add_to_index(ws: &mut [u64], cap: usize, hash: u64, pos: usize)
     requires { ⌜ Intact cap (now ws) × (pos < cap) ⌝ }
     ensures { λ _. ⌜ ledger cap (now (ws .exit)) ≡ Model.withFinding (ledger cap (now (ws .entry))) (withAdded (ledger cap (now (ws .entry)) .debts .finding) hash pos) ⌝ }

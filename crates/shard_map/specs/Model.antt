@@ -84,7 +84,7 @@ handOf s = wrapped (s .hand) (s .slots .count)
 abbrev pub sweepOf : Shard → ℕ
 sweepOf s = wrapped (s .sweep) (s .slots .count)
 
--- Lookup by hash and key: a place that has both.
+-- Lookup by hash and key: the first place with both on the walk of the hash, or the lowest where there is no index.
 unfoldable pub placeOf : Shard → ℕ → ℕ → Place
 placeOf s hash key = position slotItems (s .slots) hash (isKey hash key)
 

@@ -15,7 +15,7 @@ use units::Nanos;
 pub mod debts;
 pub mod words;
 
-// A place that has the hash and the key: the first slot on the hash's walk that has both.
+// The place of the first slot on the hash's walk that has the hash and the key.
 pub fn position(ws: &[u64], cap: usize, hash: u64, key: u64) -> Place
     requires { ⌜ Intact cap (now ws) ⌝ }
     ensures { λ r. ⌜ r ≡ Model.placeOf (shard cap (now (ws .entry))) hash key ⌝ }
@@ -24,7 +24,7 @@ pub fn position(ws: &[u64], cap: usize, hash: u64, key: u64) -> Place
     index::find(ws, words::index(cap), count, hash, key)
 }
 
-// The slot at a place gets into the index, by the hash that it will have.
+// The index gets the slot of this hash that the caller will put at the place.
 fn add_to_index(ws: &mut [u64], cap: usize, hash: u64, pos: usize)
     requires { ⌜ Intact cap (now ws) × (pos < cap) ⌝ }
     ensures { λ _. ⌜ shard cap (now (ws .exit)) ≡ Model.withFinding (shard cap (now (ws .entry))) (withAdded (shard cap (now (ws .entry)) .slots .finding) hash pos) ⌝ }
