@@ -1,0 +1,5 @@
+pub mod WidthLaws
+pub mod Translation
+pub mod TokenLaws
+pub mod Theorem
+pub mod CodeTheorem

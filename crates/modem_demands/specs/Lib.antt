@@ -1,0 +1,3 @@
+pub mod AddressCalls
+pub mod AddressDemands
+pub mod AddressContracts
