@@ -97,8 +97,10 @@ fn byte(pair: &str) -> Option<u8> {
 
 impl fmt::Display for HardwareAddress {
     fn fmt(&self, f: &mut fmt::Formatter<'_>) -> fmt::Result {
-        let [a, b, c, d, e, g] = self.0;
-        write!(f, "{a:02x}:{b:02x}:{c:02x}:{d:02x}:{e:02x}:{g:02x}")
+        let [first, rest @ ..] = self.0;
+        write!(f, "{first:02x}")?;
+        rest.into_iter()
+            .try_for_each(|octet| write!(f, ":{octet:02x}"))
     }
 }
 
