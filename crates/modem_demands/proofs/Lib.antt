@@ -3,3 +3,4 @@ pub mod Translation
 pub mod TokenLaws
 pub mod Theorem
 pub mod CodeTheorem
+pub mod ExportTheorem

@@ -23,8 +23,10 @@
 -- Then it is answered as that slot's bucket answers it, or a fresh bucket in that debt:                   ByOwnBucket
 -- never by want of space.
 --
--- Theorems, in proofs/: `rules-meet-address-demand3`; `address-demand2-gives-address-demand3`; and `contracts-meet-address-demand3`, of code that is as the
--- contracts of `modems` tell its callers.
+-- Theorems, in proofs/:
+-- * `rules-meet-address-demand3`: the rules meet it. `address-demand2-gives-address-demand3`: so does all that answers as the rules do.
+-- * `contracts-meet-address-demand2`, `contracts-meet-address-demand3`: so does code that is as the contracts of `modems` tell its callers.
+-- * `exports-meet-address-demand2`, `exports-meet-address-demand3`: so do the exports that C and Rust call, told as numbers.
 use Prim.Native.Nat.{ℕ, _+_, _*_, _-_, _≤_}
 use mathlib.Core.Path.{_≡_}
 use mathlib.Core.Bool.{Bool, true, false, cond, _&&_}

@@ -1,3 +1,4 @@
 pub mod AddressCalls
 pub mod AddressDemands
 pub mod AddressContracts
+pub mod AddressExports
