@@ -1,5 +1,5 @@
 /* A support desk's view of one modem: it asks until it is told to wait, reserves, and is looked at, paid back and forgotten. The technician is told
- * at which moment to try again. Every function of the library is called, with every setting set. Compiles as C99 and as C++. Run with
+ * at which moment to try again. Every function on keys is called, with every setting set (modem.c asks by address). Compiles as C99 and as C++. Run with
  * bindings/c/run-example. */
 #include <inttypes.h>
 #include <stdio.h>

@@ -92,7 +92,7 @@ enum {
     LIMITER_NONE = 3,       /* no reservation; or the key is unknown */
     LIMITER_REFUSED = 10,   /* this and the number of a refusal */
 
-    /* Refusals: code - LIMITER_REFUSED. The lowest that applies is given. */
+    /* Refusals: code - LIMITER_REFUSED. The lowest that applies is given; but calls by address are refused for their address before all else. */
     LIMITER_BAD_AMOUNT = 1,   /* not 1 to 65,535 */
     LIMITER_BAD_PERIOD = 2,   /* not 1 to 2^46 ns */
     LIMITER_BAD_BURST = 3,    /* not 1 to 65,535 */
@@ -100,7 +100,9 @@ enum {
     LIMITER_BAD_MEMORY = 5,   /* another length than limiter_words(s); or a count of the key's shard (for limiter_length, of any shard)
                                  is more than the shard can hold. Set-up and clear look at no count */
     LIMITER_BAD_MOMENT = 6,   /* now is after 2^62 ns */
-    LIMITER_BAD_MAX_WAIT = 7  /* max_wait is over 2^46 ns */
+    LIMITER_BAD_MAX_WAIT = 7, /* max_wait is over 2^46 ns */
+    LIMITER_BAD_ADDRESS = 11, /* the address is not six bytes */
+    LIMITER_GROUP_ADDRESS = 12 /* the address is that of a group: the lowest bit of its first byte is set */
 };
 
 /* What a refusal says, for a log. `code` is that of a reply. */
@@ -114,6 +116,8 @@ static inline const char *limiter_refusal_text(uint64_t code)
     case LIMITER_REFUSED + LIMITER_BAD_MEMORY: return "the words are not those of a store with these settings";
     case LIMITER_REFUSED + LIMITER_BAD_MOMENT: return "the moment is after 2^62 ns";
     case LIMITER_REFUSED + LIMITER_BAD_MAX_WAIT: return "the longest wait is over 2^46 ns";
+    case LIMITER_REFUSED + LIMITER_BAD_ADDRESS: return "the address is not six bytes";
+    case LIMITER_REFUSED + LIMITER_GROUP_ADDRESS: return "the address is that of a group";
     default: return code <= LIMITER_REFUSED ? "not refused" : "refused for a reason that this header does not know";
     }
 }
@@ -160,6 +164,30 @@ limiter_reply limiter_clear(limiter_settings s, uint64_t *words, size_t len);
 
 /* The number of keys that have a slot. 0 with `number` keys, or refused as 1 to 5. */
 limiter_reply limiter_length(limiter_settings s, const uint64_t *words, size_t len);
+
+/* Modems by hardware address. In the five calls below `address` and `address_len` are the bytes of an address, in the order in which it is written;
+ * they are only read. A call is that of the same name on the modem's key: the hash is FNV-1a over the six bytes, first byte first, and the key
+ * is the number with the first byte highest. Bytes that are not six are refused as 11, and the address of a group as 12, before anything else is
+ * looked at. NULL with length 0 is safe, and refused as 11. */
+
+/* As limiter_try; or refused as 11 or 12. */
+limiter_reply limiter_modem_try(limiter_settings s, uint64_t *words, size_t len, uint64_t now, const uint8_t *address,
+                                size_t address_len, uint32_t cost);
+
+/* As limiter_reserve; or refused as 11 or 12. */
+limiter_reply limiter_modem_reserve(limiter_settings s, uint64_t *words, size_t len, uint64_t now, const uint8_t *address,
+                                    size_t address_len, uint32_t cost, uint64_t max_wait);
+
+/* As limiter_peek; or refused as 11 or 12. */
+limiter_reply limiter_modem_peek(limiter_settings s, const uint64_t *words, size_t len, uint64_t now, const uint8_t *address,
+                                 size_t address_len, uint32_t cost);
+
+/* As limiter_refund; or refused as 11 or 12. */
+limiter_reply limiter_modem_refund(limiter_settings s, uint64_t *words, size_t len, const uint8_t *address, size_t address_len,
+                                   uint32_t cost);
+
+/* As limiter_remove; or refused as 11 or 12. */
+limiter_reply limiter_modem_remove(limiter_settings s, uint64_t *words, size_t len, const uint8_t *address, size_t address_len);
 
 #ifdef __cplusplus
 }

@@ -4,9 +4,10 @@ use core::fmt;
 use core::time::Duration;
 
 use limiter_sys::{
-    LIMITER_BAD_AMOUNT, LIMITER_BAD_BURST, LIMITER_BAD_MAX_WAIT, LIMITER_BAD_MEMORY,
-    LIMITER_BAD_MOMENT, LIMITER_BAD_PERIOD, LIMITER_BAD_SIZES, LIMITER_DONE, LIMITER_IMPOSSIBLE,
-    LIMITER_NONE, LIMITER_REFUSED, LIMITER_RETRY, LimiterReply,
+    LIMITER_BAD_ADDRESS, LIMITER_BAD_AMOUNT, LIMITER_BAD_BURST, LIMITER_BAD_MAX_WAIT,
+    LIMITER_BAD_MEMORY, LIMITER_BAD_MOMENT, LIMITER_BAD_PERIOD, LIMITER_BAD_SIZES, LIMITER_DONE,
+    LIMITER_GROUP_ADDRESS, LIMITER_IMPOSSIBLE, LIMITER_NONE, LIMITER_REFUSED, LIMITER_RETRY,
+    LimiterReply,
 };
 
 /// The answer to a try or a peek.
@@ -94,6 +95,10 @@ pub enum Refusal {
     Moment,
     /// The longest wait is over 2^46 ns.
     MaxWait,
+    /// The address is not six bytes. No [`HardwareAddress`](crate::HardwareAddress) is refused so.
+    AddressLength,
+    /// The address is that of a group, and not of a modem ([`HardwareAddress::is_group`](crate::HardwareAddress::is_group)).
+    GroupAddress,
     /// The library answered as this crate does not know: the two are of different versions. Here the call may have done something.
     Unknown {
         /// The code that the library gave.
@@ -103,7 +108,7 @@ pub enum Refusal {
 
 impl Refusal {
     /// Those that have a number.
-    const NUMBERED: [Self; 7] = [
+    const NUMBERED: [Self; 9] = [
         Self::Amount,
         Self::Period,
         Self::Burst,
@@ -111,6 +116,8 @@ impl Refusal {
         Self::Memory,
         Self::Moment,
         Self::MaxWait,
+        Self::AddressLength,
+        Self::GroupAddress,
     ];
 
     /// The code that the library answered with: 10 and the number of the refusal.
@@ -125,6 +132,8 @@ impl Refusal {
                 Self::Memory => LIMITER_BAD_MEMORY,
                 Self::Moment => LIMITER_BAD_MOMENT,
                 Self::MaxWait => LIMITER_BAD_MAX_WAIT,
+                Self::AddressLength => LIMITER_BAD_ADDRESS,
+                Self::GroupAddress => LIMITER_GROUP_ADDRESS,
                 Self::Unknown { code } => return code,
             }
     }
@@ -149,6 +158,8 @@ impl fmt::Display for Refusal {
             Self::Memory => "the words are not those of a store with these settings",
             Self::Moment => "the moment is after 2^62 ns",
             Self::MaxWait => "the longest wait is over 2^46 ns",
+            Self::AddressLength => "the address is not six bytes",
+            Self::GroupAddress => "the address is that of a group",
             Self::Unknown { code } => {
                 return write!(f, "the library answered with the unknown code {code}");
             }
@@ -261,7 +272,7 @@ mod tests {
 
     #[test]
     fn a_refusal_has_the_code_that_it_was_told_by() {
-        for (code, refusal) in (11..).zip(Refusal::NUMBERED) {
+        for (code, refusal) in (11..=17).chain(21..=22).zip(Refusal::NUMBERED) {
             assert_eq!(refusal.code(), code);
             assert_eq!(known(reply(code)), Err(refusal));
         }

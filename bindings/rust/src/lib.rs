@@ -19,6 +19,25 @@
 //! # Ok::<(), limiter::Refusal>(())
 //! ```
 //!
+//! # Modems by hardware address
+//!
+//! Five calls take a [`HardwareAddress`] in place of a [`Key`]: [`try_acquire_modem`](Store::try_acquire_modem),
+//! [`reserve_modem`](Store::reserve_modem), [`peek_modem`](Store::peek_modem), [`refund_modem`](Store::refund_modem) and
+//! [`remove_modem`](Store::remove_modem). The library hashes the address, and makes its key.
+//!
+//! ```
+//! # use core::time::Duration;
+//! # use limiter::{HardwareAddress, OwnedStore, Rate, Refusal, Settings};
+//! let mut store = OwnedStore::new(Settings::new(Rate::per_second(2), 100))?;
+//! let modem: HardwareAddress = "00:1a:2b:3c:4d:5e".parse()?;
+//! assert!(store.try_acquire_modem(Duration::from_secs(5), modem, 1)?.is_acquired());
+//!
+//! let group: HardwareAddress = "01:00:5e:00:00:01".parse()?;
+//! let refused = store.try_acquire_modem(Duration::from_secs(5), group, 1);
+//! assert_eq!(refused, Err(Refusal::GroupAddress));
+//! # Ok::<(), Box<dyn core::error::Error>>(())
+//! ```
+//!
 //! # Whose words
 //!
 //! A [`Store`] works on words that it owns ([`OwnedStore`]), on words that are lent to it ([`LentStore`]), or, for looks alone, on words that are
@@ -57,11 +76,13 @@
 #[cfg(feature = "alloc")]
 extern crate alloc;
 
+mod address;
 mod answer;
 mod key;
 mod settings;
 mod store;
 
+pub use address::{AddressError, HardwareAddress};
 pub use answer::{Decision, Refusal, Reservation};
 pub use key::Key;
 pub use settings::{Rate, Settings, WhenFull};

@@ -20,8 +20,8 @@ use crate::{Key, Settings};
 pub struct Store<W> {
     settings: Settings,
     /// The same, as every call passes them.
-    raw: LimiterSettings,
-    words: W,
+    pub(crate) raw: LimiterSettings,
+    pub(crate) words: W,
 }
 
 /// A store that owns its words.

@@ -53,7 +53,7 @@ no-other-code n code small = ne-eqb (10 + n) code (λ same. omega arith)
 number-comes-back : (n : ℕ) → Refused (10 + n - 10) ≡ Refused n
 number-comes-back n = ap Refused (omega arith)
 
-refusal-comes-back : (kind : Kind) (n : ℕ) → reading kind (toldOf (Refused n)) ≡ Refused n
+pub refusal-comes-back : (kind : Kind) (n : ℕ) → reading kind (toldOf (Refused n)) ≡ Refused n
 unfolding reading
 refusal-comes-back decides n =
     rw (no-other-code n 0 (omega arith), no-other-code n 1 (omega arith), no-other-code n 2 (omega arith)) (number-comes-back n)
@@ -62,7 +62,7 @@ refusal-comes-back counts n = rw (no-other-code n 0 (omega arith)) (number-comes
 refusal-comes-back knows n = rw (no-other-code n 0 (omega arith), no-other-code n 3 (omega arith)) (number-comes-back n)
 
 -- So what the rules answer to a call comes back from its numbers, and so does what they answer to set-up.
-reply-comes-back : (c : Call) (ws : List ℕ) → readAs (kindOf c) (told (rules c ws)) ≡ rules c ws
+pub reply-comes-back : (c : Call) (ws : List ℕ) → readAs (kindOf c) (told (rules c ws)) ≡ rules c ws
 reply-comes-back c ws =
     by-eq (refusalOf c ws) 0
     (λ none. rw (not-refused-is-ruled c ws none) (ap (λ r. outcome r (ruleOf c ws .after)) (in-kind-comes-back (rule-answers-in-kind c ws))))

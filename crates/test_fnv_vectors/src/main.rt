@@ -1,6 +1,6 @@
-// Prints the hash of each published FNV-1a vector, in hexadecimal, and of a few keys, in decimal.
+// Prints the hash of each published FNV-1a vector, in hexadecimal, and of a few keys, in decimal, and addresses, in hexadecimal.
 // The gate compares the lines with the file `stdout`. Its values for strings are those published with FNV-1a, written down from memory and confirmed by
-// another program; those for keys were computed by that program.
+// another program; those for keys and addresses were computed by such a program.
 use libc::STDOUT_FILENO;
 
 fn main() {
@@ -9,6 +9,7 @@ fn main() {
     prefix_vectors();
     vectors_ending_in_nul();
     key_hashes();
+    address_hashes();
 }
 
 // The vectors of draft-eastlake-fnv.
@@ -50,6 +51,16 @@ fn key_hashes() {
     key(8);
     key(9);
     key(u64::MAX);
+}
+
+// Six bytes, as a modem's hardware address has: those of the lowest and the highest number, two that differ in the last bit, one and the same bytes backwards.
+fn address_hashes() {
+    named_vector(b"00:00:00:00:00:00", b"\0\0\0\0\0\0");
+    named_vector(b"00:00:00:00:00:01", b"\0\0\0\0\0\x01");
+    named_vector(b"fe:ff:ff:ff:ff:ff", b"\xfe\xff\xff\xff\xff\xff");
+    named_vector(b"00:1a:2b:3c:4d:5e", b"\0\x1a\x2b\x3c\x4d\x5e");
+    named_vector(b"00:1a:2b:3c:4d:5f", b"\0\x1a\x2b\x3c\x4d\x5f");
+    named_vector(b"5e:4d:3c:2b:1a:00", b"\x5e\x4d\x3c\x2b\x1a\0");
 }
 
 // A line with a string of bytes that can be printed, and its hash.

@@ -1,6 +1,6 @@
 //! Our library, as limiter-sys declares it.
 
-use limiter_sys::{LimiterSettings, slices};
+use limiter_sys::{LimiterReply, LimiterSettings, slices};
 use oracle::{Answer, Rate, Settings, WhenFull};
 
 use crate::call::Call;
@@ -83,9 +83,9 @@ pub fn words(s: &RawSettings) -> u64 {
     limiter_sys::limiter_words(*s)
 }
 
-/// The library's answer to `call` on `words`. A code past 8 bits becomes 255, which is no code.
+/// The library's answer to `call` on `words`.
 pub fn ask(s: RawSettings, words: &mut [u64], call: &Call) -> Reply {
-    let reply = match *call {
+    told(match *call {
         Call::SetUp => slices::set_up(s, words),
         Call::Try { now, key, cost } => slices::try_acquire(s, words, now, key.hash, key.key, cost),
         Call::Reserve {
@@ -100,7 +100,11 @@ pub fn ask(s: RawSettings, words: &mut [u64], call: &Call) -> Reply {
         Call::Remove { key } => slices::remove(s, words, key.hash, key.key),
         Call::Clear => slices::clear(s, words),
         Call::Length => slices::length(s, words),
-    };
+    })
+}
+
+/// What the library told. A code past 8 bits becomes 255, which is no code.
+pub fn told(reply: LimiterReply) -> Reply {
     let answer = Answer {
         code: u8::try_from(reply.code).unwrap_or(u8::MAX),
         number: reply.number,

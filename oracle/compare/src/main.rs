@@ -2,6 +2,7 @@
 //! README.md of the oracle says what is compared; `--help` how to run it.
 
 mod branches;
+mod by_address;
 mod call;
 mod check;
 mod fault;

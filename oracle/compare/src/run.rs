@@ -1,5 +1,7 @@
 //! Trace after trace, and how it ends.
 
+mod by_address;
+
 use std::fmt::Write as _;
 use std::process::ExitCode;
 use std::time::{Duration, Instant};
@@ -12,6 +14,7 @@ use crate::generate::{Aside, LARGE, Plan};
 use crate::options::{ENOUGH, Options};
 use crate::random::Random;
 use crate::{fault, library};
+use by_address::Addresses;
 
 /// What the traces of a round are. Each has a number of calls.
 #[derive(Clone, Copy)]
@@ -61,6 +64,7 @@ pub struct Failed {
 pub struct Run {
     options: Options,
     bench: Bench,
+    addresses: Addresses,
     calls: u64,
     began: Instant,
     reported: Instant,
@@ -72,6 +76,7 @@ impl Run {
         Self {
             options,
             bench: Bench::new(),
+            addresses: Addresses::new(),
             calls: 0,
             began: now,
             reported: now,
@@ -124,7 +129,8 @@ impl Run {
                 let plan = Plan::new(&mut random, LARGE[round % LARGE.len()], false);
                 self.steps(&mut random, plan, true, 1_500)
             }
-        }
+        }?;
+        self.modems(trace)
     }
 
     /// A trace of so many calls; now and then a call beside it on a copy of the words, with something wrong.
@@ -246,7 +252,8 @@ impl Run {
             self.tell(&failed);
             return ExitCode::FAILURE;
         }
-        let missing = self.bench.hits.report();
+        let mut missing: Vec<String> = self.bench.hits.report();
+        missing.extend(self.addresses.report());
         let seconds = self.began.elapsed().as_secs_f64();
         println!(
             "seed {}: {} calls in {seconds:.1} s, {} calls/s, no difference",

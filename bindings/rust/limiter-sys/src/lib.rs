@@ -6,6 +6,7 @@
 
 #![no_std]
 
+pub mod modem;
 pub mod slices;
 
 /// The settings of a store: `limiter_settings` of the header. A flag is set if it is not 0.
@@ -98,6 +99,10 @@ pub const LIMITER_BAD_MEMORY: u64 = 5;
 pub const LIMITER_BAD_MOMENT: u64 = 6;
 /// Refused: the longest wait is over 2^46 ns.
 pub const LIMITER_BAD_MAX_WAIT: u64 = 7;
+/// Refused: the address is not six bytes.
+pub const LIMITER_BAD_ADDRESS: u64 = 11;
+/// Refused: the address is that of a group.
+pub const LIMITER_GROUP_ADDRESS: u64 = 12;
 
 // The two functions that are lent no words are safe with any arguments. The others ask of a caller that `words` and `len` are words that it may
 // read, and write unless they are `const`, for the length of the call, or that `len` is 0; `words` may be null then.

@@ -1,4 +1,4 @@
-//! The calls of the library on slices: safe with any arguments and any words. All unsafe calls of it are here.
+//! The calls of the library on slices: safe with any arguments and any words. All unsafe calls of it are here and in [`modem`](crate::modem).
 
 use crate::{LimiterReply, LimiterSettings};
 

@@ -114,6 +114,8 @@ fn the_header_has_the_same_codes() {
         ("BAD_MEMORY", LIMITER_BAD_MEMORY),
         ("BAD_MOMENT", LIMITER_BAD_MOMENT),
         ("BAD_MAX_WAIT", LIMITER_BAD_MAX_WAIT),
+        ("BAD_ADDRESS", LIMITER_BAD_ADDRESS),
+        ("GROUP_ADDRESS", LIMITER_GROUP_ADDRESS),
     ];
     for (name, code) in codes {
         let line = format!("LIMITER_{name} = {code}");

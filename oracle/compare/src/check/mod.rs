@@ -1,6 +1,7 @@
 //! Our library, the Rust and the rules on words, side by side.
 
 mod aside;
+mod by_address;
 mod difference;
 mod shorten;
 mod trace;

@@ -1,6 +1,7 @@
 //! Random settings, keys, moments and calls: how a trace goes.
 
 mod aside;
+mod by_address;
 mod calls;
 mod contents;
 mod damage;
@@ -12,6 +13,7 @@ use oracle::{Key, Rate, Settings, Shape, WhenFull};
 
 use crate::random::Random;
 pub use aside::Aside;
+pub use by_address::{addresses, no_address};
 pub use domain::LARGE;
 use domain::{CROWDED, SMALL, Sizes, idle, keys, rate, slow_rate, start};
 

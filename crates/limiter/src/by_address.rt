@@ -1,0 +1,89 @@
+// The limiter for modems that are known by hardware address, for callers in C and Rust: the address is a lent slice of bytes, in C a pointer and a length.
+// What each operation does is the rule of `modems` that its contract names.
+ghost use mathlib.Core.Path.{_≡_};
+ghost use Rattle.rows.specs.Outcome.{outcome};
+ghost use Rattle.units.specs.Units.{nanosOf};
+ghost use Rattle.perkey.specs.Rules as Rules;
+ghost use Rattle.modems.specs.Address as Address;
+ghost use Rattle.limiter.specs.Exported.{settingsOf};
+use crate::LimiterSettings;
+use perkey::codes::Told;
+use units::Nanos;
+
+// Takes `cost` tokens for a modem at the moment `at`, if its bucket has them: granted, to be tried again after a wait, or impossible.
+#[no_mangle]
+pub extern "C" fn limiter_modem_try(
+    settings: LimiterSettings,
+    ws: &mut [u64],
+    at: u64,
+    address: &[u8],
+    cost: u32,
+) -> Told
+    ensures { λ r. ⌜ outcome r (now (ws .exit)) ≡
+        Rules.told (Address.tryAcquire (settingsOf settings) (nanosOf at) (now (address .entry)) cost (now (ws .entry))) ⌝ }
+{
+    modems::try_acquire_with_cost(crate::settings_of(settings), ws, Nanos(at), address, cost).told()
+}
+
+// Takes `cost` tokens for a modem that become usable after a wait, if that wait is at most `max_wait`. The number is the wait.
+#[no_mangle]
+pub extern "C" fn limiter_modem_reserve(
+    settings: LimiterSettings,
+    ws: &mut [u64],
+    at: u64,
+    address: &[u8],
+    cost: u32,
+    max_wait: u64,
+) -> Told
+    ensures { λ r. ⌜ outcome r (now (ws .exit)) ≡
+        Rules.told (Address.reserve (settingsOf settings) (nanosOf at) (now (address .entry)) cost (nanosOf «max_wait») (now (ws .entry))) ⌝ }
+{
+    modems::reserve(
+        crate::settings_of(settings),
+        ws,
+        Nanos(at),
+        address,
+        cost,
+        Nanos(max_wait),
+    ).told()
+}
+
+// What the modem's bucket would answer to a try at the moment `at`. It takes nothing, and says nothing of room for a new modem.
+#[no_mangle]
+pub extern "C" fn limiter_modem_peek(
+    settings: LimiterSettings,
+    ws: &[u64],
+    at: u64,
+    address: &[u8],
+    cost: u32,
+) -> Told
+    ensures { λ r. ⌜ outcome r (now (ws .exit)) ≡
+        Rules.told (Address.peek (settingsOf settings) (nanosOf at) (now (address .entry)) cost (now (ws .entry))) ⌝ }
+{
+    modems::peek(crate::settings_of(settings), ws, Nanos(at), address, cost).told()
+}
+
+// Gives `cost` tokens back to a modem, or to the debt that is remembered for its hash; unknown if there is neither.
+#[no_mangle]
+pub extern "C" fn limiter_modem_refund(
+    settings: LimiterSettings,
+    ws: &mut [u64],
+    address: &[u8],
+    cost: u32,
+) -> Told
+    ensures { λ r. ⌜ outcome r (now (ws .exit)) ≡ Rules.told (Address.refund (settingsOf settings) (now (address .entry)) cost (now (ws .entry))) ⌝ }
+{
+    modems::refund(crate::settings_of(settings), ws, address, cost).told()
+}
+
+// Forgets a modem, and the debt that is remembered for its hash; unknown if there is neither.
+#[no_mangle]
+pub extern "C" fn limiter_modem_remove(
+    settings: LimiterSettings,
+    ws: &mut [u64],
+    address: &[u8],
+) -> Told
+    ensures { λ r. ⌜ outcome r (now (ws .exit)) ≡ Rules.told (Address.remove (settingsOf settings) (now (address .entry)) (now (ws .entry))) ⌝ }
+{
+    modems::remove(crate::settings_of(settings), ws, address).told()
+}

@@ -1,0 +1,4 @@
+pub mod AddressCalls
+pub mod AddressDemands
+pub mod AddressContracts
+pub mod AddressExports
