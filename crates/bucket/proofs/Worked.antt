@@ -5,7 +5,7 @@ use Rattle.arith.specs.Arith.{ceilDiv}
 use Rattle.units.specs.declared.Nanos.{Nanos}
 use Rattle.bucket.specs.declared.BucketConfig.{BucketConfig}
 use Rattle.bucket.specs.declared.BucketCore.{BucketCore}
-use Rattle.bucket.specs.Bucket.{shortfallAt, availableAt, fresh, waitAt, recoveryAt, spent}
+use Rattle.bucket.specs.Bucket.{shortfallAt, availableAt, fresh, grown, waitAt, recoveryAt, spent}
 use Rattle.bucket.specs.Debt.{takenOut, lacking, restored}
 
 -- A rate whose fresh buckets are full, and such a bucket that spends at moment 0.
@@ -25,7 +25,7 @@ uneven = rate 3 10 4
 
 pub missing-rounded-up :
     availableAt uneven (restored uneven (fresh uneven start) start (record { 0 = recoveryAt uneven (spender uneven 1) start })) start ≡ 2
-unfolding ceilDiv shortfallAt availableAt waitAt takenOut lacking restored
+unfolding ceilDiv shortfallAt availableAt grown waitAt takenOut lacking restored
 missing-rounded-up = refl
 
 -- 2 tokens a second, up to 4: after all 4 are spent the next is there in half a second.
@@ -33,7 +33,7 @@ abbrev twoPerSecond : BucketConfig
 twoPerSecond = rate 2 1000000000 4
 
 pub half-a-second-for-one : waitAt twoPerSecond (spender twoPerSecond 4) 1 start ≡ 500000000
-unfolding ceilDiv shortfallAt waitAt
+unfolding ceilDiv shortfallAt grown waitAt
 half-a-second-for-one = refl
 
 -- 65,535 tokens a second: a spent token is back after 15,259.02 ns, rounded up.
@@ -41,5 +41,5 @@ abbrev fastest : BucketConfig
 fastest = rate 65535 1000000000 65535
 
 pub recovery-rounded-up : recoveryAt fastest (spender fastest 1) start ≡ 15260
-unfolding ceilDiv shortfallAt waitAt
+unfolding ceilDiv shortfallAt grown waitAt
 recovery-rounded-up = refl
