@@ -91,6 +91,12 @@ pub wait-for-lack : (c : BucketConfig) (b : BucketCore) (cost : ℕ) (at : Nanos
 unfolding waitAt
 wait-for-lack c b cost at n = rw (ne-eqb _ _ n)
 
+pub wait-fits : (c : BucketConfig) (b : BucketCore) (cost : ℕ) (at : Nanos) → waitAt c b cost at < 2 ^ 64
+wait-fits c b cost at =
+    by-eq cost 0
+    (λ none. omega (arith, no-cost-no-wait c b cost at none))
+    (λ some. omega (arith, wait-for-lack c b cost at some, grown-fits b at (ceilDiv (lackFor c b cost at) (c .amount))))
+
 pub enough-no-wait : {c : BucketConfig} (b : BucketCore) (cost : ℕ) (at : Nanos) → Accepted c →
     shortfallAt c b at + partsOf c cost ≤ fullParts c → 0 ≡ waitAt c b cost at
 enough-no-wait {c} b cost at a h =
@@ -114,6 +120,22 @@ lack-comes-back-in-time {c} b cost at a within =
     let lack : lackFor c b cost at ≤ most * c .amount =
     omega (arith, shortfall-most c b at, parts-within c cost within, mul-le-mul-left most (a .amount-least)) in
     omega (arith, ceilDiv-least _ (c .amount) most (a .amount-least) lack, most-shortfall-fits a)
+
+pub recovery-in-time : {c : BucketConfig} (b : BucketCore) (at : Nanos) → Accepted c → recoveryOf c (shortfallAt c b at) < 2 ^ 63
+recovery-in-time {c} b at a =
+    let same : shortfallAt c b at ≡ lackFor c b (c .capacity) at = omega arith in
+    rw same (lack-comes-back-in-time b (c .capacity) at a (omega arith))
+
+-- From the stamp on nothing is added to them: they are what they are.
+pub wait-from-the-stamp-on : {c : BucketConfig} (b : BucketCore) (cost : ℕ) (at : Nanos) → Accepted c → cost ≤ c .capacity → (cost ≡ 0 → ⊥)
+    → b .stamp .0 ≤ at .0 → ceilDiv (lackFor c b cost at) (c .amount) ≡ waitAt c b cost at
+wait-from-the-stamp-on b cost at a within some passed =
+    sym (not-grown-from-the-stamp-on b at _ passed (omega (arith, lack-comes-back-in-time b cost at a within))) ∙ wait-for-lack _ b cost at some
+
+pub recovery-from-the-stamp-on : {c : BucketConfig} (b : BucketCore) (at : Nanos) → Accepted c → b .stamp .0 ≤ at .0
+    → recoveryOf c (shortfallAt c b at) ≡ recoveryAt c b at
+recovery-from-the-stamp-on b at a passed =
+    sym (not-grown-from-the-stamp-on b at _ passed (omega (arith, recovery-in-time b at a))) ∙ recovery-of-shortfall b at a
 
 -- When something is due, by the number of the wait. (A contract gives the number of a wait, an answer tells when the cost is due.)
 pub due-by-number : (at wait : Nanos) {n : ℕ} → wait .0 ≡ n → dueAfter at wait ≡ dueAfter at (record { 0 = n })

@@ -1,12 +1,11 @@
--- `evict_owing` goes by the ledger's answer, as its definition does. The moment of the debt fits 64 bits, since a recovery is below 2^63 ns.
-use native.Mathlib.Omega.{arith}
+-- `evict_owing` goes by the ledger's answer, as its definition does.
 use mathlib.Core.Path.{_≡_}
 use Rattle.rows.specs.Outcome.{outcome}
 use Rattle.shard_map.specs.Model.{inLedger}
 use Rattle.shard_map.specs.Layout.{shard}
 use Rattle.shard_map.proofs.ModelLaws.{intact-below}
-use Rattle.evict.proofs.WalkLaws.{debtRecorded, refusal-is-due-in-time}
-use Rattle.evict.proofs.ModelLaws.{after-record, debt-fits, debt-recorded, owing-goes-out, owing-stays}
+use Rattle.evict.proofs.WalkLaws.{debtRecorded}
+use Rattle.evict.proofs.ModelLaws.{after-record, debt-recorded, owing-goes-out, owing-stays}
 use borrow.Author.Needs.{needs}
 use Rattle.evict.proofs.evict_owing.Statement.{statement}
 use Rattle.evict.proofs.evict_owing.Tie as tie
