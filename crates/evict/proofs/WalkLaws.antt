@@ -35,9 +35,9 @@ use Rattle.evict.specs.declared.Victim.the-variants.{Free, Owing}
 use Rattle.evict.specs.declared.Room.{Room}
 use Rattle.evict.specs.declared.Room.the-variants.{Made, Refused}
 use Rattle.shard_map.specs.Model.{Shard, Sound, Complete, slotItems, capOf, slotAt, withLedger, handOf, removeAt}
-use Rattle.evict.specs.Evict.{minRefusalWait, orElse, placeOr, lastWord, noneAwaited, soonestIn, nothingNoted, noted, looked, goesAtOnce, Walked, walkFrom, walked, freeOr, victimOf, evictAt}
+use Rattle.evict.specs.Evict.{minRefusalWait, orElse, placeOr, lastWord, soonestIn, nothingNoted, noted, looked, goesAtOnce, Walked, walkFrom, walked, freeOr, victimOf, evictAt}
 use Rattle.evict.specs.Evict.{debtLeft, refusalWait, afterRecording, evictVictim, evicted}
-use Rattle.evict.proofs.AwaitedLaws.{soonest-of-the-later, one-more-is-awaited}
+use Rattle.evict.proofs.AwaitedLaws.{one-more-is-awaited}
 use Rattle.shard_map.proofs.StepLaws.{hand-below, removal-count, removal-cap, removal-kind, removal-slots-complete, removal-ledger, ledger-sound}
 
 -- A shard that is another but for the hand and the marks.
@@ -181,8 +181,8 @@ module _ {c : BucketConfig} (a : Accepted c) (at : Nanos) where
       (λ stays. rw (stays, walkFrom, soonestFrom, ← soonest-noted w (handOf s) (slotAt s (handOf s))) (soonest-from left (looked s (handOf s)) _))
 
   pub awaited-recovers-soonest : (s : Shard) → soonestIn c (walked c at s .walk .awaited) ≡ soonestOf c at s
-  unfolding walked
-  awaited-recovers-soonest s = rw (soonest-of-the-later c noneAwaited refl) (soonest-from _ s nothingNoted)
+  unfolding walked soonestIn
+  awaited-recovers-soonest s = soonest-from _ s nothingNoted
 
 -- A slot that is full before the walk is full after it.
 remarked-full : (c : BucketConfig) (at : Nanos) (s t : Shard) (p : ℕ) → Remarked s t → FullSlot c at s p → FullSlot c at t p

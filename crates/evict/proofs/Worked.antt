@@ -1,5 +1,5 @@
 -- The sentences of document 01 on eviction, each worked on a small shard, as the idle sweep is in the Worked of the shard.
-use Prim.Native.Nat.{ℕ, _+_, _-_}
+use Prim.Native.Nat.{ℕ, _+_, _-_, _^_}
 use mathlib.Core.Path.{_≡_, refl}
 use mathlib.Core.Bool.{true, false}
 use mathlib.Core.List.{[], _∷_, _++_}
@@ -10,6 +10,7 @@ use Rattle.settings.specs.Eviction.{clockScan}
 use Rattle.rows.specs.Places.{lowestFrom}
 use Rattle.held.specs.Held.{removed}
 use Rattle.rows.specs.Outcome.{outcome}
+use Rattle.slot.specs.declared.Slot.{Slot}
 use Rattle.ledger.specs.declared.Debt.{Debt}
 use Rattle.ledger.specs.Model as Ledger
 use Rattle.shard_map.specs.Model.{Shard, noSlot, removeAt}
@@ -102,3 +103,54 @@ forgetting-makes-room :
 unfolding evicted walked walkFrom noted awaiting soonestIn shortfallAt grown waitAt ceilDiv removeAt removed Ledger.recorded Ledger.recordedAt
     Ledger.placeOf Ledger.makeRoom Ledger.scan Ledger.scanFrom Ledger.dropChosen Ledger.removeAt Ledger.append lowestFrom
 forgetting-makes-room = refl
+
+-- The clock was set back, and a stamp is after the moment. The debt of such a slot settles when the bucket is due to be full: 3 ns until the stamp, and 4 ns.
+abbrev ahead : ℕ → ℕ → ℕ → ℕ → Slot
+ahead number shortfall stamp mark = record {
+  hash = number;
+  key = number;
+  bucket = record { shortfall = shortfall; stamp = moment stamp };
+  mark = mark;
+  seen = record { 0 = 0 };
+}
+
+debt-settles-after-the-stamp :
+    evicted rate (moment 0) false (shard 1 0 0 (ahead 1 8 3 0 ∷ []) noDebts) ≡ outcome Made (shard 0 1 0 (noSlot ∷ []) (ledger 1 0 (owing 1 7 ∷ [])))
+unfolding evicted walked walkFrom noted awaiting soonestIn shortfallAt grown waitAt ceilDiv removeAt removed Ledger.recorded Ledger.recordedAt
+    Ledger.placeOf Ledger.append lowestFrom
+debt-settles-after-the-stamp = refl
+
+-- That moment is held to 64 bits.
+debt-settles-at-the-last-moment :
+    evicted rate (moment 2) false (shard 1 0 0 (ahead 1 8 (2 ^ 64 - 3) 0 ∷ []) noDebts)
+    ≡ outcome Made (shard 0 1 0 (noSlot ∷ []) (ledger 1 0 (owing 1 (2 ^ 64 - 1) ∷ [])))
+unfolding evicted walked walkFrom noted awaiting soonestIn shortfallAt grown waitAt ceilDiv removeAt removed Ledger.recorded Ledger.recordedAt
+    Ledger.placeOf Ledger.append lowestFrom
+debt-settles-at-the-last-moment = refl
+
+-- A refusal: the first slot lacks more, and recovers in 4 ms. The second recovers in 2 ms from its stamp on. With a stamp 1 ms ahead it is the soonest, with one
+-- that is 3 ms ahead the first is. The ledger's debt settles in 9 ms.
+abbrev oneAhead : ℕ → ℕ → ℕ → ℕ → Shard
+oneAhead stamp mark hand cursor = shard 2 hand 0 (slot 1 8000000 mark 0 ∷ ahead 2 4000000 stamp mark ∷ []) (ledger 1 cursor (owing 9 9000000 ∷ []))
+
+refusal-waits-for-a-stamp :
+    evicted rate (moment 0) false (oneAhead 1000000 1 0 0) ≡ outcome (Refused (dueAfter (moment 0) (moment 3000000))) (oneAhead 1000000 0 2 1)
+unfolding evicted walked walkFrom noted awaiting soonestIn shortfallAt grown waitAt ceilDiv Ledger.recorded Ledger.recordedAt
+    Ledger.placeOf Ledger.makeRoom Ledger.scan Ledger.scanFrom Ledger.dropChosen lowestFrom
+refusal-waits-for-a-stamp = refl
+
+refusal-waits-for-the-larger-shortfall :
+    evicted rate (moment 0) false (oneAhead 3000000 1 0 0) ≡ outcome (Refused (dueAfter (moment 0) (moment 4000000))) (oneAhead 3000000 0 2 1)
+unfolding evicted walked walkFrom noted awaiting soonestIn shortfallAt grown waitAt ceilDiv Ledger.recorded Ledger.recordedAt
+    Ledger.placeOf Ledger.makeRoom Ledger.scan Ledger.scanFrom Ledger.dropChosen lowestFrom
+refusal-waits-for-the-larger-shortfall = refl
+
+-- Every slot is ahead: the soonest of their recoveries, 6 ms.
+abbrev allAhead : ℕ → ℕ → ℕ → Shard
+allAhead mark hand cursor = shard 2 hand 0 (ahead 1 8000000 2000000 mark ∷ ahead 2 4000000 5000000 mark ∷ []) (ledger 1 cursor (owing 9 9000000 ∷ []))
+
+refusal-waits-where-all-are-ahead :
+    evicted rate (moment 0) false (allAhead 1 0 0) ≡ outcome (Refused (dueAfter (moment 0) (moment 6000000))) (allAhead 0 2 1)
+unfolding evicted walked walkFrom noted awaiting soonestIn shortfallAt grown waitAt ceilDiv Ledger.recorded Ledger.recordedAt
+    Ledger.placeOf Ledger.makeRoom Ledger.scan Ledger.scanFrom Ledger.dropChosen lowestFrom
+refusal-waits-where-all-are-ahead = refl

@@ -135,7 +135,7 @@ walk-left c =
 
 -- Where the loop's ways met, from where the victim was chosen.
 abbrev met : tie.After-choose Inv-loop μ-loop → tie.Joined1 Inv-loop μ-loop
-met chosen = chosen .before .before
+met chosen = chosen .before .before .before
 
 choose-requires : tie.Need-choose-requires Inv-loop μ-loop
 choose-requires c κs = search needs

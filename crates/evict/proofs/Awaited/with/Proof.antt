@@ -11,7 +11,7 @@ smaller-requires c κs = search needs
 returns : tie.Need-returns
 returns c =
     let test = c .before in
-    rw (c .smaller .ensures, test .before .pre .1) (awaits-its-shortfall _ _ _ _ (test .if1 .taken))
+    rw (c .smaller .ensures, test .before .before .before .pre .1) (awaits-its-shortfall _ _ _ _ (test .if1 .taken))
 
 recovers-in-requires : tie.Need-recovers-in-requires
 recovers-in-requires c κs = search needs

@@ -14,7 +14,7 @@ returns : tie.Need-returns
 returns c = let t = c .before in rw (c .first-of .ensures) (noted-full _ _ _ _ _ (t .before .shortfall-at .ensures) (t .if1 .taken))
 
 with-requires : tie.Need-with-requires
-with-requires c κs = let e = c .before in (e .before .before .pre, e .before .shortfall-at .ensures)
+with-requires c κs = let short = c .before in (short .before .before .before .pre, short .shortfall-at .ensures)
 
 first-of-requires-2 : tie.Need-first-of-requires-2
 first-of-requires-2 c κs = search needs
