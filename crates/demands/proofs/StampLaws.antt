@@ -9,6 +9,7 @@ use Rattle.units.specs.declared.Nanos.{Nanos}
 use Rattle.units.specs.declared.Millis.{Millis}
 use Rattle.units.specs.declared.OptionNanos.{OptionNanos}
 use Rattle.units.specs.declared.OptionNanos.the-variants.{None, Some}
+use Rattle.units.specs.Units.{millisOf}
 use Rattle.bucket.specs.declared.BucketConfig.{BucketConfig}
 use Rattle.bucket.specs.declared.BucketCore.{BucketCore}
 use Rattle.bucket.specs.declared.BucketDecision.{BucketDecision}
@@ -23,6 +24,8 @@ use Rattle.held.proofs.HeldLaws.{item-stored, item-stored-other, item-appended,
 use Rattle.held.proofs.SingleLaws.{ComesFrom, removed-comes-from, sweep-comes-from}
 use Rattle.settings.specs.Eviction.{ttlSweep}
 use Rattle.slot.specs.declared.Slot.{Slot}
+use Rattle.slot.specs.Slot.{newSlot}
+use Rattle.ledger.specs.Model as Ledger
 use Rattle.shard_map.specs.Model.{Shard, Sound, slotItems, capOf, slotAt, withSlot, removeAt, insert, reclaimable, roundOf, sweepIdle}
 use Rattle.shard_map.proofs.StepLaws.{slots-sound}
 use Rattle.evict.specs.Evict.{evicted}
@@ -114,8 +117,10 @@ ask-keeps-stamps p id request cost at s a u past = go (ask-cases p id request co
         change-keeps-stamps (at .0) s i slot (omega (arith, f .below, u .count-fits)) (rw (r .bucket) (asked-stamp c request (slotAt s i .bucket) cost at (past i (f .below)))) past
     go (key-joins e made) =
         let v : Sound (debtTaken id s) = debt-taken-sound id s u in
-        insert-keeps-stamps (at .0) (roomFor p id at s .after) _ (room-made-leaves-room p at (debtTaken id s) v made)
-        (asked-stamp c request (returning c at _) cost at (returning-stamp c at _ a)) (room-keeps-stamps (at .0) p at (debtTaken id s) v past)
+        let owed : OptionNanos = Ledger.taken (s .ledger) (id .hash) .answer in
+        insert-keeps-stamps (at .0) (roomFor p id at s .after) (newSlot (id .hash) (id .key) (asked c request (returning c at owed) cost at .bucket) (millisOf at))
+        (room-made-leaves-room p at (debtTaken id s) v made)
+        (asked-stamp c request (returning c at owed) cost at (returning-stamp c at owed a)) (room-keeps-stamps (at .0) p at (debtTaken id s) v past)
     go (no-space due e no-debt told) = room-keeps-stamps (at .0) p at s u past
 
 module _ (n : ℕ) (id : Identity) (s : Shard) (u : Sound s) (past : StampsBy n s) where

@@ -89,6 +89,8 @@ branches! {
     }
     "bucket" {
         BucketLaterStamp = "read before its stamp",
+        BucketGrown = "... and not full: it recovers later by the time up to the stamp",
+        BucketGrownHeld = "... past what 64 bits hold",
         BucketFull = "a shortfall that has fallen to 0",
         BucketPart = "a shortfall that has fallen, not to 0",
         BucketReadCut = "a stored shortfall over the largest",
@@ -165,9 +167,13 @@ branches! {
 /// Proved never to happen: a debt that was taken out leaves room in the ledger, so no refusal for space follows.
 const DEAD: [Branch; 1] = [Branch::SpacePutBack];
 
-/// Not to be had in stores grown from set-up under one settings record: grants leave no shortfall over the largest, and a closed
-/// limiter gets no keys.
-const ONLY_LOADED: [Branch; 2] = [Branch::BucketReadCut, Branch::ClosedRemove];
+/// Not to be had in stores grown from set-up under one settings record: grants leave no shortfall over the largest and no stamp
+/// after 2^62, and a closed limiter gets no keys.
+const ONLY_LOADED: [Branch; 3] = [
+    Branch::BucketReadCut,
+    Branch::BucketGrownHeld,
+    Branch::ClosedRemove,
+];
 
 /// What is said beside a branch that need not be taken.
 pub fn note(branch: Branch) -> &'static str {

@@ -2,7 +2,8 @@
 //! account beside the library and the Rust. It says which branch each call takes, what is right on words that the Rust cannot hold, and what
 //! the Rust has no answer to. It shares nothing with the Rust but the numbered refusals, the layout of the words, and its names.
 //!
-//! Of 02 it has request 1, the moment: now + the wait of every grant and every retry (`Wait::moment`).
+//! Of 02 it has request 1, the moment: now + the wait of every grant and every retry (`Wait::moment`); and request 5, a clock set back
+//! (`Bucket::wait`).
 //!
 //! The layers, from below: `bucket` (numbers), `rows` (items in words), `entry` (a slot), `ledger` (the debts), `shard_map` and
 //! `evict_one` (a shard), `restore_debt`, `store` (what a key holds), `perkey` (the calls). `settings` and `decision` are what goes in and
