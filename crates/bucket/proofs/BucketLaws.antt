@@ -13,7 +13,7 @@ use Rattle.bucket.specs.declared.BucketConfig.{BucketConfig}
 use Rattle.bucket.specs.declared.BucketCore.{BucketCore}
 use Rattle.bucket.specs.declared.Request.{Request}
 use Rattle.bucket.specs.declared.BucketDecision.the-variants.{Allowed, Denied}
-use Rattle.bucket.specs.Bucket.{Accepted, partsOf, fullParts, mostShortfall, readShortfall, shortfallAt, availableAt, fullAt, waitAt}
+use Rattle.bucket.specs.Bucket.{Accepted, partsOf, fullParts, mostShortfall, readShortfall, shortfallAt, availableAt, fullAt, lackFor, grown, waitAt}
 use Rattle.bucket.specs.Bucket.{recoveryOf, recoveryAt, dueAfter, dueAt, spent, longestWait, asked, refunded}
 use Rattle.bucket.specs.declared.Due.{Due}
 
@@ -60,42 +60,82 @@ pub refund-by-saturated : {c : BucketConfig} (b : BucketCore) (cost : ℕ) → A
 refund-by-saturated {c} b cost a =
     rw (mul-comm (c .period .0) cost) (ap (λ (n : ℕ). record { shortfall = n; stamp = b .stamp }) (fall-saturated _ _ (omega (arith, most-shortfall-fits a))))
 
+-- A wait with the time until the stamp: none stays none, another grows. It fits 64 bits, is no shorter than it was, and at the stamp or after it is the same.
+pub no-wait-stays-none : (b : BucketCore) (at : Nanos) (wait : ℕ) → wait ≡ 0 → 0 ≡ grown b at wait
+unfolding grown
+no-wait-stays-none b at wait none = rw (eq-eqb _ _ none)
+
+pub wait-grows : (b : BucketCore) (at : Nanos) (wait : ℕ) → (wait ≡ 0 → ⊥) → saturated (wait + (b .stamp .0 - at .0)) ≡ grown b at wait
+unfolding grown
+wait-grows b at wait some = rw (ne-eqb _ _ some)
+
+pub grown-fits : (b : BucketCore) (at : Nanos) (wait : ℕ) → grown b at wait < 2 ^ 64
+grown-fits b at wait =
+    by-eq wait 0 (λ none. omega (arith, no-wait-stays-none b at wait none)) (λ some. omega (arith, wait-grows b at wait some))
+
+pub grown-no-shorter : (b : BucketCore) (at : Nanos) (wait : ℕ) → wait < 2 ^ 64 → wait ≤ grown b at wait
+grown-no-shorter b at wait fits =
+    by-eq wait 0 (λ none. omega (arith, none)) (λ some. omega (arith, wait-grows b at wait some))
+
+pub not-grown-from-the-stamp-on : (b : BucketCore) (at : Nanos) (wait : ℕ) → b .stamp .0 ≤ at .0 → wait < 2 ^ 64 → grown b at wait ≡ wait
+not-grown-from-the-stamp-on b at wait passed fits =
+    by-eq wait 0 (λ none. omega (arith, none, no-wait-stays-none b at wait none)) (λ some. omega (arith, wait-grows b at wait some))
+
 -- The wait: none for no cost; else until what the bucket lacks has come back; so none where it lacks nothing, and there the code does not divide.
 pub no-cost-no-wait : (c : BucketConfig) (b : BucketCore) (cost : ℕ) (at : Nanos) → cost ≡ 0 → 0 ≡ waitAt c b cost at
 unfolding waitAt
 no-cost-no-wait c b cost at e = rw (eq-eqb _ _ e)
 
 pub wait-for-lack : (c : BucketConfig) (b : BucketCore) (cost : ℕ) (at : Nanos) → (cost ≡ 0 → ⊥) →
-    ceilDiv (shortfallAt c b at + partsOf c cost - fullParts c) (c .amount) ≡ waitAt c b cost at
+    grown b at (ceilDiv (lackFor c b cost at) (c .amount)) ≡ waitAt c b cost at
 unfolding waitAt
 wait-for-lack c b cost at n = rw (ne-eqb _ _ n)
+
+pub wait-fits : (c : BucketConfig) (b : BucketCore) (cost : ℕ) (at : Nanos) → waitAt c b cost at < 2 ^ 64
+wait-fits c b cost at =
+    by-eq cost 0
+    (λ none. omega (arith, no-cost-no-wait c b cost at none))
+    (λ some. omega (arith, wait-for-lack c b cost at some, grown-fits b at (ceilDiv (lackFor c b cost at) (c .amount))))
 
 pub enough-no-wait : {c : BucketConfig} (b : BucketCore) (cost : ℕ) (at : Nanos) → Accepted c →
     shortfallAt c b at + partsOf c cost ≤ fullParts c → 0 ≡ waitAt c b cost at
 enough-no-wait {c} b cost at a h =
     by-eq cost 0 (no-cost-no-wait c b cost at)
-    (λ n. sym (ceilDiv-only _ (c .amount) 0 (a .amount-least) (omega arith) (omega arith)) ∙ wait-for-lack c b cost at n)
+    (λ n.
+    let none : ceilDiv (lackFor c b cost at) (c .amount) ≡ 0 = ceilDiv-only _ (c .amount) 0 (a .amount-least) (omega arith) (omega arith) in
+    no-wait-stays-none b at _ none ∙ wait-for-lack c b cost at n)
 
--- The recovery of a bucket is that of its shortfall.
-pub recovery-of-shortfall : {c : BucketConfig} (b : BucketCore) (at : Nanos) → Accepted c → recoveryOf c (shortfallAt c b at) ≡ recoveryAt c b at
+-- The recovery of a bucket is that of its shortfall, grown.
+pub recovery-of-shortfall : {c : BucketConfig} (b : BucketCore) (at : Nanos) → Accepted c → grown b at (recoveryOf c (shortfallAt c b at)) ≡ recoveryAt c b at
 recovery-of-shortfall {c} b at a =
-    let same : shortfallAt c b at ≡ shortfallAt c b at + fullParts c - fullParts c = omega arith in
-    ap (recoveryOf c) same ∙ wait-for-lack c b (c .capacity) at (λ e. omega (arith, a .capacity-least))
+    let same : shortfallAt c b at ≡ lackFor c b (c .capacity) at = omega arith in
+    ap (λ (n : ℕ). grown b at (recoveryOf c n)) same ∙ wait-for-lack c b (c .capacity) at (λ e. omega (arith, a .capacity-least))
 
--- A wait is no longer than the most shortfall has parts, since at least one part comes back each nanosecond. So the moment at which it is over fits 64 bits,
--- for every moment that a call may name.
-pub wait-most : {c : BucketConfig} (b : BucketCore) (cost : ℕ) (at : Nanos) → Accepted c → cost ≤ c .capacity → waitAt c b cost at ≤ mostShortfall c
-wait-most {c} b cost at a within =
-    by-eq cost 0
-    (λ none. omega (arith, no-cost-no-wait c b cost at none))
-    (λ some.
+-- What a bucket lacks has come back in no more nanoseconds than the most shortfall has parts, since at least one part comes back each nanosecond. So that wait
+-- fits 64 bits, before it grows.
+pub lack-comes-back-in-time : {c : BucketConfig} (b : BucketCore) (cost : ℕ) (at : Nanos) → Accepted c → cost ≤ c .capacity
+    → ceilDiv (lackFor c b cost at) (c .amount) < 2 ^ 63
+lack-comes-back-in-time {c} b cost at a within =
     let most : ℕ = mostShortfall c in
-    let lack : shortfallAt c b at + partsOf c cost - fullParts c ≤ most * c .amount =
+    let lack : lackFor c b cost at ≤ most * c .amount =
     omega (arith, shortfall-most c b at, parts-within c cost within, mul-le-mul-left most (a .amount-least)) in
-    rw (← wait-for-lack c b cost at some) (ceilDiv-least _ (c .amount) most (a .amount-least) lack))
+    omega (arith, ceilDiv-least _ (c .amount) most (a .amount-least) lack, most-shortfall-fits a)
 
-pub due-fits : {c : BucketConfig} (b : BucketCore) (cost : ℕ) (at : Nanos) → Accepted c → cost ≤ c .capacity → at .0 ≤ 2 ^ 62 → at .0 + waitAt c b cost at < 2 ^ 64
-due-fits b cost at a within early = omega (arith, wait-most b cost at a within, most-shortfall-fits a)
+pub recovery-in-time : {c : BucketConfig} (b : BucketCore) (at : Nanos) → Accepted c → recoveryOf c (shortfallAt c b at) < 2 ^ 63
+recovery-in-time {c} b at a =
+    let same : shortfallAt c b at ≡ lackFor c b (c .capacity) at = omega arith in
+    rw same (lack-comes-back-in-time b (c .capacity) at a (omega arith))
+
+-- From the stamp on nothing is added to them: they are what they are.
+pub wait-from-the-stamp-on : {c : BucketConfig} (b : BucketCore) (cost : ℕ) (at : Nanos) → Accepted c → cost ≤ c .capacity → (cost ≡ 0 → ⊥)
+    → b .stamp .0 ≤ at .0 → ceilDiv (lackFor c b cost at) (c .amount) ≡ waitAt c b cost at
+wait-from-the-stamp-on b cost at a within some passed =
+    sym (not-grown-from-the-stamp-on b at _ passed (omega (arith, lack-comes-back-in-time b cost at a within))) ∙ wait-for-lack _ b cost at some
+
+pub recovery-from-the-stamp-on : {c : BucketConfig} (b : BucketCore) (at : Nanos) → Accepted c → b .stamp .0 ≤ at .0
+    → recoveryOf c (shortfallAt c b at) ≡ recoveryAt c b at
+recovery-from-the-stamp-on b at a passed =
+    sym (not-grown-from-the-stamp-on b at _ passed (omega (arith, recovery-in-time b at a))) ∙ recovery-of-shortfall b at a
 
 -- When something is due, by the number of the wait. (A contract gives the number of a wait, an answer tells when the cost is due.)
 pub due-by-number : (at wait : Nanos) {n : ℕ} → wait .0 ≡ n → dueAfter at wait ≡ dueAfter at (record { 0 = n })

@@ -1,3 +1,4 @@
 pub mod BucketLaws
 pub mod DebtLaws
+pub mod ToldLaws
 pub mod Worked

@@ -1,11 +1,11 @@
 -- Worked examples of the bucket and of a restored debt, computed from the definitions.
-use Prim.Native.Nat.{ℕ}
+use Prim.Native.Nat.{ℕ, _-_, _^_}
 use mathlib.Core.Path.{_≡_, refl}
 use Rattle.arith.specs.Arith.{ceilDiv}
 use Rattle.units.specs.declared.Nanos.{Nanos}
 use Rattle.bucket.specs.declared.BucketConfig.{BucketConfig}
 use Rattle.bucket.specs.declared.BucketCore.{BucketCore}
-use Rattle.bucket.specs.Bucket.{shortfallAt, availableAt, fresh, waitAt, recoveryAt, spent}
+use Rattle.bucket.specs.Bucket.{shortfallAt, availableAt, fresh, grown, waitAt, dueAt, recoveryAt, spent}
 use Rattle.bucket.specs.Debt.{takenOut, lacking, restored}
 
 -- A rate whose fresh buckets are full, and such a bucket that spends at moment 0.
@@ -25,7 +25,7 @@ uneven = rate 3 10 4
 
 pub missing-rounded-up :
     availableAt uneven (restored uneven (fresh uneven start) start (record { 0 = recoveryAt uneven (spender uneven 1) start })) start ≡ 2
-unfolding ceilDiv shortfallAt availableAt waitAt takenOut lacking restored
+unfolding ceilDiv shortfallAt availableAt grown waitAt takenOut lacking restored
 missing-rounded-up = refl
 
 -- 2 tokens a second, up to 4: after all 4 are spent the next is there in half a second.
@@ -33,7 +33,7 @@ abbrev twoPerSecond : BucketConfig
 twoPerSecond = rate 2 1000000000 4
 
 pub half-a-second-for-one : waitAt twoPerSecond (spender twoPerSecond 4) 1 start ≡ 500000000
-unfolding ceilDiv shortfallAt waitAt
+unfolding ceilDiv shortfallAt grown waitAt
 half-a-second-for-one = refl
 
 -- 65,535 tokens a second: a spent token is back after 15,259.02 ns, rounded up.
@@ -41,5 +41,54 @@ abbrev fastest : BucketConfig
 fastest = rate 65535 1000000000 65535
 
 pub recovery-rounded-up : recoveryAt fastest (spender fastest 1) start ≡ 15260
-unfolding ceilDiv shortfallAt waitAt
+unfolding ceilDiv shortfallAt grown waitAt
 recovery-rounded-up = refl
+
+-- The clock is set back. The bucket spends its 4 tokens at 10 s, and the clock is set back to 8 s. A token then takes the 2 s up to the stamp and half a second.
+-- It is due at 10.5 s, as it was before the clock was set back. All 4 tokens take 4 s, and are due at 12 s.
+abbrev tenSeconds : Nanos
+tenSeconds = record { 0 = 10000000000 }
+
+abbrev setBack : Nanos
+setBack = record { 0 = 8000000000 }
+
+abbrev ahead : ℕ → BucketCore
+ahead cost = spent twoPerSecond (fresh twoPerSecond tenSeconds) cost tenSeconds
+
+pub set-back-by-two-seconds : dueAt twoPerSecond (ahead 4) 1 setBack ≡ record { wait = record { 0 = 2500000000 }; moment = record { 0 = 10500000000 } }
+unfolding ceilDiv shortfallAt grown waitAt
+set-back-by-two-seconds = refl
+
+pub due-when-it-was-due : dueAt twoPerSecond (ahead 4) 1 tenSeconds ≡ record { wait = record { 0 = 500000000 }; moment = record { 0 = 10500000000 } }
+unfolding ceilDiv shortfallAt grown waitAt
+due-when-it-was-due = refl
+
+pub recovery-set-back : recoveryAt twoPerSecond (ahead 4) setBack ≡ 4000000000
+unfolding ceilDiv shortfallAt grown waitAt
+recovery-set-back = refl
+
+-- A cost that can be met at once still waits 0: 1 of 4 tokens was spent, and 3 are there.
+pub met-at-once-though-set-back : dueAt twoPerSecond (ahead 1) 3 setBack ≡ record { wait = record { 0 = 0 }; moment = setBack }
+unfolding ceilDiv shortfallAt grown waitAt
+met-at-once-though-set-back = refl
+
+-- At the stamp itself nothing is added.
+pub nothing-added-at-the-stamp : waitAt twoPerSecond (ahead 4) 4 tenSeconds ≡ 2000000000
+unfolding ceilDiv shortfallAt grown waitAt
+nothing-added-at-the-stamp = refl
+
+-- Wait and moment are held to 64 bits: the stamp is the largest number of 64 bits. At moment 0 both are held, a little later
+-- than 2 s the moment alone.
+abbrev last : ℕ
+last = 2 ^ 64 - 1
+
+abbrev farAhead : BucketCore
+farAhead = record { shortfall = 4000000000; stamp = record { 0 = last } }
+
+pub wait-is-held : dueAt twoPerSecond farAhead 4 start ≡ record { wait = record { 0 = last }; moment = record { 0 = last } }
+unfolding ceilDiv shortfallAt grown waitAt
+wait-is-held = refl
+
+pub moment-is-held : dueAt twoPerSecond farAhead 4 (record { 0 = 2000000001 }) ≡ record { wait = record { 0 = last - 1 }; moment = record { 0 = last } }
+unfolding ceilDiv shortfallAt grown waitAt
+moment-is-held = refl

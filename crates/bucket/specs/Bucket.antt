@@ -2,7 +2,7 @@
 use Prim.Native.Nat.{ℕ, _+_, _*_, _-_, _/_, _≤_, _^_, min, max}
 use mathlib.Core.Bool.{Bool, cond}
 use lib.Dec.{leb, eqb}
-use Rattle.arith.specs.Arith.{ceilDiv}
+use Rattle.arith.specs.Arith.{ceilDiv, saturated}
 use Rattle.units.specs.declared.Nanos.{Nanos}
 use Rattle.bucket.specs.declared.BucketConfig.{BucketConfig}
 use Rattle.bucket.specs.declared.BucketCore.{BucketCore}
@@ -55,20 +55,28 @@ fullAt c b at = eqb (shortfallAt c b at) 0
 abbrev pub fresh : BucketConfig → Nanos → BucketCore
 fresh c at = record { shortfall = partsOf c (c .capacity - c .initial); stamp = at }
 
--- How long a cost has to wait: 0 for cost 0, else until the parts that the bucket lacks for it have come back, rounded up. A stamp after the moment
--- does not make the wait longer.
-unfoldable pub waitAt : BucketConfig → BucketCore → ℕ → Nanos → ℕ
-waitAt c b cost at = cond (eqb cost 0) 0 (ceilDiv (shortfallAt c b at + partsOf c cost - fullParts c) (c .amount))
+-- The parts that a bucket lacks for a cost.
+abbrev pub lackFor : BucketConfig → BucketCore → ℕ → Nanos → ℕ
+lackFor c b cost at = shortfallAt c b at + partsOf c cost - fullParts c
 
--- Due after a wait: the wait, and the moment of the call plus it.
+-- A wait at a moment, with the time until the stamp. Nothing comes back before the stamp, so a wait above 0 grows by the time until then, held to 64 bits.
+-- A stamp that is not after the moment adds nothing: the difference of natural numbers is then 0.
+unfoldable pub grown : BucketCore → Nanos → ℕ → ℕ
+grown b at wait = cond (eqb wait 0) 0 (saturated (wait + (b .stamp .0 - at .0)))
+
+-- How long a cost has to wait: 0 for cost 0, else until the parts that the bucket lacks for it have come back, rounded up, and grown by the time until the stamp.
+unfoldable pub waitAt : BucketConfig → BucketCore → ℕ → Nanos → ℕ
+waitAt c b cost at = cond (eqb cost 0) 0 (grown b at (ceilDiv (lackFor c b cost at) (c .amount)))
+
+-- Due after a wait: the wait, and the moment of the call plus it, held to 64 bits.
 abbrev pub dueAfter : Nanos → Nanos → Due
-dueAfter at wait = record { wait = wait; moment = record { 0 = at .0 + wait .0 } }
+dueAfter at wait = record { wait = wait; moment = record { 0 = saturated (at .0 + wait .0) } }
 
 -- When the tokens of a cost are due.
 abbrev pub dueAt : BucketConfig → BucketCore → ℕ → Nanos → Due
 dueAt c b cost at = dueAfter at (record { 0 = waitAt c b cost at })
 
--- How long it takes until so large a shortfall has come back, rounded up.
+-- How long it takes until so large a shortfall has come back, rounded up, once parts come back.
 abbrev pub recoveryOf : BucketConfig → ℕ → ℕ
 recoveryOf c shortfall = ceilDiv shortfall (c .amount)
 

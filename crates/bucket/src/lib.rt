@@ -1,8 +1,8 @@
 // The token bucket, by value: its shortfall in parts, and the moment at which that was the shortfall. Every function is exact for any stored words.
 ghost use mathlib.Core.Path.{_≡_};
-ghost use Prim.Native.Nat.{_+_, _≤_, _<_, _^_};
+ghost use Prim.Native.Nat.{_≤_};
 ghost use Rattle.arith.specs.Arith.{saturated};
-ghost use Rattle.bucket.specs.Bucket.{Accepted, fullParts, mostShortfall, readShortfall, shortfallAt, availableAt, fullAt, fresh, waitAt, dueAfter, dueAt, recoveryOf, recoveryAt, spent, longestWait, asked, refunded};
+ghost use Rattle.bucket.specs.Bucket.{Accepted, fullParts, mostShortfall, readShortfall, shortfallAt, availableAt, fullAt, fresh, grown, waitAt, dueAfter, dueAt, recoveryOf, recoveryAt, spent, longestWait, asked, refunded};
 ghost use Rattle.bucket.specs.Debt.{missingTokens, charged, takenOut, restored};
 use units::Nanos;
 
@@ -26,7 +26,8 @@ pub enum Request {
     Reserve(Nanos),
 }
 
-// When tokens or room are due: after the wait, at the moment. A wait is counted as if the stamp were not after the moment of the call.
+// When tokens or room are due: after the wait, at the moment. Both are held to 64 bits. At a moment before the stamp, as after a clock was set back, the
+// wait has the time until the stamp in it.
 pub struct Due {
     pub wait: Nanos,
     pub moment: Nanos,
@@ -47,12 +48,11 @@ pub struct BucketOutcome {
 impl Due {
     // Due so long after a moment.
     pub fn after(at: Nanos, wait: Nanos) -> Due
-        requires { ⌜ at .0 + wait .0 < 2 ^ 64 ⌝ }
         ensures { λ r. ⌜ r ≡ dueAfter at wait ⌝ }
     {
         Due {
             wait,
-            moment: Nanos(at.0 + wait.0),
+            moment: Nanos(arith::saturating_add(at.0, wait.0)),
         }
     }
 }
@@ -74,7 +74,7 @@ impl BucketConfig {
         self.full_parts() + 0x4000_0000_0000_0000
     }
 
-    // How long it takes until so large a shortfall has come back.
+    // How long it takes until so large a shortfall has come back, once parts come back.
     pub fn recovery_of(self, shortfall: u64) -> Nanos
         requires { ⌜ Accepted self ⌝ }
         ensures { λ r. ⌜ r .0 ≡ recoveryOf self shortfall ⌝ }
@@ -153,7 +153,7 @@ impl BucketCore {
 
     // When `cost` tokens are due.
     pub fn due_at(self, config: BucketConfig, cost: u32, at: Nanos) -> Due
-        requires { ⌜ Accepted config × (cost ≤ config .capacity) × (at .0 ≤ 2 ^ 62) ⌝ }
+        requires { ⌜ Accepted config × (cost ≤ config .capacity) ⌝ }
         ensures { λ r. ⌜ r ≡ dueAt config self cost at ⌝ }
     {
         Due::after(at, self.time_until_at(config, cost, at))
@@ -171,7 +171,17 @@ impl BucketCore {
         if wanted <= full {
             return Nanos(0);
         }
-        Nanos(arith::div_ceil(wanted - full, config.amount as u64))
+        self.grown_at(arith::div_ceil(wanted - full, config.amount as u64), at)
+    }
+
+    // A wait with the time until the stamp: before the stamp nothing comes back. No wait stays none.
+    fn grown_at(self, wait: u64, at: Nanos) -> Nanos
+        ensures { λ r. ⌜ r .0 ≡ grown self at wait ⌝ }
+    {
+        if wait == 0 {
+            return Nanos(0);
+        }
+        Nanos(arith::saturating_add(wait, arith::saturating_sub(self.stamp.0, at.0)))
     }
 
     // How long until the bucket is full again.
@@ -179,7 +189,8 @@ impl BucketCore {
         requires { ⌜ Accepted config ⌝ }
         ensures { λ r. ⌜ r .0 ≡ recoveryAt config self at ⌝ }
     {
-        config.recovery_of(self.shortfall_at(config, at))
+        let recovery = config.recovery_of(self.shortfall_at(config, at));
+        self.grown_at(recovery.0, at)
     }
 
     // The bucket after a grant of `cost` tokens.
@@ -201,7 +212,7 @@ impl BucketCore {
         cost: u32,
         at: Nanos,
     ) -> BucketOutcome
-        requires { ⌜ Accepted config × (cost ≤ config .capacity) × (at .0 ≤ 2 ^ 62) ⌝ }
+        requires { ⌜ Accepted config × (cost ≤ config .capacity) ⌝ }
         ensures { λ r. ⌜ r ≡ asked config request self cost at ⌝ }
     {
         let spent = self.spent_at(config, cost, at);

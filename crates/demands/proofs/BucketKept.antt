@@ -13,7 +13,7 @@ use Rattle.bucket.specs.declared.BucketDecision.{BucketDecision}
 use Rattle.bucket.specs.declared.BucketDecision.the-variants.{Allowed, Denied}
 use Rattle.bucket.specs.declared.Request.{Request}
 use Rattle.bucket.specs.Bucket.{Accepted, partsOf, fullParts, mostShortfall, shortfallAt, waitAt, spent, longestWait, asked, refunded}
-use Rattle.bucket.proofs.BucketLaws.{wait-for-lack, granted-within-longest, denied-beyond-longest}
+use Rattle.bucket.proofs.BucketLaws.{wait-from-the-stamp-on, granted-within-longest, denied-beyond-longest}
 use Rattle.demands.proofs.LineBound.{Soonest, LineBound, BoundOf}
 
 -- What happened to the key after a decision on a cost at a moment. A key that is denied, by its bucket or for want of space, is granted nothing.
@@ -35,16 +35,16 @@ spent-lacks : (c : BucketConfig) (b : BucketCore) (cost : ℕ) (at : Nanos) → 
 unfolding shortfallAt
 spent-lacks c b cost at le = omega (arith, mul-le-mul-right {m = at .0 - max (b .stamp .0) (at .0)} {n = 0} (c .amount) (omega arith))
 
--- The wait is the first span in which what the bucket lacks for a cost comes back.
-wait-is-soonest : (c : BucketConfig) (b : BucketCore) (cost : ℕ) (at : Nanos) → Accepted c → 1 ≤ cost
+-- From the stamp on the wait is the first span in which what the bucket lacks for a cost comes back. Before the stamp it is longer.
+wait-is-soonest : (c : BucketConfig) (b : BucketCore) (cost : ℕ) (at : Nanos) → Accepted c → 1 ≤ cost → cost ≤ c .capacity → b .stamp .0 ≤ at .0
     → Soonest (c .amount) (shortfallAt c b at + partsOf c cost - fullParts c) (waitAt c b cost at)
-wait-is-soonest c b cost at a some =
+wait-is-soonest c b cost at a some within passed =
     let lack : ℕ = shortfallAt c b at + partsOf c cost - fullParts c in
-    rw (← wait-for-lack c b cost at (λ none. omega arith))
+    rw (← wait-from-the-stamp-on b cost at a within (λ none. omega arith) passed)
     (record { enough = ceilDiv-reaches lack (c .amount) (a .amount-least); soonest = ceilDiv-within lack (c .amount) (a .amount-least) })
 
 module _ (c : BucketConfig) (B : BoundOf c) (request : Request) (b : BucketCore) (cost : ℕ) (at : Nanos) (a : Accepted c) (some : 1 ≤ cost)
-    (within-burst : cost ≤ c .capacity) (longest : longestWait request ≤ 2 ^ 46) where
+    (within-burst : cost ≤ c .capacity) (longest : longestWait request ≤ 2 ^ 46) (passed : b .stamp .0 ≤ at .0) where
   -- A wait of at most 2^46 ns keeps the charged shortfall within what is read, so a grant adds all of its parts.
   grant-keeps-bound : (g : B .History) → waitAt c b cost at ≤ longestWait request → HoldsAt c B at (shortfallAt c b at) g
       → HoldsAt c B at (shortfallAt c (spent c b cost at) at) (B .grant (at .0) (waitAt c b cost at) cost g)
@@ -52,7 +52,7 @@ module _ (c : BucketConfig) (B : BoundOf c) (request : Request) (b : BucketCore)
       let A : ℕ = c .amount in
       let wait : ℕ = waitAt c b cost at in
       let s : ℕ = shortfallAt c b at in
-      let first : Soonest A (s + cost * c .period .0 - c .capacity * c .period .0) wait = wait-is-soonest c b cost at a some in
+      let first : Soonest A (s + cost * c .period .0 - c .capacity * c .period .0) wait = wait-is-soonest c b cost at a some within-burst passed in
       let short : wait * A ≤ 2 ^ 46 * 65535 = mul-le-mul {n₁ = wait} {m₁ = A} {n₂ = 2 ^ 46} {m₂ = 65535} (omega arith) (a .amount-most) in
       holds-of-more c B at (omega (arith, spent-lacks c b cost at (omega arith))) (B .granted (at .0) s cost wait within-burst first holds)
 

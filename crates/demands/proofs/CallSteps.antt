@@ -36,6 +36,7 @@ use Rattle.demands.proofs.RefundLaws.{refundAdds, own-refund}
 use Rattle.perkey.proofs.CallLaws.{refusalOf, not-refused-is-ruled, looks, counts-keys, looks-change-nothing, accepted-not-refused, unaccepted-refused}
 use Rattle.demands.proofs.OwnBucket.{in-range-is-asked, request-not-refused}
 use Rattle.demands.proofs.TryLaws.{store-grants-as-asked}
+use Rattle.demands.proofs.StampLaws.{StampsBy, ask-keeps-stamps, refund-keeps-stamps, own-removal-keeps-stamps}
 use Rattle.demands.proofs.StandingLaws.{moment, Bounds, Standing, standing-later, operation-stands}
 use Rattle.demands.proofs.GivenLaws.{ifOwn, toldKnown, granting, given}
 use Rattle.demands.proofs.GivenLaws.{own-call, other-hash, same-either-way, refusal-gives-nothing, reply-grants, too-much-grants-nothing, at-once-grants}
@@ -81,23 +82,24 @@ module _ (s : Settings) (rate : Rate) (k : Identity) (B : BoundOf (configOf rate
   -- An operation for a key, in the shard of its hash. The key's own has to keep the bound; one for another hash has to lose nothing.
   keyed-stands : {R : Type 0} (id : Identity) (n : ℕ) (ws : List ℕ) {g : B .History} → Stands n ws g
       → (o : Outcome R Shard.Shard) → SameRoom (shardAt s (id .hash) ws) (o .after)
+      → (StampsBy n (shardAt s (id .hash) ws) → StampsBy n (o .after))
       → (id .hash ≡ k .hash → id .key ≡ k .key) → (next : B .History)
       → (id .hash ≡ k .hash → id .key ≡ k .key → Bounds s rate k B n (shardAt s (id .hash) ws) g → Bounds s rate k B n (o .after) next)
       → ((id .hash ≡ k .hash → ⊥) → Keeps (configOf rate) (k .hash) (k .key) (moment n) (shardAt s (id .hash) ws) (o .after))
       → Stands n (inShard s (id .hash) ws o .after) (ifOwn k id next g)
-  keyed-stands id n ws {g} v o room alone next own other =
+  keyed-stands id n ws {g} v o room stamps alone next own other =
       by-eq (id .hash) (k .hash)
       (λ hash.
       rw (own-call k id next g hash (alone hash))
-      (operation-stands s rate k B (id .hash) n ws v o room next (λ same b. own hash (alone hash) b) (λ apart. absurd (apart (ap (shardOf s) (sym hash))))))
+      (operation-stands s rate k B (id .hash) n ws v o room stamps next (λ same b. own hash (alone hash) b) (λ apart. absurd (apart (ap (shardOf s) (sym hash))))))
       (λ differs.
       rw (other-hash k id next g differs)
-      (operation-stands s rate k B (id .hash) n ws v o room g
+      (operation-stands s rate k B (id .hash) n ws v o room stamps g
       (λ same b. invariant-keeps (configOf rate) B (k .hash) (k .key) (moment n) _ _ (other differs) b) (λ apart. refl)))
 
   -- A request of any kind, put to the store.
-  module _ (r : Request) (at : Nanos) (id : Identity) (cost : ℕ) (ws : List ℕ) (g : B .History) (patient : longestWait r ≤ 2 ^ 46)
-      (sound : Shard.Sound (shardAt s (id .hash) ws)) (alone : id .hash ≡ k .hash → id .key ≡ k .key) (v : Stands (at .0) ws g) where
+  module _ (r : Request) (at : Nanos) (id : Identity) (cost : ℕ) (ws : List ℕ) (g : B .History) (early : at .0 ≤ 2 ^ 62)
+      (patient : longestWait r ≤ 2 ^ 46) (sound : Shard.Sound (shardAt s (id .hash) ws)) (alone : id .hash ≡ k .hash → id .key ≡ k .key) (v : Stands (at .0) ws g) where
     -- What the store gives in the shard of the call's key.
     abbrev answered : Outcome BucketDecision Shard.Shard
     answered = OneShard.withOrInsert (policyOf s rate) id r cost at (shardAt s (id .hash) ws)
@@ -107,9 +109,11 @@ module _ (s : Settings) (rate : Rate) (k : Identity) (B : BoundOf (configOf rate
     request-stands least most =
         let shard : Shard.Shard = shardAt s (id .hash) ws in
         rw (reply-grants B r at cost g (answered .answer) (store-grants-as-asked (policyOf s rate) id r cost at shard))
-        (keyed-stands id (at .0) ws v answered (ask-same-room shard sound (policyOf s rate) id r cost at) alone _
-        (λ hash key b. own-request (policyOf s rate) id r cost at shard a never sound (rw hash (v .complete)) B (k .hash) (k .key) hash key least most patient b)
-        (λ differs. other-request (policyOf s rate) id r cost at shard a never sound (k .hash) (k .key) differs))
+        (keyed-stands id (at .0) ws v answered (ask-same-room shard sound (policyOf s rate) id r cost at)
+        (ask-keeps-stamps (policyOf s rate) id r cost at shard a sound) alone _
+        (λ hash key b.
+        own-request (policyOf s rate) id r cost at shard a early never sound (rw hash (v .complete)) (rw hash (v .past)) B (k .hash) (k .key) hash key least most patient b)
+        (λ differs. other-request (policyOf s rate) id r cost at shard a early never sound (k .hash) (k .key) differs))
 
     -- A grant of no tokens keeps the bound.
     nothing-granted-stands : cost ≡ 0 → Stands (at .0) ws (ifOwn k id (B .grant (at .0) 0 cost g) g)
@@ -121,6 +125,7 @@ module _ (s : Settings) (rate : Rate) (k : Identity) (B : BoundOf (configOf rate
           size = v .size;
           sound = v .sound;
           complete = v .complete;
+          past = v .past;
           bounds = record { one = v .bounds .one; bound = B .granted-none (at .0) _ (v .bounds .bound) };
         }))
         (λ differs. rw (other-hash k id (B .grant (at .0) 0 cost g) g differs) v)
@@ -147,7 +152,8 @@ module _ (s : Settings) (rate : Rate) (k : Identity) (B : BoundOf (configOf rate
         let c : BucketConfig = configOf rate in
         let shard : Shard.Shard = shardAt s (id .hash) ws in
         rw (known-is-told (OneShard.refunded c id cost shard .answer))
-        (keyed-stands id n ws v (OneShard.refunded c id cost shard) (refund-same-room shard sound c id cost) alone _
+        (keyed-stands id n ws v (OneShard.refunded c id cost shard) (refund-same-room shard sound c id cost)
+        (λ past. refund-keeps-stamps n id shard sound past c cost) alone _
         (λ hash key b. own-refund c B (allowed hash key) cost (moment n) shard sound id (k .hash) (k .key) hash key b)
         (λ differs. other-refund c (k .hash) (k .key) (moment n) shard sound id differs cost))
 
@@ -156,7 +162,8 @@ module _ (s : Settings) (rate : Rate) (k : Identity) (B : BoundOf (configOf rate
         let c : BucketConfig = configOf rate in
         let shard : Shard.Shard = shardAt s (id .hash) ws in
         rw (same-either-way k id g) at
-        (keyed-stands id n ws v (OneShard.removed id shard) (remove-same-room shard sound id) alone g
+        (keyed-stands id n ws v (OneShard.removed id shard) (remove-same-room shard sound id)
+        (λ past. own-removal-keeps-stamps n id shard sound past) alone g
         (λ hash key b. absurd (not-own hash key))
         (λ differs. other-removal c (k .hash) (k .key) (moment n) shard sound id differs))
 
@@ -189,7 +196,7 @@ module _ (s : Settings) (rate : Rate) (k : Identity) (B : BoundOf (configOf rate
           let open′ = request-not-refused s′ at id r cost ws none in
           let sound = rw (fair .settings) at (open′ .0 .sound) in
           rw (not-refused-is-ruled (request s′ at id r cost) ws none, asking r s′ at id cost ws (fair .settings))
-          (any-request-stands r at id cost ws g (open′ .2) sound (fair .alone) (standing-later s rate k B n (at .0) ws (fair .later) v))
+          (any-request-stands r at id cost ws g (open′ .1) (open′ .2) sound (fair .alone) (standing-later s rate k B n (at .0) ws (fair .later) v))
       accepted-stands (look s′ at id l) none fair =
           rw (looks-change-nothing (look s′ at id l) ws looks) (standing-later s rate k B n (at .0) ws (fair .later) v)
       accepted-stands (len s′) none fair = rw (looks-change-nothing (len s′) ws counts-keys) v

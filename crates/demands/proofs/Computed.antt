@@ -10,7 +10,7 @@ use Rattle.rows.specs.Places.{sum}
 use Rattle.index.specs.Walk as Index
 use Rattle.held.specs.Held.{removed}
 use Rattle.held.specs.Round as Round
-use Rattle.bucket.specs.Bucket.{shortfallAt, availableAt, waitAt, asked}
+use Rattle.bucket.specs.Bucket.{shortfallAt, availableAt, grown, waitAt, asked}
 use Rattle.bucket.specs.Debt.{takenOut, lacking, restored}
 use Rattle.settings.specs.declared.rate.Rate.{Rate}
 use Rattle.settings.specs.Powers.{exponentFrom, exponentFor}
@@ -20,7 +20,7 @@ use Rattle.ledger.specs.Layout as Debts
 use Rattle.ledger.specs.Model as Ledger
 use Rattle.shard_map.specs.Layout as Layout
 use Rattle.shard_map.specs.Model as Shard
-use Rattle.evict.specs.Evict.{noted, walkFrom, walked, evicted}
+use Rattle.evict.specs.Evict.{awaiting, soonestIn, noted, walkFrom, walked, evicted}
 use Rattle.shard.specs.Model as OneShard
 use Rattle.settings.specs.declared.decision.Decision.the-variants.{Acquired}
 use Rattle.store.specs.Refusals as Refusals
@@ -70,12 +70,12 @@ pub record Computed : Type 0 where
 pub computed : Computed
 unfolding ceilDiv rows unrow tableIn removed Index.onward Index.walkFrom Index.walk Index.findFrom Index.find Index.seek Index.add
     Index.addAgain Index.rehome Index.vacate Index.renumber Index.remove
-    sum Round.lookAt Round.look Round.sweep shortfallAt availableAt waitAt asked takenOut lacking restored
+    sum Round.lookAt Round.look Round.sweep shortfallAt availableAt grown waitAt asked takenOut lacking restored
     Rate.unlessWithin Rate.rateRefusal Settings.sizeRefusal Settings.firstRefusal exponentFrom exponentFor
     Debts.ledger Debts.wordsOf Ledger.placeOf Ledger.removeAt Ledger.append Ledger.owedBy Ledger.taken Ledger.sweep
     Ledger.scanFrom Ledger.scan Ledger.dropChosen Ledger.makeRoom Ledger.recordedAt Ledger.recorded
     Layout.shard Layout.wordsOf Shard.placeOf Shard.removeAt Shard.insert
-    noted walkFrom walked evicted OneShard.makeRoom OneShard.withExisting OneShard.admit OneShard.withOrInsert OneShard.viewed OneShard.holds
+    awaiting soonestIn noted walkFrom walked evicted OneShard.makeRoom OneShard.withExisting OneShard.admit OneShard.withOrInsert OneShard.viewed OneShard.holds
     Refusals.memoryRefusal Refusals.countRefusal Refusals.momentRefusal Refusals.waitRefusal Refusals.mostSlots Refusals.slotsRefusal
     Rules.unlessRefused Rules.setUp Rules.unlessTrivial Rules.tryAcquire Rules.reserve Rules.len
     accepted replies usable tokensUsable after

@@ -1,19 +1,17 @@
--- What an eviction leaves of a shard that fits 64 bits fits, at an accepted rate and at a moment that is not too late.
-use Prim.Native.Nat.{ℕ, zero, suc, _<_, _≤_, _^_}
-use mathlib.Core.Path.{refl}
+-- What an eviction leaves of a shard that fits 64 bits fits.
+use Prim.Native.Nat.{ℕ, zero, suc, _<_}
 use mathlib.Core.Bool.{Bool}
 use native.Mathlib.Omega.{arith}
 use Rattle.units.specs.declared.Nanos.{Nanos}
 use Rattle.bucket.specs.declared.BucketConfig.{BucketConfig}
-use Rattle.bucket.specs.Bucket.{Accepted}
 use Rattle.rows.specs.Outcome.{Outcome}
 use Rattle.slot.specs.declared.Slot.{Slot}
 use Rattle.slot.specs.Slot.{withMark}
 use Rattle.shard_map.specs.Model.{Shard, Sound, slotAt, withLedger, handOf}
 use Rattle.evict.specs.declared.Room.{Room}
+use Rattle.evict.specs.declared.Awaited.{Awaited}
 use Rattle.evict.specs.declared.Walk.{Walk}
 use Rattle.evict.specs.Evict.{nothingNoted, noted, looked, goesAtOnce, Walked, walkFrom, walked, evictAt, debtLeft, evicted}
-use Rattle.evict.proofs.ModelLaws.{debt-fits}
 use Rattle.evict.proofs.WalkLaws.{remarked-sound, walk-kept, debtRecorded, Evicting, full-goes, owing-goes, none-goes, evict-cases}
 use Rattle.demands.proofs.EveryLaws.{of-either}
 use Rattle.demands.proofs.WordFits.{next-place-fits}
@@ -38,21 +36,21 @@ walk-from-fits c at (suc left) s w f =
 
 walked-fits : (c : BucketConfig) (at : Nanos) (s : Shard) → ShardFits s → ShardFits (walked c at s .after)
 unfolding walked
-walked-fits c at s f = walk-from-fits c at _ s (nothingNoted c) f
+walked-fits c at s f = walk-from-fits c at _ s nothingNoted f
 
 -- The slot at p goes, and the hand steps past it.
 evicted-at-fits : (s : Shard) (p : ℕ) → p < s .slots .count → ShardFits s → ShardFits (evictAt s p)
 evicted-at-fits s p below f = moved-hand-fits _ (removed-slot-fits s f p below) _ (omega (arith, f .slots .count))
 
 -- An eviction: the debt that a slot leaves fits too.
-module _ (c : BucketConfig) (at : Nanos) (forget : Bool) (a : Accepted c) (early : at .0 ≤ 2 ^ 62) where
+module _ (c : BucketConfig) (at : Nanos) (forget : Bool) where
   debt-left-fits : (slot : Slot) → SlotFits slot → DebtFits (debtLeft c at slot)
-  debt-left-fits slot f = record { hash = f .hash; settles = debt-fits (slot .bucket) at a early refl }
+  debt-left-fits slot f = record { hash = f .hash; settles = omega arith }
 
   debt-recorded-fits : (s : Shard) (p : ℕ) → Sound s → ShardFits s → ShardFits (withLedger s (debtRecorded c at forget s p .after))
   debt-recorded-fits s p u f = changed-ledger-fits s f _ (recorded-fits (s .ledger) _ at forget (u .ledger) (debt-left-fits _ (slot-at-fits s f p)) (f .ledger))
 
-  ended-fits : {least : ℕ} {s : Shard} {o : Outcome Room Shard} → Sound s → ShardFits s → Evicting c at forget least s o → ShardFits (o .after)
+  ended-fits : {awaited : Awaited} {s : Shard} {o : Outcome Room Shard} → Sound s → ShardFits s → Evicting c at forget awaited s o → ShardFits (o .after)
   ended-fits {s = s} u f (full-goes p full) = evicted-at-fits s p (full .below) f
   ended-fits {s = s} u f (owing-goes p below done) = evicted-at-fits _ p below (debt-recorded-fits s p u f)
   ended-fits {s = s} u f (none-goes p wait below told) = debt-recorded-fits s p u f

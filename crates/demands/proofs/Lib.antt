@@ -14,6 +14,7 @@ pub mod RequestLaws
 pub mod RefundLaws
 pub mod OwnBucket
 pub mod LendableTheorem
+pub mod StampLaws
 pub mod StandingLaws
 pub mod TryLaws
 pub mod GivenLaws

@@ -31,6 +31,7 @@ use Rattle.shard.proofs.RoomLaws.{room-keeps-shortage, room-made-leaves-room}
 use Rattle.shard.proofs.ShardLaws.{Rebucketed, debtTaken, roomFor, debt-taken-sound, Asking, slot-asked, key-joins, no-space, ask-cases, Refunding}
 use Rattle.shard.proofs.ShardLaws.{slot-refunded, debt-paid, refund-cases, Removing, slot-removed, no-slot, remove-cases}
 use Rattle.demands.proofs.LineBound.{BoundOf}
+use Rattle.demands.proofs.StampLaws.{StampsBy, returning-stamp}
 use Rattle.demands.proofs.BucketKept.{decisionAdds, HoldsAt, holds-of-more, asked-keeps-bound}
 
 -- The invariant, of any bound by the line, after calls up to a moment: g is what happened to the key in them.
@@ -131,14 +132,14 @@ module _ (c : BucketConfig) (h k : ℕ) (at : Nanos) (s : Shard) (u : Sound s) w
       }
 
 -- Requests, under a policy that forgets no debt.
-module _ (p : Policy) (id : Identity) (request : Request) (cost : ℕ) (at : Nanos) (s : Shard) (a : Accepted (p .config)) (never : p .«forget_debt» ≡ false)
-    (u : Sound s) where
+module _ (p : Policy) (id : Identity) (request : Request) (cost : ℕ) (at : Nanos) (s : Shard) (a : Accepted (p .config)) (early : at .0 ≤ 2 ^ 62)
+    (never : p .«forget_debt» ≡ false) (u : Sound s) where
   -- Room that was made for a new key: there is place for its slot, and no debt was lost for it.
   room-for-slot : roomFor p id at s .answer ≡ Made → roomFor p id at s .after .slots .count < capOf (roomFor p id at s .after)
   room-for-slot = room-made-leaves-room p at (debtTaken id s) (debt-taken-sound id s u)
 
   room-loses-nothing : (h k : ℕ) → Keeps (p .config) h k at (debtTaken id s) (roomFor p id at s .after)
-  room-loses-nothing = room-keeps-shortage p at (debtTaken id s) (debt-taken-sound id s u) a never
+  room-loses-nothing = room-keeps-shortage p at (debtTaken id s) (debt-taken-sound id s u) a early never
 
   -- A request for a key of another hash loses nothing, whatever it is answered.
   pub other-request : (h k : ℕ) → (id .hash ≡ h → ⊥) → Keeps (p .config) h k at s (withOrInsert p id request cost at s .after)
@@ -153,15 +154,15 @@ module _ (p : Policy) (id : Identity) (request : Request) (cost : ℕ) (at : Nan
       go : {o : Outcome BucketDecision Shard} → Asking p id request cost at s o → Keeps c h k at s (o .after)
       go (slot-asked i slot e f r) = other-slot-changed c h k at s u r f other
       go (key-joins e made) = keeps-trans c h k at s (roomFor p id at s .after) _ kept (other-slot-inserted c h k at (roomFor p id at s .after) _ (room-for-slot made) other)
-      go (no-space wait e no-debt told) = room-keeps-shortage p at s u a never h k
+      go (no-space wait e no-debt told) = room-keeps-shortage p at s u a early never h k
 
   -- The key's own request: its slot is asked, or it comes in with the bucket that its debt left it; then that slot is all there is of the hash, and what it
   -- lacks bounds what happened.
-  own-request-of-identity : Complete s → (B : BoundOf (p .config)) {g : B .History} → 1 ≤ cost → cost ≤ p .config .capacity → longestWait request ≤ 2 ^ 46
+  own-request-of-identity : Complete s → StampsBy (at .0) s → (B : BoundOf (p .config)) {g : B .History} → 1 ≤ cost → cost ≤ p .config .capacity → longestWait request ≤ 2 ^ 46
       → Invariant (p .config) B (id .hash) (id .key) at s g
       → Invariant (p .config) B (id .hash) (id .key) at (withOrInsert p id request cost at s .after)
       (decisionAdds B at cost (withOrInsert p id request cost at s .answer) g)
-  own-request-of-identity complete B {g} some within-burst longest v = go (ask-cases p id request cost at s u)
+  own-request-of-identity complete past B {g} some within-burst longest v = go (ask-cases p id request cost at s u)
     where
       c : BucketConfig
       c = p .config
@@ -175,27 +176,27 @@ module _ (p : Policy) (id : Identity) (request : Request) (cost : ℕ) (at : Nan
       debt : Outcome OptionNanos Ledger.Ledger
       debt = Ledger.taken (s .ledger) h
 
-      asked-bounds : (b : BucketCore) → shortage c h at s ≤ shortfallAt c b at
+      asked-bounds : (b : BucketCore) → b .stamp .0 ≤ at .0 → shortage c h at s ≤ shortfallAt c b at
           → HoldsAt c B at (shortfallAt c (asked c request b cost at .bucket) at) (decisionAdds B at cost (asked c request b cost at .decision) g)
-      asked-bounds b lacks = asked-keeps-bound c B request b cost at a some within-burst longest (holds-of-more c B at lacks (v .bound))
+      asked-bounds b passed lacks = asked-keeps-bound c B request b cost at a some within-burst longest passed (holds-of-more c B at lacks (v .bound))
 
       go : {o : Outcome BucketDecision Shard} → Asking p id request cost at s o → Invariant c B h k at (o .after) (decisionAdds B at cost (o .answer) g)
       go (slot-asked i slot e f r) =
           let all : OneSlot c h k at s i = one-slot-is-all c h k at s i u f (v .one) in
-          own-slot-changed c h k at s u r B f (v .one) (asked-bounds (slotAt s i .bucket) (omega (arith, all .all)))
+          own-slot-changed c h k at s u r B f (v .one) (asked-bounds (slotAt s i .bucket) (past i (f .below)) (omega (arith, all .all)))
       go (key-joins e made) =
           let gone : OwnDebtTaken c h k at s u debt = own-debt-taken c h k at s u complete e (v .one) in
           own-slot-inserted c h k at (roomFor p id at s .after) _ (room-for-slot made) B refl refl (omega (arith, room-loses-nothing h k .fewer, gone .none))
-          (asked-bounds (returning c at (debt .answer)) (omega (arith, gone .all, returning-lacks-the-debt c at a (debt .answer))))
-      go (no-space wait e no-debt told) = invariant-keeps c B h k at s _ (room-keeps-shortage p at s u a never h k) v
+          (asked-bounds (returning c at (debt .answer)) (returning-stamp c at (debt .answer) a) (omega (arith, gone .all, returning-lacks-the-debt c at a (debt .answer))))
+      go (no-space wait e no-debt told) = invariant-keeps c B h k at s _ (room-keeps-shortage p at s u a early never h k) v
 
 -- The same, for a key whose hash and key are known by an equation.
-pub own-request : (p : Policy) (id : Identity) (request : Request) (cost : ℕ) (at : Nanos) (s : Shard) → Accepted (p .config) → p .«forget_debt» ≡ false → Sound s
-    → Complete s → (B : BoundOf (p .config)) (h k : ℕ) → id .hash ≡ h → id .key ≡ k → 1 ≤ cost → cost ≤ p .config .capacity → longestWait request ≤ 2 ^ 46 → {g : B .History}
+pub own-request : (p : Policy) (id : Identity) (request : Request) (cost : ℕ) (at : Nanos) (s : Shard) → Accepted (p .config) → at .0 ≤ 2 ^ 62 → p .«forget_debt» ≡ false
+    → Sound s → Complete s → StampsBy (at .0) s → (B : BoundOf (p .config)) (h k : ℕ) → id .hash ≡ h → id .key ≡ k → 1 ≤ cost → cost ≤ p .config .capacity → longestWait request ≤ 2 ^ 46 → {g : B .History}
     → Invariant (p .config) B h k at s g
     → Invariant (p .config) B h k at (withOrInsert p id request cost at s .after) (decisionAdds B at cost (withOrInsert p id request cost at s .answer) g)
-own-request p id request cost at s a never u complete B h k hash key some within-burst longest v =
-    rw (← hash, ← key) (own-request-of-identity p id request cost at s a never u complete B some within-burst longest (rw (← hash, ← key) at v))
+own-request p id request cost at s a early never u complete past B h k hash key some within-burst longest v =
+    rw (← hash, ← key) (own-request-of-identity p id request cost at s a early never u complete past B some within-burst longest (rw (← hash, ← key) at v))
 
 -- Refunds and removals for other hashes lose nothing, at any moment.
 module _ (c : BucketConfig) (h k : ℕ) (at : Nanos) (s : Shard) (u : Sound s) (id : Identity) (other : id .hash ≡ h → ⊥) where

@@ -4,6 +4,7 @@ use mathlib.Core.Path.{_≡_}
 use mathlib.Core.Bool.{true, false}
 use mathlib.Core.List.{List, [], _∷_}
 use lib.ListN.{replicate, length-replicate}
+use native.Mathlib.Omega.{arith}
 use Rattle.arith.proofs.Cases.{by-test}
 use Rattle.bucket.specs.Bucket.{Accepted}
 use Rattle.settings.specs.declared.Limit.the-variants.{Open}
@@ -45,6 +46,7 @@ module _ (s : Settings) (rate : Rate) (k : Identity) (B : BoundOf (configOf rate
         size = length-replicate (memoryWords s) 0;
         sound = fresh-sound s (k .hash);
         complete = fresh-shards-are-complete s (k .hash);
+        past = λ i below. absurd (omega (arith, empty .slots));
         bounds = invariant-empty (configOf rate) B (k .hash) (k .key) (moment 0) _ (empty .slots) (empty .debts);
       }
 

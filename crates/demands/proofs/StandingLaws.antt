@@ -1,5 +1,5 @@
 -- The state of a whole memory between two calls, as far as one key is concerned: what stands in the key's own shard bounds what happened to the key so far,
--- by any bound by its line. An operation in any shard leaves it standing.
+-- by any bound by its line, and no stamp there is after the moment. An operation in any shard leaves it standing.
 use Prim.Native.Nat.{ℕ, _≤_}
 use mathlib.Core.Path.{_≡_}
 use mathlib.Core.List.{List}
@@ -18,6 +18,7 @@ use Rattle.shard.proofs.ShardLaws.{SameRoom}
 use Rattle.store.specs.Memory.{memoryWords, shardAt, inShard}
 use Rattle.store.proofs.MemoryLaws.{same-shard, same-room-sized, in-shard-length, in-shard-reads-back-for, in-shard-leaves-others}
 use Rattle.demands.proofs.LineBound.{BoundOf}
+use Rattle.demands.proofs.StampLaws.{StampsBy, stamps-by-later}
 use Rattle.demands.proofs.RequestLaws.{Invariant, invariant-later}
 
 -- A moment, from its number.
@@ -36,6 +37,7 @@ module _ (s : Settings) (rate : Rate) (k : Identity) (B : BoundOf (configOf rate
     pub size : length ws ≡ memoryWords s
     pub sound : Shard.Sound (own ws)
     pub complete : Shard.Complete (own ws)
+    pub past : StampsBy n (own ws)
     pub bounds : Bounds n (own ws) g
 
   -- Time passes.
@@ -44,12 +46,13 @@ module _ (s : Settings) (rate : Rate) (k : Identity) (B : BoundOf (configOf rate
     size = v .size;
     sound = v .sound;
     complete = v .complete;
+    past = stamps-by-later n m (own ws) later (v .past);
     bounds = invariant-later (configOf rate) B (k .hash) (k .key) (moment n) (moment m) (own ws) later (v .bounds);
   }
 
   -- An operation in the shard of a hash. In the key's own shard it has to keep the bound; elsewhere nothing happens to the key.
   module _ {A : Type 0} (hash n : ℕ) (ws : List ℕ) {g : B .History} (v : Standing n ws g) (o : Outcome A Shard.Shard)
-      (room : SameRoom (shardAt s hash ws) (o .after)) (next : B .History) where
+      (room : SameRoom (shardAt s hash ws) (o .after)) (stamps : StampsBy n (shardAt s hash ws) → StampsBy n (o .after)) (next : B .History) where
     sized : Sized (capOf s) (o .after)
     sized = same-room-sized s hash ws (v .size) room
 
@@ -64,6 +67,7 @@ module _ (s : Settings) (rate : Rate) (k : Identity) (B : BoundOf (configOf rate
           size = in-shard-length s hash ws o (v .size) sized;
           sound = rw back (room .sound);
           complete = rw back (room .complete (rw before at (v .complete)));
+          past = rw back (stamps (rw before at (v .past)));
           bounds = rw back (here same (rw before at (v .bounds)));
         })
         (λ apart.
@@ -72,5 +76,6 @@ module _ (s : Settings) (rate : Rate) (k : Identity) (B : BoundOf (configOf rate
           size = in-shard-length s hash ws o (v .size) sized;
           sound = rw kept (v .sound);
           complete = rw kept (v .complete);
+          past = rw kept (v .past);
           bounds = rw (kept, there apart) (v .bounds);
         })

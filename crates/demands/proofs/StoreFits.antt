@@ -73,7 +73,7 @@ module _ (p : Policy) (id : Identity) (request : Request) (cost : ℕ) (at : Nan
         idle = λ t limit v fits. sweep-idle-fits (p .config) at limit ttlSweep t fits;
         ledger = λ t v fits. changed-ledger-fits t fits _ (sweep-fits at ledgerScan (t .ledger) (fits .ledger));
       })
-      (λ t v some fits. evicted-fits (p .config) at (p .«forget_debt») a early t v some fits)
+      (λ t v some fits. evicted-fits (p .config) at (p .«forget_debt») t v some fits)
       f
 
   -- A new key joins where room was made; where none was, it had no debt, and what is left is what making room left.

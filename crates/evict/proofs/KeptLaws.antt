@@ -1,16 +1,17 @@
 -- The two sums over all that a shard has of one hash (KeptLaws of the shard), across an eviction: where debts may not be forgotten, none is lost.
-use Prim.Native.Nat.{ℕ, _+_, _*_, _-_, _≤_, _<_}
+use Prim.Native.Nat.{ℕ, _+_, _*_, _-_, _≤_, _<_, _^_}
 use mathlib.Core.Path.{_≡_, refl, ap}
 use mathlib.Core.Bool.{Bool, false}
 use native.Mathlib.Nat.{mul-le-mul-right}
 use native.Mathlib.Omega.{arith}
 use Rattle.arith.proofs.Cases.{by-eq}
+use Rattle.arith.specs.Arith.{saturated}
 use Rattle.arith.proofs.DivisionLaws.{ceilDiv-reaches}
 use Rattle.units.specs.declared.Nanos.{Nanos}
 use Rattle.bucket.specs.declared.BucketConfig.{BucketConfig}
 use Rattle.bucket.specs.declared.BucketCore.{BucketCore}
-use Rattle.bucket.specs.Bucket.{Accepted, shortfallAt, recoveryAt}
-use Rattle.bucket.proofs.BucketLaws.{shortfall-most, recovery-of-shortfall}
+use Rattle.bucket.specs.Bucket.{Accepted, shortfallAt, recoveryOf, recoveryAt, dueAfter}
+use Rattle.bucket.proofs.BucketLaws.{shortfall-most, recovery-of-shortfall, recovery-in-time, grown-no-shorter}
 use Rattle.rows.specs.Outcome.{Outcome}
 use Rattle.rows.proofs.SumLaws.{sum-same}
 use Rattle.slot.specs.declared.Slot.{Slot}
@@ -23,6 +24,7 @@ use Rattle.shard_map.specs.Model.{Shard, Sound, slotAt, withLedger, removeAt}
 use Rattle.shard_map.proofs.StepLaws.{removal-ledger}
 use Rattle.shard_map.proofs.KeptLaws.{weight, short, unpaid, overAll, Keeps, keeps-trans, weight-of-hash, short-own, short-other, count-removed, shortage-removed}
 use Rattle.shard_map.proofs.KeptLaws.{unpaid-settled, full-slot-loses-nothing}
+use Rattle.evict.specs.declared.Awaited.{Awaited}
 use Rattle.evict.specs.declared.Room.{Room}
 use Rattle.evict.specs.Evict.{walked, debtLeft, evictAt, evicted}
 use Rattle.evict.proofs.WalkLaws.{Remarked, remarked-slots, remarked-sound, walk-kept, debtRecorded, debt-recorded-sound, Evicting, full-goes}
@@ -35,15 +37,17 @@ all-remarked h slotValue debtValue blind s t r =
     let same : (i : ℕ) → i < s .slots .count → slotValue (slotAt t i) ≡ slotValue (slotAt s i) = λ i below. remarked-slots s t r slotValue blind i in
     rw (r .count, r .ledger) (omega (arith, sum-same (s .slots .count) (λ i. slotValue (slotAt t i)) (λ i. slotValue (slotAt s i)) same))
 
--- A debt lasts at least as long as the shortfall that it stands for.
-pub debt-lasts : (c : BucketConfig) (b : BucketCore) (at : Nanos) → Accepted c → shortfallAt c b at ≤ (at .0 + recoveryAt c b at - at .0) * c .amount
-debt-lasts c b at a =
-    omega (
-      arith,
-      ceilDiv-reaches (shortfallAt c b at) (c .amount) (a .amount-least),
-      ap (λ (n : ℕ). n * c .amount) (recovery-of-shortfall b at a),
-      mul-le-mul-right {m = recoveryAt c b at} {n = at .0 + recoveryAt c b at - at .0} (c .amount) (omega arith),
-    )
+-- A debt lasts at least as long as the shortfall that it stands for. Before it is grown by the time until the stamp, and before the moment is held to 64 bits, it
+-- lasts just so long. A moment that is held is late enough for any shortfall, since the call was made at 2^62 or before.
+pub debt-lasts : (c : BucketConfig) (b : BucketCore) (at : Nanos) → Accepted c → at .0 ≤ 2 ^ 62
+    → shortfallAt c b at ≤ (dueAfter at (record { 0 = recoveryAt c b at }) .moment .0 - at .0) * c .amount
+debt-lasts c b at a early =
+    let s : ℕ = shortfallAt c b at in
+    let takes : ℕ = recoveryOf c s in
+    let left : ℕ = saturated (at .0 + recoveryAt c b at) - at .0 in
+    let in-time : takes < 2 ^ 63 = recovery-in-time b at a in
+    let grows : takes ≤ recoveryAt c b at = rw (← recovery-of-shortfall b at a) (grown-no-shorter b at takes (omega arith)) in
+    omega (arith, ceilDiv-reaches s (c .amount) (a .amount-least), mul-le-mul-right {m = takes} {n = left} (c .amount) (omega arith))
 
 module _ (c : BucketConfig) (h k : ℕ) where
   -- The walk changes neither sum.
@@ -60,17 +64,17 @@ module _ (c : BucketConfig) (h k : ℕ) where
       let d : Debt = debtLeft c at slot in
       by-eq (slot .hash) h (λ own. omega (arith, weigh-own h one d own, weight-of-hash h k slot own)) (λ other. omega (arith, weigh-other h one d other))
 
-  debt-holds-as-much : (at : Nanos) (slot : Slot) → Accepted c → short c h at slot ≤ weigh h (unpaid c at) (debtLeft c at slot)
-  debt-holds-as-much at slot a =
+  debt-holds-as-much : (at : Nanos) (slot : Slot) → Accepted c → at .0 ≤ 2 ^ 62 → short c h at slot ≤ weigh h (unpaid c at) (debtLeft c at slot)
+  debt-holds-as-much at slot a early =
       let d : Debt = debtLeft c at slot in
       by-eq (slot .hash) h
-      (λ own. omega (arith, weigh-own h (unpaid c at) d own, short-own c h at slot own, debt-lasts c (slot .bucket) at a, shortfall-most c (slot .bucket) at))
+      (λ own. omega (arith, weigh-own h (unpaid c at) d own, short-own c h at slot own, debt-lasts c (slot .bucket) at a early, shortfall-most c (slot .bucket) at))
       (λ other. omega (arith, short-other c h at slot other))
 
   -- A slot goes once its debt is recorded, where debts may not be forgotten; and a recording that is refused changes nothing.
-  owing-slot-loses-nothing : (at : Nanos) (forget : Bool) (s : Shard) (p : ℕ) → Accepted c → Sound s → forget ≡ false → p < s .slots .count
+  owing-slot-loses-nothing : (at : Nanos) (forget : Bool) (s : Shard) (p : ℕ) → Accepted c → at .0 ≤ 2 ^ 62 → Sound s → forget ≡ false → p < s .slots .count
       → debtRecorded c at forget s p .answer ≡ Done → Keeps c h k at s (evictAt (withLedger s (debtRecorded c at forget s p .after)) p)
-  owing-slot-loses-nothing at forget s p a u never below done =
+  owing-slot-loses-nothing at forget s p a early u never below done =
       let slot : Slot = slotAt s p in
       let d : Debt = debtLeft c at slot in
       let l : Ledger.Ledger = debtRecorded c at forget s p .after in
@@ -83,7 +87,7 @@ module _ (c : BucketConfig) (h k : ℕ) where
               arith,
               shortage-removed c h at (withLedger s l) p v below,
               record-keeps-unsettled h (unpaid c at) (s .ledger) (u .ledger) d at forget never (unpaid-settled c at) alone done,
-              debt-holds-as-much at slot a,
+              debt-holds-as-much at slot a early,
             );
       }
 
@@ -97,17 +101,18 @@ module _ (c : BucketConfig) (h k : ℕ) where
       }
 
   -- An eviction loses nothing, whether it makes room or is refused, where debts may not be forgotten.
-  pub evict-keeps-shortage : (at : Nanos) (forget : Bool) (s : Shard) → Accepted c → Sound s → 0 < s .slots .count → forget ≡ false → Keeps c h k at s (evicted c at forget s .after)
-  evict-keeps-shortage at forget s a u some never =
+  pub evict-keeps-shortage : (at : Nanos) (forget : Bool) (s : Shard) → Accepted c → at .0 ≤ 2 ^ 62 → Sound s → 0 < s .slots .count → forget ≡ false
+      → Keeps c h k at s (evicted c at forget s .after)
+  evict-keeps-shortage at forget s a early u some never =
       keeps-trans c h k at s (walked c at s .after) (evicted c at forget s .after) (walk-keeps-shortage at s (walked c at s .after) walk)
       (go (remarked-sound s (walked c at s .after) walk u) (evict-cases c at forget s u some))
     where
       walk : Remarked s (walked c at s .after)
       walk = walk-kept c at s u some .same
 
-      go : {least : ℕ} {t : Shard} {o : Outcome Room Shard} → Sound t → Evicting c at forget least t o → Keeps c h k at t (o .after)
+      go : {awaited : Awaited} {t : Shard} {o : Outcome Room Shard} → Sound t → Evicting c at forget awaited t o → Keeps c h k at t (o .after)
       go {t = t} v (full-goes p f) =
           let kept : Keeps c h k at t (removeAt t p) = full-slot-loses-nothing c h k at t p v (f .below) (f .full) in
           record { fewer = kept .fewer; more = kept .more }
-      go {t = t} v (owing-goes p below done) = owing-slot-loses-nothing at forget t p a v never below done
+      go {t = t} v (owing-goes p below done) = owing-slot-loses-nothing at forget t p a early v never below done
       go {t = t} v (none-goes p wait below told) = refusal-loses-nothing at forget t p wait v told

@@ -1,3 +1,4 @@
+pub mod AwaitedLaws
 pub mod WalkLaws
 pub mod ModelLaws
 pub mod KeptLaws

@@ -1,6 +1,6 @@
 -- Laws of the eviction that its functions go by: one look is one step of the definition that counts the looks left; what a definition is in each case that
 -- the code goes through; and that words which are lent stay so. What an eviction keeps is in WalkLaws.
-use Prim.Native.Nat.{ℕ, suc, _+_, _-_, _*_, _≤_, _<_, _^_, min}
+use Prim.Native.Nat.{ℕ, suc, _-_, _<_, min}
 use native.Mathlib.Omega.{arith}
 use mathlib.Core.Path.{_≡_, refl, ap, sym, _∙_}
 use mathlib.Core.Bool.{Bool, true, false}
@@ -10,9 +10,9 @@ use borrow.Author.Tests.{eq-eqb, ne-eqb}
 use Rattle.units.specs.declared.Nanos.{Nanos}
 use Rattle.settings.specs.Eviction.{clockScan}
 use Rattle.bucket.specs.declared.BucketConfig.{BucketConfig}
-use Rattle.bucket.specs.declared.BucketCore.{BucketCore}
-use Rattle.bucket.specs.Bucket.{Accepted, mostShortfall, shortfallAt, recoveryAt, dueAfter}
-use Rattle.bucket.proofs.BucketLaws.{most-shortfall-fits, shortfall-most, recovery-of-shortfall}
+use Rattle.bucket.specs.declared.Due.{Due}
+use Rattle.bucket.specs.Bucket.{shortfallAt, dueAfter}
+use Rattle.bucket.proofs.BucketLaws.{due-by-number}
 use Rattle.rows.specs.declared.Place.{Place}
 use Rattle.rows.specs.declared.Place.the-variants.{At, Nowhere}
 use Rattle.rows.specs.Outcome.{Outcome, outcome}
@@ -28,31 +28,32 @@ use Rattle.shard_map.specs.Model.{Shard, slotAt, inLedger, handOf}
 use Rattle.shard_map.specs.Layout.{shard, Intact}
 use Rattle.shard_map.proofs.StepLaws.{change-sound, ledger-sound}
 use Rattle.shard_map.proofs.ModelLaws.{intact-after, intact-after-answer, StillLent}
+use Rattle.evict.specs.declared.Awaited.{Awaited}
 use Rattle.evict.specs.declared.Walk.{Walk}
 use Rattle.evict.specs.declared.Victim.{Victim}
 use Rattle.evict.specs.declared.Victim.the-variants.{Free, Owing}
 use Rattle.evict.specs.declared.Room.{Room}
 use Rattle.evict.specs.declared.Room.the-variants.{Made, Refused}
-use Rattle.evict.specs.Evict.{orElse, nothingNoted, noted, looked, goesAtOnce, walkFrom, walked, victimOf, placeOfVictim, evictAt, refusalWait, evictVictim, evicted}
-use Rattle.evict.proofs.WalkLaws.{victimIs, recovery-at-most-parts, debtRecorded, walk-kept, walk-chooses, remarked-sound}
+use Rattle.evict.specs.Evict.{orElse, awaiting, nothingNoted, noted, looked, goesAtOnce, walkFrom, walked, victimOf, placeOfVictim, evictAt, refusalWait, evictVictim, evicted}
+use Rattle.evict.proofs.WalkLaws.{victimIs, debtRecorded, walk-kept, walk-chooses, remarked-sound}
 
--- What a look of the walk notes: of a full slot, and of one that is not full, by its mark. The code has worked out the shortfall n.
+-- What a look of the walk notes: of a full slot, and of one that is not full, by its mark. The code has worked out the shortfall n, and what is awaited then.
 module _ (c : BucketConfig) (at : Nanos) (w : Walk) (p : ℕ) (slot : Slot) {n : ℕ} (is : n ≡ shortfallAt c (slot .bucket) at) where
-  pub noted-full : n ≡ 0 → record { full = orElse (w .full) (At p); unmarked = w .unmarked; least = w .least } ≡ noted c at w p slot
+  pub noted-full : n ≡ 0 → record { full = orElse (w .full) (At p); unmarked = w .unmarked; awaited = w .awaited } ≡ noted c at w p slot
   unfolding noted
   noted-full full = rw (eq-eqb _ _ (sym is ∙ full))
 
-  pub noted-unmarked : (n ≡ 0 → ⊥) → slot .mark ≡ 0
-      → record { full = w .full; unmarked = orElse (w .unmarked) (At p); least = min (w .least) n } ≡ noted c at w p slot
-  unfolding noted
-  noted-unmarked owing clear = rw (ne-eqb _ _ (rw is at owing), eq-eqb _ _ clear, is)
+  module _ (owing : n ≡ 0 → ⊥) {awaited : Awaited} (awaits : awaited ≡ awaiting c at (w .awaited) (slot .bucket)) where
+    pub noted-unmarked : slot .mark ≡ 0 → record { full = w .full; unmarked = orElse (w .unmarked) (At p); awaited = awaited } ≡ noted c at w p slot
+    unfolding noted
+    noted-unmarked clear = rw (ne-eqb _ _ (rw is at owing), eq-eqb _ _ clear, awaits)
 
-  pub noted-marked : (n ≡ 0 → ⊥) → (slot .mark ≡ 0 → ⊥) → record { full = w .full; unmarked = w .unmarked; least = min (w .least) n } ≡ noted c at w p slot
-  unfolding noted
-  noted-marked owing set = rw (ne-eqb _ _ (rw is at owing), ne-eqb _ _ set, is)
+    pub noted-marked : (slot .mark ≡ 0 → ⊥) → record { full = w .full; unmarked = w .unmarked; awaited = awaited } ≡ noted c at w p slot
+    unfolding noted
+    noted-marked set = rw (ne-eqb _ _ (rw is at owing), ne-eqb _ _ set, awaits)
 
 -- The walk: its start, and its end where no look is left.
-pub walk-start : (c : BucketConfig) (at : Nanos) (s : Shard) → walkFrom c at (min clockScan (s .slots .count)) s (nothingNoted c) ≡ walked c at s
+pub walk-start : (c : BucketConfig) (at : Nanos) (s : Shard) → walkFrom c at (min clockScan (s .slots .count)) s nothingNoted ≡ walked c at s
 unfolding walked
 walk-start c at s = refl
 
@@ -117,30 +118,22 @@ after-walk c at {cap} {ws} {ws′} {ended} {w} intact some same is =
 -- An eviction is the walk, the choice of the victim, and what happens to the victim.
 pub evicted-in-steps : (c : BucketConfig) (at : Nanos) (forget : Bool) (s : Shard) {ended : Place} {w : Walk} {t : Shard} {first : ℕ} {v : Victim}
     {o : Outcome Room Shard} → walked c at s ≡ record { ended = ended; walk = w; after = t } → first ≡ handOf s → v ≡ victimOf ended w first
-    → o ≡ evictVictim c at forget t (w .least) v → o ≡ evicted c at forget s
+    → o ≡ evictVictim c at forget t (w .awaited) v → o ≡ evicted c at forget s
 unfolding evicted
 evicted-in-steps c at forget s is hand chosen gave = rw (is, ← hand, ← chosen) gave
 
--- The code makes the debt of the slot at p of the slot that it read and of the recovery that it worked out.
-pub debt-recorded : (c : BucketConfig) (at : Nanos) (forget : Bool) (p : ℕ) (s : Shard) {t : Shard} {r : Recorded} {slot : Slot} {n : ℕ}
-    → slot ≡ slotAt s p → n ≡ recovery c slot at
-    → outcome r t ≡ inLedger s (Ledger.recorded (s .ledger) (record { hash = slot .hash; settles = record { 0 = at .0 + n } }) at forget)
+-- The code makes the debt of the slot at p of the slot that it read and of when it is due to be full, by the recovery that it worked out.
+pub debt-recorded : (c : BucketConfig) (at : Nanos) (forget : Bool) (p : ℕ) (s : Shard) {t : Shard} {r : Recorded} {slot : Slot} {takes : Nanos} {full : Due}
+    → slot ≡ slotAt s p → takes .0 ≡ recovery c slot at → full ≡ dueAfter at takes
+    → outcome r t ≡ inLedger s (Ledger.recorded (s .ledger) (record { hash = slot .hash; settles = full .moment }) at forget)
     → outcome r t ≡ inLedger s (debtRecorded c at forget s p)
-debt-recorded c at forget p s read takes gave = rw (takes, read) at gave
+debt-recorded c at forget p s read takes due gave = rw (due ∙ due-by-number at _ takes, read) at gave
 
 -- The eviction of a slot that owes, once its debt is recorded, or is not.
-module _ (c : BucketConfig) (at : Nanos) (forget : Bool) (p least : ℕ) (s : Shard) {r : Recorded} {t : Shard}
+module _ (c : BucketConfig) (at : Nanos) (forget : Bool) (p : ℕ) (awaited : Awaited) (s : Shard) {r : Recorded} {t : Shard}
     (gave : outcome r t ≡ inLedger s (debtRecorded c at forget s p)) where
-  pub owing-goes-out : r ≡ Done → outcome Made (evictAt t p) ≡ evictVictim c at forget s least (Owing p)
+  pub owing-goes-out : r ≡ Done → outcome Made (evictAt t p) ≡ evictVictim c at forget s awaited (Owing p)
   owing-goes-out is = rw (after-is gave, sym (answer-is gave) ∙ is)
 
-  pub owing-stays : {wait : Nanos} → r ≡ NoRoom wait → outcome (Refused (dueAfter at (refusalWait c least wait))) t ≡ evictVictim c at forget s least (Owing p)
+  pub owing-stays : {wait : Nanos} → r ≡ NoRoom wait → outcome (Refused (dueAfter at (refusalWait c awaited wait))) t ≡ evictVictim c at forget s awaited (Owing p)
   owing-stays is = rw (after-is gave, sym (answer-is gave) ∙ is)
-
--- A recovery takes no longer than the largest shortfall has parts, so the moment at which a debt settles fits 64 bits.
-pub recovery-most : {c : BucketConfig} (b : BucketCore) (at : Nanos) → Accepted c → recoveryAt c b at ≤ mostShortfall c
-recovery-most {c} b at a =
-    rw (← recovery-of-shortfall b at a) (omega (arith, recovery-at-most-parts a (shortfallAt c b at), shortfall-most c b at))
-
-pub debt-fits : {c : BucketConfig} (b : BucketCore) (at : Nanos) {n : ℕ} → Accepted c → at .0 ≤ 2 ^ 62 → n ≡ recoveryAt c b at → at .0 + n < 2 ^ 64
-debt-fits b at a early is = omega (arith, recovery-most b at a, most-shortfall-fits a)

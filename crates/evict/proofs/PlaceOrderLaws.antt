@@ -17,6 +17,7 @@ use Rattle.shard_map.specs.Model.{inPlaceOrder, Shard, Sound, slotItems, slotAt
 use Rattle.shard_map.proofs.PlaceOrderLaws.{leftInPlaceOrder, identityOf, FindsEach, found-is-sound, found-is-complete, SlotsFrom}
 use Rattle.shard_map.proofs.PlaceOrderLaws.{removal-in-place-order, removal-slots-from}
 use Rattle.shard_map.proofs.StepLaws.{slots-sound}
+use Rattle.evict.specs.declared.Awaited.{Awaited}
 use Rattle.evict.specs.declared.Walk.{Walk}
 use Rattle.evict.specs.declared.Victim.{Victim}
 use Rattle.evict.specs.declared.Victim.the-variants.{Free, Owing}
@@ -40,7 +41,7 @@ module _ (c : BucketConfig) (at : Nanos) where
 
   pub walk-in-place-order : (s : Shard) → walked c at (inPlaceOrder s) ≡ walkedInPlaceOrder (walked c at s)
   unfolding walked
-  walk-in-place-order s = walkFrom-in-place-order _ s (nothingNoted c)
+  walk-in-place-order s = walkFrom-in-place-order _ s nothingNoted
 
   walkFrom-ledger : (left : ℕ) (s : Shard) (w : Walk) → walkFrom c at left s w .after .ledger ≡ s .ledger
   unfolding walkFrom
@@ -52,26 +53,26 @@ module _ (c : BucketConfig) (at : Nanos) where
 
   walk-ledger : (s : Shard) → walked c at s .after .ledger ≡ s .ledger
   unfolding walked
-  walk-ledger s = walkFrom-ledger _ s (nothingNoted c)
+  walk-ledger s = walkFrom-ledger _ s nothingNoted
 
 -- A slot goes.
 pub evict-at-in-place-order : (s : Shard) (p : ℕ) → evictAt (inPlaceOrder s) p ≡ inPlaceOrder (evictAt s p)
 evict-at-in-place-order s p = ap (λ (t : Shard). withHand t (p + 1)) (removal-in-place-order s p)
 
 module _ (c : BucketConfig) (at : Nanos) (forget : Bool) where
-  after-recording-in-place-order : (s : Shard) (p least : ℕ) (l : Ledger.Ledger) (r : Recorded)
-      → afterRecording c at (inPlaceOrder s) p least (Ledger.inPlaceOrder l) r ≡ leftInPlaceOrder (afterRecording c at s p least l r)
-  after-recording-in-place-order s p least l Done = ap (outcome Made) (evict-at-in-place-order (withLedger s l) p)
-  after-recording-in-place-order s p least l (NoRoom wait) = refl
+  after-recording-in-place-order : (s : Shard) (p : ℕ) (awaited : Awaited) (l : Ledger.Ledger) (r : Recorded)
+      → afterRecording c at (inPlaceOrder s) p awaited (Ledger.inPlaceOrder l) r ≡ leftInPlaceOrder (afterRecording c at s p awaited l r)
+  after-recording-in-place-order s p awaited l Done = ap (outcome Made) (evict-at-in-place-order (withLedger s l) p)
+  after-recording-in-place-order s p awaited l (NoRoom wait) = refl
 
   -- What happens to the victim, where lookup finds each debt.
-  pub victim-in-place-order : (s : Shard) → LedgerOrder.FindsEach (s .ledger) → (least : ℕ) (v : Victim)
-      → evictVictim c at forget (inPlaceOrder s) least v ≡ leftInPlaceOrder (evictVictim c at forget s least v)
-  victim-in-place-order s debts least (Free p) = ap (outcome Made) (evict-at-in-place-order s p)
-  victim-in-place-order s debts least (Owing p) =
+  pub victim-in-place-order : (s : Shard) → LedgerOrder.FindsEach (s .ledger) → (awaited : Awaited) (v : Victim)
+      → evictVictim c at forget (inPlaceOrder s) awaited v ≡ leftInPlaceOrder (evictVictim c at forget s awaited v)
+  victim-in-place-order s debts awaited (Free p) = ap (outcome Made) (evict-at-in-place-order s p)
+  victim-in-place-order s debts awaited (Owing p) =
       let recording = debtRecorded c at forget s p in
       rw (recorded-in-place-order (s .ledger) debts (debtLeft c at (slotAt s p)) at forget)
-      (after-recording-in-place-order s p least (recording .after) (recording .answer))
+      (after-recording-in-place-order s p awaited (recording .after) (recording .answer))
 
   -- The eviction.
   pub evict-in-place-order : (s : Shard) → FindsEach s → evicted c at forget (inPlaceOrder s) ≡ leftInPlaceOrder (evicted c at forget s)
@@ -79,7 +80,7 @@ module _ (c : BucketConfig) (at : Nanos) (forget : Bool) where
   evict-in-place-order s each =
       let w : Walked = walked c at s in
       rw (walk-in-place-order c at s)
-      (victim-in-place-order (w .after) (rw (walk-ledger c at s) (each .ledger)) (w .walk .least) (victimOf (w .ended) (w .walk) (handOf s)))
+      (victim-in-place-order (w .after) (rw (walk-ledger c at s) (each .ledger)) (w .walk .awaited) (victimOf (w .ended) (w .walk) (handOf s)))
 
   -- The slots that it leaves come from those before, and lookup finds each slot and each debt.
   pub evict-slots-from : (s : Shard) → Sound s → 0 < s .slots .count → SlotsFrom s (evicted c at forget s .after)

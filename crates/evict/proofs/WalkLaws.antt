@@ -1,19 +1,17 @@
 -- The walk of the hand, and how an eviction ends. The walk only clears marks and moves the hand, and the places that it notes hold slots; the eviction then
 -- ends in one of three ways. Laws about sums go by these cases and do not open the walk.
-use Prim.Native.Nat.{ℕ, zero, suc, _+_, _≤_, _<_, _^_, max, min}
-use native.Mathlib.Nat.{mul-le-mul-left}
+use Prim.Native.Nat.{ℕ, zero, suc, _+_, _≤_, _<_, max, min}
 use mathlib.Core.Path.{_≡_, refl, sym, _∙_, ap}
 use mathlib.Core.Bool.{Bool, true, false, cond, true≢false}
 use native.Mathlib.Omega.{arith}
 use lib.ListN.{length, length-set}
 use borrow.Author.Tests.{eqb-true}
 use Rattle.arith.proofs.Cases.{by-test, by-eq}
-use Rattle.arith.proofs.DivisionLaws.{ceilDiv-least, ceilDiv-mono, ceilDiv-of-smaller}
 use Rattle.units.specs.declared.Nanos.{Nanos}
 use Rattle.bucket.specs.declared.BucketConfig.{BucketConfig}
 use Rattle.bucket.specs.declared.Due.{Due}
-use Rattle.bucket.specs.Bucket.{Accepted, mostShortfall, shortfallAt, recoveryOf, dueAfter}
-use Rattle.bucket.proofs.BucketLaws.{most-shortfall-fits, shortfall-most, recovery-of-shortfall}
+use Rattle.bucket.specs.Bucket.{Accepted, shortfallAt, dueAfter}
+use Rattle.bucket.proofs.BucketLaws.{wait-fits}
 use Rattle.settings.specs.Eviction.{clockScan}
 use Rattle.rows.specs.declared.Place.{Place}
 use Rattle.rows.specs.declared.Place.the-variants.{At, Nowhere}
@@ -30,14 +28,16 @@ use Rattle.ledger.specs.declared.Recorded.the-variants.{Done, NoRoom}
 use Rattle.ledger.specs.Model as Ledger
 use Rattle.ledger.proofs.StepLaws.{SameRoom, same-room, same-room-trans}
 use Rattle.ledger.proofs.RecordLaws.{recorded-sound, recorded-complete, recorded-room, Refusal, refusal}
+use Rattle.evict.specs.declared.Awaited.{Awaited}
 use Rattle.evict.specs.declared.Walk.{Walk}
 use Rattle.evict.specs.declared.Victim.{Victim}
 use Rattle.evict.specs.declared.Victim.the-variants.{Free, Owing}
 use Rattle.evict.specs.declared.Room.{Room}
 use Rattle.evict.specs.declared.Room.the-variants.{Made, Refused}
 use Rattle.shard_map.specs.Model.{Shard, Sound, Complete, slotItems, capOf, slotAt, withLedger, handOf, removeAt}
-use Rattle.evict.specs.Evict.{minRefusalWait, orElse, placeOr, nothingNoted, noted, looked, goesAtOnce, Walked, walkFrom, walked, freeOr, victimOf, evictAt}
+use Rattle.evict.specs.Evict.{minRefusalWait, orElse, placeOr, lastWord, soonestIn, nothingNoted, noted, looked, goesAtOnce, Walked, walkFrom, walked, freeOr, victimOf, evictAt}
 use Rattle.evict.specs.Evict.{debtLeft, refusalWait, afterRecording, evictVictim, evicted}
+use Rattle.evict.proofs.AwaitedLaws.{one-more-is-awaited}
 use Rattle.shard_map.proofs.StepLaws.{hand-below, removal-count, removal-cap, removal-kind, removal-slots-complete, removal-ledger, ledger-sound}
 
 -- A shard that is another but for the hand and the marks.
@@ -143,7 +143,7 @@ module _ (c : BucketConfig) (at : Nanos) (s : Shard) where
   pub walk-kept : Sound s → 0 < s .slots .count → WalkKept c at s (walked c at s)
   unfolding walked
   walk-kept u some =
-      walkFrom-kept _ s (nothingNoted c) u some (record { count = refl; cap = refl; sweep = refl; ledger = refl; finding = refl; slots = λ i. refl }) (record { full = tt; unmarked = tt })
+      walkFrom-kept _ s nothingNoted u some (record { count = refl; cap = refl; sweep = refl; ledger = refl; finding = refl; slots = λ i. refl }) (record { full = tt; unmarked = tt })
 
 -- The soonest recovery of the slots that a walk looks at and that are not full, worked out at each look, with so many looks left.
 unfoldable pub soonestFrom : BucketConfig → Nanos → ℕ → Shard → ℕ → ℕ
@@ -155,63 +155,34 @@ soonestFrom c at (suc left) s soonest =
 
 -- That of the slots that an eviction looks at. No recovery is longer than the number that it starts with (`no-recovery-is-longer`).
 abbrev pub soonestOf : BucketConfig → Nanos → Shard → ℕ
-soonestOf c at s = soonestFrom c at (min clockScan (s .slots .count)) s (recoveryOf c (nothingNoted c .least))
+soonestOf c at s = soonestFrom c at (min clockScan (s .slots .count)) s lastWord
 
--- It is the recovery of the least shortfall that the walk notes: the code divides once.
+-- It is the soonest recovery in what the walk notes: the code divides once, and once for each slot whose stamp is after the moment.
 module _ {c : BucketConfig} (a : Accepted c) (at : Nanos) where
-  pub no-recovery-is-longer : (slot : Slot) → recovery c slot at ≤ recoveryOf c (nothingNoted c .least)
-  no-recovery-is-longer slot =
-      rw (← recovery-of-shortfall (slot .bucket) at a)
-      (ceilDiv-mono _ _ (c .amount) (a .amount-least) (omega (arith, shortfall-most c (slot .bucket) at, most-shortfall-fits a)))
+  pub no-recovery-is-longer : (slot : Slot) → recovery c slot at ≤ lastWord
+  no-recovery-is-longer slot = omega (arith, wait-fits c (slot .bucket) (c .capacity) at)
 
-  least-noted : (w : Walk) (p : ℕ) (slot : Slot)
-      → recoveryOf c (noted c at w p slot .least) ≡ cond (lossless c slot at) (recoveryOf c (w .least)) (min (recoveryOf c (w .least)) (recovery c slot at))
+  soonest-noted : (w : Walk) (p : ℕ) (slot : Slot)
+      → soonestIn c (noted c at w p slot .awaited)
+      ≡ cond (lossless c slot at) (soonestIn c (w .awaited)) (min (soonestIn c (w .awaited)) (recovery c slot at))
   unfolding noted
-  least-noted w p slot =
+  soonest-noted w p slot =
       by-test (lossless c slot at)
       (λ full. rw (full, noted))
-      (λ owing. rw (owing, noted, ceilDiv-of-smaller (w .least) _ (c .amount) (a .amount-least), ← recovery-of-shortfall (slot .bucket) at a))
+      (λ owing. rw (owing, noted) (one-more-is-awaited a at (w .awaited) (slot .bucket)))
 
-  least-from : (left : ℕ) (s : Shard) (w : Walk)
-      → recoveryOf c (walkFrom c at left s w .walk .least) ≡ soonestFrom c at left s (recoveryOf c (w .least))
+  soonest-from : (left : ℕ) (s : Shard) (w : Walk)
+      → soonestIn c (walkFrom c at left s w .walk .awaited) ≡ soonestFrom c at left s (soonestIn c (w .awaited))
   unfolding walkFrom soonestFrom
-  least-from zero s w = refl
-  least-from (suc left) s w =
+  soonest-from zero s w = refl
+  soonest-from (suc left) s w =
       by-test (goesAtOnce c at (slotAt s (handOf s)))
       (λ goes. rw (goes, walkFrom, soonestFrom))
-      (λ stays. rw (stays, walkFrom, soonestFrom, ← least-noted w (handOf s) (slotAt s (handOf s))) (least-from left (looked s (handOf s)) _))
+      (λ stays. rw (stays, walkFrom, soonestFrom, ← soonest-noted w (handOf s) (slotAt s (handOf s))) (soonest-from left (looked s (handOf s)) _))
 
-  pub least-shortfall-recovers-soonest : (s : Shard) → recoveryOf c (walked c at s .walk .least) ≡ soonestOf c at s
-  unfolding walked
-  least-shortfall-recovers-soonest s = least-from _ s (nothingNoted c)
-
--- The least shortfall that a walk notes only falls, from the largest that is read.
-module _ (c : BucketConfig) (at : Nanos) where
-  noted-least-falls : (w : Walk) (p : ℕ) (slot : Slot) → noted c at w p slot .least ≤ w .least
-  unfolding noted
-  noted-least-falls w p slot = by-test (lossless c slot at) (λ full. rw (full, noted) (omega arith)) (λ owing. rw (owing, noted) (omega arith))
-
-  least-falls : (left : ℕ) (s : Shard) (w : Walk) → walkFrom c at left s w .walk .least ≤ w .least
-  unfolding walkFrom
-  least-falls zero s w = omega arith
-  least-falls (suc left) s w =
-      let p : ℕ = handOf s in
-      by-test (goesAtOnce c at (slotAt s p))
-      (λ goes. rw (goes, walkFrom) (omega arith))
-      (λ stays. rw (stays, walkFrom) (omega (arith, least-falls left (looked s p) (noted c at w p (slotAt s p)), noted-least-falls w p (slotAt s p))))
-
-  pub walk-least-most : (s : Shard) → walked c at s .walk .least ≤ mostShortfall c
-  unfolding walked
-  walk-least-most s = least-falls _ s (nothingNoted c)
-
--- A shortfall recovers in no more nanoseconds than it has parts.
-pub recovery-at-most-parts : {c : BucketConfig} → Accepted c → (shortfall : ℕ) → recoveryOf c shortfall ≤ shortfall
-recovery-at-most-parts {c} a shortfall = ceilDiv-least shortfall (c .amount) shortfall (a .amount-least) (omega (arith, mul-le-mul-left shortfall (a .amount-least)))
-
--- The wait of a refusal is short enough that the moment at which it is over fits 64 bits.
-pub refusal-is-due-in-time : {c : BucketConfig} (at : Nanos) {least : ℕ} (wait : Nanos) → Accepted c → at .0 ≤ 2 ^ 62 → least ≤ mostShortfall c
-    → at .0 + refusalWait c least wait .0 < 2 ^ 64
-refusal-is-due-in-time at {least} wait a early most = omega (arith, recovery-at-most-parts a least, most-shortfall-fits a)
+  pub awaited-recovers-soonest : (s : Shard) → soonestIn c (walked c at s .walk .awaited) ≡ soonestOf c at s
+  unfolding walked soonestIn
+  awaited-recovers-soonest s = soonest-from _ s nothingNoted
 
 -- A slot that is full before the walk is full after it.
 remarked-full : (c : BucketConfig) (at : Nanos) (s t : Shard) (p : ℕ) → Remarked s t → FullSlot c at s p → FullSlot c at t p
@@ -253,31 +224,31 @@ debtRecorded c at forget s p = Ledger.recorded (s .ledger) (debtLeft c at (slotA
 pub debt-recorded-sound : (c : BucketConfig) (at : Nanos) (forget : Bool) (s : Shard) (p : ℕ) → Sound s → Sound (withLedger s (debtRecorded c at forget s p .after))
 debt-recorded-sound c at forget s p u = ledger-sound s _ u (recorded-sound (s .ledger) (debtLeft c at (slotAt s p)) at forget (u .ledger))
 
--- How an eviction ends, by the shard that the walk left and the least shortfall that it noted: a full slot goes; a slot goes once its debt is in the ledger;
+-- How an eviction ends, by the shard that the walk left and what it awaits: a full slot goes; a slot goes once its debt is in the ledger;
 -- or none goes, since the ledger had no room.
-pub data Evicting (c : BucketConfig) (at : Nanos) (forget : Bool) (least : ℕ) (s : Shard) : Outcome Room Shard → Type 0 where
-  full-goes : (p : ℕ) → FullSlot c at s p → Evicting c at forget least s (outcome Made (evictAt s p))
+pub data Evicting (c : BucketConfig) (at : Nanos) (forget : Bool) (awaited : Awaited) (s : Shard) : Outcome Room Shard → Type 0 where
+  full-goes : (p : ℕ) → FullSlot c at s p → Evicting c at forget awaited s (outcome Made (evictAt s p))
   owing-goes : (p : ℕ) → p < s .slots .count → debtRecorded c at forget s p .answer ≡ Done
-      → Evicting c at forget least s (outcome Made (evictAt (withLedger s (debtRecorded c at forget s p .after)) p))
+      → Evicting c at forget awaited s (outcome Made (evictAt (withLedger s (debtRecorded c at forget s p .after)) p))
   none-goes : (p : ℕ) (wait : Nanos) → p < s .slots .count → debtRecorded c at forget s p .answer ≡ NoRoom wait
-      → Evicting c at forget least s (outcome (Refused (dueAfter at (refusalWait c least wait))) (withLedger s (debtRecorded c at forget s p .after)))
+      → Evicting c at forget awaited s (outcome (Refused (dueAfter at (refusalWait c awaited wait))) (withLedger s (debtRecorded c at forget s p .after)))
 
-victim-cases : (c : BucketConfig) (at : Nanos) (forget : Bool) (s : Shard) (least : ℕ) (v : Victim) → victimIs c at s v
-    → Evicting c at forget least s (evictVictim c at forget s least v)
-victim-cases c at forget s least (Free p) full = full-goes p full
-victim-cases c at forget s least (Owing p) below = go (debtRecorded c at forget s p .answer) refl
+victim-cases : (c : BucketConfig) (at : Nanos) (forget : Bool) (s : Shard) (awaited : Awaited) (v : Victim) → victimIs c at s v
+    → Evicting c at forget awaited s (evictVictim c at forget s awaited v)
+victim-cases c at forget s awaited (Free p) full = full-goes p full
+victim-cases c at forget s awaited (Owing p) below = go (debtRecorded c at forget s p .answer) refl
   where
     go : (answer : Recorded) → debtRecorded c at forget s p .answer ≡ answer
-        → Evicting c at forget least s (afterRecording c at s p least (debtRecorded c at forget s p .after) answer)
+        → Evicting c at forget awaited s (afterRecording c at s p awaited (debtRecorded c at forget s p .after) answer)
     go Done e = owing-goes p below e
     go (NoRoom wait) e = none-goes p wait below e
 
 pub evict-cases : (c : BucketConfig) (at : Nanos) (forget : Bool) (s : Shard) → Sound s → 0 < s .slots .count
-    → Evicting c at forget (walked c at s .walk .least) (walked c at s .after) (evicted c at forget s)
+    → Evicting c at forget (walked c at s .walk .awaited) (walked c at s .after) (evicted c at forget s)
 unfolding evicted
 evict-cases c at forget s u some =
     let w : Walked = walked c at s in
-    victim-cases c at forget (w .after) (w .walk .least) (victimOf (w .ended) (w .walk) (handOf s)) (walk-chooses c at s u some)
+    victim-cases c at forget (w .after) (w .walk .awaited) (victimOf (w .ended) (w .walk) (handOf s)) (walk-chooses c at s u some)
 
 -- Whether room was made or not; where it was not, it is due after a wait, and told so.
 pub data TellsRoom (at : Nanos) : Room → Type 0 where
@@ -287,18 +258,18 @@ pub data TellsRoom (at : Nanos) : Room → Type 0 where
 -- A refusal tells the moment of the call plus its wait, on any shard.
 pub eviction-tells-its-moment : (c : BucketConfig) (at : Nanos) (forget : Bool) (s : Shard) → TellsRoom at (evicted c at forget s .answer)
 unfolding evicted
-eviction-tells-its-moment c at forget s = by-victim (w .after) (w .walk .least) (victimOf (w .ended) (w .walk) (handOf s))
+eviction-tells-its-moment c at forget s = by-victim (w .after) (w .walk .awaited) (victimOf (w .ended) (w .walk) (handOf s))
   where
     w : Walked
     w = walked c at s
 
-    by-record : (t : Shard) (p least : ℕ) (l : Ledger.Ledger) (r : Recorded) → TellsRoom at (afterRecording c at t p least l r .answer)
-    by-record t p least l Done = room-made
-    by-record t p least l (NoRoom wait) = room-refused (refusalWait c least wait)
+    by-record : (t : Shard) (p : ℕ) (awaited : Awaited) (l : Ledger.Ledger) (r : Recorded) → TellsRoom at (afterRecording c at t p awaited l r .answer)
+    by-record t p awaited l Done = room-made
+    by-record t p awaited l (NoRoom wait) = room-refused (refusalWait c awaited wait)
 
-    by-victim : (t : Shard) (least : ℕ) (v : Victim) → TellsRoom at (evictVictim c at forget t least v .answer)
-    by-victim t least (Free p) = room-made
-    by-victim t least (Owing p) = by-record t p least (debtRecorded c at forget t p .after) (debtRecorded c at forget t p .answer)
+    by-victim : (t : Shard) (awaited : Awaited) (v : Victim) → TellsRoom at (evictVictim c at forget t awaited v .answer)
+    by-victim t awaited (Free p) = room-made
+    by-victim t awaited (Owing p) = by-record t p awaited (debtRecorded c at forget t p .after) (debtRecorded c at forget t p .answer)
 
 -- The two answers are not one, and there is no third.
 pub made-is-no-refusal : {Q : Type 0} {due : Due} → Made ≡ Refused due → Q
@@ -313,7 +284,7 @@ pub never-refused-is-made : (answer : Room) → ((due : Due) → answer ≡ Refu
 never-refused-is-made Made never = refl
 never-refused-is-made (Refused due) never = absurd (never due refl)
 
--- What a refusal says: the ledger is full, nothing may be forgotten, the wait is at least a millisecond, and no slot and no debt has come or gone.
+-- What a refusal says: the ledger is full, nothing may be forgotten, the wait is at awaited a millisecond, and no slot and no debt has come or gone.
 pub record EvictRefusal (forget : Bool) (s : Shard) (wait : Nanos) (after : Shard) : Type 0 where
   pub full : Ledger.capOf (s .ledger) ≤ s .ledger .debts .count
   pub never : forget ≡ false
@@ -344,7 +315,7 @@ module _ (c : BucketConfig) (at : Nanos) (forget : Bool) (s : Shard) (u : Sound 
   pub evict-keeps-slots : (Q : Held Slot → Type 0) → KeptByEvictSteps Q → Q (s .slots) → Q (evicted c at forget s .after .slots)
   evict-keeps-slots Q k q = go walk-sound (k .remarks s (walked c at s .after) walk-remarks q) (evict-cases c at forget s u some)
     where
-      go : {least : ℕ} {t : Shard} {o : Outcome Room Shard} → Sound t → Q (t .slots) → Evicting c at forget least t o → Q (o .after .slots)
+      go : {awaited : Awaited} {t : Shard} {o : Outcome Room Shard} → Sound t → Q (t .slots) → Evicting c at forget awaited t o → Q (o .after .slots)
       go {t = t} v r (full-goes p f) = k .drops t p v (f .below) r
       go {t = t} v r (owing-goes p below done) = k .drops (withLedger t (debtRecorded c at forget t p .after)) p (debt-recorded-sound c at forget t p v) below r
       go {t = t} v r (none-goes p wait below told) = r
@@ -353,7 +324,7 @@ module _ (c : BucketConfig) (at : Nanos) (forget : Bool) (s : Shard) (u : Sound 
       → Q (s .ledger) → Q (evicted c at forget s .after .ledger)
   evict-keeps-ledger Q records q = go walk-sound (rw (walk-remarks .ledger) q) (evict-cases c at forget s u some)
     where
-      go : {least : ℕ} {t : Shard} {o : Outcome Room Shard} → Sound t → Q (t .ledger) → Evicting c at forget least t o → Q (o .after .ledger)
+      go : {awaited : Awaited} {t : Shard} {o : Outcome Room Shard} → Sound t → Q (t .ledger) → Evicting c at forget awaited t o → Q (o .after .ledger)
       go {t = t} v r (full-goes p f) = rw (removal-ledger t p) r
       go {t = t} v r (owing-goes p below done) =
           rw (removal-ledger (withLedger t (debtRecorded c at forget t p .after)) p) (records (t .ledger) (debtLeft c at (slotAt t p)) (v .ledger) r)
@@ -396,7 +367,7 @@ module _ (c : BucketConfig) (at : Nanos) (forget : Bool) (s : Shard) (u : Sound 
   pub evict-made-count : evicted c at forget s .answer ≡ Made → evicted c at forget s .after .slots .count + 1 ≡ s .slots .count
   evict-made-count made = omega (arith, go (evict-cases c at forget s u some) made, walk-remarks .count)
     where
-      go : {least : ℕ} {t : Shard} {o : Outcome Room Shard} → Evicting c at forget least t o → o .answer ≡ Made → o .after .slots .count + 1 ≡ t .slots .count
+      go : {awaited : Awaited} {t : Shard} {o : Outcome Room Shard} → Evicting c at forget awaited t o → o .answer ≡ Made → o .after .slots .count + 1 ≡ t .slots .count
       go {t = t} (full-goes p f) e = omega (arith, removal-count t p, f .below)
       go {t = t} (owing-goes p below done) e = omega (arith, removal-count (withLedger t (debtRecorded c at forget t p .after)) p)
       go {t = t} (none-goes p wait below told) e = made-is-no-refusal (sym e)
@@ -407,13 +378,13 @@ module _ (c : BucketConfig) (at : Nanos) (forget : Bool) (s : Shard) (u : Sound 
   pub evict-refusal : (due : Due) → evicted c at forget s .answer ≡ Refused due → EvictRefusal forget s (due .wait) (evicted c at forget s .after)
   evict-refusal due = go walk-remarks walk-sound (evict-cases c at forget s u some)
     where
-      go : {least : ℕ} {t : Shard} {o : Outcome Room Shard} → Remarked s t → Sound t → Evicting c at forget least t o → o .answer ≡ Refused due
+      go : {awaited : Awaited} {t : Shard} {o : Outcome Room Shard} → Remarked s t → Sound t → Evicting c at forget awaited t o → o .answer ≡ Refused due
           → EvictRefusal forget s (due .wait) (o .after)
       go r v (full-goes p f) e = made-is-no-refusal e
       go r v (owing-goes p below done) e = made-is-no-refusal e
-      go {least} {t} r v (none-goes p w below told) e =
+      go {awaited} {t} r v (none-goes p w below told) e =
           let q : Refusal (t .ledger) forget w (debtRecorded c at forget t p .after) = refusal (t .ledger) _ at forget w (v .ledger) told in
-          let same : refusalWait c least w .0 ≡ due .wait .0 = ap waitForRoom e in
+          let same : refusalWait c awaited w .0 ≡ due .wait .0 = ap waitForRoom e in
           record {
             full = rw (← r .ledger) (q .full);
             never = q .never;
@@ -422,16 +393,16 @@ module _ (c : BucketConfig) (at : Nanos) (forget : Bool) (s : Shard) (u : Sound 
             debts = q .debts ∙ ap (λ (l : Ledger.Ledger). l .debts) (r .ledger);
           }
 
-  -- The wait that a refusal tells is the shorter of the soonest recovery of the slots looked at and the ledger's wait, but at least a millisecond.
+  -- The wait that a refusal tells is the shorter of the soonest recovery of the slots looked at and the ledger's wait, but at awaited a millisecond.
   pub refusal-waits-for-the-soonest : Accepted c → (due : Due) → evicted c at forget s .answer ≡ Refused due → RefusalWait c at forget s (due .wait)
-  refusal-waits-for-the-soonest a due = go (least-shortfall-recovers-soonest a at s) (evict-cases c at forget s u some)
+  refusal-waits-for-the-soonest a due = go (awaited-recovers-soonest a at s) (evict-cases c at forget s u some)
     where
-      go : {least : ℕ} {o : Outcome Room Shard} → recoveryOf c least ≡ soonestOf c at s → Evicting c at forget least (walked c at s .after) o
+      go : {awaited : Awaited} {o : Outcome Room Shard} → soonestIn c awaited ≡ soonestOf c at s → Evicting c at forget awaited (walked c at s .after) o
           → o .answer ≡ Refused due → RefusalWait c at forget s (due .wait)
       go is (full-goes p f) e = made-is-no-refusal e
       go is (owing-goes p below done) e = made-is-no-refusal e
-      go {least} is (none-goes p w below told) e =
-          let same : refusalWait c least w .0 ≡ due .wait .0 = ap waitForRoom e in
+      go {awaited} is (none-goes p w below told) e =
+          let same : refusalWait c awaited w .0 ≡ due .wait .0 = ap waitForRoom e in
           record { place = p; ledger-wait = w; told = told; shorter = rw (← is) (sym same) }
 
   -- So it is never refused while the ledger is below its cap, nor where debts may be forgotten.

@@ -1,13 +1,14 @@
 // Eviction of one slot from a full shard.
 ghost use mathlib.Core.Path.{_≡_};
-ghost use Prim.Native.Nat.{_≤_, _<_, _^_};
+ghost use Prim.Native.Nat.{_<_};
 ghost use Rattle.rows.specs.Outcome.{outcome};
-ghost use Rattle.bucket.specs.Bucket.{Accepted, mostShortfall};
+ghost use Rattle.bucket.specs.Bucket.{Accepted, shortfallAt};
 ghost use Rattle.shard_map.specs.Model as Model;
 ghost use Rattle.shard_map.specs.Layout.{shard, Intact};
 ghost use Rattle.evict.specs.declared.Victim.the-variants.{Owing};
 ghost use Rattle.evict.specs.Evict as Evict;
 use bucket::BucketConfig;
+use bucket::BucketCore;
 use bucket::Due;
 use ledger::Debt;
 use ledger::Recorded;
@@ -33,24 +34,65 @@ pub enum Victim {
     Owing(usize),
 }
 
-// What the walk of the hand has noted: the first full slot, the first slot neither full nor marked, and the least shortfall of those not full. The slot
-// with the least shortfall recovers the soonest. How soon takes a division, and only a refusal makes it.
+// How soon the slots recover that are not full. Of those whose stamp is not after the moment `least` is the least shortfall: the slot that has it recovers the
+// soonest of them. How soon takes a division, and only a refusal makes it. Of the others, which a clock set back leaves, `later` is the soonest recovery.
+// Each is the largest number of 64 bits while there is no such slot.
+pub struct Awaited {
+    pub least: u64,
+    pub later: u64,
+}
+
+// What the walk of the hand has noted: the first full slot, the first slot neither full nor marked, and how soon those not full recover.
 pub struct Walk {
     pub full: Place,
     pub unmarked: Place,
-    pub least: u64,
+    pub awaited: Awaited,
+}
+
+impl Awaited {
+    // With the bucket of one more slot that is not full.
+    fn with(self, bucket: BucketCore, shortfall: u64, config: BucketConfig, at: Nanos) -> Awaited
+        requires { ⌜ Accepted config × (shortfall ≡ shortfallAt config bucket at) ⌝ }
+        ensures { λ r. ⌜ r ≡ Evict.awaiting config at self bucket ⌝ }
+    {
+        if bucket.stamp.0 <= at.0 {
+            return Awaited {
+                least: arith::smaller(self.least, shortfall),
+                later: self.later,
+            };
+        }
+        let recovers_in = bucket.recovers_in(config, at);
+        Awaited {
+            least: self.least,
+            later: arith::smaller(self.later, recovers_in.0),
+        }
+    }
+
+    // How long until the first of the slots has recovered.
+    fn soonest(self, config: BucketConfig) -> Nanos
+        requires { ⌜ Accepted config ⌝ }
+        ensures { λ r. ⌜ r .0 ≡ Evict.soonestIn config self ⌝ }
+    {
+        if self.least == u64::MAX {
+            return Nanos(self.later);
+        }
+        let recovery = config.recovery_of(self.least);
+        Nanos(arith::smaller(recovery.0, self.later))
+    }
 }
 
 impl Walk {
     // Before the first look.
-    pub fn new(config: BucketConfig) -> Walk
-        requires { ⌜ Accepted config ⌝ }
-        ensures { λ r. ⌜ r ≡ Evict.nothingNoted config ⌝ }
+    pub fn new() -> Walk
+        ensures { λ r. ⌜ r ≡ Evict.nothingNoted ⌝ }
     {
         Walk {
             full: Place::Nowhere,
             unmarked: Place::Nowhere,
-            least: config.most_shortfall(),
+            awaited: Awaited {
+                least: u64::MAX,
+                later: u64::MAX,
+            },
         }
     }
 
@@ -61,27 +103,28 @@ impl Walk {
     {
         let full = self.full;
         let unmarked = self.unmarked;
+        let before = self.awaited;
         let bucket = slot.bucket;
         let shortfall = bucket.shortfall_at(config, at);
         if shortfall == 0 {
             return Walk {
                 full: first_of(full, Place::At(pos)),
                 unmarked,
-                least: self.least,
+                awaited: before,
             };
         }
-        let least = arith::smaller(self.least, shortfall);
+        let awaited = before.with(bucket, shortfall, config, at);
         if slot.mark == 0 {
             return Walk {
                 full,
                 unmarked: first_of(unmarked, Place::At(pos)),
-                least,
+                awaited,
             };
         }
         Walk {
             full,
             unmarked,
-            least,
+            awaited,
         }
     }
 
@@ -142,12 +185,12 @@ fn hand_look(ws: &mut [u64], cap: usize, pos: usize) -> Slot
 
 // Evicts one slot of a full shard. The walk ends at once at the first full slot without the mark; else one that it noted goes.
 pub fn evict_one(ws: &mut [u64], cap: usize, config: BucketConfig, at: Nanos, forget: bool) -> Room
-    requires { ⌜ Intact cap (now ws) × Accepted config × (0 < shard cap (now ws) .slots .count) × (at .0 ≤ 2 ^ 62) ⌝ }
+    requires { ⌜ Intact cap (now ws) × Accepted config × (0 < shard cap (now ws) .slots .count) ⌝ }
     ensures { λ r. ⌜ outcome r (shard cap (now (ws .exit))) ≡ Evict.evicted config at forget (shard cap (now (ws .entry))) ⌝ }
 {
     let first = words::hand(ws, cap);
     let mut left = arith::fewer(Eviction::hand_looks(), shard_map::len(ws, cap));
-    let mut walk = Walk::new(config);
+    let mut walk = Walk::new();
     let ended = loop {
         if left == 0 {
             break Place::Nowhere;
@@ -160,7 +203,7 @@ pub fn evict_one(ws: &mut [u64], cap: usize, config: BucketConfig, at: Nanos, fo
         walk = walk.noted(pos, slot, config, at);
         left -= 1;
     };
-    let least = walk.least;
+    let awaited = walk.awaited;
     evict_victim(
         ws,
         cap,
@@ -168,7 +211,7 @@ pub fn evict_one(ws: &mut [u64], cap: usize, config: BucketConfig, at: Nanos, fo
         at,
         forget,
         walk.choose(ended, first),
-        least,
+        awaited,
     )
 }
 
@@ -180,17 +223,17 @@ fn evict_victim(
     at: Nanos,
     forget: bool,
     victim: Victim,
-    least: u64,
+    awaited: Awaited,
 ) -> Room
-    requires { ⌜ Intact cap (now ws) × Accepted config × (at .0 ≤ 2 ^ 62) × (Evict.placeOfVictim victim < shard cap (now ws) .slots .count) × (least ≤ mostShortfall config) ⌝ }
-    ensures { λ r. ⌜ outcome r (shard cap (now (ws .exit))) ≡ Evict.evictVictim config at forget (shard cap (now (ws .entry))) least victim ⌝ }
+    requires { ⌜ Intact cap (now ws) × Accepted config × (Evict.placeOfVictim victim < shard cap (now ws) .slots .count) ⌝ }
+    ensures { λ r. ⌜ outcome r (shard cap (now (ws .exit))) ≡ Evict.evictVictim config at forget (shard cap (now (ws .entry))) awaited victim ⌝ }
 {
     match victim {
         Victim::Free(pos) => {
             evict_at(ws, cap, pos);
             Room::Made
         }
-        Victim::Owing(pos) => evict_owing(ws, cap, config, at, forget, pos, least),
+        Victim::Owing(pos) => evict_owing(ws, cap, config, at, forget, pos, awaited),
     }
 }
 
@@ -211,16 +254,17 @@ fn evict_owing(
     at: Nanos,
     forget: bool,
     pos: usize,
-    least: u64,
+    awaited: Awaited,
 ) -> Room
-    requires { ⌜ Intact cap (now ws) × Accepted config × (at .0 ≤ 2 ^ 62) × (pos < shard cap (now ws) .slots .count) × (least ≤ mostShortfall config) ⌝ }
-    ensures { λ r. ⌜ outcome r (shard cap (now (ws .exit))) ≡ Evict.evictVictim config at forget (shard cap (now (ws .entry))) least (Owing pos) ⌝ }
+    requires { ⌜ Intact cap (now ws) × Accepted config × (pos < shard cap (now ws) .slots .count) ⌝ }
+    ensures { λ r. ⌜ outcome r (shard cap (now (ws .exit))) ≡ Evict.evictVictim config at forget (shard cap (now (ws .entry))) awaited (Owing pos) ⌝ }
 {
     let slot = shard_map::get(ws, cap, pos);
-    let recovers_in = slot.recovers_in(config, at);
+    let full = Due::after(at, slot.recovers_in(config, at));
+    let settles = full.moment;
     let debt = Debt {
         hash: slot.hash,
-        settles: Nanos(at.0 + recovers_in.0),
+        settles,
     };
     match debts::record(ws, cap, debt, at, forget) {
         Recorded::Done => {
@@ -228,7 +272,7 @@ fn evict_owing(
             Room::Made
         }
         Recorded::NoRoom(wait) => {
-            let soonest = config.recovery_of(least);
+            let soonest = awaited.soonest(config);
             let sooner = arith::smaller(soonest.0, wait.0);
             Room::Refused(Due::after(at, Nanos(arith::larger(sooner, MIN_REFUSAL_WAIT))))
         }

@@ -7,7 +7,7 @@ use Rattle.held.specs.Layout.{tableIn}
 use Rattle.index.specs.Walk as Index
 use Rattle.held.specs.Held.{removed}
 use Rattle.held.specs.Round as Round
-use Rattle.bucket.specs.Bucket.{shortfallAt, availableAt, waitAt, asked}
+use Rattle.bucket.specs.Bucket.{shortfallAt, availableAt, grown, waitAt, asked}
 use Rattle.bucket.specs.Debt.{takenOut, lacking, restored}
 use Rattle.settings.specs.Powers.{exponentFrom, exponentFor}
 use Rattle.settings.specs.Rate as Rate
@@ -17,7 +17,7 @@ use Rattle.ledger.specs.Layout as Debts
 use Rattle.ledger.specs.Model as Ledger
 use Rattle.shard_map.specs.Layout as Layout
 use Rattle.shard_map.specs.Model as Shard
-use Rattle.evict.specs.Evict.{noted, walkFrom, walked, evicted}
+use Rattle.evict.specs.Evict.{awaiting, soonestIn, noted, walkFrom, walked, evicted}
 use Rattle.shard.specs.Model as OneShard
 use Rattle.store.specs.Refusals as Refusals
 use Rattle.perkey.specs.Rules as Rules
@@ -26,12 +26,12 @@ use Rattle.perkey.specs.Edges.{allHold, edges}
 pub every-edge-holds : allHold edges ≡ true
 unfolding ceilDiv rows unrow tableIn removed Index.onward Index.walkFrom Index.walk Index.findFrom Index.find Index.seek Index.add
     Index.addAgain Index.rehome Index.vacate Index.renumber Index.remove
-    Round.lookAt Round.look Round.sweep shortfallAt availableAt waitAt asked takenOut lacking restored
+    Round.lookAt Round.look Round.sweep shortfallAt availableAt grown waitAt asked takenOut lacking restored
     Rate.unlessWithin Rate.rateRefusal Settings.sizeRefusal Settings.firstRefusal exponentFrom exponentFor hashFrom
     Debts.ledger Debts.wordsOf Ledger.placeOf Ledger.removeAt Ledger.append Ledger.owedBy Ledger.taken Ledger.sweep
     Ledger.scanFrom Ledger.scan Ledger.dropChosen Ledger.makeRoom Ledger.recordedAt Ledger.recorded Ledger.paidDown
     Layout.shard Layout.wordsOf Shard.placeOf Shard.removeAt Shard.insert Shard.sweepIdle
-    noted walkFrom walked evicted OneShard.makeRoom OneShard.withExisting OneShard.admit OneShard.withOrInsert OneShard.viewed OneShard.refunded
+    awaiting soonestIn noted walkFrom walked evicted OneShard.makeRoom OneShard.withExisting OneShard.admit OneShard.withOrInsert OneShard.viewed OneShard.refunded
     Refusals.memoryRefusal Refusals.countRefusal Refusals.momentRefusal
     Rules.unlessRefused Rules.setUp Rules.unlessTrivial Rules.tryAcquire Rules.available Rules.refund
 every-edge-holds = refl

@@ -1,5 +1,5 @@
 -- A request, a try and a reservation alike: what it may ask of its shard, and what it is told.
-use Prim.Native.Nat.{ℕ, _≤_, _<_, _^_}
+use Prim.Native.Nat.{ℕ, _≤_, _<_}
 use mathlib.Core.Path.{_≡_, refl, sym, ap, _∙_}
 use mathlib.Core.List.{List}
 use Rattle.rows.specs.Outcome.{Outcome, outcome}
@@ -23,7 +23,6 @@ use Rattle.store.specs.declared.Part.{Part}
 use Rattle.store.specs.Memory.{Placed, partOf, shardIn, shardAt, inPart, inShard}
 use Rattle.store.specs.Refusals.{timedRefusal}
 use Rattle.store.proofs.LendingLaws.{found-place-below}
-use Rattle.store.proofs.RefusalLaws.{timed-not-refused}
 use Rattle.perkey.specs.declared.Reply.{Reply}
 use Rattle.perkey.specs.Rules.{unlessTrivial, policyOf, requested, tooMuch, atOnce, replyTo, askedBy}
 use Rattle.perkey.proofs.RuleLaws.{bucket-may-be-viewed}
@@ -54,20 +53,20 @@ pub record Asks (s : Settings) (at : Nanos) (id : Identity) (cost : ℕ) (ws : L
 -- What the store may be asked for it: the key's place; a request of a new key; and one of a known key, whose place stands below the cap.
 module _ {s : Settings} {at : Nanos} {id : Identity} {cost : ℕ} {ws : List ℕ} {rate : Rate} {part′ : Part} (a : Asks s at id cost ws rate part′) where
   pub new-may-be-asked : {policy : Policy} → policy ≡ policyOf s rate
-      → Placed part′ ws × Sound (shardIn part′ ws) × Accepted (policy .config) × (cost ≤ policy .config .capacity) × (at .0 ≤ 2 ^ 62)
+      → Placed part′ ws × Sound (shardIn part′ ws) × Accepted (policy .config) × (cost ≤ policy .config .capacity)
   new-may-be-asked is-policy =
       let viewed = bucket-may-be-viewed s (id .hash) ws (a .is-part) at (a .none) rate (a .is-limit) (ap (λ (p : Policy). p .config) is-policy) in
-      (viewed .0, viewed .1, viewed .2, rw is-policy (a .within), timed-not-refused s (id .hash) ws at (a .none) .1)
+      (viewed .0, viewed .1, viewed .2, rw is-policy (a .within))
 
   pub place-may-be-asked : Placed part′ ws × Sound (shardIn part′ ws)
   place-may-be-asked = let asked = new-may-be-asked {policy = policyOf s rate} refl in (asked .0, asked .1)
 
   module _ {policy : Policy} {place : Place} (is-policy : policy ≡ policyOf s rate) (is-place : place ≡ placeOf (shardIn part′ ws) (id .hash) (id .key)) where
     pub known-may-be-asked : (i : ℕ) → place ≡ At i
-        → Placed part′ ws × Sound (shardIn part′ ws) × Accepted (policy .config) × (cost ≤ policy .config .capacity) × (at .0 ≤ 2 ^ 62) × (i < part′ .cap)
+        → Placed part′ ws × Sound (shardIn part′ ws) × Accepted (policy .config) × (cost ≤ policy .config .capacity) × (i < part′ .cap)
     known-may-be-asked i found =
         let asked = new-may-be-asked is-policy in
-        (asked .0, asked .1, asked .2, asked .3, asked .4, found-place-below (asked .0) (id .hash) (id .key) i (asked .1) (sym is-place ∙ found))
+        (asked .0, asked .1, asked .2, asked .3, found-place-below (asked .0) (id .hash) (id .key) i (asked .1) (sym is-place ∙ found))
 
     -- What the store's answer, in the shard of the key, makes of the reply and of all words.
     module _ (r : Request) {decision : BucketDecision} {told : Reply} {ws′ : List ℕ} (is-reply : told ≡ replyTo r decision) where

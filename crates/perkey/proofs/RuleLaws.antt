@@ -1,5 +1,5 @@
 -- The rules case by case, as the code comes to them, and what a call that is not refused may ask of its shard.
-use Prim.Native.Nat.{ℕ, _≤_, _<_, _^_}
+use Prim.Native.Nat.{ℕ, _≤_, _<_}
 use mathlib.Core.Path.{_≡_, ap, _∙_}
 use mathlib.Core.Bool.{Bool}
 use mathlib.Core.List.{List}
@@ -25,7 +25,7 @@ use Rattle.store.specs.declared.Part.{Part}
 use Rattle.store.specs.Memory.{Placed, partOf, shardIn, inShard}
 use Rattle.store.specs.Refusals.{keyedRefusal, momentRefusal, timedRefusal, waitRefusal, reserveRefusal}
 use Rattle.store.proofs.LendingLaws.{accepted-part}
-use Rattle.store.proofs.RefusalLaws.{keyed-not-refused, timed-not-refused}
+use Rattle.store.proofs.RefusalLaws.{keyed-not-refused}
 use Rattle.perkey.specs.declared.Reply.{Reply}
 use Rattle.perkey.specs.declared.codes.Told.{Told}
 use Rattle.perkey.specs.declared.Reply.the-variants.{Tried}
@@ -102,9 +102,6 @@ module _ (s : Settings) (hash : ℕ) (ws : List ℕ) {part′ : Part} (is-part :
 
   -- At a moment, which is not too late either.
   module _ (at : Nanos) (none : timedRefusal s hash at ws ≡ 0) (rate : Rate) (is : s .limit ≡ Open rate) where
-    pub moment-is-early : at .0 ≤ 2 ^ 62
-    moment-is-early = timed-not-refused s hash ws at none .1
-
     pub bucket-may-be-viewed : {config : BucketConfig} → config ≡ configOf rate → Placed part′ ws × Sound (shardIn part′ ws) × Accepted config
     bucket-may-be-viewed is-config = refund-may-be-asked rate (neither-refuses (keyedRefusal s hash ws) (momentRefusal at) none .0) is is-config
 

@@ -139,14 +139,14 @@ module _ (p : Policy) (at : Nanos) (s : Shard) (u : Sound s) where
       (λ t v some same. LedgerSteps.same-room-trans same (evict-ledger-room (p .config) at (p .«forget_debt») t v some)) (LedgerSteps.same-room (s .ledger))
 
   -- Where debts may not be forgotten, nothing that a key lacks is lost.
-  pub room-keeps-shortage : Accepted (p .config) → p .«forget_debt» ≡ false → (h k : ℕ) → Keeps (p .config) h k at s (makeRoom p at s .after)
-  room-keeps-shortage a never h k =
+  pub room-keeps-shortage : Accepted (p .config) → at .0 ≤ 2 ^ 62 → p .«forget_debt» ≡ false → (h k : ℕ) → Keeps (p .config) h k at s (makeRoom p at s .after)
+  room-keeps-shortage a early never h k =
       room-keeps (Keeps c h k at s)
       (record {
         idle = λ t limit v kept. keeps-trans c h k at s t (sweepIdle c at limit ttlSweep t) kept (sweep-idle-keeps-shortage c h k at limit ttlSweep t v);
         ledger = λ t v kept. keeps-trans c h k at s t (sweptLedger at t) kept (ledger-sweep-keeps-shortage c h k at ledgerScan t v);
       })
-      (λ t v some kept. keeps-trans c h k at s t (evicted c at (p .«forget_debt») t .after) kept (evict-keeps-shortage c h k at (p .«forget_debt») t a v some never))
+      (λ t v some kept. keeps-trans c h k at s t (evicted c at (p .«forget_debt») t .after) kept (evict-keeps-shortage c h k at (p .«forget_debt») t a early v some never))
       (keeps-refl c h k at s)
     where
       c : BucketConfig

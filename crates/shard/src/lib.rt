@@ -1,6 +1,6 @@
 // The operations on the one shard that a key belongs to.
 ghost use mathlib.Core.Path.{_≡_};
-ghost use Prim.Native.Nat.{_≤_, _<_, _^_};
+ghost use Prim.Native.Nat.{_≤_, _<_};
 ghost use Rattle.rows.specs.Outcome.{outcome};
 ghost use Rattle.bucket.specs.Bucket.{Accepted};
 ghost use Rattle.slot.specs.Slot.{withBucket};
@@ -56,7 +56,7 @@ pub fn with_existing(
     cost: u32,
     at: Nanos,
 ) -> BucketDecision
-    requires { ⌜ Intact cap (now ws) × Accepted (policy .config) × (cost ≤ policy .config .capacity) × (at .0 ≤ 2 ^ 62) × (pos < cap) ⌝ }
+    requires { ⌜ Intact cap (now ws) × Accepted (policy .config) × (cost ≤ policy .config .capacity) × (pos < cap) ⌝ }
     ensures { λ r. ⌜ outcome r (shard cap (now (ws .exit))) ≡ Model.withExisting policy request cost at (shard cap (now (ws .entry))) pos ⌝ }
 {
     let stored = shard_map::get(ws, cap, pos);
@@ -95,7 +95,7 @@ pub fn admit(
     cost: u32,
     at: Nanos,
 ) -> BucketDecision
-    requires { ⌜ Intact cap (now ws) × Accepted (policy .config) × (cost ≤ policy .config .capacity) × (at .0 ≤ 2 ^ 62) ⌝ }
+    requires { ⌜ Intact cap (now ws) × Accepted (policy .config) × (cost ≤ policy .config .capacity) ⌝ }
     ensures { λ r. ⌜ outcome r (shard cap (now (ws .exit))) ≡ Model.admit policy id request cost at (shard cap (now (ws .entry))) ⌝ }
 {
     let owed = debts::take(ws, cap, id.hash);
@@ -116,7 +116,7 @@ fn join(
     at: Nanos,
     owed: OptionNanos,
 ) -> BucketDecision
-    requires { ⌜ Intact cap (now ws) × Accepted (policy .config) × (cost ≤ policy .config .capacity) × (at .0 ≤ 2 ^ 62) × (shard cap (now ws) .slots .count < cap) ⌝ }
+    requires { ⌜ Intact cap (now ws) × Accepted (policy .config) × (cost ≤ policy .config .capacity) × (shard cap (now ws) .slots .count < cap) ⌝ }
     ensures { λ r. ⌜ outcome r (shard cap (now (ws .exit))) ≡ Model.joined policy id request cost at owed (shard cap (now (ws .entry))) ⌝ }
 {
     let config = policy.config;
@@ -146,7 +146,7 @@ fn returning(config: BucketConfig, at: Nanos, owed: OptionNanos) -> BucketCore
 
 // Makes room in a shard that is about to receive a new key: the idle sweep, the ledger's sweep, and one eviction if the shard is full all the same.
 fn make_room(ws: &mut [u64], cap: usize, policy: Policy, at: Nanos) -> Room
-    requires { ⌜ Intact cap (now ws) × Accepted (policy .config) × (at .0 ≤ 2 ^ 62) ⌝ }
+    requires { ⌜ Intact cap (now ws) × Accepted (policy .config) ⌝ }
     ensures { λ r. ⌜ outcome r (shard cap (now (ws .exit))) ≡ Model.makeRoom policy at (shard cap (now (ws .entry))) ⌝ }
 {
     sweep(ws, cap, policy, at);

@@ -1,6 +1,6 @@
 // The shards of a store, side by side in the lent words. An operation on a key is lent the part of its key's shard alone.
 ghost use mathlib.Core.Path.{_≡_};
-ghost use Prim.Native.Nat.{_≤_, _<_, _^_};
+ghost use Prim.Native.Nat.{_≤_, _<_};
 ghost use lib.ListN.{length, replicate};
 ghost use Rattle.rows.specs.Places.{sum};
 ghost use Rattle.rows.specs.Outcome.{outcome};
@@ -66,7 +66,7 @@ pub fn with_existing(
     cost: u32,
     at: Nanos,
 ) -> BucketDecision
-    requires { ⌜ Placed part (now ws) × Sound (shardIn part (now ws)) × Accepted (policy .config) × (cost ≤ policy .config .capacity) × (at .0 ≤ 2 ^ 62) × (pos < part .cap) ⌝ }
+    requires { ⌜ Placed part (now ws) × Sound (shardIn part (now ws)) × Accepted (policy .config) × (cost ≤ policy .config .capacity) × (pos < part .cap) ⌝ }
     ensures { λ r. ⌜ outcome r (now (ws .exit)) ≡ inPart part (now (ws .entry)) (OneShard.withExisting policy request cost at (shardIn part (now (ws .entry))) pos) ⌝ }
 {
     let start = part.start;
@@ -92,7 +92,7 @@ pub fn admit(
     cost: u32,
     at: Nanos,
 ) -> BucketDecision
-    requires { ⌜ Placed part (now ws) × Sound (shardIn part (now ws)) × Accepted (policy .config) × (cost ≤ policy .config .capacity) × (at .0 ≤ 2 ^ 62) ⌝ }
+    requires { ⌜ Placed part (now ws) × Sound (shardIn part (now ws)) × Accepted (policy .config) × (cost ≤ policy .config .capacity) ⌝ }
     ensures { λ r. ⌜ outcome r (now (ws .exit)) ≡ inPart part (now (ws .entry)) (OneShard.admit policy id request cost at (shardIn part (now (ws .entry)))) ⌝ }
 {
     let start = part.start;

@@ -27,9 +27,6 @@ fn ask(bucket: BucketCore, request: Request, cost: u32, at: u64) -> BucketCore {
     if 4 < cost {
         return bucket;
     }
-    if 0x4000_0000_0000_0000 < at {
-        return bucket;
-    }
     let outcome = bucket.ask_at(config, request, cost, Nanos(at));
     let decision = outcome.decision;
     told(decision);
@@ -52,6 +49,20 @@ pub(crate) fn tries() {
     let early = ask(granted, Request::Acquire, 1, 0);
     shapes::line(b"shortfall", early.shortfall);
     shapes::line(b"stamp", early.stamp.0);
+}
+
+// All four tokens are spent at 10 s, and the clock is set back to 8 s: the next takes 2 s until the stamp and half a second. A reservation for that, and
+// for a nanosecond less. Then one token is spent at 10 s, and the other three can be had at 8 s.
+pub(crate) fn set_back() {
+    let spent = ask(fresh_at(10000000000), Request::Acquire, 4, 10000000000);
+    let denied = ask(spent, Request::Acquire, 1, 8000000000);
+    let refused = ask(denied, Request::Reserve(Nanos(2499999999)), 1, 8000000000);
+    let reserved = ask(refused, Request::Reserve(Nanos(2500000000)), 1, 8000000000);
+    shapes::line(b"shortfall", reserved.shortfall);
+    shapes::line(b"stamp", reserved.stamp.0);
+    let one = ask(fresh_at(10000000000), Request::Acquire, 1, 10000000000);
+    let rest = ask(one, Request::Acquire, 3, 8000000000);
+    shapes::line(b"stamp", rest.stamp.0);
 }
 
 // A reservation up to its longest wait, and a nanosecond less.
@@ -96,6 +107,15 @@ pub(crate) fn extremes() {
     let latest = Nanos(0x4000_0000_0000_0000);
     shapes::line(b"most", worst.shortfall_at(config, start));
     shapes::line(b"longest wait", worst.time_until_at(config, 65535, start).0);
+    let ahead = BucketCore {
+        shortfall: u64::MAX,
+        stamp: Nanos(u64::MAX),
+    };
+    let due = ahead.due_at(config, 65535, start);
+    shapes::line(b"held wait", due.wait.0);
+    let late = ahead.due_at(config, 65535, latest);
+    shapes::line(b"wait", late.wait.0);
+    shapes::line(b"held moment", late.moment.0);
     shapes::line(b"available", worst.available_at(config, latest));
     let debt = bucket::restore_debt(
         BucketCore::new(config, start),

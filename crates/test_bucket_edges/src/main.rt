@@ -10,6 +10,7 @@ fn main() {
     shapes::looks();
     shapes::configs();
     buckets::tries();
+    buckets::set_back();
     buckets::reservations();
     buckets::restored();
     buckets::extremes();

@@ -107,6 +107,10 @@ pub(crate) const LEDGER_SCAN: usize = 8;
 /// unrecovered keys, so a retry loop cannot spin.
 const MIN_REFUSAL_WAIT: Duration = Duration::from_millis(1);
 
+/// The last moment of 64 bits, in nanoseconds: sums of a moment and a wait are
+/// held to it.
+const LAST_MOMENT: Duration = Duration::from_nanos(u64::MAX);
+
 /// The most slots one shard can index (slot indices are `u32`).
 const MAX_SLOTS: usize = u32::MAX as usize;
 
@@ -518,7 +522,7 @@ impl<K: Eq> ShardMap<K> {
             };
             let debt = Debt {
                 hash,
-                settles_at: now.saturating_add(recovers_in),
+                settles_at: now.saturating_add(recovers_in).min(LAST_MOMENT),
             };
             if let Err(ledger_wait) = self.ledger.record(debt, now, ledger_cap, forget) {
                 return Err(soonest.min(ledger_wait).max(MIN_REFUSAL_WAIT));

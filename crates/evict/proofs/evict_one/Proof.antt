@@ -14,7 +14,6 @@ use Rattle.shard_map.specs.Model.{handOf}
 use Rattle.shard_map.proofs.ModelLaws.{intact-hand}
 use Rattle.evict.specs.declared.Walk.{Walk}
 use Rattle.evict.specs.Evict.{walkFrom, walked, victimOf}
-use Rattle.evict.proofs.WalkLaws.{walk-least-most}
 use Rattle.evict.proofs.ModelLaws.{walk-start, walk-end, walk-turn, walk-ends-at-once}
 use Rattle.evict.proofs.ModelLaws.{AfterWalk, after-look, after-walk, evicted-in-steps}
 use borrow.Author.Needs.{needs}
@@ -136,7 +135,7 @@ walk-left c =
 
 -- Where the loop's ways met, from where the victim was chosen.
 abbrev met : tie.After-choose Inv-loop μ-loop → tie.Joined1 Inv-loop μ-loop
-met chosen = chosen .before .before
+met chosen = chosen .before .before .before
 
 choose-requires : tie.Need-choose-requires Inv-loop μ-loop
 choose-requires c κs = search needs
@@ -144,10 +143,8 @@ choose-requires c κs = search needs
 evict-victim-requires : tie.Need-evict-victim-requires Inv-loop μ-loop
 evict-victim-requires c κs =
     let pre′ = start (began (met c)) .pre in
-    let a = start (began (met c)) .args in
     let after = walk-left (met c) in
-    let most = rw (walk-ended (met c) .same) at (walk-least-most (a .config) (a .at) (shard (a .cap) (a .ws .now))) in
-    (after .intact, pre′ .1, pre′ .3, rw (c .choose .ensures, began (met c) .hand .ensures) (after .held), most)
+    (after .intact, pre′ .1, rw (c .choose .ensures, began (met c) .hand .ensures) (after .held))
 
 same-length : tie.Need-same-length Inv-loop μ-loop
 same-length c = let gone = c .before .before in gone .evict-victim .kept .0 ∙ walk-ended (met (gone .before)) .long

@@ -18,7 +18,7 @@ enum-known-victim c = search needs
 evict-at-requires : tie.Need-evict-at-requires
 evict-at-requires c κs =
     let v = c .before .before in
-    (start v .pre .0, rw (← ap placeOfVictim (v .victim .given .1)) (start v .pre .3))
+    (start v .pre .0, rw (← ap placeOfVictim (v .victim .given .1)) (start v .pre .2))
 
 enum-known-victim-2 : tie.Need-enum-known-victim-2
 enum-known-victim-2 c = search needs
@@ -27,7 +27,7 @@ evict-owing-requires : tie.Need-evict-owing-requires
 evict-owing-requires c κs =
     let v = c .before .before in
     let pre′ = start-owing v .pre in
-    (pre′ .0, pre′ .1, pre′ .2, rw (← ap placeOfVictim (v .victim2 .given .1)) (pre′ .3), pre′ .4)
+    (pre′ .0, pre′ .1, rw (← ap placeOfVictim (v .victim2 .given .1)) (pre′ .2))
 
 same-length : tie.Need-same-length
 same-length c = search needs

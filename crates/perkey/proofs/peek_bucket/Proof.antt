@@ -1,5 +1,5 @@
 -- `peek_bucket` goes by the cost, as the rule does, and else tells when the key's bucket has the cost: that of its slot, or that with which it would come in.
-use Prim.Native.Nat.{_≤_, _^_}
+use Prim.Native.Nat.{_≤_}
 use mathlib.Core.Path.{_≡_, sym, _∙_}
 use Rattle.bucket.specs.declared.BucketCore.{BucketCore}
 use Rattle.bucket.specs.declared.Due.{Due}
@@ -11,7 +11,7 @@ use Rattle.store.specs.Memory.{Placed, shardIn}
 use Rattle.store.proofs.LendingLaws.{found-place-below}
 use Rattle.perkey.specs.declared.Reply.{Reply}
 use Rattle.perkey.specs.Rules.{dueReply, peekedBy}
-use Rattle.perkey.proofs.RuleLaws.{peek-of-too-much, bucket-may-be-viewed, moment-is-early, viewed-due-is-told}
+use Rattle.perkey.proofs.RuleLaws.{peek-of-too-much, bucket-may-be-viewed, viewed-due-is-told}
 use borrow.Author.Needs.{needs}
 use Rattle.perkey.proofs.peek_bucket.Statement.{statement}
 use Rattle.perkey.proofs.peek_bucket.Tie as tie
@@ -39,12 +39,9 @@ missed b = b .before .before .before
 
 -- The cost may be asked of a bucket, once the place is asked for.
 may-be-asked : (p : tie.After-position) → let a = start (made p) .args in
-    Accepted (made p .config .result) × (a .cost ≤ made p .config .result .capacity) × (a .at .0 ≤ 2 ^ 62)
+    Accepted (made p .config .result) × (a .cost ≤ made p .config .result .capacity)
 may-be-asked p =
-    let k = made p in
-    let a = start k .args in
-    let pre′ = start k .pre in
-    (viewed k .2, p .before .if1 .left, moment-is-early (a .settings) (a .id .hash) (a .ws .now) (pre′ .1) (a .at) (pre′ .0) (a .rate) (pre′ .2))
+    (viewed (made p) .2, p .before .if1 .left)
 
 -- What is told of the bucket viewed, by its due and its reply.
 told-of : (p : tie.After-position) {bucket : BucketCore} {due : Due} {told : Reply} → let k = made p in let a = start k .args in

@@ -23,7 +23,7 @@ take-requires c κs = search needs
 make-room-requires : tie.Need-make-room-requires
 make-room-requires c κs =
     let t = c .before .before .before in
-    (still-intact t, start t .pre .1, start t .pre .3)
+    (still-intact t, start t .pre .1)
 
 enum-told : tie.Need-enum-told
 enum-told c = search needs
@@ -34,7 +34,7 @@ join-requires c κs =
     let s = start (taking m) in
     let told = c .before .enum-told .given .1 in
     let made = room-made-fits-a-slot (still-intact (taking m)) (m .make-room .kept .0) (s .args .policy) (s .args .at) (m .make-room .ensures) told in
-    (made .0, s .pre .1, s .pre .2, s .pre .3, made .1)
+    (made .0, s .pre .1, s .pre .2, made .1)
 
 enum-known-due : tie.Need-enum-known-due
 enum-known-due c = search needs

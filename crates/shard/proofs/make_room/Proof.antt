@@ -37,7 +37,7 @@ evict-one-requires : tie.Need-evict-one-requires
 evict-one-requires c κs =
     let s = sweeps (c .before .before .before) in
     let intact = still-intact s in
-    (intact, start s .pre .1, omega (arith, intact .sound .room, intact-cap intact), start s .pre .2)
+    (intact, start s .pre .1, omega (arith, intact .sound .room, intact-cap intact))
 
 same-length-2 : tie.Need-same-length-2
 same-length-2 c = search needs

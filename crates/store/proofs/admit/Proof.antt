@@ -23,7 +23,7 @@ part-admit-end c = c .before .pre .0 .within
 admit-requires : tie.Need-admit-requires
 admit-requires c κs =
     let start′ = c .before .before in
-    (intact-of-sound (start′ .pre .0) (start′ .pre .1), start′ .pre .2, start′ .pre .3, start′ .pre .4)
+    (intact-of-sound (start′ .pre .0) (start′ .pre .1), start′ .pre .2, start′ .pre .3)
 
 same-length : tie.Need-same-length
 same-length c = search needs

@@ -23,7 +23,7 @@ part-with-existing-end c = c .before .pre .0 .within
 with-existing-requires : tie.Need-with-existing-requires
 with-existing-requires c κs =
     let start′ = c .before .before in
-    (intact-of-sound (start′ .pre .0) (start′ .pre .1), start′ .pre .2, start′ .pre .3, start′ .pre .4, start′ .pre .5)
+    (intact-of-sound (start′ .pre .0) (start′ .pre .1), start′ .pre .2, start′ .pre .3, start′ .pre .4)
 
 same-length : tie.Need-same-length
 same-length c = search needs

@@ -111,6 +111,8 @@ branches! {
     }
     "bucket" {
         BucketLaterStamp = "read before its stamp",
+        BucketGrown = "... and not full: it recovers later by the time up to the stamp",
+        BucketGrownHeld = "... past what 64 bits hold",
         BucketFull = "a shortfall that has fallen to 0",
         BucketPart = "a shortfall that has fallen, not to 0",
         BucketReadCut = "a stored shortfall over the largest",
@@ -187,10 +189,11 @@ branches! {
 /// Proved never to happen: a debt that was taken out leaves room in the ledger, so no refusal for space follows.
 const DEAD: [Branch; 1] = [Branch::SpacePutBack];
 
-/// Not to be had in stores grown from set-up under one settings record: grants leave no shortfall over the largest, a closed limiter gets
-/// no keys, and an index names every item once, on its walk, and nothing else, so that half of its places or more are empty.
-const ONLY_LOADED: [Branch; 10] = [
+/// Not to be had in stores grown from set-up under one settings record: grants leave no shortfall over the largest and no stamp after 2^62,
+/// a closed limiter gets no keys, and an index names every item once, on its walk, and nothing else, so that half of its places or more are empty.
+const ONLY_LOADED: [Branch; 11] = [
     Branch::BucketReadCut,
+    Branch::BucketGrownHeld,
     Branch::ClosedRemove,
     Branch::LookedAllRound,
     Branch::LookedOver,

@@ -144,7 +144,10 @@ impl Plan {
             0..4 => self.now,
             4..6 => self.now.saturating_sub(random.within(0, self.spans.full)),
             6 => self.now.saturating_add(random.within(0, self.spans.full)),
-            _ => random.word(),
+            _ => {
+                let (any, near) = (random.word(), random.within(0, self.spans.full));
+                random.pick(&[any, any, u64::MAX, u64::MAX - near])
+            }
         };
         if !random.chance(owing) {
             return (0, stamp);

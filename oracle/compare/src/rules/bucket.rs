@@ -21,9 +21,9 @@ impl Wait {
         Self { now, nanos: 0 }
     }
 
-    /// The moment at which it is over.
+    /// The moment at which it is over, held to 64 bits.
     pub const fn moment(self) -> u64 {
-        self.now + self.nanos
+        self.now.saturating_add(self.nanos)
     }
 
     /// The shorter of two that start together.
@@ -137,6 +137,11 @@ impl Bucket {
         }
         if now < stamp {
             hits.hit(Branch::BucketLaterStamp);
+            if shortfall > 0 {
+                let full_at = u128::from(stamp) + shortfall.div_ceil(config.amount);
+                let is_held = full_at > u128::from(u64::MAX);
+                hits.either(is_held, (Branch::BucketGrownHeld, Branch::BucketGrown));
+            }
         } else if stored > 0 && shortfall < u128::from(stored) {
             hits.either(shortfall == 0, (Branch::BucketFull, Branch::BucketPart));
         }
@@ -170,7 +175,8 @@ impl Bucket {
         u32::try_from(tokens).expect("at most the burst")
     }
 
-    /// The wait for a cost: until the shortfall leaves room for it. There is none for a cost of 0.
+    /// The wait for a cost: until the shortfall leaves room for it. There is none for a cost of 0, nor for one that there is room for.
+    /// Another is longer before the stamp, by the time up to it (02, request 5), and is held to 64 bits.
     pub fn wait(self, cost: u32) -> Wait {
         if cost == 0 {
             return Wait::none(self.now);
@@ -180,9 +186,13 @@ impl Bucket {
             self.config.parts(self.config.capacity),
         );
         let missing = (self.shortfall + asked).saturating_sub(full);
+        if missing == 0 {
+            return Wait::none(self.now);
+        }
+        let to_stamp = self.stamp.saturating_sub(self.now);
         Wait {
             now: self.now,
-            nanos: self.config.time_for(missing),
+            nanos: self.config.time_for(missing).saturating_add(to_stamp),
         }
     }
 

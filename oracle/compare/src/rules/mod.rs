@@ -3,7 +3,7 @@
 //! the Rust has no answer to. It shares nothing with the Rust but the numbered refusals, the layout of the words, and its names.
 //!
 //! Of 02 it has request 1, the moment: now + the wait of every grant and every retry (`Wait::moment`); request 3, the indexes by which slots and
-//! debts are found (`index`); and request 4, calls by hardware address (`by_address`).
+//! debts are found (`index`); request 4, calls by hardware address (`by_address`); and request 5, a clock set back (`Bucket::wait`).
 //!
 //! The layers, from below: `bucket` (numbers), `index` and `rows` (items in words), `entry` (a slot), `ledger` (the debts), `shard_map` and
 //! `evict_one` (a shard), `restore_debt`, `store` (what a key holds), `perkey` (the calls). `settings` and `decision` are what goes in and

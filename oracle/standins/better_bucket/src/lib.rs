@@ -1,5 +1,5 @@
 //! Stand-in for the `better-bucket` package: the token bucket of document 01, section "The bucket", under the names
-//! that the published store calls.
+//! that the published store calls, with the wait of document 02, request 5 (a clock set back).
 //!
 //! With A tokens every P ns and a burst of C tokens, a token is P parts and each nanosecond brings A parts. A bucket is two
 //! numbers: how many parts it is short of full, and the moment (in ns) at which that was so. Every answer is worked out from
@@ -166,7 +166,7 @@ impl BucketCore {
     /// How long after `now` a cost of `cost` can be met; `None` if never, because it is more than the bucket holds.
     #[must_use]
     pub fn time_until_at(&self, cost: u32, now: Duration) -> Option<Duration> {
-        (cost <= self.config.capacity).then(|| self.wait(cost, self.shortfall_at(now)))
+        (cost <= self.config.capacity).then(|| self.wait(cost, self.shortfall_at(now), now))
     }
 
     /// Takes `cost` tokens if they are there at `now`.
@@ -217,7 +217,7 @@ impl BucketCore {
             return Err(Duration::MAX);
         }
         let shortfall = self.shortfall_at(now);
-        let wait = self.wait(cost, shortfall);
+        let wait = self.wait(cost, shortfall, now);
         if wait > max_wait {
             return Err(wait);
         }
@@ -242,15 +242,18 @@ impl BucketCore {
             .saturating_sub(u64::try_from(refilled).unwrap_or(u64::MAX))
     }
 
-    /// The wait for a cost of at most C at this shortfall: the time that the missing parts take to come, rounded up.
+    /// The wait for a cost of at most C at this shortfall: the time that the missing parts take to come, rounded up. None
+    /// come before the stamp: if `now` is before it, a wait above 0 is longer by the time up to it, held to 64 bits.
     #[inline]
-    fn wait(&self, cost: u32, shortfall: u64) -> Duration {
-        if cost == 0 {
-            return Duration::ZERO;
-        }
+    fn wait(&self, cost: u32, shortfall: u64, now: Duration) -> Duration {
         let missing = (shortfall + self.config.parts(cost))
             .saturating_sub(self.config.parts(self.config.capacity));
-        Duration::from_nanos(missing.div_ceil(u64::from(self.config.refill_amount)))
+        if cost == 0 || missing == 0 {
+            return Duration::ZERO;
+        }
+        let to_stamp = self.stamp.load(Relaxed).saturating_sub(nanos(now));
+        let refill = missing.div_ceil(u64::from(self.config.refill_amount));
+        Duration::from_nanos(refill.saturating_add(to_stamp))
     }
 
     /// Stores a shortfall that holds at `now`. A stamp after `now` stays.

@@ -27,11 +27,12 @@ impl Model {
         self.held_at(now).max(0).div_euclid(self.period)
     }
 
-    /// Whether `wait` is the least whose refill brings the parts held at `now` to `cost` tokens.
+    /// Whether `wait` is the least after which `cost` tokens are held, if nothing happens in between. A longer one than
+    /// 64 bits hold is given as the largest number of 64 bits.
     fn is_wait(&self, cost: i128, now: i128, wait: i128) -> bool {
-        let reaches =
-            |wait: i128| cost == 0 || self.held_at(now) + wait * self.amount >= cost * self.period;
-        wait >= 0 && reaches(wait) && (wait == 0 || !reaches(wait - 1))
+        let reaches = |wait: i128| cost == 0 || self.held_at(now + wait) >= cost * self.period;
+        let held = wait == i128::from(u64::MAX);
+        wait >= 0 && (held || reaches(wait)) && (wait == 0 || !reaches(wait - 1))
     }
 
     fn take(&mut self, parts: i128, now: i128) {
@@ -82,7 +83,7 @@ fn agrees_with_the_parts_held() {
         let period = random.up_to((1 << 46) - 1) + 1;
         let config = BucketConfig::new(burst, amount, Duration::from_nanos(period), burst)
             .expect("within the ranges");
-        let (shortfall, stamp) = (random.up_to(u64::MAX), random.up_to(1 << 62));
+        let (shortfall, stamp) = (random.up_to(u64::MAX), random.up_to(u64::MAX));
         let bucket = BucketCore::from_words(config, shortfall, stamp);
         let held = i128::from(burst) * i128::from(period) - i128::from(shortfall);
         let mut model = Model {

@@ -1,6 +1,6 @@
 -- `ask_at` meets its contract, by the two answers to a request.
 use Rattle.bucket.specs.declared.BucketCore.{BucketCore}
-use Rattle.bucket.proofs.BucketLaws.{due-fits, grant-is-told, denial-is-told}
+use Rattle.bucket.proofs.BucketLaws.{grant-is-told, denial-is-told}
 use mathlib.Core.Path.{ap}
 use native.Mathlib.Omega.{arith}
 use borrow.Author.Needs.{needs}
@@ -14,9 +14,7 @@ wait-for-requires : tie.Need-wait-for-requires
 wait-for-requires c κs = (c .before .pre .0, ap (λ (b : BucketCore). b .shortfall) (c .spent-at .ensures))
 
 after-requires : tie.Need-after-requires
-after-requires c κs =
-    let pre′ = c .before .before .pre in
-    rw (c .wait-for .ensures) (due-fits _ _ _ (pre′ .0) (pre′ .1) (pre′ .2))
+after-requires c κs = search needs
 
 longest-requires : tie.Need-longest-requires
 longest-requires c κs = search needs

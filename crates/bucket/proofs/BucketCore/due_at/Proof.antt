@@ -1,5 +1,5 @@
--- `due_at` meets its contract: the moment at which the wait is over fits 64 bits.
-use Rattle.bucket.proofs.BucketLaws.{due-fits, due-by-number}
+-- `due_at` meets its contract: due after the wait.
+use Rattle.bucket.proofs.BucketLaws.{due-by-number}
 use mathlib.Core.Path.{_∙_}
 use borrow.Author.Needs.{needs}
 use Rattle.bucket.proofs.BucketCore.due_at.Statement.{statement}
@@ -9,9 +9,7 @@ time-until-at-requires : tie.Need-time-until-at-requires
 time-until-at-requires c κs = search needs
 
 after-requires : tie.Need-after-requires
-after-requires c κs =
-    let pre′ = c .before .pre in
-    rw (c .time-until-at .ensures) (due-fits _ _ _ (pre′ .0) (pre′ .1) (pre′ .2))
+after-requires c κs = search needs
 
 returns : tie.Need-returns
 returns c = c .after .ensures ∙ due-by-number _ _ (c .before .time-until-at .ensures)

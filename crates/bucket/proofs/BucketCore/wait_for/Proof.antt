@@ -24,10 +24,14 @@ cast-div-ceil c = search needs
 div-ceil-requires : tie.Need-div-ceil-requires
 div-ceil-requires c κs = search needs
 
+grown-at-requires : tie.Need-grown-at-requires
+grown-at-requires c κs = search needs
+
 returns-3 : tie.Need-returns-3
 returns-3 c =
-    let f = c .before .before .before in
-    rw (c .div-ceil .ensures, f .full-parts .ensures, f .before .before .pre .1) (wait-for-lack _ _ _ _ (f .before .if1 .left))
+    let divided = c .before in
+    let f = divided .before .before .before in
+    rw (c .grown-at .ensures, divided .div-ceil .ensures, f .full-parts .ensures, f .before .before .pre .1) (wait-for-lack _ _ _ _ (f .before .if1 .left))
 
 pub wait-for-spec : {M : Type 1} → statement M
 wait-for-spec =
@@ -39,4 +43,5 @@ wait-for-spec =
     sub-div-ceil
     cast-div-ceil
     div-ceil-requires
+    grown-at-requires
     returns-3)

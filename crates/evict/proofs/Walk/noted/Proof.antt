@@ -13,8 +13,8 @@ first-of-requires c κs = search needs
 returns : tie.Need-returns
 returns c = let t = c .before in rw (c .first-of .ensures) (noted-full _ _ _ _ _ (t .before .shortfall-at .ensures) (t .if1 .taken))
 
-smaller-requires : tie.Need-smaller-requires
-smaller-requires c κs = search needs
+with-requires : tie.Need-with-requires
+with-requires c κs = let short = c .before in (short .before .before .before .pre, short .shortfall-at .ensures)
 
 first-of-requires-2 : tie.Need-first-of-requires-2
 first-of-requires-2 c κs = search needs
@@ -23,13 +23,13 @@ returns-2 : tie.Need-returns-2
 returns-2 c =
     let s = c .before .before .before in
     let e = s .before in
-    rw (c .first-of2 .ensures, s .smaller .ensures) (noted-unmarked _ _ _ _ _ (e .before .shortfall-at .ensures) (e .if1 .left) (c .before .if2 .taken))
+    rw (c .first-of2 .ensures) (noted-unmarked _ _ _ _ _ (e .before .shortfall-at .ensures) (e .if1 .left) (s .with .ensures) (c .before .if2 .taken))
 
 returns-3 : tie.Need-returns-3
 returns-3 c =
     let s = c .before .before in
     let e = s .before in
-    rw (s .smaller .ensures) (noted-marked _ _ _ _ _ (e .before .shortfall-at .ensures) (e .if1 .left) (c .if2 .left))
+    noted-marked _ _ _ _ _ (e .before .shortfall-at .ensures) (e .if1 .left) (s .with .ensures) (c .if2 .left)
 
 pub noted-spec : {M : Type 1} → statement M
 noted-spec =
@@ -38,7 +38,7 @@ noted-spec =
     shortfall-at-requires
     first-of-requires
     returns
-    smaller-requires
+    with-requires
     first-of-requires-2
     returns-2
     returns-3)
