@@ -1,5 +1,6 @@
 // The limiter for modems that are known by hardware address, for callers in C and Rust: the address is a lent slice of bytes, in C a pointer and a length.
-// What each operation does is the rule of `modems` that its contract names.
+// What each operation does is the rule of `modems` that its contract names. It is made of the number and the identity of `modems` and the export on keys, and not
+// of the operation of `modems`: a second caller of the operations of `perkey` would keep these from being compiled into the exports on keys (docs/DECISIONS.md).
 ghost use mathlib.Core.Path.{_≡_};
 ghost use Rattle.rows.specs.Outcome.{outcome};
 ghost use Rattle.units.specs.Units.{nanosOf};
@@ -7,8 +8,8 @@ ghost use Rattle.perkey.specs.Rules as Rules;
 ghost use Rattle.modems.specs.Address as Address;
 ghost use Rattle.limiter.specs.Exported.{settingsOf};
 use crate::LimiterSettings;
+use perkey::Reply;
 use perkey::codes::Told;
-use units::Nanos;
 
 // Takes `cost` tokens for a modem at the moment `at`, if its bucket has them: granted, to be tried again after a wait, or impossible.
 #[no_mangle]
@@ -22,7 +23,12 @@ pub extern "C" fn limiter_modem_try(
     ensures { λ r. ⌜ outcome r (now (ws .exit)) ≡
         Rules.told (Address.tryAcquire (settingsOf settings) (nanosOf at) (now (address .entry)) cost (now (ws .entry))) ⌝ }
 {
-    modems::try_acquire_with_cost(crate::settings_of(settings), ws, Nanos(at), address, cost).told()
+    let refusal = modems::address_refusal(address);
+    if refusal != 0 {
+        return Reply::Refused(refusal).told();
+    }
+    let id = modems::identity(address);
+    crate::limiter_try(settings, ws, at, id.hash, id.key, cost)
 }
 
 // Takes `cost` tokens for a modem that become usable after a wait, if that wait is at most `max_wait`. The number is the wait.
@@ -38,14 +44,12 @@ pub extern "C" fn limiter_modem_reserve(
     ensures { λ r. ⌜ outcome r (now (ws .exit)) ≡
         Rules.told (Address.reserve (settingsOf settings) (nanosOf at) (now (address .entry)) cost (nanosOf «max_wait») (now (ws .entry))) ⌝ }
 {
-    modems::reserve(
-        crate::settings_of(settings),
-        ws,
-        Nanos(at),
-        address,
-        cost,
-        Nanos(max_wait),
-    ).told()
+    let refusal = modems::address_refusal(address);
+    if refusal != 0 {
+        return Reply::Refused(refusal).told();
+    }
+    let id = modems::identity(address);
+    crate::limiter_reserve(settings, ws, at, id.hash, id.key, cost, max_wait)
 }
 
 // What the modem's bucket would answer to a try at the moment `at`. It takes nothing, and says nothing of room for a new modem.
@@ -60,7 +64,12 @@ pub extern "C" fn limiter_modem_peek(
     ensures { λ r. ⌜ outcome r (now (ws .exit)) ≡
         Rules.told (Address.peek (settingsOf settings) (nanosOf at) (now (address .entry)) cost (now (ws .entry))) ⌝ }
 {
-    modems::peek(crate::settings_of(settings), ws, Nanos(at), address, cost).told()
+    let refusal = modems::address_refusal(address);
+    if refusal != 0 {
+        return Reply::Refused(refusal).told();
+    }
+    let id = modems::identity(address);
+    crate::limiter_peek(settings, ws, at, id.hash, id.key, cost)
 }
 
 // Gives `cost` tokens back to a modem, or to the debt that is remembered for its hash; unknown if there is neither.
@@ -73,7 +82,12 @@ pub extern "C" fn limiter_modem_refund(
 ) -> Told
     ensures { λ r. ⌜ outcome r (now (ws .exit)) ≡ Rules.told (Address.refund (settingsOf settings) (now (address .entry)) cost (now (ws .entry))) ⌝ }
 {
-    modems::refund(crate::settings_of(settings), ws, address, cost).told()
+    let refusal = modems::address_refusal(address);
+    if refusal != 0 {
+        return Reply::Refused(refusal).told();
+    }
+    let id = modems::identity(address);
+    crate::limiter_refund(settings, ws, id.hash, id.key, cost)
 }
 
 // Forgets a modem, and the debt that is remembered for its hash; unknown if there is neither.
@@ -85,5 +99,10 @@ pub extern "C" fn limiter_modem_remove(
 ) -> Told
     ensures { λ r. ⌜ outcome r (now (ws .exit)) ≡ Rules.told (Address.remove (settingsOf settings) (now (address .entry)) (now (ws .entry))) ⌝ }
 {
-    modems::remove(crate::settings_of(settings), ws, address).told()
+    let refusal = modems::address_refusal(address);
+    if refusal != 0 {
+        return Reply::Refused(refusal).told();
+    }
+    let id = modems::identity(address);
+    crate::limiter_remove(settings, ws, id.hash, id.key)
 }

@@ -81,7 +81,7 @@ pub fn remove(settings: Settings, ws: &mut [u64], address: &[u8]) -> Reply
 }
 
 // The number for a slice that is no address of a modem: 11 if it is not six bytes, else 12 if the group bit is set; 0 for an address.
-fn address_refusal(address: &[u8]) -> u32
+pub fn address_refusal(address: &[u8]) -> u32
     ensures { λ r. ⌜ r ≡ Address.addressRefusal (now (address .entry)) ⌝ }
 {
     if address.len() != ADDRESS_BYTES {
@@ -94,7 +94,7 @@ fn address_refusal(address: &[u8]) -> u32
 }
 
 // The identity of an address in the limiter.
-fn identity(address: &[u8]) -> Identity
+pub fn identity(address: &[u8]) -> Identity
     requires { ⌜ Address.addressRefusal (now address) ≡ 0 ⌝ }
     ensures { λ r. ⌜ r ≡ Address.identityOf (now (address .entry)) ⌝ }
 {
