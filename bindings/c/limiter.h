@@ -51,7 +51,7 @@ typedef struct limiter_reply {
     uint64_t code;   /* one of the codes below, or LIMITER_REFUSED + n: refused as n */
     uint64_t number; /* a wait in ns, tokens, or a count of keys, as the call says; else 0 */
     uint64_t moment; /* of a grant and of a retry: now + the wait, from when on the tokens may be used, or when to try again. Of all
-                        other answers 0. It can be after 2^62, the last moment at which a call is taken */
+                        other answers 0. It can be after 2^62, the last moment at which a call is taken, and is held to 2^64 - 1 */
 } limiter_reply;
 
 /* The layout that the library has. */

@@ -154,6 +154,24 @@ fn a_retry_for_space_tells_its_moment() {
 }
 
 #[test]
+fn a_clock_set_back_is_waited_for() {
+    let mut store = store(Settings::new(R, 2));
+    let ([seven, eight], now) = (modems([7, 8]), 10 * SECOND);
+    assert!(granted(store.try_acquire(now, seven, 4)));
+    // Two seconds more until something comes back, and the same moment.
+    let (back, due) = (now - 2 * SECOND, now + HALF);
+    let later = (Some(2 * SECOND + HALF), Some(due));
+    assert_eq!(told(store.try_acquire(back, seven, 1)), later);
+    assert_eq!(store.reserve(back, seven, 1, 2 * SECOND), Ok(None));
+    let before = due - Duration::from_nanos(1);
+    assert!(!granted(store.peek(before, seven, 1)));
+    assert!(granted(store.try_acquire(due, seven, 1)));
+    // What is there is granted at once.
+    assert!(granted(store.try_acquire(now, eight, 1)));
+    assert!(granted(store.try_acquire(back, eight, 3)));
+}
+
+#[test]
 fn a_moment_can_be_after_the_last_one() {
     let mut store = store(Settings::new(R, 1));
     let ([seven], last) = (modems([7]), Duration::from_nanos(1 << 62));

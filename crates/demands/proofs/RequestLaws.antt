@@ -192,7 +192,8 @@ module _ (p : Policy) (id : Identity) (request : Request) (cost : ℕ) (at : Nan
 
 -- The same, for a key whose hash and key are known by an equation.
 pub own-request : (p : Policy) (id : Identity) (request : Request) (cost : ℕ) (at : Nanos) (s : Shard) → Accepted (p .config) → at .0 ≤ 2 ^ 62 → p .«forget_debt» ≡ false
-    → Sound s → Complete s → StampsBy (at .0) s → (B : BoundOf (p .config)) (h k : ℕ) → id .hash ≡ h → id .key ≡ k → 1 ≤ cost → cost ≤ p .config .capacity → longestWait request ≤ 2 ^ 46 → {g : B .History}
+    → Sound s → Complete s → StampsBy (at .0) s → (B : BoundOf (p .config)) (h k : ℕ) → id .hash ≡ h → id .key ≡ k → 1 ≤ cost → cost ≤ p .config .capacity
+    → longestWait request ≤ 2 ^ 46 → {g : B .History}
     → Invariant (p .config) B h k at s g
     → Invariant (p .config) B h k at (withOrInsert p id request cost at s .after) (decisionAdds B at cost (withOrInsert p id request cost at s .answer) g)
 own-request p id request cost at s a early never u complete past B h k hash key some within-burst longest v =
