@@ -3,8 +3,7 @@
 use Prim.Native.Nat.{ℕ, zero, suc, _*_, _/_, _%_, _≤_, _<_, _^_}
 use native.Mathlib.Omega.{arith}
 use native.Mathlib.Nat.{mul-div-cancel, mod-eq-of-lt, max-le}
-use mathlib.Core.Path.{_≡_, refl, ap, subst, _∙_}
-use mathlib.Core.Bool.{false}
+use mathlib.Core.Path.{_≡_, ap, subst, _∙_}
 use mathlib.Core.List.{List}
 use lib.ListN.{length, replicate, length-replicate}
 use Rattle.arith.proofs.Cases.{by-eq}
@@ -28,7 +27,7 @@ use Rattle.store.proofs.RefusalLaws.{set-up-is-accepted, keyed-is-accepted, sha
 use Rattle.perkey.specs.declared.Reply.{Reply}
 use Rattle.perkey.specs.declared.Reply.the-variants.{Done}
 use Rattle.perkey.specs.Rules.{setUp, clear}
-use Rattle.perkey.specs.Calls.{Call, request, look, undo, len, rules, settingsOf, numbered}
+use Rattle.perkey.specs.Calls.{Call, request, look, undo, len, rules, settingsOf}
 use Rattle.perkey.proofs.RefusedLaws.{unless-refused-accepts}
 use Rattle.perkey.proofs.CallLaws.{refusalOf, counts-keys, looks-change-nothing}
 use Rattle.demands.specs.Grown.{Grown, set-up, cleared, called, KeptByCalls}

@@ -17,15 +17,15 @@ use Rattle.store.specs.Memory.{shardAt}
 use Rattle.store.proofs.MemoryLaws.{fresh-shards-are-empty}
 use Rattle.perkey.specs.declared.Reply.{Reply}
 use Rattle.perkey.specs.declared.Reply.the-variants.{Done, Count}
-use Rattle.perkey.specs.Rules.{setUp, clear}
-use Rattle.perkey.specs.Calls.{Call, request, look, undo, len, rules, settingsOf, numbered, Every}
+use Rattle.perkey.specs.Rules.{setUp}
+use Rattle.perkey.specs.Calls.{Call, request, look, undo, len, rules, settingsOf, numbered}
 use Rattle.perkey.proofs.CallLaws.{refusalOf, not-refused-is-ruled, refused-is-told, refused-changes-nothing}
 use Rattle.demands.specs.Grown.{Grown, set-up, cleared, called}
 use Rattle.demands.specs.PlaceOrder.{KeyedAsk, requests, looks, undoes, inItsShard, refusedAs, shardNumbered, Shards, freshShards, inShardOf}
 use Rattle.demands.specs.PlaceOrder.{takenOnShards, onShards, Turn, calls, clears, byRules, stepWithoutIndexes, run, OfStore, AllOf, LeftByTurns}
 use Rattle.demands.specs.PlaceOrder.{SameWithoutIndexes, NoIndex}
 use Rattle.demands.proofs.Theorem.{set-up-done}
-use Rattle.demands.proofs.OneShardLaws.{callFor, WorksInOneShard, rules-work-in-one-shard, call-same-as-place-order}
+use Rattle.demands.proofs.OneShardLaws.{callFor, rules-work-in-one-shard, call-same-as-place-order}
 use Rattle.demands.proofs.GrownLaws.{SoundMemory, sound-kept-by-calls, every-shard-has-a-hash, grown-indexes-are-exact-by-number}
 use Rattle.demands.proofs.GrownLaws.{clear-is-accepted, grown-clear-is-accepted, sound-refusal-is-the-calls-own}
 
@@ -155,20 +155,21 @@ one-more-of-store : (s : Settings) (ts : List Turn) (t : Turn) → AllOf s ts �
 one-more-of-store s [] t all last = (last, tt)
 one-more-of-store s (first ∷ ts) t all last = (all .0, one-more-of-store s ts t (all .1) last)
 
--- Every grown store is left by an accepted set-up and such a list. So the theorem is of every grown store. Clear leaves what a set-up of the same words leaves.
+one-turn-longer : {s : Settings} {ws : List ℕ} → LeftByTurns s ws → (t : Turn) → OfStore s t → LeftByTurns s (byRules s t ws .after)
+one-turn-longer {s} r t last = record {
+  before = r .before;
+  done = r .done;
+  turns = r .turns ++ t ∷ [];
+  of-store = one-more-of-store s (r .turns) t (r .of-store) last;
+  left = one-turn-more (byRules s) (r .turns) t (setUp s (r .before) .after) ∙ ap (λ (left : List ℕ). byRules s t left .after) (r .left);
+}
+
+-- Every grown store is left by an accepted set-up and such a list. So the theorem is of every grown store.
 pub grown-is-a-run : {s : Settings} {ws : List ℕ} → Grown s ws → LeftByTurns s ws
 unfolding run
 grown-is-a-run (set-up ws done) = record { before = ws; done = done; turns = []; of-store = tt; left = refl }
-grown-is-a-run (cleared ws grown done) = record { before = ws; done = done; turns = []; of-store = tt; left = refl }
-grown-is-a-run {s} (called c ws grown same taken) =
-    let r = grown-is-a-run grown in
-    record {
-      before = r .before;
-      done = r .done;
-      turns = r .turns ++ calls c ∷ [];
-      of-store = one-more-of-store s (r .turns) (calls c) (r .of-store) same;
-      left = one-turn-more (byRules s) (r .turns) (calls c) (setUp s (r .before) .after) ∙ ap (λ (left : List ℕ). rules c left .after) (r .left);
-    }
+grown-is-a-run (cleared ws grown done) = one-turn-longer (grown-is-a-run grown) clears tt
+grown-is-a-run (called c ws grown same taken) = one-turn-longer (grown-is-a-run grown) (calls c) same
 
 -- A fresh store without indexes holds nothing.
 pub fresh-shards-hold-nothing : (s : Settings) (i : ℕ) → i < shardCount s → Empty (freshShards s i)

@@ -1,6 +1,6 @@
 -- A run worked out, of the kind that `grown-store-is-as-without-indexes` is about. The store has one shard of two places, so its indexes have four. Keys 7 and 3
 -- have one home there, place 3. Two calls are refused, and a removal moves the other key in its index and among the slots.
-use Prim.Native.Nat.{ℕ, _+_}
+use Prim.Native.Nat.{_+_}
 use mathlib.Core.Path.{_≡_, refl}
 use mathlib.Core.List.{List, [], _∷_, _++_}
 use lib.ListN.{replicate}
@@ -8,7 +8,7 @@ use Rattle.arith.specs.Arith.{ceilDiv}
 use Rattle.rows.specs.Places.{lowestFrom, sum}
 use Rattle.rows.specs.Rows.{rows, unrow}
 use Rattle.held.specs.Held.{removed}
-use Rattle.held.specs.Layout.{tableIn, indexWords}
+use Rattle.held.specs.Layout.{tableIn}
 use Rattle.index.specs.Walk as Index
 use Rattle.bucket.specs.Bucket.{shortfallAt, availableAt, waitAt, asked}
 use Rattle.bucket.specs.Debt.{takenOut, lacking, restored}
@@ -30,7 +30,7 @@ use Rattle.perkey.specs.Rules as Rules
 use Rattle.perkey.specs.Rules.{dueNow, setUp}
 use Rattle.perkey.specs.Calls.{try, reserve, remove, len}
 use Rattle.perkey.specs.Edges.{keyOf}
-use Rattle.demands.specs.PlaceOrder.{askedIn, shardNumbered, freshShards, onShards, Turn, calls, byRules, stepWithoutIndexes, run, AllOf, SameWithoutIndexes}
+use Rattle.demands.specs.PlaceOrder.{askedIn, freshShards, onShards, Turn, calls, byRules, stepWithoutIndexes, run, AllOf, SameWithoutIndexes}
 use Rattle.demands.proofs.ExampleLaws.{roomFor, memory, fresh, start}
 use Rattle.demands.proofs.PlaceOrderTheorem.{grown-store-is-as-without-indexes}
 
