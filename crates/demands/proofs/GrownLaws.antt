@@ -1,61 +1,71 @@
 -- What every call keeps, a grown store has. So in its shards lookup finds each slot and each debt: none holds more items than it has room for, lookup misses none,
--- and no two slots are of one key. And their indexes are exact.
-use Prim.Native.Nat.{ℕ}
+-- and no two slots are of one key. Their indexes are exact. Whether a call of the store is refused follows from the call alone, and a clear is accepted.
+use Prim.Native.Nat.{ℕ, zero, suc, _*_, _/_, _%_, _≤_, _<_, _^_}
 use native.Mathlib.Omega.{arith}
-use mathlib.Core.Path.{_≡_}
-use mathlib.Core.Bool.{false}
+use native.Mathlib.Nat.{mul-div-cancel, mod-eq-of-lt, max-le}
+use mathlib.Core.Path.{_≡_, ap, subst, _∙_}
 use mathlib.Core.List.{List}
 use lib.ListN.{length, replicate, length-replicate}
 use Rattle.arith.proofs.Cases.{by-eq}
-use Rattle.rows.specs.Outcome.{Outcome}
+use Rattle.rows.specs.Outcome.{Outcome, outcome}
 use Rattle.index.specs.Exact.{Exact}
 use Rattle.held.specs.Held.{Held, Items, hashAt, Complete, in-order-is-complete, exact-is-complete}
 use Rattle.held.specs.Layout.{indexWords}
 use Rattle.held.proofs.FindingLaws.{ordered, indexed, kindOf}
+use Rattle.bucket.specs.declared.Request.the-variants.{Acquire, Reserve}
 use Rattle.settings.specs.declared.Settings.{Settings}
-use Rattle.settings.specs.Settings.{shardOf}
+use Rattle.settings.specs.Settings.{firstRefusal, settingsRefusal, shardCount, capOf, shardOf}
+use Rattle.settings.proofs.SettingsLaws.{no-refusal-hands-on, shard-is-remainder}
 use Rattle.ledger.specs.Model.{debtItems}
 use Rattle.shard_map.specs.Model.{slotItems}
-use Rattle.shard_map.proofs.PlaceOrderLaws.{FindsEach, found-is-complete, empty-finds-each}
-use Rattle.store.specs.Memory.{memoryWords, shardAt}
-use Rattle.store.proofs.MemoryLaws.{shard-at-sized, fresh-sound, fresh-shards-are-complete, fresh-shards-are-empty}
+use Rattle.shard_map.proofs.PlaceOrderLaws.{FindsEach, found-is-sound, found-is-complete, empty-finds-each}
+use Rattle.shard.specs.declared.Identity.{Identity}
+use Rattle.store.specs.Memory.{memoryWords, shardAt, slotCount}
+use Rattle.store.specs.Refusals.{setUpRefusal, keyedRefusal, momentRefusal, waitRefusal, mostSlots, slotsRefusal}
+use Rattle.store.proofs.MemoryLaws.{shard-at-cap, shard-at-sized, fresh-sound, fresh-shards-are-complete, fresh-shards-are-empty}
+use Rattle.store.proofs.RefusalLaws.{set-up-is-accepted, keyed-is-accepted, shards-are-accepted}
 use Rattle.perkey.specs.declared.Reply.{Reply}
-use Rattle.perkey.specs.Calls.{Call, request, look, undo, len, rules, settingsOf, numbered}
-use Rattle.perkey.proofs.CallLaws.{counts-keys, looks-change-nothing}
+use Rattle.perkey.specs.declared.Reply.the-variants.{Done}
+use Rattle.perkey.specs.Rules.{setUp, clear}
+use Rattle.perkey.specs.Calls.{Call, request, look, undo, len, rules, settingsOf}
+use Rattle.perkey.proofs.RefusedLaws.{unless-refused-accepts}
+use Rattle.perkey.proofs.CallLaws.{refusalOf, counts-keys, looks-change-nothing}
 use Rattle.demands.specs.Grown.{Grown, set-up, cleared, called, KeptByCalls}
-use Rattle.demands.specs.PlaceOrder.{inItsShard, IndexesExact}
+use Rattle.demands.specs.PlaceOrder.{KeyedAsk, requests, looks, undoes, inItsShard, refusedAs, shardNumbered, IndexesExact}
 use Rattle.demands.proofs.Theorem.{set-up-done}
-use Rattle.demands.proofs.OneShardLaws.{WorksInOneShard, rules-work-in-one-shard, call-same-as-place-order}
+use Rattle.demands.proofs.OneShardLaws.{taken-not-refused, WorksInOneShard, rules-work-in-one-shard, call-same-as-place-order}
 
 pub grown-keeps : {s : Settings} {ws : List ℕ} {P : List ℕ → Type 0} → KeptByCalls s P → Grown s ws → P ws
 grown-keeps kept (set-up ws done) = kept .fresh ws done
 grown-keeps kept (cleared ws grown done) = kept .fresh ws done
 grown-keeps kept (called c ws grown same taken) = kept .call c ws same taken (grown-keeps kept grown)
 
--- A memory of the right size, in whose shards lookup finds each slot and each debt. Such shards are sound and complete.
+-- Accepted settings and a memory of the right size, in whose shards lookup finds each slot and each debt. Such shards are sound and complete.
 pub record SoundMemory (s : Settings) (ws : List ℕ) : Type 0 where
+  pub settings : settingsRefusal s ≡ 0
   pub size : length ws ≡ memoryWords s
   pub finds-each : (hash : ℕ) → FindsEach (shardAt s hash ws)
 
 -- A call on a key leaves such a shard for the key, and the other shards as they are; a look at the length changes nothing.
-keyed-call-keeps-sound : (c : Call) (s : Settings) (hash : ℕ) (ws : List ℕ) {gives : Outcome Reply (List ℕ)}
-    → WorksInOneShard s hash ws gives (inItsShard c (shardAt s hash ws)) → SoundMemory s ws → SoundMemory s (gives .after)
-keyed-call-keeps-sound c s hash ws works memory = record {
+keyed-call-keeps-sound : (s : Settings) (id : Identity) (ask : KeyedAsk) (ws : List ℕ) {gives : Outcome Reply (List ℕ)}
+    → WorksInOneShard s (id .hash) ws gives (inItsShard s id ask (shardAt s (id .hash) ws)) → SoundMemory s ws → SoundMemory s (gives .after)
+keyed-call-keeps-sound s id ask ws works memory = record {
+  settings = memory .settings;
   size = works .size;
   finds-each = λ other.
-      by-eq (shardOf s other) (shardOf s hash)
-      (λ same. rw (works .own other same) (call-same-as-place-order (shardAt s hash ws) (memory .finds-each hash) c .finds-each))
+      by-eq (shardOf s other) (shardOf s (id .hash))
+      (λ same. rw (works .own other same) (call-same-as-place-order (shardAt s (id .hash) ws) (memory .finds-each (id .hash)) s id ask .finds-each))
       (λ apart. rw (works .others other apart) (memory .finds-each other));
 }
 
-call-keeps-sound : (c : Call) (ws : List ℕ) → numbered (rules c ws .answer) ≡ false → SoundMemory (settingsOf c) ws
-    → SoundMemory (settingsOf c) (rules c ws .after)
-call-keeps-sound (request s at id r cost) ws taken memory =
-    keyed-call-keeps-sound (request s at id r cost) s (id .hash) ws (rules-work-in-one-shard (request s at id r cost) ws taken) memory
-call-keeps-sound (look s at id l) ws taken memory =
-    keyed-call-keeps-sound (look s at id l) s (id .hash) ws (rules-work-in-one-shard (look s at id l) ws taken) memory
-call-keeps-sound (undo s id u) ws taken memory = keyed-call-keeps-sound (undo s id u) s (id .hash) ws (rules-work-in-one-shard (undo s id u) ws taken) memory
-call-keeps-sound (len s) ws taken memory = rw (looks-change-nothing (len s) ws counts-keys) memory
+call-keeps-sound : (c : Call) (ws : List ℕ) → refusalOf c ws ≡ 0 → SoundMemory (settingsOf c) ws → SoundMemory (settingsOf c) (rules c ws .after)
+call-keeps-sound (request s at id r cost) ws none memory =
+    let ask = requests r at cost in keyed-call-keeps-sound s id ask ws (rules-work-in-one-shard s id ws ask none) memory
+call-keeps-sound (look s at id l) ws none memory =
+    let ask = looks l at in keyed-call-keeps-sound s id ask ws (rules-work-in-one-shard s id ws ask none) memory
+call-keeps-sound (undo s id u) ws none memory =
+    let ask = undoes u in keyed-call-keeps-sound s id ask ws (rules-work-in-one-shard s id ws ask none) memory
+call-keeps-sound (len s) ws none memory = rw (looks-change-nothing (len s) ws counts-keys) memory
 
 fresh-shard-finds-each : (s : Settings) (hash : ℕ) → FindsEach (shardAt s hash (replicate (memoryWords s) 0))
 fresh-shard-finds-each s hash =
@@ -64,8 +74,10 @@ fresh-shard-finds-each s hash =
 
 pub sound-kept-by-calls : (s : Settings) → KeptByCalls s (SoundMemory s)
 sound-kept-by-calls s = record {
-  fresh = λ ws done. rw (set-up-done s ws done .words) (record { size = length-replicate (memoryWords s) 0; finds-each = fresh-shard-finds-each s });
-  call = λ c ws same taken memory. rw same at (call-keeps-sound c ws taken (rw same memory));
+  fresh = λ ws done.
+      let up = set-up-done s ws done in
+      rw (up .words) (record { settings = up .settings; size = length-replicate (memoryWords s) 0; finds-each = fresh-shard-finds-each s });
+  call = λ c ws same taken memory. rw same at (call-keeps-sound c ws (taken-not-refused c ws taken) (rw same memory));
 }
 
 pub grown-memory-is-sound : {s : Settings} {ws : List ℕ} → Grown s ws → SoundMemory s ws
@@ -91,3 +103,62 @@ grown-indexes-are-exact {s} {ws} grown hash =
       slots = complete-index-is-exact slotItems (shardAt s hash ws .slots) _ (sized .slots-kind) (complete .slots);
       debts = complete-index-is-exact debtItems (shardAt s hash ws .ledger .debts) _ (sized .debts-kind) (complete .ledger);
     }
+
+-- Every shard is the shard of some hash: its number, from bit 40 on.
+pub every-shard-has-a-hash : (s : Settings) (i : ℕ) → i < shardCount s → shardOf s (i * 2 ^ 40) ≡ i
+every-shard-has-a-hash s i below =
+    let number : i * 2 ^ 40 / 2 ^ 40 ≡ i = mul-div-cancel i (omega arith) in
+    shard-is-remainder s (i * 2 ^ 40) ∙ ap (λ (n : ℕ). n % shardCount s) number ∙ mod-eq-of-lt below
+
+-- The same by the numbers of the shards.
+pub grown-indexes-are-exact-by-number : {s : Settings} {ws : List ℕ} → Grown s ws → (i : ℕ) → i < shardCount s → IndexesExact (shardNumbered s i ws)
+grown-indexes-are-exact-by-number {s} {ws} grown i below =
+    let is = ap (λ (j : ℕ). shardNumbered s j ws) (every-shard-has-a-hash s i below) in
+    subst IndexesExact is (grown-indexes-are-exact grown (i * 2 ^ 40))
+
+-- In a sound memory only what a call itself asks can be refused.
+module _ (s : Settings) (ws : List ℕ) (memory : SoundMemory s ws) where
+  keyed-none : (hash : ℕ) → keyedRefusal s hash ws ≡ 0
+  keyed-none hash =
+      keyed-is-accepted s hash ws
+      (record { set-up = record { settings = memory .settings; size = memory .size }; sound = found-is-sound (memory .finds-each hash) })
+
+  set-up-none : setUpRefusal s ws ≡ 0
+  set-up-none = set-up-is-accepted s ws (record { settings = memory .settings; size = memory .size })
+
+  -- No shard has more slots than the cap.
+  slots-within : (i : ℕ) → i < shardCount s → slotCount (capOf s) i ws ≤ capOf s
+  slots-within i below =
+      let hash : ℕ = i * 2 ^ 40 in
+      let fits = rw (shard-at-cap s hash ws) at (found-is-sound (memory .finds-each hash) .count-fits) in
+      subst (λ (j : ℕ). slotCount (capOf s) j ws ≤ capOf s) (every-shard-has-a-hash s i below) fits
+
+  most-slots-within : (n : ℕ) → n ≤ shardCount s → mostSlots (capOf s) n ws ≤ capOf s
+  unfolding mostSlots
+  most-slots-within zero within = omega arith
+  most-slots-within (suc n) within = max-le (most-slots-within n (omega arith)) (slots-within n (omega arith))
+
+  -- A clear is accepted.
+  pub clear-is-accepted : clear s ws .answer ≡ Done
+  unfolding setUp
+  clear-is-accepted = ap (λ (o : Outcome Reply (List ℕ)). o .answer) (unless-refused-accepts (setUpRefusal s ws) ws (outcome Done (replicate (memoryWords s) 0)) set-up-none)
+
+own-refusal : (c : Call) (ws : List ℕ) → SoundMemory (settingsOf c) ws → refusalOf c ws ≡ refusedAs c
+own-refusal (request s at id Acquire cost) ws memory = no-refusal-hands-on _ (momentRefusal at) (keyed-none s ws memory (id .hash))
+own-refusal (request s at id (Reserve longest) cost) ws memory =
+    ap (λ (n : ℕ). firstRefusal n (waitRefusal longest)) (no-refusal-hands-on _ (momentRefusal at) (keyed-none s ws memory (id .hash)))
+own-refusal (look s at id l) ws memory = no-refusal-hands-on _ (momentRefusal at) (keyed-none s ws memory (id .hash))
+own-refusal (undo s id u) ws memory = keyed-none s ws memory (id .hash)
+own-refusal (len s) ws memory =
+    no-refusal-hands-on _ (slotsRefusal s ws) (set-up-none s ws memory)
+    ∙ shards-are-accepted s ws (most-slots-within s ws memory (shardCount s) (omega arith))
+
+pub sound-refusal-is-the-calls-own : {s : Settings} {ws : List ℕ} → SoundMemory s ws → (c : Call) → settingsOf c ≡ s → refusalOf c ws ≡ refusedAs c
+sound-refusal-is-the-calls-own {ws = ws} memory c same = own-refusal c ws (rw same memory)
+
+-- So it is with a grown store: whether a call of its settings is refused, and by which number, follows from the call alone; and a clear is accepted.
+pub grown-refusal-is-the-calls-own : {s : Settings} {ws : List ℕ} → Grown s ws → (c : Call) → settingsOf c ≡ s → refusalOf c ws ≡ refusedAs c
+grown-refusal-is-the-calls-own grown c same = sound-refusal-is-the-calls-own (grown-memory-is-sound grown) c same
+
+pub grown-clear-is-accepted : {s : Settings} {ws : List ℕ} → Grown s ws → clear s ws .answer ≡ Done
+grown-clear-is-accepted {s} {ws} grown = clear-is-accepted s ws (grown-memory-is-sound grown)

@@ -31,5 +31,6 @@ pub mod WriterLaws
 pub mod ExportTheorem
 pub mod ExampleLaws
 pub mod Computed
+pub mod Worked
 pub mod TellingLaws
 pub mod ImpostorLaws

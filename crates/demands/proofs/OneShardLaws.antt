@@ -29,9 +29,9 @@ use Rattle.store.proofs.RefusalLaws.{Accepted, keyed-not-refused, timed-not-ref
 use Rattle.perkey.specs.declared.Reply.{Reply}
 use Rattle.perkey.specs.declared.Reply.the-variants.{Nothing, Count}
 use Rattle.perkey.specs.Rules.{unlessTrivial, askedBy, peekedAt, peekedBy, availableBy, refundedBy, policyOf, tooMuch, atOnce, replyTo, knownReply}
-use Rattle.perkey.specs.Calls.{Look, peeks, tokens, Undo, refunds, removes, Call, request, look, undo, len, rules, settingsOf, numbered, ofKey}
+use Rattle.perkey.specs.Calls.{Look, peeks, tokens, Undo, refunds, removes, Call, request, look, undo, rules, numbered}
 use Rattle.perkey.proofs.CallLaws.{refusalOf, ruleOf, not-refused-is-ruled, refused-is-told}
-use Rattle.demands.specs.PlaceOrder.{toldAs, askedIn, lookedAt, lookedIn, undoneIn, inItsShard}
+use Rattle.demands.specs.PlaceOrder.{toldAs, askedIn, lookedAt, lookedIn, undoneIn, KeyedAsk, requests, looks, undoes, inItsShard}
 
 -- A call that is not refused by number.
 pub taken-not-refused : (c : Call) (ws : List ℕ) → numbered (rules c ws .answer) ≡ false → refusalOf c ws ≡ 0
@@ -100,7 +100,7 @@ module _ (s : Settings) (id : Identity) (ws : List ℕ) (accepted : Accepted s (
   tokens-told Closed at = refl
   tokens-told (Open rate) at = refl
 
-  look-works : (l : Look) (at : Nanos) → Works (ruleOf (look s at id l) ws) (inItsShard (look s at id l) own)
+  look-works : (l : Look) (at : Nanos) → Works (ruleOf (look s at id l) ws) (inItsShard s id (looks l at) own)
   look-works (peeks cost) at = rw (peek-told (s .limit) at cost) (unchanged-works _)
   look-works tokens at = rw (tokens-told (s .limit) at) (unchanged-works _)
 
@@ -109,23 +109,29 @@ module _ (s : Settings) (id : Identity) (ws : List ℕ) (accepted : Accepted s (
   refund-works (Open rate) cost =
       operation-works knownReply (refunded (configOf rate) id cost own) (refund-same-room _ (accepted .sound) (configOf rate) id cost)
 
-  undo-works : (u : Undo) → Works (ruleOf (undo s id u) ws) (inItsShard (undo s id u) own)
+  undo-works : (u : Undo) → Works (ruleOf (undo s id u) ws) (inItsShard s id (undoes u) own)
   undo-works (refunds cost) = refund-works (s .limit) cost
   undo-works removes = operation-works knownReply (removed id own) (remove-same-room _ (accepted .sound) id)
 
--- So the rules work in one shard.
-rule-works : (c : Call) (ws : List ℕ) → refusalOf c ws ≡ 0
-    → ofKey (λ id. WorksInOneShard (settingsOf c) (id .hash) ws (ruleOf c ws) (inItsShard c (shardAt (settingsOf c) (id .hash) ws))) c
-rule-works (request s at id Acquire cost) ws none = request-works s id ws (timed-not-refused s (id .hash) ws at none .0) Acquire (s .limit) at cost
-rule-works (request s at id (Reserve longest) cost) ws none =
-    request-works s id ws (reserve-not-refused s (id .hash) ws at longest none .0) (Reserve longest) (s .limit) at cost
-rule-works (look s at id l) ws none = look-works s id ws (timed-not-refused s (id .hash) ws at none .0) l at
-rule-works (undo s id u) ws none = undo-works s id ws (keyed-not-refused s (id .hash) ws none) u
-rule-works (len s) ws none = tt
+-- The call of a key that asks this.
+abbrev pub callFor : Settings → Identity → KeyedAsk → Call
+callFor s id (requests r at cost) = request s at id r cost
+callFor s id (looks l at) = look s at id l
+callFor s id (undoes u) = undo s id u
 
-pub rules-work-in-one-shard : (c : Call) (ws : List ℕ) → numbered (rules c ws .answer) ≡ false
-    → ofKey (λ id. WorksInOneShard (settingsOf c) (id .hash) ws (rules c ws) (inItsShard c (shardAt (settingsOf c) (id .hash) ws))) c
-rules-work-in-one-shard c ws taken = let none = taken-not-refused c ws taken in rw (not-refused-is-ruled c ws none) (rule-works c ws none)
+-- So the rules work in one shard.
+module _ (s : Settings) (id : Identity) (ws : List ℕ) where
+  rule-works : (ask : KeyedAsk) → refusalOf (callFor s id ask) ws ≡ 0
+      → WorksInOneShard s (id .hash) ws (ruleOf (callFor s id ask) ws) (inItsShard s id ask (shardAt s (id .hash) ws))
+  rule-works (requests Acquire at cost) none = request-works s id ws (timed-not-refused s (id .hash) ws at none .0) Acquire (s .limit) at cost
+  rule-works (requests (Reserve longest) at cost) none =
+      request-works s id ws (reserve-not-refused s (id .hash) ws at longest none .0) (Reserve longest) (s .limit) at cost
+  rule-works (looks l at) none = look-works s id ws (timed-not-refused s (id .hash) ws at none .0) l at
+  rule-works (undoes u) none = undo-works s id ws (keyed-not-refused s (id .hash) ws none) u
+
+  pub rules-work-in-one-shard : (ask : KeyedAsk) → refusalOf (callFor s id ask) ws ≡ 0
+      → WorksInOneShard s (id .hash) ws (rules (callFor s id ask) ws) (inItsShard s id ask (shardAt s (id .hash) ws))
+  rules-work-in-one-shard ask none = rw (not-refused-is-ruled (callFor s id ask) ws none) (rule-works ask none)
 
 -- Each call gives in its shard what it gives where slots and debts are found in place order, and leaves a shard in which lookup finds each of them.
 module _ (own : Shard) (each : FindsEach own) where
@@ -163,8 +169,7 @@ module _ (own : Shard) (each : FindsEach own) where
   undo-same (refunds cost) (Open rate) id = told-same knownReply (refunded (configOf rate) id cost) (same .refunds (configOf rate) id cost)
   undo-same removes limit id = told-same knownReply (removed id) (same .removes id)
 
-  pub call-same-as-place-order : (c : Call) → SameAsPlaceOrder (inItsShard c) own
-  call-same-as-place-order (request s at id r cost) = request-same r (s .limit) s at id cost
-  call-same-as-place-order (look s at id l) = unchanged-same (lookedIn l (s .limit) at id) (look-same l (s .limit) at id)
-  call-same-as-place-order (undo s id u) = undo-same u (s .limit) id
-  call-same-as-place-order (len s) = unchanged-same (λ t. Count (t .slots .count)) refl
+  pub call-same-as-place-order : (s : Settings) (id : Identity) (ask : KeyedAsk) → SameAsPlaceOrder (inItsShard s id ask) own
+  call-same-as-place-order s id (requests r at cost) = request-same r (s .limit) s at id cost
+  call-same-as-place-order s id (looks l at) = unchanged-same (lookedIn l (s .limit) at id) (look-same l (s .limit) at id)
+  call-same-as-place-order s id (undoes u) = undo-same u (s .limit) id
