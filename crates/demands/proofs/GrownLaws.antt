@@ -118,43 +118,43 @@ grown-indexes-are-exact-by-number {s} {ws} grown i below =
 
 -- In a sound memory only what a call itself asks can be refused.
 module _ (s : Settings) (ws : List ℕ) (memory : SoundMemory s ws) where
-  keyed-none : (hash : ℕ) → keyedRefusal s hash ws ≡ 0
-  keyed-none hash =
+  key-is-not-refused : (hash : ℕ) → keyedRefusal s hash ws ≡ 0
+  key-is-not-refused hash =
       keyed-is-accepted s hash ws
       (record { set-up = record { settings = memory .settings; size = memory .size }; sound = found-is-sound (memory .finds-each hash) })
 
-  set-up-none : setUpRefusal s ws ≡ 0
-  set-up-none = set-up-is-accepted s ws (record { settings = memory .settings; size = memory .size })
+  settings-and-length-are-not-refused : setUpRefusal s ws ≡ 0
+  settings-and-length-are-not-refused = set-up-is-accepted s ws (record { settings = memory .settings; size = memory .size })
 
   -- No shard has more slots than the cap.
-  slots-within : (i : ℕ) → i < shardCount s → slotCount (capOf s) i ws ≤ capOf s
-  slots-within i below =
+  slots-are-within-the-cap : (i : ℕ) → i < shardCount s → slotCount (capOf s) i ws ≤ capOf s
+  slots-are-within-the-cap i below =
       let hash : ℕ = i * 2 ^ 40 in
       let fits = rw (shard-at-cap s hash ws) at (found-is-sound (memory .finds-each hash) .count-fits) in
       subst (λ (j : ℕ). slotCount (capOf s) j ws ≤ capOf s) (every-shard-has-a-hash s i below) fits
 
-  most-slots-within : (n : ℕ) → n ≤ shardCount s → mostSlots (capOf s) n ws ≤ capOf s
+  most-slots-are-within-the-cap : (n : ℕ) → n ≤ shardCount s → mostSlots (capOf s) n ws ≤ capOf s
   unfolding mostSlots
-  most-slots-within zero within = omega arith
-  most-slots-within (suc n) within = max-le (most-slots-within n (omega arith)) (slots-within n (omega arith))
+  most-slots-are-within-the-cap zero within = omega arith
+  most-slots-are-within-the-cap (suc n) within = max-le (most-slots-are-within-the-cap n (omega arith)) (slots-are-within-the-cap n (omega arith))
 
   -- A clear is accepted.
   pub clear-is-accepted : clear s ws .answer ≡ Done
   unfolding setUp
-  clear-is-accepted = ap (λ (o : Outcome Reply (List ℕ)). o .answer) (unless-refused-accepts (setUpRefusal s ws) ws (outcome Done (replicate (memoryWords s) 0)) set-up-none)
+  clear-is-accepted = ap (λ (o : Outcome Reply (List ℕ)). o .answer) (unless-refused-accepts (setUpRefusal s ws) ws (outcome Done (replicate (memoryWords s) 0)) settings-and-length-are-not-refused)
 
-own-refusal : (c : Call) (ws : List ℕ) → SoundMemory (settingsOf c) ws → refusalOf c ws ≡ refusedAs c
-own-refusal (request s at id Acquire cost) ws memory = no-refusal-hands-on _ (momentRefusal at) (keyed-none s ws memory (id .hash))
-own-refusal (request s at id (Reserve longest) cost) ws memory =
-    ap (λ (n : ℕ). firstRefusal n (waitRefusal longest)) (no-refusal-hands-on _ (momentRefusal at) (keyed-none s ws memory (id .hash)))
-own-refusal (look s at id l) ws memory = no-refusal-hands-on _ (momentRefusal at) (keyed-none s ws memory (id .hash))
-own-refusal (undo s id u) ws memory = keyed-none s ws memory (id .hash)
-own-refusal (len s) ws memory =
-    no-refusal-hands-on _ (slotsRefusal s ws) (set-up-none s ws memory)
-    ∙ shards-are-accepted s ws (most-slots-within s ws memory (shardCount s) (omega arith))
+refusal-is-the-calls-own : (c : Call) (ws : List ℕ) → SoundMemory (settingsOf c) ws → refusalOf c ws ≡ refusedAs c
+refusal-is-the-calls-own (request s at id Acquire cost) ws memory = no-refusal-hands-on _ (momentRefusal at) (key-is-not-refused s ws memory (id .hash))
+refusal-is-the-calls-own (request s at id (Reserve longest) cost) ws memory =
+    ap (λ (n : ℕ). firstRefusal n (waitRefusal longest)) (no-refusal-hands-on _ (momentRefusal at) (key-is-not-refused s ws memory (id .hash)))
+refusal-is-the-calls-own (look s at id l) ws memory = no-refusal-hands-on _ (momentRefusal at) (key-is-not-refused s ws memory (id .hash))
+refusal-is-the-calls-own (undo s id u) ws memory = key-is-not-refused s ws memory (id .hash)
+refusal-is-the-calls-own (len s) ws memory =
+    no-refusal-hands-on _ (slotsRefusal s ws) (settings-and-length-are-not-refused s ws memory)
+    ∙ shards-are-accepted s ws (most-slots-are-within-the-cap s ws memory (shardCount s) (omega arith))
 
 pub sound-refusal-is-the-calls-own : {s : Settings} {ws : List ℕ} → SoundMemory s ws → (c : Call) → settingsOf c ≡ s → refusalOf c ws ≡ refusedAs c
-sound-refusal-is-the-calls-own {ws = ws} memory c same = own-refusal c ws (rw same memory)
+sound-refusal-is-the-calls-own {ws = ws} memory c same = refusal-is-the-calls-own c ws (rw same memory)
 
 -- So it is with a grown store: whether a call of its settings is refused, and by which number, follows from the call alone; and a clear is accepted.
 pub grown-refusal-is-the-calls-own : {s : Settings} {ws : List ℕ} → Grown s ws → (c : Call) → settingsOf c ≡ s → refusalOf c ws ≡ refusedAs c

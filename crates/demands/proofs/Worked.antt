@@ -10,8 +10,7 @@ use Rattle.rows.specs.Rows.{rows, unrow}
 use Rattle.held.specs.Held.{removed}
 use Rattle.held.specs.Layout.{tableIn}
 use Rattle.index.specs.Walk as Index
-use Rattle.bucket.specs.Bucket.{shortfallAt, availableAt, waitAt, asked}
-use Rattle.bucket.specs.Debt.{takenOut, lacking, restored}
+use Rattle.bucket.specs.Bucket.{shortfallAt, waitAt, asked}
 use Rattle.settings.specs.declared.decision.Decision.the-variants.{Acquired}
 use Rattle.settings.specs.Powers.{exponentFrom, exponentFor}
 use Rattle.settings.specs.Rate as Rate
@@ -72,11 +71,11 @@ pub record Worked : Type 0 where
 pub worked : Worked
 unfolding ceilDiv lowestFrom rows unrow tableIn removed Index.onward Index.walkFrom Index.walk Index.findFrom Index.find Index.seek Index.add
     Index.addAgain Index.rehome Index.vacate Index.renumber Index.remove
-    sum Round.lookAt Round.look Round.sweep shortfallAt availableAt waitAt asked takenOut lacking restored
+    sum Round.lookAt Round.look Round.sweep shortfallAt waitAt asked
     Rate.unlessWithin Rate.rateRefusal Settings.sizeRefusal Settings.firstRefusal exponentFrom exponentFor
-    Debts.ledger Debts.wordsOf Ledger.placeOf Ledger.removeAt Ledger.owedBy Ledger.taken Ledger.sweep
+    Debts.ledger Debts.wordsOf Ledger.placeOf Ledger.taken Ledger.sweep
     Layout.shard Layout.wordsOf Shard.placeOf Shard.removeAt Shard.insert
-    OneShard.makeRoom OneShard.withExisting OneShard.admit OneShard.withOrInsert OneShard.removed
+    OneShard.makeRoom OneShard.admit OneShard.withOrInsert OneShard.removed
     Refusals.memoryRefusal Refusals.countRefusal Refusals.momentRefusal Refusals.waitRefusal Refusals.mostSlots Refusals.slotsRefusal
     Rules.unlessRefused Rules.setUp Rules.unlessTrivial Rules.tryAcquire Rules.reserve Rules.remove Rules.len
     askedIn onShards run
