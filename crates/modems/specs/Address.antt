@@ -41,7 +41,7 @@ identityOf address = record { hash = hashOf address; key = keyOf address }
 abbrev pub groupBit : List ℕ → ℕ
 groupBit address = getD address 0 0 % 2
 
--- A slice that is not six bytes is refused as 11. The group bit is looked at only then: an address in which it is set is refused as 12.
+-- A slice that is not six bytes is refused as 11. The group bit is looked at in six bytes only: where it is set, the address is refused as 12.
 unfoldable pub addressRefusal : List ℕ → ℕ
 addressRefusal address = cond (eqb (length address) addressBytes) (cond (eqb (groupBit address) 0) 0 12) 11
 

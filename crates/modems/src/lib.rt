@@ -93,7 +93,7 @@ pub fn address_refusal(address: &[u8]) -> u32
     0
 }
 
-// The identity of an address in the limiter.
+// The identity in the limiter of an address that is not refused: its hash and its key.
 pub fn identity(address: &[u8]) -> Identity
     requires { ⌜ Address.addressRefusal (now address) ≡ 0 ⌝ }
     ensures { λ r. ⌜ r ≡ Address.identityOf (now (address .entry)) ⌝ }
