@@ -1,7 +1,7 @@
 -- While time never falls no slot has a stamp after the moment, so no wait has grown. A stamp comes from a call: a slot that comes in has the moment of its
 -- call, a grant raises a stamp to the moment of its call, and no other step makes a stamp.
 use Prim.Native.Nat.{ℕ, _≤_, _<_}
-use mathlib.Core.Path.{_≡_, ap}
+use mathlib.Core.Path.{ap}
 use mathlib.Core.Bool.{Bool}
 use native.Mathlib.Omega.{arith}
 use Rattle.arith.proofs.Cases.{by-le, by-eq}
@@ -13,7 +13,6 @@ use Rattle.units.specs.Units.{millisOf}
 use Rattle.bucket.specs.declared.BucketConfig.{BucketConfig}
 use Rattle.bucket.specs.declared.BucketCore.{BucketCore}
 use Rattle.bucket.specs.declared.BucketDecision.{BucketDecision}
-use Rattle.bucket.specs.declared.BucketOutcome.{BucketOutcome}
 use Rattle.bucket.specs.declared.Request.{Request}
 use Rattle.bucket.specs.Bucket.{Accepted, waitAt, longestWait, asked}
 use Rattle.bucket.proofs.BucketLaws.{granted-within-longest, denied-beyond-longest}
