@@ -1,11 +1,11 @@
--- The promise to who is told a wait. If nothing happens to the bucket in between, the cost is granted at the told moment and from then on, and at no moment before
--- it: whether the stamp is before the call or after it. Moments at the bound of 64 bits are held, and promise nothing.
+-- The promise to who is told a wait. If nothing happens to the bucket in between, the cost is granted at the told moment and from then on, and at no moment
+-- before it, whether the stamp is before the call or after it. A moment at the bound of 64 bits may be held, and promises nothing.
 use Prim.Native.Nat.{ℕ, _+_, _*_, _-_, _≤_, _<_, _^_}
-use mathlib.Core.Path.{_≡_, refl, ap, sym, _∙_}
+use mathlib.Core.Path.{_≡_, ap, sym, _∙_}
 use native.Mathlib.Nat.{mul-le-mul-right}
 use native.Mathlib.Omega.{arith}
-use Rattle.arith.specs.Arith.{ceilDiv, saturated}
-use Rattle.arith.proofs.Cases.{by-le, by-eq}
+use Rattle.arith.specs.Arith.{ceilDiv}
+use Rattle.arith.proofs.Cases.{by-le}
 use Rattle.arith.proofs.DivisionLaws.{ceilDiv-reaches, ceilDiv-within}
 use Rattle.units.specs.declared.Nanos.{Nanos}
 use Rattle.bucket.specs.declared.BucketConfig.{BucketConfig}
@@ -15,7 +15,7 @@ use Rattle.bucket.specs.declared.Request.the-variants.{Acquire}
 use Rattle.bucket.specs.declared.BucketDecision.{BucketDecision}
 use Rattle.bucket.specs.declared.BucketDecision.the-variants.{Allowed, Denied}
 use Rattle.bucket.specs.declared.Due.{Due}
-use Rattle.bucket.specs.Bucket.{Accepted, partsOf, fullParts, shortfallAt, lackFor, grown, waitAt, dueAfter, dueAt, spent, longestWait, asked}
+use Rattle.bucket.specs.Bucket.{Accepted, partsOf, fullParts, shortfallAt, lackFor, waitAt, dueAfter, dueAt, spent, longestWait, asked}
 use Rattle.bucket.proofs.BucketLaws.{parts-within, no-wait-stays-none, wait-grows, no-cost-no-wait, wait-for-lack, enough-no-wait}
 use Rattle.bucket.proofs.BucketLaws.{granted-within-longest, denied-beyond-longest}
 
@@ -41,7 +41,7 @@ allowed-is-no-denial : {Q : Type 0} {told due : Due} → Allowed told ≡ Denied
 allowed-is-no-denial e = let z : _≡_ {A = ℕ} 0 1 = ap isDenied e in absurd (omega arith)
 
 module _ {c : BucketConfig} (b : BucketCore) (cost : ℕ) (at : Nanos) (a : Accepted c) (within : cost ≤ c .capacity) where
-  -- How long what the bucket lacks takes to come back, once parts come back; and a wait below the bound, from the later of the call and the stamp.
+  -- How long what the bucket lacks takes to come back, once parts come back; and the moment that is told.
   abbrev base : ℕ
   base = ceilDiv (lackFor c b cost at) (c .amount)
 

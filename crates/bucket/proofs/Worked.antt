@@ -44,7 +44,7 @@ pub recovery-rounded-up : recoveryAt fastest (spender fastest 1) start ≡ 15260
 unfolding ceilDiv shortfallAt grown waitAt
 recovery-rounded-up = refl
 
--- The clock is set back. The bucket spends its 4 tokens at 10 s, and the clock is set back to 8 s. A token then takes the 2 s up to the stamp and half a second.
+-- The clock is set back. The bucket spends its 4 tokens at 10 s, and the clock is set back to 8 s. A token then takes 2 s up to the stamp and half a second.
 -- It is due at 10.5 s, as it was before the clock was set back. All 4 tokens take 4 s, and are due at 12 s.
 abbrev tenSeconds : Nanos
 tenSeconds = record { 0 = 10000000000 }

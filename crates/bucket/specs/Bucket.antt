@@ -64,7 +64,7 @@ lackFor c b cost at = shortfallAt c b at + partsOf c cost - fullParts c
 unfoldable pub grown : BucketCore → Nanos → ℕ → ℕ
 grown b at wait = cond (eqb wait 0) 0 (saturated (wait + (b .stamp .0 - at .0)))
 
--- How long a cost has to wait: 0 for cost 0, else until the parts that the bucket lacks for it have come back, rounded up, and grown by the time until the stamp.
+-- How long a cost has to wait: 0 for cost 0, else until the parts that the bucket lacks for it have come back, rounded up, with the time until the stamp.
 unfoldable pub waitAt : BucketConfig → BucketCore → ℕ → Nanos → ℕ
 waitAt c b cost at = cond (eqb cost 0) 0 (grown b at (ceilDiv (lackFor c b cost at) (c .amount)))
 

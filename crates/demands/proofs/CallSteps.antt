@@ -36,7 +36,7 @@ use Rattle.demands.proofs.RefundLaws.{refundAdds, own-refund}
 use Rattle.perkey.proofs.CallLaws.{refusalOf, not-refused-is-ruled, looks, counts-keys, looks-change-nothing, accepted-not-refused, unaccepted-refused}
 use Rattle.demands.proofs.OwnBucket.{in-range-is-asked, request-not-refused}
 use Rattle.demands.proofs.TryLaws.{store-grants-as-asked}
-use Rattle.demands.proofs.StampLaws.{StampsBy, ask-keeps-stamps, refund-keeps-stamps, own-removal-keeps-stamps}
+use Rattle.demands.proofs.StampLaws.{StampsBy, ask-keeps-stamps, refund-keeps-stamps, remove-keeps-stamps}
 use Rattle.demands.proofs.StandingLaws.{moment, Bounds, Standing, standing-later, operation-stands}
 use Rattle.demands.proofs.GivenLaws.{ifOwn, toldKnown, granting, given}
 use Rattle.demands.proofs.GivenLaws.{own-call, other-hash, same-either-way, refusal-gives-nothing, reply-grants, too-much-grants-nothing, at-once-grants}
@@ -163,7 +163,7 @@ module _ (s : Settings) (rate : Rate) (k : Identity) (B : BoundOf (configOf rate
         let shard : Shard.Shard = shardAt s (id .hash) ws in
         rw (same-either-way k id g) at
         (keyed-stands id n ws v (OneShard.removed id shard) (remove-same-room shard sound id)
-        (λ past. own-removal-keeps-stamps n id shard sound past) alone g
+        (λ past. remove-keeps-stamps n id shard sound past) alone g
         (λ hash key b. absurd (not-own hash key))
         (λ differs. other-removal c (k .hash) (k .key) (moment n) shard sound id differs))
 

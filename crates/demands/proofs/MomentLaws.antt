@@ -1,13 +1,12 @@
 -- Every grant and every retry of the rules tells its moment; so does every limiter that meets demand 2; and counted by the moments told, the tokens of a window
 -- are those that demand 3 counts.
-use Prim.Native.Nat.{ℕ, _+_, _≤_}
-use mathlib.Core.Path.{_≡_, refl, ap, sym}
+use Prim.Native.Nat.{ℕ, _≤_}
+use mathlib.Core.Path.{_≡_, refl}
 use mathlib.Core.List.{List, [], _∷_}
 use native.Mathlib.Omega.{arith}
 use lib.Dec.{ltb, eqb}
 use Rattle.arith.proofs.Cases.{by-test, by-eq}
 use Rattle.units.specs.declared.Nanos.{Nanos}
-use Rattle.bucket.specs.declared.Request.{Request}
 use Rattle.bucket.specs.declared.Request.the-variants.{Acquire, Reserve}
 use Rattle.bucket.specs.declared.BucketDecision.{BucketDecision}
 use Rattle.settings.specs.declared.Limit.{Limit}
@@ -24,7 +23,7 @@ use Rattle.store.specs.Refusals.{latestMoment, longestMaxWait}
 use Rattle.store.proofs.RefusalLaws.{timed-not-refused}
 use Rattle.perkey.specs.Rules.{unlessTrivial, policyOf, replyTo, askedBy}
 use Rattle.perkey.specs.Calls.{Call, request, look, undo, len, rules, Answered, replies, Every}
-use Rattle.perkey.specs.Calls.{Look, peeks, tokens, Kind, decides, counts, kindOf}
+use Rattle.perkey.specs.Calls.{peeks, tokens, decides, counts}
 use Rattle.perkey.proofs.CallLaws.{OfKind, acquired, retried, impossible, counted}
 use Rattle.perkey.proofs.CallLaws.{refusalOf, ruleOf, not-refused-is-ruled, refused-is-told, rule-answers-in-kind}
 use Rattle.demands.specs.Demands.{Limiter, answering, Demand2, tokensOf, tokensUsable}

@@ -1,7 +1,7 @@
--- While time never falls no slot has a stamp after the moment, so no wait has grown. A stamp comes from a call: a slot that comes in has the moment of its call, a
--- grant raises a stamp to the moment of its call, and no other step makes a stamp.
+-- While time never falls no slot has a stamp after the moment, so no wait has grown. A stamp comes from a call: a slot that comes in has the moment of its
+-- call, a grant raises a stamp to the moment of its call, and no other step makes a stamp.
 use Prim.Native.Nat.{ℕ, _≤_, _<_}
-use mathlib.Core.Path.{_≡_, ap}
+use mathlib.Core.Path.{ap}
 use mathlib.Core.Bool.{Bool}
 use native.Mathlib.Omega.{arith}
 use Rattle.arith.proofs.Cases.{by-le, by-eq}
@@ -13,7 +13,6 @@ use Rattle.units.specs.Units.{millisOf}
 use Rattle.bucket.specs.declared.BucketConfig.{BucketConfig}
 use Rattle.bucket.specs.declared.BucketCore.{BucketCore}
 use Rattle.bucket.specs.declared.BucketDecision.{BucketDecision}
-use Rattle.bucket.specs.declared.BucketOutcome.{BucketOutcome}
 use Rattle.bucket.specs.declared.Request.{Request}
 use Rattle.bucket.specs.Bucket.{Accepted, waitAt, longestWait, asked}
 use Rattle.bucket.proofs.BucketLaws.{granted-within-longest, denied-beyond-longest}
@@ -114,7 +113,8 @@ ask-keeps-stamps p id request cost at s a u past = go (ask-cases p id request co
 
     go : {o : Outcome BucketDecision Shard} → Asking p id request cost at s o → StampsBy (at .0) (o .after)
     go (slot-asked i slot e f r) =
-        change-keeps-stamps (at .0) s i slot (omega (arith, f .below, u .count-fits)) (rw (r .bucket) (asked-stamp c request (slotAt s i .bucket) cost at (past i (f .below)))) past
+        let new = asked-stamp c request (slotAt s i .bucket) cost at (past i (f .below)) in
+        change-keeps-stamps (at .0) s i slot (omega (arith, f .below, u .count-fits)) (rw (r .bucket) new) past
     go (key-joins e made) =
         let v : Sound (debtTaken id s) = debt-taken-sound id s u in
         let owed : OptionNanos = Ledger.taken (s .ledger) (id .hash) .answer in
@@ -131,8 +131,8 @@ module _ (n : ℕ) (id : Identity) (s : Shard) (u : Sound s) (past : StampsBy n 
       go (slot-refunded i slot e f r) = change-keeps-stamps n s i slot (omega (arith, f .below, u .count-fits)) (rw (r .bucket) (past i (f .below))) past
       go (debt-paid e) = past
 
-  pub own-removal-keeps-stamps : StampsBy n (removed id s .after)
-  own-removal-keeps-stamps = go (remove-cases id s)
+  pub remove-keeps-stamps : StampsBy n (removed id s .after)
+  remove-keeps-stamps = go (remove-cases id s)
     where
       go : {o : Outcome Bool Shard} → Removing id s o → StampsBy n (o .after)
       go (slot-removed i e f) = removal-keeps-stamps n (debtTaken id s) i (debt-taken-sound id s u) past

@@ -1,6 +1,6 @@
 -- The moments told (request 1 of document 02). Every grant and every retry, of a request and of a peek, tells the moment of the call plus its wait; that of a
--- retry is held to 64 bits (request 5). From the moment of a grant on its tokens are usable. So the tokens counted by the moments told are those that the window
--- counts (`told-moments-count-alike`).
+-- retry is held to 64 bits (request 5). From the moment of a grant on its tokens are usable. So the tokens counted by the moments told are those that the
+-- window counts (`told-moments-count-alike`).
 use Prim.Native.Nat.{ℕ, _+_}
 use mathlib.Core.Path.{_≡_}
 use mathlib.Core.Bool.{true}
@@ -18,8 +18,8 @@ use Rattle.perkey.specs.Calls.{Call, request, look, undo, len, Answered, replie
 use Rattle.demands.specs.Widths.{allFit, lendable}
 use Rattle.demands.specs.Demands.{Limiter, usable, usableFrom}
 
--- A try that is granted tells the moment of the call. A reservation that is granted tells that moment plus its wait, and so does a retry, held to 64 bits: the wait of
--- a retry may have grown past that after a clock was set back. Of other replies nothing is asked here.
+-- A try that is granted tells the moment of the call. A reservation that is granted tells that moment plus its wait, and so does a retry, held to 64 bits: on
+-- damaged memory the wait of a retry may leave them. Of other replies nothing is asked here.
 abbrev pub momentTold : Request → Nanos → Reply → Type 0
 momentTold r at (Tried (Acquired due)) = due .moment .0 ≡ usableFrom r at 0
 momentTold r at (Tried (Retry due)) = due .moment .0 ≡ saturated (at .0 + due .wait .0)

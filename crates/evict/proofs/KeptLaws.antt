@@ -37,8 +37,8 @@ all-remarked h slotValue debtValue blind s t r =
     let same : (i : ℕ) → i < s .slots .count → slotValue (slotAt t i) ≡ slotValue (slotAt s i) = λ i below. remarked-slots s t r slotValue blind i in
     rw (r .count, r .ledger) (omega (arith, sum-same (s .slots .count) (λ i. slotValue (slotAt t i)) (λ i. slotValue (slotAt s i)) same))
 
--- A debt lasts at least as long as the shortfall that it stands for. Before it is grown by the time until the stamp, and before the moment is held to 64 bits, it
--- lasts just so long. A moment that is held is late enough for any shortfall, since the call was made at 2^62 or before.
+-- A debt lasts at least as long as the shortfall that it stands for takes to come back. The time until the stamp makes it longer. A moment that is held to 64
+-- bits is late enough for any shortfall, since the call was made at 2^62 or before.
 pub debt-lasts : (c : BucketConfig) (b : BucketCore) (at : Nanos) → Accepted c → at .0 ≤ 2 ^ 62
     → shortfallAt c b at ≤ (dueAfter at (record { 0 = recoveryAt c b at }) .moment .0 - at .0) * c .amount
 debt-lasts c b at a early =

@@ -128,8 +128,8 @@ unfolding evicted walked walkFrom noted awaiting soonestIn shortfallAt grown wai
     Ledger.placeOf Ledger.append lowestFrom
 debt-settles-at-the-last-moment = refl
 
--- A refusal: the first slot lacks more, and recovers in 4 ms. The second recovers in 2 ms from its stamp on. With a stamp 1 ms ahead it is the soonest, with one
--- that is 3 ms ahead the first is. The ledger's debt settles in 9 ms.
+-- A refusal: the first slot lacks more, and recovers in 4 ms. The second recovers in 2 ms from its stamp on. With a stamp 1 ms ahead it is the soonest. With
+-- one that is 3 ms ahead the first is. The ledger's debt settles in 9 ms.
 abbrev oneAhead : ℕ → ℕ → ℕ → ℕ → Shard
 oneAhead stamp mark hand cursor = shard 2 hand 0 (slot 1 8000000 mark 0 ∷ ahead 2 4000000 stamp mark ∷ []) (ledger 1 cursor (owing 9 9000000 ∷ []))
 
