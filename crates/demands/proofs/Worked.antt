@@ -10,7 +10,7 @@ use Rattle.rows.specs.Rows.{rows, unrow}
 use Rattle.held.specs.Held.{removed}
 use Rattle.held.specs.Layout.{tableIn}
 use Rattle.index.specs.Walk as Index
-use Rattle.bucket.specs.Bucket.{shortfallAt, waitAt, asked}
+use Rattle.bucket.specs.Bucket.{shortfallAt, grown, waitAt, asked}
 use Rattle.settings.specs.declared.decision.Decision.the-variants.{Acquired}
 use Rattle.settings.specs.Powers.{exponentFrom, exponentFor}
 use Rattle.settings.specs.Rate as Rate
@@ -71,7 +71,7 @@ pub record Worked : Type 0 where
 pub worked : Worked
 unfolding ceilDiv lowestFrom rows unrow tableIn removed Index.onward Index.walkFrom Index.walk Index.findFrom Index.find Index.seek Index.add
     Index.addAgain Index.rehome Index.vacate Index.renumber Index.remove
-    sum Round.lookAt Round.look Round.sweep shortfallAt waitAt asked
+    sum Round.lookAt Round.look Round.sweep shortfallAt grown waitAt asked
     Rate.unlessWithin Rate.rateRefusal Settings.sizeRefusal Settings.firstRefusal exponentFrom exponentFor
     Debts.ledger Debts.wordsOf Ledger.placeOf Ledger.taken Ledger.sweep
     Layout.shard Layout.wordsOf Shard.placeOf Shard.removeAt Shard.insert
