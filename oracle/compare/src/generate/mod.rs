@@ -12,8 +12,8 @@ use oracle::{Key, Rate, Settings, Shape, WhenFull};
 
 use crate::random::Random;
 pub use aside::Aside;
-pub use domain::{LARGE, RAISED};
 use domain::{CROWDED, SMALL, Sizes, idle, keys, keys_of, rate, slow_rate, start};
+pub use domain::{LARGE, RAISED};
 
 const MS: u64 = 1_000_000;
 const SECOND: u64 = 1_000_000_000;
