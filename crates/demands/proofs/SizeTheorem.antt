@@ -94,9 +94,9 @@ module _ (s : Settings) (accepted : Before.settingsRefusal s ≡ 0) where
   shards-by-name : shardCount (asking (Before.shardCount s) s) ≡ shardCount s
   shards-by-name =
       let n = shardCount s in
-      let few = shards-most s in
-      let least : max n (leastShards s) ≡ n = rw (one-shard-holds-them s (omega (arith, keys-were-few))) (max-eq-left (shards-least s)) in
-      let held : min n mostShards ≡ n = min-eq-left few in
+      let one = one-shard-holds-them s (omega (arith, keys-were-few)) in
+      let least : max n (leastShards s) ≡ n = max-eq-left (omega (arith, one, shards-least s)) in
+      let held : min n mostShards ≡ n = min-eq-left (shards-most s) in
       rw (sym shards-they-had, least, held) (power-stays n (shardExponent s) refl)
 
   accepted-still : settingsRefusal s ≡ 0
