@@ -6,7 +6,7 @@
 #include "limiter.h"
 
 #define SECOND UINT64_C(1000000000)
-#define MOST_WORDS 60000
+#define MOST_WORDS 800000
 /* The words of a store for one key, and for two, in one shard. */
 #define ONE 17
 #define TWO 29
@@ -80,7 +80,7 @@ static void words_to_lend(void)
     CHECK(set_up(s) == 49157);
     s.shards = 64;
     CHECK(set_up_code(s, set_up(s) + 1) == LIMITER_REFUSED + LIMITER_BAD_MEMORY);
-    s.max_keys = 4097;
+    s.max_keys = 65537;
     CHECK(limiter_words(s) == 0 && set_up_code(s, 1) == LIMITER_REFUSED + LIMITER_BAD_SIZES);
     s = small();
     s.shards = 65;
@@ -89,6 +89,27 @@ static void words_to_lend(void)
     s = small();
     s.amount = 0;
     CHECK(limiter_words(s) == ONE);
+}
+
+/* The shards asked for are first raised to max_keys / 16,384, rounded up: the keys, and then the shards and the places of each for 0, 1, 3 and 64
+ * shards asked for. A store takes shards * (5 + 12 * places) words. */
+static void raised_shards(void)
+{
+    static const uint64_t asked[4] = { 0, 1, 3, 64 };
+    static const uint64_t rows[5][9] = { { 4097, 1, 4097, 1, 4097, 4, 1025, 64, 65 }, { 16384, 1, 16384, 1, 16384, 4, 4096, 64, 256 },
+        { 16385, 2, 8193, 2, 8193, 4, 4097, 64, 257 }, { 32769, 4, 8193, 4, 8193, 4, 8193, 64, 513 },
+        { 65536, 4, 16384, 4, 16384, 4, 16384, 64, 1024 } };
+    limiter_settings s = small();
+    int row, i;
+    for (row = 0; row < 5; row++) {
+        for (i = 0; i < 4; i++) {
+            const uint64_t shards = rows[row][1 + 2 * i], places = rows[row][2 + 2 * i];
+            s.max_keys = rows[row][0];
+            s.shards = asked[i];
+            CHECK(set_up(s) == shards * (5 + 12 * places));
+            CHECK(set_up_code(s, (size_t)limiter_words(s) - 1) == LIMITER_REFUSED + LIMITER_BAD_MEMORY);
+        }
+    }
 }
 
 /* The eight bytes "chongo w" of the FNV authors' test suite, and keys as crates/test_fnv_vectors has them. */
@@ -230,6 +251,7 @@ int main(void)
 {
     no_words();
     words_to_lend();
+    raised_shards();
     hash_vectors();
     rate_fields();
     store_fields();

@@ -31,9 +31,10 @@ extern "C" {
 /* What a store is set up with. Times are in nanoseconds. A flag is set if it is not 0. */
 typedef struct limiter_settings {
     uint64_t period;      /* the time in which `amount` tokens come back: 1 to 2^46 */
-    uint64_t max_keys;    /* the keys to make room for, 0 to 4,096; each shard has room for an equal share, rounded up, at least 1. Keys fall
+    uint64_t max_keys;    /* the keys to make room for, 0 to 65,536; each shard has room for an equal share, rounded up, at least 1. Keys fall
                              on the shards unevenly, so a shard can be full while the store is not: ask for more than there are modems */
-    uint64_t shards;      /* the shards asked for: 0 to 64; 0 is taken as 1 and all others are rounded up to a power of two */
+    uint64_t shards;      /* the shards asked for: 0 to 64; the number is first raised to max_keys / 16,384, rounded up, and at least 1, and then rounded
+                             up to a power of two */
     uint64_t idle;        /* a full bucket that was idle for this long may be forgotten; read only if has_idle is set */
     uint32_t closed;      /* set: there is no rate and only tries of cost 0 are granted; amount, period, burst and initial are not read */
     uint32_t amount;      /* tokens that come back in a period: 1 to 65,535 */
@@ -96,7 +97,7 @@ enum {
     LIMITER_BAD_AMOUNT = 1,   /* not 1 to 65,535 */
     LIMITER_BAD_PERIOD = 2,   /* not 1 to 2^46 ns */
     LIMITER_BAD_BURST = 3,    /* not 1 to 65,535 */
-    LIMITER_BAD_SIZES = 4,    /* max_keys over 4,096 or shards over 64 */
+    LIMITER_BAD_SIZES = 4,    /* max_keys over 65,536 or shards over 64 */
     LIMITER_BAD_MEMORY = 5,   /* another length than limiter_words(s); or a count of the key's shard (for limiter_length, of any shard)
                                  is more than the shard can hold. Set-up and clear look at no count */
     LIMITER_BAD_MOMENT = 6,   /* now is after 2^62 ns */
@@ -112,7 +113,7 @@ static inline const char *limiter_refusal_text(uint64_t code)
     case LIMITER_REFUSED + LIMITER_BAD_AMOUNT: return "the amount is not 1 to 65,535";
     case LIMITER_REFUSED + LIMITER_BAD_PERIOD: return "the period is not 1 to 2^46 ns";
     case LIMITER_REFUSED + LIMITER_BAD_BURST: return "the burst is not 1 to 65,535";
-    case LIMITER_REFUSED + LIMITER_BAD_SIZES: return "more than 4,096 keys or 64 shards";
+    case LIMITER_REFUSED + LIMITER_BAD_SIZES: return "more than 65,536 keys or 64 shards";
     case LIMITER_REFUSED + LIMITER_BAD_MEMORY: return "the words are not those of a store with these settings";
     case LIMITER_REFUSED + LIMITER_BAD_MOMENT: return "the moment is after 2^62 ns";
     case LIMITER_REFUSED + LIMITER_BAD_MAX_WAIT: return "the longest wait is over 2^46 ns";

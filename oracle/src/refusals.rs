@@ -11,9 +11,9 @@ use crate::shape::Shape;
 pub const MOST_TOKENS: u32 = 65_535;
 /// The longest period in nanoseconds; the shortest is 1.
 pub const LONGEST_PERIOD: u64 = 1 << 46;
-/// The most keys that can be asked for.
-pub const MOST_KEYS: u64 = 4_096;
-/// The most shards that can be asked for.
+/// The most keys that can be asked for (02, request 6).
+pub const MOST_KEYS: u64 = 65_536;
+/// The most shards that can be asked for, before they are raised for the keys.
 pub const MOST_SHARDS: u64 = 64;
 /// The latest moment in nanoseconds.
 pub const LATEST_MOMENT: u64 = 1 << 62;

@@ -7,6 +7,8 @@ use crate::settings::Settings;
 
 /// The shard counts there are.
 const SHARD_COUNTS: [u64; 7] = [1, 2, 4, 8, 16, 32, 64];
+/// The most keys for which one shard is enough (02, request 6).
+const KEYS_PER_SHARD: u64 = 16_384;
 /// The bits of a hash from here on choose the shard.
 const SHARD_SHIFT: u32 = 40;
 
@@ -20,12 +22,15 @@ pub struct Shape {
 }
 
 impl Shape {
-    /// The shape that settings ask for.
+    /// The shape that settings ask for. The shards are first raised to max keys / 16,384, rounded up.
     #[must_use]
     pub fn of(settings: &Settings) -> Self {
+        let raised = settings
+            .shards
+            .max(settings.max_keys.div_ceil(KEYS_PER_SHARD));
         let shards = SHARD_COUNTS
             .into_iter()
-            .find(|&count| count >= settings.shards)
+            .find(|&count| count >= raised)
             .unwrap_or(SHARD_COUNTS[6]);
         Self {
             shards,

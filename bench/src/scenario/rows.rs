@@ -33,16 +33,18 @@ use Hash::Mixed;
 use Kind::{AllOwe, Hot, HotDenied, Known, Recovered, Removals, Whole};
 
 /// Known keys: how many, over how many shards.
-pub const SIZES: [(usize, usize); 4] = [MANY, MANY_IN_ONE, MOST, MOST_IN_ONE];
+pub const SIZES: [(usize, usize); 6] = [MANY, MANY_IN_ONE, MOST, MOST_IN_ONE, ALL, ALL_IN_FOUR];
 const MANY: (usize, usize) = (1_000, 64);
 const MANY_IN_ONE: (usize, usize) = (1_000, 1);
 const MOST: (usize, usize) = (4_096, 64);
 const MOST_IN_ONE: (usize, usize) = (4_096, 1);
+const ALL: (usize, usize) = (65_536, 64);
+const ALL_IN_FOUR: (usize, usize) = (65_536, 4);
 const FEW_IN_ONE: (usize, usize) = (64, 1);
 const SOME_IN_ONE: (usize, usize) = (512, 1);
 
 /// Every row, in the order of the table.
-pub const ROWS: [Row; 39] = [
+pub const ROWS: [Row; 47] = [
     row(Hot(Op::Try), MANY),
     row(Hot(Op::Try), MANY).idle(),
     row(HotDenied, MANY),
@@ -56,6 +58,9 @@ pub const ROWS: [Row; 39] = [
     row(Known(Op::Try), MOST),
     row(Known(Op::Try), MOST).hashed(Mixed),
     row(Known(Op::Try), MOST_IN_ONE),
+    row(Known(Op::Try), ALL),
+    row(Known(Op::Try), ALL).hashed(Mixed),
+    row(Known(Op::Try), ALL_IN_FOUR).hashed(Mixed),
     row(Known(Op::Peek), MANY),
     row(Known(Op::Peek), MANY_IN_ONE),
     row(AllOwe, MOST),
@@ -74,6 +79,10 @@ pub const ROWS: [Row; 39] = [
     row(AllOwe, MOST_IN_ONE).forget_debt().idle(),
     row(Recovered, MOST_IN_ONE),
     row(Recovered, MOST_IN_ONE).idle(),
+    row(AllOwe, ALL).hashed(Mixed),
+    row(AllOwe, ALL_IN_FOUR).hashed(Mixed),
+    row(Recovered, ALL).hashed(Mixed),
+    row(Recovered, ALL_IN_FOUR).hashed(Mixed),
     row(Known(Op::Refund), MANY),
     row(Known(Op::Refund), MANY_IN_ONE),
     row(Removals, MANY),
@@ -82,6 +91,7 @@ pub const ROWS: [Row; 39] = [
     row(Whole(Op::Length), MANY_IN_ONE),
     row(Whole(Op::SetUp), MANY),
     row(Whole(Op::SetUp), MOST),
+    row(Whole(Op::SetUp), ALL),
 ];
 
 const fn row(kind: Kind, sizes: (usize, usize)) -> Row {

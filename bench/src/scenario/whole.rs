@@ -13,7 +13,7 @@ pub fn whole(op: Op, calls: usize, (max_keys, shards): (usize, usize)) -> Scenar
     let keys = fitting(&setup, max_keys, Hash::Fnv1a);
     // A set-up writes the whole memory.
     let calls = if matches!(op, Op::SetUp) {
-        calls / 100
+        calls / (100 * max_keys.div_ceil(4_096))
     } else {
         calls
     };

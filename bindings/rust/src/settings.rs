@@ -12,10 +12,10 @@ use crate::Refusal;
 pub struct Settings {
     /// The rate that every key has. `None` is a closed limiter, which grants a cost of 0 alone.
     pub rate: Option<Rate>,
-    /// The keys to make room for, 0 to 4,096; each shard has room for an equal share, rounded up, at least 1. Keys fall on the shards unevenly, so
+    /// The keys to make room for, 0 to 65,536; each shard has room for an equal share, rounded up, at least 1. Keys fall on the shards unevenly, so
     /// a shard can be full while the store as a whole is not: ask for more keys than there are modems.
     pub max_keys: u64,
-    /// The shards asked for: 0 to 64; 0 is taken as 1, all others are rounded up to a power of two.
+    /// The shards asked for: 0 to 64. The number is first raised to `max_keys` / 16,384, rounded up, and at least 1, and then rounded up to a power of two.
     pub shards: u64,
     /// A key whose bucket is full and that was idle for this long may be forgotten; `None`: never for that.
     pub idle: Option<Duration>,
@@ -129,7 +129,7 @@ impl Settings {
     ///
     /// # Errors
     ///
-    /// [`Refusal::Sizes`]: more than 4,096 keys or 64 shards.
+    /// [`Refusal::Sizes`]: more than 65,536 keys or 64 shards.
     pub fn words(&self) -> Result<usize, Refusal> {
         match usize::try_from(limiter_words(self.raw())) {
             Ok(0) | Err(_) => Err(Refusal::Sizes),

@@ -45,20 +45,41 @@ fn told(answer: Result<Decision, Refusal>) -> (Option<Duration>, Option<Duration
 fn words_to_lend() {
     assert_eq!(Settings::new(R, 0).shards(0).words(), Ok(ONE));
     assert_eq!(Settings::new(R, 5).shards(3).words(), Ok(116));
-    assert_eq!(Settings::new(R, 4_097).words(), Err(Refusal::Sizes));
+    assert_eq!(Settings::new(R, 65_537).words(), Err(Refusal::Sizes));
     let many_shards = Settings::new(R, 1).shards(65);
     assert_eq!(many_shards.words(), Err(Refusal::Sizes));
     // The rate is not looked at.
     let no_rate = Settings::new(Rate::per_second(0), 5).shards(3);
     assert_eq!(no_rate.words(), Ok(116));
     // Every size that has words is accepted with these, and with no others.
-    for (keys, shards) in [(0, 0), (1, 1), (100, 3), (4_096, 1), (4_096, 64)] {
+    for (keys, shards) in [
+        (0, 0),
+        (1, 1),
+        (100, 3),
+        (4_097, 1),
+        (65_536, 0),
+        (65_536, 64),
+    ] {
         let settings = Settings::new(R, keys).shards(shards);
         let words = settings.words().expect("sizes within bounds");
         assert!(Store::set_up(settings, vec![0; words]).is_ok());
         let other = Store::set_up(settings, vec![0; words + 1]);
         assert_eq!(other.expect_err("refused"), Refusal::Memory);
     }
+}
+
+#[test]
+fn many_keys_raise_the_shards() {
+    let words = |shards: usize, places: usize| Ok(shards * (5 + 12 * places));
+    let asked = |keys, shards| Settings::new(R, keys).shards(shards).words();
+    assert_eq!(asked(16_384, 0), words(1, 16_384));
+    assert_eq!(asked(16_385, 1), words(2, 8_193));
+    assert_eq!(asked(16_385, 3), words(4, 4_097));
+    assert_eq!(asked(32_769, 0), words(4, 8_193));
+    assert_eq!(asked(65_536, 1), words(4, 16_384));
+    assert_eq!(asked(65_536, 64), words(64, 1_024));
+    // The number asked for is refused, not the one it is raised to.
+    assert_eq!(asked(65_536, 65), Err(Refusal::Sizes));
 }
 
 #[test]
@@ -248,7 +269,7 @@ fn every_refusal() {
     let longest = Rate::new(1, Duration::MAX);
     assert_eq!(refusal(rate(longest), ONE), Refusal::Period);
     assert_eq!(refusal(rate(R.burst(65_536)), ONE), Refusal::Burst);
-    assert_eq!(refusal(Settings::new(R, 4_097), ONE), Refusal::Sizes);
+    assert_eq!(refusal(Settings::new(R, 65_537), ONE), Refusal::Sizes);
     assert_eq!(refusal(rate(R), ONE + 1), Refusal::Memory);
     assert_eq!(refusal(rate(R), 0), Refusal::Memory);
 
@@ -362,7 +383,7 @@ fn a_store_owns_its_words() {
     let [modem] = modems([7]);
     assert!(granted(store.try_acquire(ZERO, modem, 1)));
     assert_eq!(Ok(store.words().len()), settings.words());
-    let refused = OwnedStore::new(Settings::new(R, 4_097));
+    let refused = OwnedStore::new(Settings::new(R, 65_537));
     assert_eq!(refused.expect_err("refused"), Refusal::Sizes);
     // Short, whatever the words are.
     let text = format!("{store:?}");

@@ -16,7 +16,7 @@ use Rattle.settings.specs.declared.Limit.the-variants.{Closed, Open}
 use Rattle.settings.specs.declared.Settings.{Settings}
 use Rattle.settings.specs.declared.rate.Rate.{Rate}
 use Rattle.settings.specs.Rate.{burstOf, configOf}
-use Rattle.settings.specs.Settings.{limitRefusal, capOf, shapeOf}
+use Rattle.settings.specs.Settings.{limitRefusal, mostKeysInShard, capOf, shapeOf}
 use Rattle.settings.proofs.RateLaws.{accepted-rate}
 use Rattle.settings.proofs.SettingsLaws.{accepted-parts, cap-most}
 use Rattle.shard_map.specs.Model.{Shard}
@@ -55,7 +55,7 @@ part-replaced-fits a n ws new every more =
 module _ (s : Settings) (hash : ℕ) (ws : List ℕ) (lent : lendable ws ≡ true) (accepted : Accepted s hash ws) where
   shard-fits : ShardFits (shardAt s hash ws)
   shard-fits =
-      let few : capOf s ≤ 4096 = cap-most s (accepted-parts s (accepted .set-up .settings) .1) in
+      let few : capOf s ≤ mostKeysInShard = cap-most s (accepted-parts s (accepted .set-up .settings) .1) in
       shard-read-fits (capOf s) _ (omega (arith, few)) (every-in-part Word (partStart (shapeOf s) hash) (shardWords (capOf s)) ws (lendable-words ws lent))
 
   operation-leaves-lendable : {A : Type 0} (o : Outcome A Shard) → SameRoom (shardAt s hash ws) (o .after) → ShardFits (o .after)

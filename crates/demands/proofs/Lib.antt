@@ -22,6 +22,7 @@ pub mod CallSteps
 pub mod AppearsLaws
 pub mod RunLaws
 pub mod Theorem
+pub mod SizeTheorem
 pub mod MomentLaws
 pub mod OneShardLaws
 pub mod GrownLaws

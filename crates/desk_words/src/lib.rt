@@ -60,7 +60,7 @@ fn meaning(code: u64) {
         11 => say(b"refused as 1: the amount is 0 or more than 65535\n"),
         12 => say(b"refused as 2: the period is 0 or longer than 2^46\n"),
         13 => say(b"refused as 3: the burst is 0 or more than 65535\n"),
-        14 => say(b"refused as 4: more than 4096 modems or 64 shards\n"),
+        14 => say(b"refused as 4: more than 65536 modems or 64 shards\n"),
         15 => say(b"refused as 5: the store would need more than the program's 8192 words\n"),
         16 => say(b"refused as 6: now is after 2^62\n"),
         17 => say(b"refused as 7: max-wait is longer than 2^46\n"),

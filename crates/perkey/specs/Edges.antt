@@ -120,6 +120,10 @@ edges =
     sized (limited twoPerSecond (capacityOf 0) 0) 1 1 17
     -- 5 keys and 3 shards asked for: 4 shards with two places each.
     ∷ sized (limited twoPerSecond (capacityOf 5) 3) 4 2 116
+    -- More than 16,384 keys raise the shards asked for: 16,385 keys to 2, 32,769 keys to 3, which become 4, and 65,536 keys to 4.
+    ∷ sized (limited twoPerSecond (capacityOf 16385) 1) 2 8193 196642
+    ∷ sized (limited twoPerSecond (capacityOf 32769) 0) 4 8193 393284
+    ∷ sized (limited twoPerSecond (capacityOf 65536) 0) 4 16384 786452
     -- A cost above the burst is impossible, and tells no moment. Cost 0 is granted, and tells now. Neither leaves a slot.
     ∷ ends (forOneKey twoPerSecond) (asks 0 7 5 ∷ []) 2 0 0 (replicate 17 0)
     ∷ ends (forOneKey twoPerSecond) (asks 3 7 0 ∷ []) 0 0 3 (replicate 17 0)

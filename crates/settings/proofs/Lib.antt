@@ -1,3 +1,4 @@
+pub mod BeforeLaws
 pub mod PowerLaws
 pub mod RateLaws
 pub mod SettingsLaws

@@ -1,19 +1,20 @@
 -- What the settings come to, for the layers above: the refusals, and the bounds on shards, places per shard and the shard of a hash.
-use Prim.Native.Nat.{ℕ, zero, suc, _+_, _*_, _-_, _/_, _%_, _≤_, _<_, _^_, max}
+use Prim.Native.Nat.{ℕ, zero, suc, _+_, _*_, _-_, _/_, _%_, _≤_, _<_, _^_, min, max}
 use mathlib.Core.Path.{_≡_, refl, sym, _∙_}
 use lib.Bits.{and-mask, mask-lt}
 use lib.Pow.{pow-pos, pow-mono, shl-exact}
 use native.Mathlib.Omega.{arith}
-use native.Mathlib.Nat.{le-max-right, max-le, max-eq-left, min-le-right, mul-le-mul-left, one-mul, zero-div, mod-lt, div-add-mod'}
+use native.Mathlib.Nat.{le-max-left, le-max-right, le-min, max-le, max-eq-left, min-le-right, min-eq-left, le-trans, mul-le-mul-right, one-mul, zero-div, mod-lt, div-add-mod'}
 use borrow.Author.Tests.{lt-ltb, le-ltb, eq-eqb, ne-eqb}
 use Rattle.arith.specs.Arith.{ceilDiv}
 use Rattle.arith.proofs.Cases.{by-le, by-eq}
-use Rattle.arith.proofs.DivisionLaws.{ceilDiv-least, ceilDiv-only}
+use Rattle.arith.proofs.DivisionLaws.{ceilDiv-least, ceilDiv-reaches, ceilDiv-only}
 use Rattle.settings.specs.declared.Settings.{Settings}
 use Rattle.settings.specs.declared.Shape.{Shape}
-use Rattle.settings.specs.Settings.{mostKeys, mostShards, limitRefusal, sizeRefusal, firstRefusal, settingsRefusal, shardCount, shardExponent, capOf}
-use Rattle.settings.specs.Settings.{shapeOf, shardOf, ShapeOfAccepted, idleLimitMillis}
-use Rattle.settings.proofs.PowerLaws.{PowerOfTwo, exponent-is-least}
+use Rattle.settings.specs.Settings.{mostKeys, mostShards, mostKeysInShard, limitRefusal, sizeRefusal, firstRefusal, settingsRefusal}
+use Rattle.settings.specs.Settings.{share, leastShards, askedShards, shardCount, shardExponent, capOf, shapeOf, shardOf, ShapeOfAccepted}
+use Rattle.settings.specs.Settings.{idleLimitMillis}
+use Rattle.settings.proofs.PowerLaws.{PowerOfTwo, exponent-is-least, step-up-reaches}
 
 -- The check of the size, outcome by outcome.
 module _ (s : Settings) where
@@ -83,8 +84,8 @@ module _ (s : Settings) (hash : ℕ) where
   pub shard-below : shardOf s hash < shardCount s
   shard-below = rw (shards-power s .is) (mask-lt (hash / 2 ^ 40) (shards-power s .exponent))
 
--- A share rounded up, and at least 1, is the share of one less, rounded down, and 1 more.
-share-of-one-less : (n d : ℕ) → 0 < d → (n - 1) / d + 1 ≡ max (ceilDiv n d) 1
+-- A share, which is rounded up, and at least 1, is the quotient of one less, rounded down, and 1 more.
+pub share-of-one-less : (n d : ℕ) → 0 < d → (n - 1) / d + 1 ≡ share n d
 share-of-one-less zero d some = rw (ceilDiv-only 0 d 0 some (omega arith) (omega arith), zero-div d)
 share-of-one-less (suc n) d some =
     let one-less = suc n - 1 in
@@ -98,16 +99,23 @@ module _ (s : Settings) where
   pub cap-least : 1 ≤ capOf s
   cap-least = le-max-right _ _
 
-  -- It holds no more than may be asked for in all, since there is at least one shard.
-  pub cap-most : sizeRefusal s ≡ 0 → capOf s ≤ mostKeys
-  cap-most accepted =
-      max-le
-      (ceilDiv-least _ _ mostKeys (shards-least s) (omega (arith, accepted-keys s accepted, mul-le-mul-left mostKeys (shards-least s))))
-      (omega arith)
+  -- The fewest shards that hold the keys are no more than there may be, so there are as many.
+  least-shards-few : sizeRefusal s ≡ 0 → leastShards s ≤ mostShards
+  least-shards-few accepted = max-le (ceilDiv-least _ mostKeysInShard mostShards (omega arith) (omega (arith, accepted-keys s accepted))) (omega arith)
 
-  -- The code comes to it without a division: the share of one key less, rounded down by a shift, and 1 more.
-  pub cap-by-shift : (s .eviction .«max_keys» - 1) / 2 ^ shardExponent s + 1 ≡ capOf s
-  cap-by-shift = share-of-one-less (s .eviction .«max_keys») (shardCount s) (shards-least s)
+  least-shards-are-there : sizeRefusal s ≡ 0 → leastShards s ≤ shardCount s
+  least-shards-are-there accepted =
+      le-trans (le-min (le-max-right (s .shards) (leastShards s)) (least-shards-few accepted)) (step-up-reaches (askedShards s))
+
+  -- So no shard holds more keys than it is to hold.
+  pub cap-most : sizeRefusal s ≡ 0 → capOf s ≤ mostKeysInShard
+  cap-most accepted =
+      let keys = s .eviction .«max_keys» in
+      let reached = ceilDiv-reaches keys mostKeysInShard (omega arith) in
+      let enough = le-trans (le-max-left (ceilDiv keys mostKeysInShard) 1) (least-shards-are-there accepted) in
+      max-le
+      (ceilDiv-least keys (shardCount s) mostKeysInShard (shards-least s) (omega (arith, reached, enough)))
+      (omega arith)
 
 -- The shape of settings of an accepted size.
 pub shape-of-accepted : (s : Settings) {shape : Shape} → sizeRefusal s ≡ 0 → shape ≡ shapeOf s → ShapeOfAccepted shape
@@ -118,7 +126,7 @@ module _ {shape : Shape} (a : ShapeOfAccepted shape) where
   pub accepted-shards-least : 1 ≤ shape .shards
   accepted-shards-least = rw (a .is) (shards-least (a .settings))
 
-  pub accepted-cap-most : shape .cap ≤ mostKeys
+  pub accepted-cap-most : shape .cap ≤ mostKeysInShard
   accepted-cap-most = rw (a .is) (cap-most (a .settings) (a .accepted))
 
 -- The idle limit of no span at all is 1.

@@ -12,10 +12,11 @@ use Rattle.settings.specs.declared.rate.Rate.{Rate}
 use Rattle.settings.specs.declared.Limit.{Limit}
 use Rattle.settings.specs.declared.Limit.the-variants.{Closed, Open}
 use Rattle.settings.specs.declared.Settings.{Settings}
+use Rattle.settings.specs.declared.Shape.{Shape}
 use Rattle.settings.specs.Eviction.{bounds}
 use Rattle.settings.specs.Powers.{exponentFrom, exponentFor}
 use Rattle.settings.specs.Rate.{unlessWithin, rateRefusal}
-use Rattle.settings.specs.Settings.{sizeRefusal, firstRefusal, settingsRefusal, shardCount, capOf, idleLimit}
+use Rattle.settings.specs.Settings.{sizeRefusal, firstRefusal, settingsRefusal, shardCount, capOf, shapeOf, idleLimit}
 
 -- Two tokens a second, up to four.
 abbrev twoASecond : Rate
@@ -45,8 +46,37 @@ listed rule n (suc more) = rule n ∷ listed rule (suc n) more
 pub shards-from-0-to-64 :
     listed (λ asked. shardCount (sized Closed 0 asked)) 0 65
     ≡ replicate 2 1 ++ replicate 1 2 ++ replicate 2 4 ++ replicate 4 8 ++ replicate 8 16 ++ replicate 16 32 ++ replicate 32 64
-unfolding exponentFrom exponentFor
+unfolding exponentFrom exponentFor ceilDiv
 shards-from-0-to-64 = refl
+
+-- Shards and places per shard of more keys than one shard is to hold, where 0, 1, 3 and 64 shards are asked for.
+abbrev shapesOf : ℕ → List Shape
+shapesOf keys = shapeOf (sized Closed keys 0) ∷ shapeOf (sized Closed keys 1) ∷ shapeOf (sized Closed keys 3) ∷ shapeOf (sized Closed keys 64) ∷ []
+
+abbrev shaped : ℕ → ℕ → Shape
+shaped shards cap = record { shards = shards; cap = cap }
+
+pub keys-4097 : shapesOf 4097 ≡ shaped 1 4097 ∷ shaped 1 4097 ∷ shaped 4 1025 ∷ shaped 64 65 ∷ []
+unfolding exponentFrom exponentFor ceilDiv
+keys-4097 = refl
+
+-- The last number of keys for which 1 shard is left as it is, and one key more.
+pub keys-16384 : shapesOf 16384 ≡ shaped 1 16384 ∷ shaped 1 16384 ∷ shaped 4 4096 ∷ shaped 64 256 ∷ []
+unfolding exponentFrom exponentFor ceilDiv
+keys-16384 = refl
+
+pub keys-16385 : shapesOf 16385 ≡ shaped 2 8193 ∷ shaped 2 8193 ∷ shaped 4 4097 ∷ shaped 64 257 ∷ []
+unfolding exponentFrom exponentFor ceilDiv
+keys-16385 = refl
+
+-- 3 shards for the keys, and 4 as the power of two.
+pub keys-32769 : shapesOf 32769 ≡ shaped 4 8193 ∷ shaped 4 8193 ∷ shaped 4 8193 ∷ shaped 64 513 ∷ []
+unfolding exponentFrom exponentFor ceilDiv
+keys-32769 = refl
+
+pub keys-65536 : shapesOf 65536 ≡ shaped 4 16384 ∷ shaped 4 16384 ∷ shaped 4 16384 ∷ shaped 64 1024 ∷ []
+unfolding exponentFrom exponentFor ceilDiv
+keys-65536 = refl
 
 -- The idle limit: the time to be full where the idle time is shorter, the idle time where it is longer.
 pub idle-shorter-than-full : idleLimit (idleFor 1) ≡ millis.Some (record { 0 = 2001 })
@@ -58,13 +88,18 @@ unfolding ceilDiv
 idle-longer-than-full = refl
 
 -- The largest sizes are accepted, and one more is refused.
-pub most-keys : (settingsRefusal (sized (Open twoASecond) 4096 1) ≡ 0) × (settingsRefusal (sized (Open twoASecond) 4097 1) ≡ 4)
+pub most-keys : (settingsRefusal (sized (Open twoASecond) 65536 1) ≡ 0) × (settingsRefusal (sized (Open twoASecond) 65537 1) ≡ 4)
 unfolding firstRefusal sizeRefusal rateRefusal unlessWithin
 most-keys = (refl, refl)
 
 pub most-shards : (settingsRefusal (sized (Open twoASecond) 1 64) ≡ 0) × (settingsRefusal (sized (Open twoASecond) 1 65) ≡ 4)
 unfolding firstRefusal sizeRefusal rateRefusal unlessWithin
 most-shards = (refl, refl)
+
+-- It is the number asked for that is refused, also where the keys need fewer shards.
+pub asked-shards-refused : settingsRefusal (sized (Open twoASecond) 65536 65) ≡ 4
+unfolding firstRefusal sizeRefusal rateRefusal unlessWithin
+asked-shards-refused = refl
 
 -- A closed limiter has no amount, period or burst that could be refused.
 pub closed-is-accepted : settingsRefusal (sized Closed 4 1) ≡ 0

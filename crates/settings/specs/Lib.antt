@@ -1,3 +1,4 @@
+pub mod Before
 pub mod Decision
 pub mod Eviction
 pub mod Powers

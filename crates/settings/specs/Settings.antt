@@ -19,19 +19,22 @@ use Rattle.settings.specs.declared.Shape.{Shape}
 use Rattle.settings.specs.Powers.{exponentFor, nextPowerOfTwo}
 use Rattle.settings.specs.Rate.{rateRefusal, configOf, timeToFull}
 
--- The most keys and shards that may be asked for.
+-- The most keys and shards that may be asked for, and the most keys that one shard is to hold.
 abbrev pub mostKeys : ℕ
-mostKeys = 4096
+mostKeys = 65536
 
 abbrev pub mostShards : ℕ
 mostShards = 64
+
+abbrev pub mostKeysInShard : ℕ
+mostKeysInShard = 16384
 
 -- A closed limiter has no rate to refuse.
 abbrev pub limitRefusal : Limit → ℕ
 limitRefusal Closed = 0
 limitRefusal (Open rate) = rateRefusal rate
 
--- Too many keys, or too many shards, is refused as 4.
+-- Too many keys, or too many shards, is refused as 4. The shards are those asked for, not yet raised.
 unfoldable pub sizeRefusal : Settings → ℕ
 sizeRefusal s = cond (ltb mostKeys (s .eviction .«max_keys»)) 4 (cond (ltb mostShards (s .shards)) 4 0)
 
@@ -43,11 +46,19 @@ firstRefusal first second = cond (eqb first 0) second first
 abbrev pub settingsRefusal : Settings → ℕ
 settingsRefusal s = firstRefusal (limitRefusal (s .limit)) (sizeRefusal s)
 
--- The number of shards asked for, which counts as no more than there may be.
-abbrev pub askedShards : Settings → ℕ
-askedShards s = min (s .shards) mostShards
+-- A quotient rounded up, and at least 1.
+abbrev pub share : ℕ → ℕ → ℕ
+share n d = max (ceilDiv n d) 1
 
--- The shards: the number asked for, raised to the next power of two. So 0 counts as 1.
+-- The fewest shards that hold the keys.
+abbrev pub leastShards : Settings → ℕ
+leastShards s = share (s .eviction .«max_keys») mostKeysInShard
+
+-- The number of shards asked for, raised to the fewest that hold the keys, so that 0 counts as 1. It counts as no more than there may be.
+abbrev pub askedShards : Settings → ℕ
+askedShards s = min (max (s .shards) (leastShards s)) mostShards
+
+-- The shards: that number, raised to the next power of two.
 abbrev pub shardCount : Settings → ℕ
 shardCount s = nextPowerOfTwo (askedShards s)
 
@@ -57,7 +68,7 @@ shardExponent s = exponentFor (askedShards s)
 
 -- The keys that a shard holds: an equal share of `max_keys`, rounded up, and at least 1.
 abbrev pub capOf : Settings → ℕ
-capOf s = max (ceilDiv (s .eviction .«max_keys») (shardCount s)) 1
+capOf s = share (s .eviction .«max_keys») (shardCount s)
 
 -- The shards, and the keys that each holds.
 abbrev pub shapeOf : Settings → Shape

@@ -4,7 +4,8 @@ ghost use mathlib.Core.Path.{_≡_};
 ghost use Rattle.bucket.specs.Bucket.{Accepted};
 ghost use Rattle.settings.specs.Powers.{exponentFor};
 ghost use Rattle.settings.specs.Rate.{timeToFull};
-ghost use Rattle.settings.specs.Settings.{limitRefusal, sizeRefusal, settingsRefusal, shardExponent, shapeOf, ShapeOfAccepted, indexIn, idleLimitFor, idleLimitMillis};
+ghost use Prim.Native.Nat.{_≤_, _^_};
+ghost use Rattle.settings.specs.Settings.{limitRefusal, sizeRefusal, settingsRefusal, share, shardExponent, shapeOf, ShapeOfAccepted, indexIn, idleLimitFor, idleLimitMillis};
 use crate::eviction::Eviction;
 use crate::rate::Rate;
 use bucket::BucketConfig;
@@ -59,11 +60,11 @@ impl Settings {
         self.size_refusal()
     }
 
-    // 4 if more keys or shards are asked for than there may be, else 0.
+    // 4 if more keys or shards are asked for than there may be, else 0. The shards are not yet raised.
     pub fn size_refusal(self) -> u32
         ensures { λ r. ⌜ r ≡ sizeRefusal self ⌝ }
     {
-        if 4096 < self.eviction.max_keys {
+        if 65536 < self.eviction.max_keys {
             return 4;
         }
         if 64 < self.shards {
@@ -72,21 +73,21 @@ impl Settings {
         0
     }
 
-    // The exponent of the number of shards, which is a power of two. More than 64 that are asked for count as 64.
+    // The exponent of the number of shards, which is a power of two. The number asked for is first raised, so that a shard need not hold more than
+    // 2^14 = 16,384 keys. More than 64 shards count as 64.
     fn shard_exponent(self) -> u32
         ensures { λ r. ⌜ r ≡ shardExponent self ⌝ }
     {
-        exponent_for(arith::smaller(self.shards as u64, 64))
+        let least = share(self.eviction.max_keys as u64, 14);
+        exponent_for(arith::smaller(arith::larger(self.shards as u64, least), 64))
     }
 
-    // The shards, and an equal share of the keys for each. A division by a power of two is a shift. The share is rounded up, and at least 1: the
-    // share of one key less, rounded down, and 1 more.
+    // The shards, and an equal share of the keys for each.
     pub fn shape(self) -> Shape
         ensures { λ r. ⌜ r ≡ shapeOf self ⌝ }
     {
         let exponent = self.shard_exponent();
-        let one_less = arith::saturating_sub(self.eviction.max_keys as u64, 1);
-        let cap = ((one_less >> exponent) + 1) as usize;
+        let cap = share(self.eviction.max_keys as u64, exponent) as usize;
         Shape {
             shards: 1 << exponent,
             cap,
@@ -102,6 +103,14 @@ impl Shape {
     {
         ((hash >> 40) & ((self.shards - 1) as u64)) as usize
     }
+}
+
+// Keys divided by a power of two, rounded up, and at least 1. The division is a shift: the quotient of one key less, rounded down, and 1 more.
+fn share(keys: u64, exponent: u32) -> u64
+    requires { ⌜ exponent ≤ 14 ⌝ }
+    ensures { λ r. ⌜ r ≡ share keys (2 ^ exponent) ⌝ }
+{
+    (arith::saturating_sub(keys, 1) >> exponent) + 1
 }
 
 // The least exponent whose power of two is not below n: the length of n - 1 in bits, and 0 where n is 0. No loop and no table is needed.

@@ -16,7 +16,7 @@ use Rattle.rows.proofs.SegmentLaws.{segment-length}
 use Rattle.units.specs.declared.Nanos.{Nanos}
 use Rattle.settings.specs.declared.Settings.{Settings}
 use Rattle.settings.specs.declared.Shape.{Shape}
-use Rattle.settings.specs.Settings.{settingsRefusal, firstRefusal, ShapeOfAccepted, mostKeys, mostShards, capOf, shapeOf}
+use Rattle.settings.specs.Settings.{settingsRefusal, firstRefusal, ShapeOfAccepted, mostKeysInShard, mostShards, capOf, shapeOf}
 use Rattle.settings.proofs.SettingsLaws.{accepted-parts, shape-of-accepted, cap-most, shards-most, no-refusal-hands-on}
 use Rattle.rows.specs.declared.Place.the-variants.{At}
 use Rattle.shard_map.specs.Model as Shard
@@ -156,7 +156,7 @@ module _ (s : Settings) (ws : List ℕ) {shape : Shape} {i : ℕ} where
   pub numbered-shard-ends : SetUp s ws → shape ≡ shapeOf s → i < shape .shards → shardEnd (shape .cap) i ≤ length ws
   numbered-shard-ends set-up is below = rw is (shard-ends s i ws (set-up .size) (rw is at below))
 
-  pub counted-slots-few : lenRefusal s ws ≡ 0 → shape ≡ shapeOf s → i < shape .shards → slotCount (shape .cap) i ws ≤ mostKeys
+  pub counted-slots-few : lenRefusal s ws ≡ 0 → shape ≡ shapeOf s → i < shape .shards → slotCount (shape .cap) i ws ≤ mostKeysInShard
   counted-slots-few none is below =
       let call = len-not-refused s ws none in
       rw is (le-trans (call .1 i (rw is at below)) (cap-most s (accepted-parts s (call .0 .settings) .1)))

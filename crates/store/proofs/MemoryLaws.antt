@@ -13,7 +13,7 @@ use Rattle.rows.proofs.SegmentLaws.{segment-length, segment-back, segment-kept-
 use Rattle.rows.proofs.ZeroLaws.{zeros-segment}
 use Rattle.settings.specs.declared.Settings.{Settings}
 use Rattle.settings.specs.declared.Shape.{Shape}
-use Rattle.settings.specs.Settings.{sizeRefusal, mostKeys, mostShards, capOf, shapeOf, ShapeOfAccepted, shardOf, shardCount}
+use Rattle.settings.specs.Settings.{sizeRefusal, mostKeysInShard, mostShards, capOf, shapeOf, ShapeOfAccepted, shardOf, shardCount}
 use Rattle.settings.proofs.SettingsLaws.{shards-most, shard-below, cap-least, cap-most, accepted-cap-most}
 use Rattle.ledger.specs.Model as Ledger
 use Rattle.shard_map.specs.Model as Shard
@@ -38,10 +38,10 @@ other-shard-kept cap i j ws new fits same other =
     (λ before. segment-kept-below (shardStart cap i) w ws new fits same (shardStart cap j) w (shard-ends-before cap j i before))
 
 -- The words of a memory are few enough to be counted in 64 bits, if the sizes are accepted.
-words-most : (s : Settings) → sizeRefusal s ≡ 0 → memoryWords s ≤ mostShards * shardWords mostKeys
-words-most s accepted = mul-le-mul {m₂ = shardWords mostKeys} (shards-most s) (omega (arith, cap-most s accepted))
+words-most : (s : Settings) → sizeRefusal s ≡ 0 → memoryWords s ≤ mostShards * shardWords mostKeysInShard
+words-most s accepted = mul-le-mul {m₂ = shardWords mostKeysInShard} (shards-most s) (omega (arith, cap-most s accepted))
 
-pub accepted-words-most : {shape : Shape} → ShapeOfAccepted shape → wordsIn shape ≤ mostShards * shardWords mostKeys
+pub accepted-words-most : {shape : Shape} → ShapeOfAccepted shape → wordsIn shape ≤ mostShards * shardWords mostKeysInShard
 accepted-words-most shaped = rw (shaped .is) (words-most (shaped .settings) (shaped .accepted))
 
 pub shard-words-few : {shape : Shape} → ShapeOfAccepted shape → shardWords (shape .cap) < 2 ^ 64
@@ -55,10 +55,10 @@ pub part-placed : (s : Settings) (hash : ℕ) (ws : List ℕ) → length ws ≡ 
 part-placed s hash ws size = record { ends = refl; within = shard-fits s hash ws size }
 
 -- It ends at a small number if the sizes are accepted.
-shard-start-most : (s : Settings) (hash : ℕ) → sizeRefusal s ≡ 0 → partStart (shapeOf s) hash + shardWords (capOf s) ≤ mostShards * shardWords mostKeys
+shard-start-most : (s : Settings) (hash : ℕ) → sizeRefusal s ≡ 0 → partStart (shapeOf s) hash + shardWords (capOf s) ≤ mostShards * shardWords mostKeysInShard
 shard-start-most s hash accepted = le-trans (shard-ends-before (capOf s) (shardOf s hash) (shardCount s) (shard-below s hash)) (words-most s accepted)
 
-pub part-ends-early : {shape : Shape} (hash : ℕ) → ShapeOfAccepted shape → partStart shape hash + shardWords (shape .cap) ≤ mostShards * shardWords mostKeys
+pub part-ends-early : {shape : Shape} (hash : ℕ) → ShapeOfAccepted shape → partStart shape hash + shardWords (shape .cap) ≤ mostShards * shardWords mostKeysInShard
 part-ends-early hash shaped = rw (shaped .is) (shard-start-most (shaped .settings) hash (shaped .accepted))
 
 -- So does the part of a shard by its number.

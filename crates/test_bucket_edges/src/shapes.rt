@@ -40,6 +40,13 @@ pub(crate) fn sizes() {
     size(5, 3);
     size(4096, 1);
     size(4096, 64);
+    size(4097, 1);
+    size(16384, 1);
+    size(16385, 0);
+    size(16385, 3);
+    size(32769, 0);
+    size(65536, 1);
+    size(65536, 64);
 }
 
 fn size(max_keys: usize, shards: usize) {
@@ -76,10 +83,11 @@ fn rate(amount: u32, period: u64, burst: u32) {
 }
 
 pub(crate) fn refused_sizes() {
-    line(b"keys 4096", open(4096, 1).refusal() as u64);
-    line(b"keys 4097", open(4097, 1).refusal() as u64);
+    line(b"keys 65536", open(65536, 1).refusal() as u64);
+    line(b"keys 65537", open(65537, 1).refusal() as u64);
     line(b"shards 64", open(1, 64).refusal() as u64);
     line(b"shards 65", open(1, 65).refusal() as u64);
+    line(b"keys 65536, shards 65", open(65536, 65).refusal() as u64);
     let idle = Settings {
         limit: Limit::Closed,
         eviction: Eviction::idle(Nanos(1)),

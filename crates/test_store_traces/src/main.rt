@@ -14,7 +14,7 @@ mod digest;
 mod line;
 mod operations;
 
-// The most words that a store can have, those of 4,096 keys in 64 shards. A call that is lent more is not run, and prints nothing.
+// The most words that a store can have here, those of 4,096 keys in 64 shards. A call that is lent more is not run, and prints nothing.
 const MOST_WORDS: usize = 64 * (words::HEAD_WORDS + words::PLACE_WORDS * 64);
 
 fn main() {

@@ -3,10 +3,12 @@
 /// How many calls it takes to be sure that every branch is taken.
 pub const ENOUGH: u64 = 200_000;
 const HELP: &str = "compare [--calls N] [--seed S] [--only TRACE] [--show] [--out FILE]
+        compare --raised N
 
   --calls N     so many calls, 200000 if not said
   --seed S      another seed than 1
   --only TRACE  only the trace of this number
+  --raised N    stores of 32,769 and of 65,536 keys instead, under both rules when full: each filled beyond full, and N calls more
   --show        print every call before it is made
   --out FILE    where the trace goes that ends in a difference
 ";
@@ -16,6 +18,7 @@ pub struct Options {
     pub calls: u64,
     pub seed: u64,
     pub only: Option<u64>,
+    pub raised: Option<u64>,
     pub show: bool,
     pub out: String,
 }
@@ -26,6 +29,7 @@ pub fn options() -> Result<Options, String> {
         calls: ENOUGH,
         seed: 1,
         only: None,
+        raised: None,
         show: false,
         out: "difference.trace".to_string(),
     };
@@ -40,6 +44,7 @@ pub fn options() -> Result<Options, String> {
             "--calls" => options.calls = number(value()?)?,
             "--seed" => options.seed = number(value()?)?,
             "--only" => options.only = Some(number(value()?)?),
+            "--raised" => options.raised = Some(number(value()?)?),
             "--show" => options.show = true,
             "--out" => options.out = value()?,
             _ => return Err(format!("{word}?\n{HELP}")),

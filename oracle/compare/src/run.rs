@@ -6,11 +6,11 @@ use std::fmt::Write as _;
 use std::process::ExitCode;
 use std::time::{Duration, Instant};
 
-use oracle::Shape;
 use oracle::refusals::MOST_SHARDS;
+use oracle::{Shape, WhenFull};
 
 use crate::check::{self, Bench, Difference, Start, Step};
-use crate::generate::{Aside, LARGE, Plan};
+use crate::generate::{Aside, LARGE, Plan, RAISED};
 use crate::options::{ENOUGH, Options};
 use crate::random::Random;
 use crate::{fault, library};
@@ -88,6 +88,9 @@ impl Run {
         if let Some(trace) = self.options.only {
             return self.trace(trace);
         }
+        if let Some(more) = self.options.raised {
+            return self.raised(more);
+        }
         let mut trace = 0;
         while self.calls < self.options.calls {
             self.trace(trace)?;
@@ -133,6 +136,21 @@ impl Run {
         self.modems(trace)
     }
 
+    /// A trace for each shape that the shards were raised for, and each rule when full: until slots and ledger of a shard are full, and so many calls more.
+    fn raised(&mut self, more: u64) -> Result<(), Failed> {
+        let rules = [WhenFull::RefuseNew, WhenFull::ForgetDebt];
+        let traces = RAISED
+            .into_iter()
+            .flat_map(|sizes| rules.map(|rule| (sizes, rule)));
+        traces.zip(0..).try_for_each(|((sizes, rule), trace)| {
+            fault::at_trace(trace);
+            let mut random = Random::new(self.options.seed, trace);
+            let plan = Plan::raised(&mut random, sizes, rule);
+            let filling = 3 * plan.shape.cap;
+            self.steps(&mut random, plan, false, filling + more)
+        })
+    }
+
     /// A trace of so many calls; now and then a call beside it on a copy of the words, with something wrong.
     fn steps(
         &mut self,
@@ -152,7 +170,11 @@ impl Run {
             .map_err(|difference| self.failed(&start, &steps, difference))?;
         let origin = self.bench.hits.origin;
         // Copies of large memories take long.
-        let wrong = if plan.shape.words() > 10_000 { 1 } else { 6 };
+        let wrong = match plan.shape.words() {
+            0..=10_000 => 6,
+            10_001..=60_000 => 1,
+            _ => 0,
+        };
         for _ in 0..calls {
             let step = Step {
                 raw: library::given(&plan.settings, random),
@@ -261,6 +283,9 @@ impl Run {
             self.calls,
             self.rate()
         );
+        if self.options.raised.is_some() {
+            return ExitCode::SUCCESS;
+        }
         if self.calls < ENOUGH {
             println!("fewer than {ENOUGH} calls: not every branch need be taken");
             return ExitCode::SUCCESS;

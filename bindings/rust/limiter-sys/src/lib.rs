@@ -91,7 +91,7 @@ pub const LIMITER_BAD_AMOUNT: u64 = 1;
 pub const LIMITER_BAD_PERIOD: u64 = 2;
 /// Refused: the burst is not 1 to 65,535.
 pub const LIMITER_BAD_BURST: u64 = 3;
-/// Refused: more than 4,096 keys or 64 shards.
+/// Refused: more than 65,536 keys or 64 shards.
 pub const LIMITER_BAD_SIZES: u64 = 4;
 /// Refused: another number of words than [`limiter_words`], or a count in them is more than a shard holds.
 pub const LIMITER_BAD_MEMORY: u64 = 5;

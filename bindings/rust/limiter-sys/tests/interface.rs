@@ -91,7 +91,8 @@ fn the_words_to_lend() {
     assert_eq!(limiter_words(SMALL), ONE as u64);
     assert_eq!(limiter_words(LimiterSettings::default()), ONE as u64);
     let keys = |max_keys| limiter_words(LimiterSettings { max_keys, ..SMALL });
-    assert_eq!([keys(4_096), keys(4_097), keys(u64::MAX)], [49_157, 0, 0]);
+    assert_eq!([keys(4_096), keys(65_536)], [49_157, 786_452]);
+    assert_eq!([keys(65_537), keys(u64::MAX)], [0, 0]);
     let shards = |shards| limiter_words(LimiterSettings { shards, ..SMALL });
     assert_eq!(
         [shards(64), shards(65), shards(u64::MAX)],

@@ -4,7 +4,7 @@ use native.Mathlib.Nat.{le-antisymm}
 use native.Mathlib.Omega.{arith}
 use mathlib.Core.List.{List}
 use mathlib.Core.Path.{_≡_, sym}
-use Rattle.settings.specs.Settings.{shapeOf, mostKeys}
+use Rattle.settings.specs.Settings.{shapeOf, mostKeysInShard}
 use Rattle.store.proofs.LendingLaws.{shards-are-few, numbered-shard-ends, counted-slots-few}
 use Rattle.store.proofs.RefusalLaws.{len-not-refused}
 use Rattle.store.specs.Memory.{slotCount}
@@ -17,7 +17,7 @@ use Rattle.store.proofs.len.Tie as tie
 -- The slots of the shards before i have been counted.
 record Counted (ws : List ℕ) (cap shards total i : ℕ) : Type 0 where
   counted : total ≡ sum i (λ j. slotCount cap j ws)
-  few : total ≤ 4096 * i
+  few : total ≤ mostKeysInShard * i
   within : i ≤ shards
 
 abbrev Inv-loop : tie.InvT-loop
@@ -33,11 +33,11 @@ start l = l .before .before .before
 shaped : (l : tie.At-loop Inv-loop μ-loop) → l .before .shape .result ≡ shapeOf (start l .args .settings)
 shaped l = l .before .shape .ensures
 
--- In a turn of the loop: the place where it began, and that the shard has no more slots than the keys that may be asked for.
+-- In a turn of the loop: the place where it began, and that the shard has no more slots than a shard is to hold keys.
 abbrev place : tie.Then1 Inv-loop μ-loop → tie.At-loop Inv-loop μ-loop
 place t = t .before .before
 
-slots-few : (t : tie.Then1 Inv-loop μ-loop) → let l = place t in slotCount (l .before .shape .result .cap) (l .loop .i) (start l .args .ws .now) ≤ mostKeys
+slots-few : (t : tie.Then1 Inv-loop μ-loop) → let l = place t in slotCount (l .before .shape .result .cap) (l .loop .i) (start l .args .ws .now) ≤ mostKeysInShard
 slots-few t =
     let l = place t in
     counted-slots-few (start l .args .settings) (start l .args .ws .now) (start l .pre) (shaped l) (t .if1 .taken)

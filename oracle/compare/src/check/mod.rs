@@ -23,7 +23,7 @@ use trio::Replies;
 pub use trio::Trio;
 
 /// More words than any shape has, and some to lend too many.
-const MOST_WORDS: usize = 51_000;
+const MOST_WORDS: usize = 800_000;
 
 /// A call with the settings as they are given to the library.
 #[derive(Clone, Copy)]

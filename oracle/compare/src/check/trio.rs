@@ -9,7 +9,9 @@ use crate::reply::{Reply, Said};
 
 /// Memories up to this many words are compared with the Rust as a whole at every call.
 const SMALL_MEMORY: usize = 1_200;
-/// In larger ones the Rust's other shards are looked at once in so many calls.
+/// In memories of more words than this no word is looked at but once in so many calls.
+const LARGE_MEMORY: usize = 60_000;
+/// In larger ones than small the Rust's other shards are looked at once in so many calls.
 const ALL_SHARDS_EVERY: u32 = 128;
 
 /// What the three answer to one call.
@@ -63,25 +65,32 @@ impl Trio {
         replies: Replies,
     ) -> Checked<()> {
         self.calls += 1;
-        self.compare_replies(lent, step, replies)?;
+        let turn = self.calls.is_multiple_of(ALL_SHARDS_EVERY);
+        let words = self.shape.words();
+        let looked_at = turn || words <= LARGE_MEMORY;
+        self.compare_replies(lent, step, replies, looked_at)?;
         match step.call.key() {
-            Some(key)
-                if self.shape.words() > SMALL_MEMORY
-                    && !self.calls.is_multiple_of(ALL_SHARDS_EVERY) =>
-            {
+            _ if !looked_at => Ok(()),
+            Some(key) if words > SMALL_MEMORY && !turn => {
                 self.compare_shard(step, self.shape.shard_of(key.hash))
             }
             Some(_) | None => self.compare_all(step),
         }
     }
 
-    /// The code and the number of all three; all three numbers, and all words, of the library and the rules.
-    fn compare_replies(&self, lent: &mut Lent, step: &Step, replies: Replies) -> Checked<()> {
+    /// The code and the number of all three; all three numbers, and all words if they are looked at, of the library and the rules.
+    fn compare_replies(
+        &self,
+        lent: &mut Lent,
+        step: &Step,
+        replies: Replies,
+        looked_at: bool,
+    ) -> Checked<()> {
         let Replies { ours, rust, ruled } = replies;
         let differ = |sides, ones: &[u64], others: &[u64]| {
             Err(differing(sides, step, replies.said(), ones, others))
         };
-        let same = lent.words() == self.words;
+        let same = !looked_at || lent.words() == self.words;
         if ours.answer != rust || !same && lent.words() != self.limiter.words() || !lent.guarded() {
             let its = self.limiter.words();
             return differ("the library and the Rust", lent.words(), &its);

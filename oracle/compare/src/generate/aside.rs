@@ -90,7 +90,10 @@ impl Aside {
             0 => self.raw.amount = tokens,
             1 => self.raw.period = random.pick(&[0, LONGEST_PERIOD + 1, u64::MAX, any]),
             2 => (self.raw.has_burst, self.raw.burst) = (1, tokens),
-            3 => self.raw.max_keys = random.pick(&[MOST_KEYS + 1, 1_048_576, u64::MAX, any]),
+            3 => {
+                self.raw.max_keys =
+                    random.pick(&[4_097, MOST_KEYS, MOST_KEYS + 1, 1_048_576, u64::MAX, any])
+            }
             4 => self.raw.shards = random.pick(&[MOST_SHARDS + 1, 1 << 32, u64::MAX, any]),
             5 => self.resize(random),
             6 | 7 => self.overfill(random),

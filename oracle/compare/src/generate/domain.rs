@@ -45,6 +45,9 @@ pub const CROWDED: [Sizes; 10] = [
 /// The largest shapes.
 pub const LARGE: [Sizes; 4] = [(4_096, 1), (4_096, 64), (4_096, 0), (4_095, 2)];
 
+/// Shapes that the shards are raised for: four of 8,193 keys, and four of 16,384.
+pub const RAISED: [Sizes; 2] = [(32_769, 0), (65_536, 1)];
+
 /// A rate in 01's domain.
 pub fn rate(random: &mut Random) -> Rate {
     let (amount, period, burst) = rate_and_burst(random);
@@ -117,6 +120,11 @@ pub fn keys(random: &mut Random, shape: Shape) -> Vec<Key> {
     let shards: Vec<u64> = (0..random.within(1, 3))
         .map(|_| random.below(shape.shards))
         .collect();
+    keys_of(random, shape, &shards)
+}
+
+/// The same of given shards.
+pub fn keys_of(random: &mut Random, shape: Shape, shards: &[u64]) -> Vec<Key> {
     let each = match shape.cap {
         0..=100 => random.pick(&[
             shape.cap,
@@ -143,7 +151,7 @@ pub fn keys(random: &mut Random, shape: Shape) -> Vec<Key> {
         }
         // The shard's bits are chosen, the others not.
         let (any, mask) = (random.word(), 63 << 40);
-        let hash = random.pick(&[any, next]) & !mask | random.pick(&shards) << 40;
+        let hash = random.pick(&[any, next]) & !mask | random.pick(shards) << 40;
         keys.push(Key { hash, key: number });
     }
     keys

@@ -14,8 +14,8 @@ use oracle::{Key, Rate, Settings, Shape, WhenFull};
 use crate::random::Random;
 pub use aside::Aside;
 pub use by_address::{addresses, no_address};
-pub use domain::LARGE;
-use domain::{CROWDED, SMALL, Sizes, idle, keys, rate, slow_rate, start};
+use domain::{CROWDED, SMALL, Sizes, idle, keys, keys_of, rate, slow_rate, start};
+pub use domain::{LARGE, RAISED};
 
 const MS: u64 = 1_000_000;
 const SECOND: u64 = 1_000_000_000;
@@ -147,6 +147,15 @@ impl Plan {
             large: true,
             ..Self::with_rate(random, sizes, false, rate).crowd(random)
         }
+    }
+
+    /// The same over a shape that the shards were raised for, with a given rule when full, and keys of one shard.
+    pub fn raised(random: &mut Random, sizes: Sizes, when_full: WhenFull) -> Self {
+        let mut plan = Self::large(random, sizes);
+        let shard = random.below(plan.shape.shards);
+        plan.settings.when_full = when_full;
+        plan.keys = keys_of(random, plan.shape, &[shard]);
+        plan
     }
 
     fn crowd(mut self, random: &mut Random) -> Self {
