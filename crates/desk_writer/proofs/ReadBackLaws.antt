@@ -1,29 +1,32 @@
 -- A written line is read as its call, over the reader's own definition.
-use Prim.Native.Nat.{ℕ, _*_, _^_, _≤_, _<_}
+use Prim.Native.Nat.{ℕ, _+_, _*_, _^_, _≤_, _<_}
 use native.Mathlib.Omega.{arith}
 use mathlib.Core.Path.{_≡_, refl, sym, ap, _∙_}
 use mathlib.Core.Bool.{true, false, true≢false}
-use mathlib.Core.List.{List, [], _∷_, _++_, map}
+use mathlib.Core.List.{List, [], _∷_, _++_, map, append-assoc}
 use lib.Dec.{eqb}
-use lib.ListN.{length, take, drop}
+use lib.ListN.{length, take, drop, length-append}
 use lib.Seq.{take-append-seam, drop-append-seam}
 use Rattle.arith.proofs.Cases.{by-test}
 use Rattle.units.specs.Units.{nanosOf}
 use Rattle.decimal.specs.declared.OptionNumber.the-variants as number
 use Rattle.decimal.specs.Decimal.{isDigit, allDigits, numberOf, digitsOf}
 use Rattle.decimal.proofs.DecimalLaws.{digits-are-digits, digits-read-back}
+use Rattle.rows.specs.Outcome.{outcome}
+use Rattle.bytes.specs.Bytes.{indexAfter, indexOf}
 use Rattle.desk_lines.specs.declared.Request.{Request}
 use Rattle.desk_lines.specs.Fields.{space, fields, onFirst}
 use Rattle.desk_lines.specs.Lines.{Reading, left, Taken, taken, takenRequest, finished, most64, most32, longestLine, lineOfLetter, lineOfFields}
 use Rattle.desk_lines.specs.Lines as reader
 use Rattle.desk_lines.specs.declared.Line.{Line}
 use Rattle.desk_lines.specs.declared.Line.the-variants as line
+use Rattle.desk_lines.specs.Printed.{lineFeed}
 use Rattle.desk_lines.proofs.FieldLaws.{digit-is-no-space}
 use Rattle.desk_writer.specs.declared.Call.{Call}
 use Rattle.desk_writer.specs.declared.Call.the-variants.{Try, Peek, Reserve, Refund, Remove}
 use Rattle.desk_writer.specs.Writer.{field, spaced, requestNumbers, letterOf, numbersOf, bytesOf, lineOf, written, asRead, requestFits, Fits}
 use Rattle.desk_writer.proofs.WritingLaws.{spaced-none-size, spaced-size, field-size-within}
-use borrow.Author.Tests.{le-leb}
+use borrow.Author.Tests.{le-leb, lt-leb, ne-eqb}
 
 -- Digits in front of bytes whose first field is empty are that field.
 digits-are-a-field : (ds bs : List ℕ) (fs : List (List ℕ)) → allDigits ds ≡ true → fields bs ≡ [] ∷ fs → fields (ds ++ bs) ≡ ds ∷ fs
@@ -95,3 +98,54 @@ unfolding reader.lineOf
 written-line-reads-back call fits =
     rw (le-leb (length (bytesOf call)) longestLine (bytes-within call), letter-is-a-field (letterOf call) (numbersOf call) (letter-is-no-space call))
     (fields-read-back call fits)
+
+-- No byte before the LF is an LF, so the reader takes the line as one, whatever follows it.
+digit-is-no-lf : (b : ℕ) → isDigit b ≡ true → eqb b lineFeed ≡ false
+unfolding isDigit
+digit-is-no-lf b one = ne-eqb b lineFeed (λ e. true≢false (sym one ∙ ap isDigit e))
+
+digits-have-no-lf : (ds bs : List ℕ) → allDigits ds ≡ true → indexOf lineFeed (ds ++ bs) ≡ length ds + indexOf lineFeed bs
+unfolding indexOf indexAfter allDigits
+digits-have-no-lf [] bs digits = omega arith
+digits-have-no-lf (d ∷ ds) bs digits =
+    by-test (isDigit d)
+    (λ one. rw (digit-is-no-lf d one) (omega (arith, digits-have-no-lf ds bs (rw one at digits))))
+    (λ other. absurd (true≢false (sym (rw other at digits))))
+
+spaced-have-no-lf : (ns bs : List ℕ) → indexOf lineFeed (spaced ns ++ bs) ≡ length (spaced ns) + indexOf lineFeed bs
+unfolding indexOf indexAfter spaced
+spaced-have-no-lf [] bs = omega arith
+spaced-have-no-lf (n ∷ ns) bs =
+    let apart = append-assoc (digitsOf n) (spaced ns) bs in
+    rw apart (omega (arith, digits-have-no-lf (digitsOf n) (spaced ns ++ bs) (digits-are-digits 20 n), spaced-have-no-lf ns bs, length-append (digitsOf n) (spaced ns)))
+
+letter-is-no-lf : (call : Call) → eqb (letterOf call) lineFeed ≡ false
+letter-is-no-lf (Try q) = refl
+letter-is-no-lf (Peek q) = refl
+letter-is-no-lf (Reserve q w) = refl
+letter-is-no-lf (Refund key cost) = refl
+letter-is-no-lf (Remove key) = refl
+
+pub written-line-ends-at-its-first-lf : (call : Call) (more : List ℕ) → indexOf lineFeed (bytesOf call ++ (lineFeed ∷ more)) ≡ length (bytesOf call)
+unfolding indexOf indexAfter
+written-line-ends-at-its-first-lf call more =
+    rw (letter-is-no-lf call) (omega (arith, spaced-have-no-lf (numbersOf call) (lineFeed ∷ more), first-is-lf more))
+  where
+    first-is-lf : (bs : List ℕ) → indexOf lineFeed (lineFeed ∷ bs) ≡ 0
+    first-is-lf bs = refl
+
+-- What a buffer holds after a call of the writer: the line, and the bytes past it as they were; where the buffer is too short, all bytes as they were.
+module _ (call : Call) (buffer : List ℕ) where
+  pub buffer-begins-with-the-line : length (lineOf call) ≤ length buffer → take (length (lineOf call)) (written call buffer .after) ≡ lineOf call
+  unfolding written
+  buffer-begins-with-the-line room =
+      rw (le-leb (length (lineOf call)) (length buffer) room) (take-append-seam (lineOf call) (drop (length (lineOf call)) buffer))
+
+  pub bytes-past-the-line-stay : length (lineOf call) ≤ length buffer → drop (length (lineOf call)) (written call buffer .after) ≡ drop (length (lineOf call)) buffer
+  unfolding written
+  bytes-past-the-line-stay room =
+      rw (le-leb (length (lineOf call)) (length buffer) room) (drop-append-seam (lineOf call) (drop (length (lineOf call)) buffer))
+
+  pub refusal-changes-no-byte : length buffer < length (lineOf call) → written call buffer ≡ outcome (record { number = 13; size = 0 }) buffer
+  unfolding written
+  refusal-changes-no-byte short = rw (lt-leb (length (lineOf call)) (length buffer) short)

@@ -1,6 +1,6 @@
 // Desk lines written from calls: the bytes that the desk program reads as a call, LF at the end, stored in a lent buffer.
 ghost use mathlib.Core.Path.{_≡_};
-ghost use mathlib.Core.List.{_∷_};
+ghost use mathlib.Core.List.{[], _∷_};
 ghost use Prim.Native.Nat.{_+_, _≤_};
 ghost use lib.ListN.{length};
 ghost use Rattle.rows.specs.Outcome.{outcome};
@@ -84,16 +84,25 @@ fn put_field(out: &mut [u8], at: usize, n: u64) -> usize
     decimal::put(out, at + 1, n)
 }
 
+// Stores a letter and three numbers after it. Tells the place after them.
+fn put_three(out: &mut [u8], letter: u8, first: u64, second: u64, third: u64) -> usize
+    requires { ⌜ length (letter ∷ spaced (first ∷ second ∷ third ∷ [])) ≤ length (now out) ⌝ }
+    ensures { λ r. ⌜ outcome r (now (out .exit)) ≡ writtenOver (letter ∷ spaced (first ∷ second ∷ third ∷ [])) 0 (now (out .entry)) ⌝ }
+{
+    out[0] = letter;
+    let second_at = put_field(out, 1, first);
+    let third_at = put_field(out, second_at, second);
+    put_field(out, third_at, third)
+}
+
 // Stores a letter, and a moment, a key and a cost after it. Tells the place after them.
 fn put_request(out: &mut [u8], letter: u8, request: Request) -> usize
     requires { ⌜ length (letter ∷ spaced (requestNumbers request)) ≤ length (now out) ⌝ }
     ensures { λ r. ⌜ outcome r (now (out .exit)) ≡ writtenOver (letter ∷ spaced (requestNumbers request)) 0 (now (out .entry)) ⌝ }
 {
     let at = request.at;
-    out[0] = letter;
-    let key_at = put_field(out, 1, at.0);
-    let cost_at = put_field(out, key_at, request.key);
-    put_field(out, cost_at, request.cost as u64)
+    let cost = request.cost as u64;
+    put_three(out, letter, at.0, request.key, cost)
 }
 
 // Stores a reservation's line without its LF. Tells the place after it.
@@ -101,7 +110,9 @@ fn put_reserve(out: &mut [u8], request: Request, max_wait: Nanos) -> usize
     requires { ⌜ length (bytesOf (Reserve request «max_wait»)) ≤ length (now out) ⌝ }
     ensures { λ r. ⌜ outcome r (now (out .exit)) ≡ writtenOver (bytesOf (Reserve request «max_wait»)) 0 (now (out .entry)) ⌝ }
 {
-    let wait_at = put_request(out, b'r', request);
+    let at = request.at;
+    let cost = request.cost as u64;
+    let wait_at = put_three(out, b'r', at.0, request.key, cost);
     put_field(out, wait_at, max_wait.0)
 }
 
