@@ -16,6 +16,8 @@ use settings::rate::Rate;
 use shard::Identity;
 use units::Nanos;
 
+mod lines;
+
 // The settings as numbers. A flag is off at 0 and on at any other number.
 #[repr(C)]
 pub struct LimiterSettings {
