@@ -100,7 +100,7 @@ pub fn width(n: u64) -> usize
 
 // Writes the digits of a number into `out` from a place on, the last one first. Tells the place after them. 48 is the digit 0.
 pub fn put(out: &mut [u8], at: usize, n: u64) -> usize
-    requires { ⌜ at + 20 ≤ length (now out) ⌝ }
+    requires { ⌜ at + length (digitsOf n) ≤ length (now out) ⌝ }
     ensures { λ r. ⌜ outcome r (now (out .exit)) ≡ written at n (now (out .entry)) ⌝ }
 {
     if n < 10 {

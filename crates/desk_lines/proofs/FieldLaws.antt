@@ -91,7 +91,7 @@ ends-at-space line place inside =
     (λ t. rw t (sym (ne-eqb (place + suc (indexOf space (drop (suc place) line))) place (λ e. omega arith)))))
 
 -- No digit is a space, so a field goes on over the digits that it begins with.
-digit-is-no-space : (b : ℕ) → isDigit b ≡ true → eqb b space ≡ false
+pub digit-is-no-space : (b : ℕ) → isDigit b ≡ true → eqb b space ≡ false
 unfolding isDigit
 digit-is-no-space b one = ne-eqb b space (λ e. true≢false (sym one ∙ ap isDigit e))
 

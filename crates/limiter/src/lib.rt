@@ -17,6 +17,7 @@ use shard::Identity;
 use units::Nanos;
 
 pub mod by_address;
+mod lines;
 
 // The settings as numbers. A flag is off at 0 and on at any other number.
 #[repr(C)]

@@ -6,7 +6,7 @@ use mathlib.Core.Path.{_≡_, refl, _∙_}
 use lib.ListN.{length, length-set}
 use lib.Seq.{sets}
 use Rattle.decimal.specs.Decimal.{digitsOf}
-use Rattle.decimal.proofs.DecimalLaws.{lastDigits, few-digits, one-digit-is-written, all-to-store, last-digit-first, all-is-written}
+use Rattle.decimal.proofs.DecimalLaws.{lastDigits, some-digits, one-digit-is-written, all-to-store, last-digit-first, all-is-written}
 use borrow.Author.Needs.{needs}
 use Rattle.decimal.proofs.put.Statement.{statement}
 use Rattle.decimal.proofs.put.Tie as tie
@@ -31,7 +31,7 @@ cast-out : tie.Need-cast-out Inv-loop μ-loop
 cast-out c = search needs
 
 slice-write-out : tie.Need-slice-write-out Inv-loop μ-loop
-slice-write-out c = search needs
+slice-write-out c = omega (arith, some-digits 20 (c .before .before .args .n) (omega arith))
 
 add-result : tie.Need-add-result Inv-loop μ-loop
 add-result c = search needs
@@ -46,7 +46,7 @@ width-requires : tie.Need-width-requires Inv-loop μ-loop
 width-requires c κs = search needs
 
 add-end : tie.Need-add-end Inv-loop μ-loop
-add-end c = record { fits = omega (arith, few-digits 20 (c .before .before .before .args .n), c .width .ensures) }
+add-end c = search needs
 
 loop-holds : tie.Need-loop-holds Inv-loop μ-loop
 loop-holds c =
@@ -55,7 +55,7 @@ loop-holds c =
     record {
       same = refl;
       begun = omega arith;
-      inside = omega (arith, few-digits 20 (args′ .n), width′ .ensures);
+      inside = omega arith;
       keeps = all-to-store (args′ .out .now) _ _ _ (width′ .ensures);
     }
 

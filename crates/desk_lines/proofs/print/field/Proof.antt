@@ -20,7 +20,7 @@ has-room : (p : tie.After-put) → p .put .result < length (p .put .last .0)
 has-room p = omega (arith, answer-is (p .put .ensures), digits-count (start p .args .n), p .put .kept .0, start p .pre)
 
 put-requires : tie.Need-put-requires
-put-requires c κs = search needs
+put-requires c κs = omega (arith, digits-count (c .before .before .args .n))
 
 slice-write-out : tie.Need-slice-write-out
 slice-write-out c = omega (arith, has-room (c .before .before))

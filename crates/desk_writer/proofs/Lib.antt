@@ -1,0 +1,4 @@
+pub mod WritingLaws
+pub mod ReadBackLaws
+pub mod ShortestLaws
+pub mod Worked
