@@ -167,8 +167,8 @@ limiter_reply limiter_clear(limiter_settings s, uint64_t *words, size_t len);
 limiter_reply limiter_length(limiter_settings s, const uint64_t *words, size_t len);
 
 /* Modems by hardware address. In the five calls below `address` and `address_len` are the bytes of an address, in the order in which it is written;
- * they are only read. A call is that of the same name on the modem's key: the hash is FNV-1a over the six bytes, first byte first, and the key
- * is the number with the first byte highest. Bytes that are not six are refused as 11, and the address of a group as 12, before anything else is
+ * `address` points at `address_len` bytes, which are only read and must not lie in `words`. A call is that of the same name on the modem's key:
+ * the hash is FNV-1a over the six bytes, first byte first, and the key is the number with the first byte highest. A length other than 6 is refused as 11, and the address of a group as 12, before anything else is
  * looked at. NULL with length 0 is safe, and refused as 11. */
 
 /* As limiter_try; or refused as 11 or 12. */
