@@ -5,8 +5,6 @@ use native.Mathlib.Nat.{le-antisymm, max-eq-left, min-eq-left}
 use native.Mathlib.Omega.{arith}
 use mathlib.Core.Path.{_≡_, refl, sym, ap, _∙_}
 use mathlib.Core.List.{List}
-use borrow.Author.Tests.{lt-ltb}
-use Rattle.arith.proofs.Cases.{by-le}
 use Rattle.units.specs.declared.Nanos.{Nanos}
 use Rattle.bucket.specs.declared.Request.{Request}
 use Rattle.bucket.specs.declared.Request.the-variants.{Acquire, Reserve}
@@ -19,7 +17,7 @@ use Rattle.settings.specs.Powers.{nextPowerOfTwo}
 use Rattle.settings.specs.Settings.{mostShards, settingsRefusal, leastShards, shardCount, shardExponent, shapeOf}
 use Rattle.settings.proofs.PowerLaws.{step-up-reaches, step-up-is-least}
 use Rattle.settings.proofs.SettingsLaws.{neither-refuses, no-refusal-hands-on, accepted-parts, small-enough-is-accepted, shards-least, shards-most}
-use Rattle.settings.proofs.BeforeLaws.{one-shard-holds-them, accepted-before-is-as-before}
+use Rattle.settings.proofs.BeforeLaws.{one-shard-holds-them, keys-accepted-before, accepted-before-is-as-before}
 use Rattle.shard.specs.declared.Identity.{Identity}
 use Rattle.store.specs.Memory.{wordsIn, memoryWords}
 use Rattle.store.specs.Refusals as Refusals
@@ -82,10 +80,7 @@ power-stays n e is = le-antisymm (rw (sym is) at (step-up-is-least n e (omega (a
 -- Settings that were accepted.
 module _ (s : Settings) (accepted : Before.settingsRefusal s ≡ 0) where
   keys-were-few : s .eviction .«max_keys» ≤ 4096
-  unfolding Before.sizeRefusal
-  keys-were-few =
-      let size = neither-refuses _ _ accepted .1 in
-      by-le (s .eviction .«max_keys») 4096 (λ few. few) (λ more. absurd (omega (arith, rw (lt-ltb _ _ more) at size)))
+  keys-were-few = keys-accepted-before s (neither-refuses _ _ accepted .1)
 
   shards-they-had : shardCount s ≡ Before.shardCount s
   shards-they-had = ap (λ (shape : Shape). shape .shards) (accepted-before-is-as-before s accepted .shape)

@@ -2,17 +2,14 @@
 use Prim.Native.Nat.{ℕ, zero, suc, _≤_, min, max}
 use native.Mathlib.Nat.{max-eq-left, max-eq-right}
 use native.Mathlib.Omega.{arith}
-use mathlib.Core.Path.{_≡_, refl, ap, sym, _∙_}
+use mathlib.Core.Path.{_≡_, refl}
 use borrow.Author.Tests.{lt-ltb, le-ltb}
-use Rattle.arith.specs.Arith.{ceilDiv}
 use Rattle.arith.proofs.Cases.{by-le}
 use Rattle.arith.proofs.DivisionLaws.{ceilDiv-least}
 use Rattle.settings.specs.declared.Settings.{Settings}
-use Rattle.settings.specs.declared.Shape.{Shape}
 use Rattle.settings.specs.Before as Before
 use Rattle.settings.specs.Powers.{exponentFrom, exponentFor, nextPowerOfTwo}
-use Rattle.settings.specs.Settings.{mostKeysInShard, mostShards, share, leastShards, firstRefusal, limitRefusal, sizeRefusal, settingsRefusal}
-use Rattle.settings.specs.Settings.{askedShards, shardCount, capOf, shapeOf}
+use Rattle.settings.specs.Settings.{mostKeysInShard, mostShards, sizeRefusal, settingsRefusal, leastShards, shardCount, shapeOf}
 use Rattle.settings.proofs.SettingsLaws.{neither-refuses}
 
 -- No shards asked for count as 1.
@@ -38,7 +35,7 @@ module _ (s : Settings) where
   size-refused-as-before few = rw (le-ltb 65536 (s .eviction .«max_keys») (omega (arith, few)), le-ltb 4096 _ few)
 
   -- An accepted size had no more than 4,096 keys.
-  keys-accepted-before : Before.sizeRefusal s ≡ 0 → s .eviction .«max_keys» ≤ 4096
+  pub keys-accepted-before : Before.sizeRefusal s ≡ 0 → s .eviction .«max_keys» ≤ 4096
   unfolding Before.sizeRefusal
   keys-accepted-before accepted =
       by-le (s .eviction .«max_keys») 4096 (λ few. few) (λ more. absurd (omega (arith, rw (lt-ltb _ _ more) at accepted)))

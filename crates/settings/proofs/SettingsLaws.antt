@@ -1,10 +1,10 @@
 -- What the settings come to, for the layers above: the refusals, and the bounds on shards, places per shard and the shard of a hash.
-use Prim.Native.Nat.{ℕ, zero, suc, _+_, _*_, _-_, _/_, _%_, _≤_, _<_, _^_, min, max}
+use Prim.Native.Nat.{ℕ, zero, suc, _+_, _*_, _-_, _/_, _%_, _≤_, _<_, _^_}
 use mathlib.Core.Path.{_≡_, refl, sym, _∙_}
 use lib.Bits.{and-mask, mask-lt}
 use lib.Pow.{pow-pos, pow-mono, shl-exact}
 use native.Mathlib.Omega.{arith}
-use native.Mathlib.Nat.{le-max-left, le-max-right, le-min, max-le, max-eq-left, min-le-right, min-eq-left, le-trans, mul-le-mul-right, one-mul, zero-div, mod-lt, div-add-mod'}
+use native.Mathlib.Nat.{le-max-left, le-max-right, le-min, max-le, max-eq-left, min-le-right, le-trans, one-mul, zero-div, mod-lt, div-add-mod'}
 use borrow.Author.Tests.{lt-ltb, le-ltb, eq-eqb, ne-eqb}
 use Rattle.arith.specs.Arith.{ceilDiv}
 use Rattle.arith.proofs.Cases.{by-le, by-eq}

@@ -21,7 +21,7 @@ use by_address::Addresses;
 enum Kind {
     /// Grown from set-up, small shapes.
     Grown,
-    /// Grown from set-up, the largest shapes, until slots and ledger are full.
+    /// Grown from set-up, the largest shapes of document 01, until slots and ledger are full.
     LargeGrown,
     /// Loaded with contents that the Rust can hold.
     Loaded,

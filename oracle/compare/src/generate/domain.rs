@@ -42,7 +42,7 @@ pub const CROWDED: [Sizes; 10] = [
     (5, 3),
     (20, 2),
 ];
-/// The largest shapes.
+/// The largest shapes of document 01.
 pub const LARGE: [Sizes; 4] = [(4_096, 1), (4_096, 64), (4_096, 0), (4_095, 2)];
 
 /// Shapes that the shards are raised for: four of 8,193 keys, and four of 16,384.

@@ -1,4 +1,4 @@
--- `Settings::shape` is the shards and the share of each. The exponent is at most 6, so both shifts are by less than 64 bits.
+-- `Settings::shape` is the shards and the share of each. The exponent is at most 6, so `share` takes it, and the shift is by less than 64 bits.
 use native.Mathlib.Omega.{arith}
 use borrow.Author.Needs.{needs}
 use Rattle.settings.proofs.SettingsLaws.{shard-exponent-most, shards-by-shift}

@@ -1,7 +1,6 @@
 -- `Settings::shard_exponent` is the exponent for the number asked for, raised to the fewest shards that hold the keys, or for 64 if that is less: what its
 -- calls ensure, in turn.
 use borrow.Author.Needs.{needs}
-use native.Mathlib.Omega.{arith}
 use Rattle.settings.proofs.Settings.shard_exponent.Statement.{statement}
 use Rattle.settings.proofs.Settings.shard_exponent.Tie as tie
 
