@@ -100,7 +100,10 @@ enum {
     LIMITER_BAD_MEMORY = 5,   /* another length than limiter_words(s); or a count of the key's shard (for limiter_length, of any shard)
                                  is more than the shard can hold. Set-up and clear look at no count */
     LIMITER_BAD_MOMENT = 6,   /* now is after 2^62 ns */
-    LIMITER_BAD_MAX_WAIT = 7  /* max_wait is over 2^46 ns */
+    LIMITER_BAD_MAX_WAIT = 7, /* max_wait is over 2^46 ns */
+    LIMITER_BAD_BUFFER = 13,  /* the buffer is shorter than the line */
+
+    LIMITER_LONGEST_LINE = 76 /* the bytes of the longest desk line that is written, LF counted */
 };
 
 /* What a refusal says, for a log. `code` is that of a reply. */
@@ -114,6 +117,7 @@ static inline const char *limiter_refusal_text(uint64_t code)
     case LIMITER_REFUSED + LIMITER_BAD_MEMORY: return "the words are not those of a store with these settings";
     case LIMITER_REFUSED + LIMITER_BAD_MOMENT: return "the moment is after 2^62 ns";
     case LIMITER_REFUSED + LIMITER_BAD_MAX_WAIT: return "the longest wait is over 2^46 ns";
+    case LIMITER_REFUSED + LIMITER_BAD_BUFFER: return "the buffer is shorter than the line";
     default: return code <= LIMITER_REFUSED ? "not refused" : "refused for a reason that this header does not know";
     }
 }
@@ -160,6 +164,14 @@ limiter_reply limiter_clear(limiter_settings s, uint64_t *words, size_t len);
 
 /* The number of keys that have a slot. 0 with `number` keys, or refused as 1 to 5. */
 limiter_reply limiter_length(limiter_settings s, const uint64_t *words, size_t len);
+
+/* The line that the desk program reads as a call: the shortest, LF at the end, no NUL after it. It is written at the start of a buffer of `len` bytes. 0 with
+ * `number` bytes, LF counted, and the bytes past them stay; or refused as 13, and no byte changes. NULL with length 0 is refused so. */
+limiter_reply limiter_line_try(uint8_t *buffer, size_t len, uint64_t now, uint64_t key, uint32_t cost);
+limiter_reply limiter_line_peek(uint8_t *buffer, size_t len, uint64_t now, uint64_t key, uint32_t cost);
+limiter_reply limiter_line_reserve(uint8_t *buffer, size_t len, uint64_t now, uint64_t key, uint32_t cost, uint64_t max_wait);
+limiter_reply limiter_line_refund(uint8_t *buffer, size_t len, uint64_t key, uint32_t cost);
+limiter_reply limiter_line_remove(uint8_t *buffer, size_t len, uint64_t key);
 
 #ifdef __cplusplus
 }

@@ -58,11 +58,13 @@
 extern crate alloc;
 
 mod answer;
+mod desk_line;
 mod key;
 mod settings;
 mod store;
 
 pub use answer::{Decision, Refusal, Reservation};
+pub use desk_line::DeskLine;
 pub use key::Key;
 pub use settings::{Rate, Settings, WhenFull};
 #[cfg(feature = "alloc")]

@@ -114,6 +114,8 @@ fn the_header_has_the_same_codes() {
         ("BAD_MEMORY", LIMITER_BAD_MEMORY),
         ("BAD_MOMENT", LIMITER_BAD_MOMENT),
         ("BAD_MAX_WAIT", LIMITER_BAD_MAX_WAIT),
+        ("BAD_BUFFER", LIMITER_BAD_BUFFER),
+        ("LONGEST_LINE", LIMITER_LONGEST_LINE as u64),
     ];
     for (name, code) in codes {
         let line = format!("LIMITER_{name} = {code}");
