@@ -1,8 +1,5 @@
 // Exercises for the desk: a line that the desk reads is copied, and a line `v COUNT SPACING CALL` is written as COUNT lines of that call, for one modem after
 // another and at moments SPACING apart. Any other line is told on standard error: its number and the code 9.
-ghost use mathlib.Core.Path.{_≡_};
-ghost use Prim.Native.Nat.{_≤_};
-ghost use Rattle.desk_writer.specs.Writer as Writer;
 use decimal::OptionNumber;
 use desk_lines::Line;
 use desk_lines::Request;
