@@ -2,6 +2,7 @@
  * as the field that it is, and the moment in every answer. Compiles as C99, C11 and C++. Run with bindings/c/run-example. */
 #include <stdio.h>
 #include <stdlib.h>
+#include <string.h>
 
 #include "limiter.h"
 
@@ -247,6 +248,33 @@ static void texts(void)
     CHECK(limiter_refusal_text(LIMITER_DONE)[0] == 'n' && limiter_refusal_text(UINT64_MAX)[0] == 'r');
 }
 
+/* Desk lines: of every kind, in buffers one byte short, just fitting and longer. */
+static uint8_t buffer[LIMITER_LONGEST_LINE + 1];
+
+static int holds(const char *line)
+{
+    size_t size = strlen(line);
+    return memcmp(buffer, line, size) == 0 && buffer[size] == 0xee;
+}
+
+static void lines(void)
+{
+    const uint64_t refused = LIMITER_REFUSED + LIMITER_BAD_BUFFER;
+    const uint8_t *past = buffer + 4;
+    memset(buffer, 0xee, sizeof buffer);
+    CHECK(tells(limiter_line_remove(NULL, 0, 7), refused, 0, 0));
+    CHECK(tells(limiter_line_remove(buffer, 3, 7), refused, 0, 0) && buffer[0] == 0xee && buffer[2] == 0xee);
+    CHECK(tells(limiter_line_remove(buffer, 4, 7), LIMITER_DONE, 4, 0) && holds("d 7\n") && *past == 0xee);
+    CHECK(tells(limiter_line_refund(buffer, sizeof buffer, 10, 9), LIMITER_DONE, 7, 0) && holds("f 10 9\n"));
+    CHECK(tells(limiter_line_try(buffer, sizeof buffer, 0, 7, 4), LIMITER_DONE, 8, 0) && holds("a 0 7 4\n"));
+    CHECK(tells(limiter_line_peek(buffer, sizeof buffer, SECOND, 7, 1), LIMITER_DONE, 17, 0) && holds("p 1000000000 7 1\n"));
+    CHECK(tells(limiter_line_reserve(buffer, LIMITER_LONGEST_LINE - 1, UINT64_MAX, UINT64_MAX, UINT32_MAX, UINT64_MAX), refused, 0, 0));
+    CHECK(holds("p 1000000000 7 1\n"));
+    CHECK(tells(limiter_line_reserve(buffer, LIMITER_LONGEST_LINE, UINT64_MAX, UINT64_MAX, UINT32_MAX, UINT64_MAX), LIMITER_DONE, 76, 0));
+    CHECK(holds("r 18446744073709551615 18446744073709551615 4294967295 18446744073709551615\n"));
+    CHECK(limiter_refusal_text(refused)[4] == 'b');
+}
+
 int main(void)
 {
     no_words();
@@ -260,6 +288,7 @@ int main(void)
     moments_for_space();
     no_moments();
     texts();
+    lines();
     printf("%d checks hold\n", checks);
     return 0;
 }

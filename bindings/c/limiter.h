@@ -103,7 +103,10 @@ enum {
     LIMITER_BAD_MOMENT = 6,   /* now is after 2^62 ns */
     LIMITER_BAD_MAX_WAIT = 7, /* max_wait is over 2^46 ns */
     LIMITER_BAD_ADDRESS = 11, /* the address is not six bytes */
-    LIMITER_GROUP_ADDRESS = 12 /* the address is that of a group: the lowest bit of its first byte is set */
+    LIMITER_GROUP_ADDRESS = 12, /* the address is that of a group: the lowest bit of its first byte is set */
+    LIMITER_BAD_BUFFER = 13,  /* the buffer is shorter than the line */
+
+    LIMITER_LONGEST_LINE = 76 /* the bytes of the longest desk line that is written, LF counted */
 };
 
 /* What a refusal says, for a log. `code` is that of a reply. */
@@ -119,6 +122,7 @@ static inline const char *limiter_refusal_text(uint64_t code)
     case LIMITER_REFUSED + LIMITER_BAD_MAX_WAIT: return "the longest wait is over 2^46 ns";
     case LIMITER_REFUSED + LIMITER_BAD_ADDRESS: return "the address is not six bytes";
     case LIMITER_REFUSED + LIMITER_GROUP_ADDRESS: return "the address is that of a group";
+    case LIMITER_REFUSED + LIMITER_BAD_BUFFER: return "the buffer is shorter than the line";
     default: return code <= LIMITER_REFUSED ? "not refused" : "refused for a reason that this header does not know";
     }
 }
@@ -168,8 +172,8 @@ limiter_reply limiter_length(limiter_settings s, const uint64_t *words, size_t l
 
 /* Modems by hardware address. In the five calls below `address` and `address_len` are the bytes of an address, in the order in which it is written;
  * `address` points at `address_len` bytes, which are only read and must not lie in `words`. A call is that of the same name on the modem's key:
- * the hash is FNV-1a over the six bytes, first byte first, and the key is the number with the first byte highest. A length other than 6 is refused as 11, and the address of a group as 12, before anything else is
- * looked at. NULL with length 0 is safe, and refused as 11. */
+ * the hash is FNV-1a over the six bytes, first byte first, and the key is the number with the first byte highest. A length other than 6 is refused
+ * as 11, and the address of a group as 12, before anything else is looked at. NULL with length 0 is safe, and refused as 11. */
 
 /* As limiter_try; or refused as 11 or 12. */
 limiter_reply limiter_modem_try(limiter_settings s, uint64_t *words, size_t len, uint64_t now, const uint8_t *address,
@@ -189,6 +193,14 @@ limiter_reply limiter_modem_refund(limiter_settings s, uint64_t *words, size_t l
 
 /* As limiter_remove; or refused as 11 or 12. */
 limiter_reply limiter_modem_remove(limiter_settings s, uint64_t *words, size_t len, const uint8_t *address, size_t address_len);
+
+/* The line that the desk program reads as a call: the shortest, LF at the end, no NUL after it. It is written at the start of a buffer of `len` bytes. 0 with
+ * `number` bytes, LF counted, and the bytes past them stay; or refused as 13, and no byte changes. NULL with length 0 is refused so. */
+limiter_reply limiter_line_try(uint8_t *buffer, size_t len, uint64_t now, uint64_t key, uint32_t cost);
+limiter_reply limiter_line_peek(uint8_t *buffer, size_t len, uint64_t now, uint64_t key, uint32_t cost);
+limiter_reply limiter_line_reserve(uint8_t *buffer, size_t len, uint64_t now, uint64_t key, uint32_t cost, uint64_t max_wait);
+limiter_reply limiter_line_refund(uint8_t *buffer, size_t len, uint64_t key, uint32_t cost);
+limiter_reply limiter_line_remove(uint8_t *buffer, size_t len, uint64_t key);
 
 #ifdef __cplusplus
 }

@@ -78,12 +78,14 @@ extern crate alloc;
 
 mod address;
 mod answer;
+mod desk_line;
 mod key;
 mod settings;
 mod store;
 
 pub use address::{AddressError, HardwareAddress};
 pub use answer::{Decision, Refusal, Reservation};
+pub use desk_line::DeskLine;
 pub use key::Key;
 pub use settings::{Rate, Settings, WhenFull};
 #[cfg(feature = "alloc")]

@@ -103,6 +103,11 @@ pub const LIMITER_BAD_MAX_WAIT: u64 = 7;
 pub const LIMITER_BAD_ADDRESS: u64 = 11;
 /// Refused: the address is that of a group.
 pub const LIMITER_GROUP_ADDRESS: u64 = 12;
+/// Refused: the buffer is shorter than the line.
+pub const LIMITER_BAD_BUFFER: u64 = 13;
+
+/// The bytes of the longest desk line that is written, LF counted.
+pub const LIMITER_LONGEST_LINE: usize = 76;
 
 // The two functions that are lent no words are safe with any arguments. The others ask of a caller that `words` and `len` are words that it may
 // read, and write unless they are `const`, for the length of the call, or that `len` is 0; `words` may be null then.
@@ -166,4 +171,29 @@ unsafe extern "C" {
     pub fn limiter_clear(settings: LimiterSettings, words: *mut u64, len: usize) -> LimiterReply;
     pub fn limiter_length(settings: LimiterSettings, words: *const u64, len: usize)
     -> LimiterReply;
+
+    pub fn limiter_line_try(
+        buffer: *mut u8,
+        len: usize,
+        now: u64,
+        key: u64,
+        cost: u32,
+    ) -> LimiterReply;
+    pub fn limiter_line_peek(
+        buffer: *mut u8,
+        len: usize,
+        now: u64,
+        key: u64,
+        cost: u32,
+    ) -> LimiterReply;
+    pub fn limiter_line_reserve(
+        buffer: *mut u8,
+        len: usize,
+        now: u64,
+        key: u64,
+        cost: u32,
+        max_wait: u64,
+    ) -> LimiterReply;
+    pub fn limiter_line_refund(buffer: *mut u8, len: usize, key: u64, cost: u32) -> LimiterReply;
+    pub fn limiter_line_remove(buffer: *mut u8, len: usize, key: u64) -> LimiterReply;
 }

@@ -35,3 +35,29 @@ on_slices! {
     /// `limiter_length`: the number of keys that have a slot.
     length = limiter_length(&[u64], as_ptr);
 }
+
+/// A safe function for each C function that writes a desk line into a buffer. The pointer and the length are those of a slice that is borrowed for writing
+/// for the call; it reads and writes nothing else.
+macro_rules! on_buffers {
+    ($($(#[$doc:meta])* $name:ident = $c:ident($($argument:ident: $type:ty),*);)+) => {$(
+        $(#[$doc])*
+        #[inline]
+        pub fn $name(buffer: &mut [u8] $(, $argument: $type)*) -> LimiterReply {
+            // SAFETY: see the macro.
+            unsafe { crate::$c(buffer.as_mut_ptr(), buffer.len() $(, $argument)*) }
+        }
+    )+};
+}
+
+on_buffers! {
+    /// `limiter_line_try`: the line of a try.
+    line_try = limiter_line_try(now: u64, key: u64, cost: u32);
+    /// `limiter_line_peek`: the line of a peek.
+    line_peek = limiter_line_peek(now: u64, key: u64, cost: u32);
+    /// `limiter_line_reserve`: the line of a reservation.
+    line_reserve = limiter_line_reserve(now: u64, key: u64, cost: u32, max_wait: u64);
+    /// `limiter_line_refund`: the line of a refund.
+    line_refund = limiter_line_refund(key: u64, cost: u32);
+    /// `limiter_line_remove`: the line of a removal.
+    line_remove = limiter_line_remove(key: u64);
+}

@@ -117,6 +117,8 @@ fn the_header_has_the_same_codes() {
         ("BAD_MAX_WAIT", LIMITER_BAD_MAX_WAIT),
         ("BAD_ADDRESS", LIMITER_BAD_ADDRESS),
         ("GROUP_ADDRESS", LIMITER_GROUP_ADDRESS),
+        ("BAD_BUFFER", LIMITER_BAD_BUFFER),
+        ("LONGEST_LINE", LIMITER_LONGEST_LINE as u64),
     ];
     for (name, code) in codes {
         let line = format!("LIMITER_{name} = {code}");
