@@ -1,5 +1,5 @@
--- The promise to who is told a wait. If nothing happens to the bucket in between, the cost is granted at the told moment and from then on, and at no moment
--- before it, whether the stamp is before the call or after it. A moment at the bound of 64 bits may be held, and promises nothing.
+-- What a caller may count on who is told a wait by a denial. If nothing happens to the bucket in between, a try of the cost is granted at the told moment and
+-- from then on, and at no moment before it, whether the stamp is before the call or after it. A moment at the bound of 64 bits may be held, and promises nothing.
 use Prim.Native.Nat.{ℕ, _+_, _*_, _-_, _≤_, _<_, _^_}
 use mathlib.Core.Path.{_≡_, ap, sym, _∙_}
 use native.Mathlib.Nat.{mul-le-mul-right}
@@ -25,7 +25,7 @@ pub record FirstGranted (c : BucketConfig) (b : BucketCore) (cost : ℕ) (told :
       → asked c Acquire b cost t ≡ record { decision = Allowed (dueAfter t (record { 0 = 0 })); bucket = spent c b cost t }
   pub denied : (t : Nanos) → t .0 < told .0 → asked c Acquire b cost t ≡ record { decision = Denied (dueAt c b cost t); bucket = b }
 
--- What a denial tells. A grant is none.
+-- What a denial tells; for a grant the other value.
 abbrev toldBy : BucketDecision → Due → Due
 toldBy (Allowed due) other = other
 toldBy (Denied due) other = due
@@ -55,7 +55,7 @@ module _ {c : BucketConfig} (b : BucketCore) (cost : ℕ) (at : Nanos) (a : Acce
   lacks-some : 0 < waitAt c b cost at → base ≡ 0 → ⊥
   lacks-some waits none = omega (arith, no-wait-stays-none b at base none, wait-for-lack c b cost at (costs-some waits))
 
-  -- So the told moment is later than the call and the stamp by all that time.
+  -- So the told moment is the later of the call and the stamp, plus that time.
   told-from-the-later : 0 < waitAt c b cost at → told .0 < 2 ^ 64 - 1 → told .0 ≡ at .0 + (b .stamp .0 - at .0) + base
   told-from-the-later waits below =
       omega (arith, wait-grows b at base (lacks-some waits), wait-for-lack c b cost at (costs-some waits))
@@ -86,7 +86,7 @@ module _ {c : BucketConfig} (b : BucketCore) (cost : ℕ) (at : Nanos) (a : Acce
       let lasts : takes ≡ 0 → ⊥ = λ none. omega (arith, ceilDiv-reaches lack (c .amount) (a .amount-least), ap (λ (n : ℕ). n * c .amount) none) in
       omega (arith, wait-grows b t takes lasts, wait-for-lack c b cost t some, lasts)
 
-  -- The promise, for who has to wait.
+  -- The promise, where a cost has to wait.
   pub told-moment-is-the-first : 0 < waitAt c b cost at → told .0 < 2 ^ 64 - 1 → FirstGranted c b cost told
   told-moment-is-the-first waits below = record {
     granted = λ t since.
@@ -96,7 +96,8 @@ module _ {c : BucketConfig} (b : BucketCore) (cost : ℕ) (at : Nanos) (a : Acce
         denied-beyond-longest c Acquire b cost t (short-waits t (costs-some waits) (lacking-before-told waits below t before));
   }
 
-  -- So it is with every denial, of a try and of a reservation: the moment that it tells is the first.
+  -- So it is with every denial, of a try and of a reservation: the moment that it tells is the first at which a try is granted. A reservation that waits may be
+  -- granted before.
   pub denial-tells-the-first-moment : (request : Request) (due : Due) → asked c request b cost at .decision ≡ Denied due → due .moment .0 < 2 ^ 64 - 1
       → FirstGranted c b cost (due .moment)
   denial-tells-the-first-moment request due denied below =

@@ -76,7 +76,7 @@ dueAfter at wait = record { wait = wait; moment = record { 0 = saturated (at .0 
 abbrev pub dueAt : BucketConfig → BucketCore → ℕ → Nanos → Due
 dueAt c b cost at = dueAfter at (record { 0 = waitAt c b cost at })
 
--- How long it takes until so large a shortfall has come back, rounded up, once parts come back.
+-- How long the bucket takes to regain so many parts, rounded up, counted from when parts come back.
 abbrev pub recoveryOf : BucketConfig → ℕ → ℕ
 recoveryOf c shortfall = ceilDiv shortfall (c .amount)
 

@@ -8,7 +8,7 @@ use Rattle.bucket.specs.declared.BucketConfig.{BucketConfig}
 use Rattle.bucket.specs.declared.BucketCore.{BucketCore}
 use Rattle.bucket.specs.Bucket.{partsOf, mostShortfall, shortfallAt, availableAt}
 
--- The tokens that come back in a span, rounded up, so that a debt is never restored too small.
+-- The tokens that come back in a span, rounded up, so that a debt is never restored too small, unless the shortfall is cut at its largest.
 abbrev pub missingTokens : BucketConfig → ℕ → ℕ
 missingTokens c remaining = ceilDiv (remaining * c .amount) (c .period .0)
 

@@ -26,14 +26,14 @@ pub enum Request {
     Reserve(Nanos),
 }
 
-// When tokens or room are due: after the wait, at the moment. Both are held to 64 bits. At a moment before the stamp, as after a clock was set back, the
-// wait has the time until the stamp in it.
+// When tokens or room are due: after the wait, at the moment. Both are held to 64 bits. Where a call comes before a bucket's stamp, as after a clock was set back,
+// a wait above 0 includes the time until the stamp.
 pub struct Due {
     pub wait: Nanos,
     pub moment: Nanos,
 }
 
-// What a bucket answers: the tokens are charged and usable when they are due, or nothing is charged and the request may be made again then.
+// What a bucket answers: the tokens are charged and usable when they are due, or nothing is charged and a try of the cost is granted then, if nothing happens meanwhile.
 pub enum BucketDecision {
     Allowed(Due),
     Denied(Due),
@@ -74,7 +74,7 @@ impl BucketConfig {
         self.full_parts() + 0x4000_0000_0000_0000
     }
 
-    // How long it takes until so large a shortfall has come back, once parts come back.
+    // How long the bucket takes to regain so many parts, rounded up, counted from when parts come back.
     pub fn recovery_of(self, shortfall: u64) -> Nanos
         requires { ⌜ Accepted self ⌝ }
         ensures { λ r. ⌜ r .0 ≡ recoveryOf self shortfall ⌝ }
@@ -174,7 +174,7 @@ impl BucketCore {
         self.grown_at(arith::div_ceil(wanted - full, config.amount as u64), at)
     }
 
-    // A wait with the time until the stamp: before the stamp nothing comes back. No wait stays none.
+    // A wait with the time until the stamp: before the stamp nothing comes back. A wait of 0 stays 0.
     fn grown_at(self, wait: u64, at: Nanos) -> Nanos
         ensures { λ r. ⌜ r .0 ≡ grown self at wait ⌝ }
     {
@@ -277,7 +277,8 @@ impl BucketCore {
     }
 }
 
-// Puts a bucket into the debt that settles at a moment. The missing tokens are rounded up, so a restored key is never fuller than it was.
+// Puts a bucket into the debt that settles at a moment. The missing tokens are rounded up, so a restored key is never fuller than it
+// was, unless the shortfall is cut at its largest.
 pub fn restore_debt(
     bucket: BucketCore,
     config: BucketConfig,

@@ -22,7 +22,7 @@ pub enum Call {
     Remove(u64),
 }
 
-// What a writer tells: 0 and the bytes of the line with its LF, or the number of a refusal and 0.
+// What a writer tells: 0 and how many bytes the line has with its LF, or the number of a refusal and 0.
 pub struct Written {
     pub number: u64,
     pub size: usize,

@@ -46,7 +46,7 @@ lastWord = 2 ^ 64 - 1
 abbrev pub noneAwaited : Awaited
 noneAwaited = record { least = lastWord; later = lastWord }
 
--- A slot that is not full is awaited. Of those whose stamp is not after the moment the least shortfall is noted, and of the others the soonest recovery.
+-- The walk notes every slot that is not full. Of those whose stamp is not after the moment the least shortfall is noted, and of the others the soonest recovery.
 unfoldable pub awaiting : BucketConfig → Nanos → Awaited → BucketCore → Awaited
 awaiting c at w b =
     cond (leb (b .stamp .0) (at .0))

@@ -35,7 +35,7 @@ pub enum Victim {
 }
 
 // How soon the slots recover that are not full. Of those whose stamp is not after the moment `least` is the least shortfall: the slot that has it recovers the
-// soonest of them. How soon takes a division, and only a refusal makes it. Of the others, which a clock set back leaves, `later` is the soonest recovery.
+// soonest of them. To work out how soon takes a division, and for these slots only a refusal makes it. Of the others, which a clock set back leaves, `later` is the soonest recovery.
 // Each is the largest number of 64 bits while there is no such slot.
 pub struct Awaited {
     pub least: u64,

@@ -1,6 +1,6 @@
 // The limiter for modems that are known by hardware address, for callers in C and Rust: the address is a lent slice of bytes, in C a pointer and a length.
-// What each operation does is the rule of `modems` that its contract names. It is made of the number and the identity of `modems` and the export on keys, and not
-// of the operation of `modems`: a second caller of the operations of `perkey` would keep these from being compiled into the exports on keys (docs/DECISIONS.md).
+// What each operation does is the rule of `modems` that its contract names. It calls `address_refusal`, `identity` and the export on keys. It does not call the
+// operation of `modems`, since the compiler puts an operation of `perkey` into its caller only where it has one (docs/DECISIONS.md).
 ghost use mathlib.Core.Path.{_≡_};
 ghost use Rattle.rows.specs.Outcome.{outcome};
 ghost use Rattle.units.specs.Units.{nanosOf};

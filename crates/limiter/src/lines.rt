@@ -1,5 +1,5 @@
-// Desk lines for callers in C and Rust: a function for each kind of call, which writes its line into a lent buffer. The number told is the bytes of
-// the line, LF counted. A buffer that is shorter is refused as 13, and no byte of it changes.
+// Desk lines for callers in C and Rust: a function for each kind of call, which writes its line into a lent buffer. The number told is how
+// many bytes the line has, LF counted. A buffer that is shorter is refused as 13, told as code 23, and no byte of it changes.
 ghost use mathlib.Core.Path.{_≡_};
 ghost use Rattle.rows.specs.Outcome.{outcome};
 ghost use Rattle.units.specs.Units.{nanosOf};

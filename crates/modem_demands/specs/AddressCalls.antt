@@ -15,7 +15,7 @@ use Rattle.modems.specs.Address.{areBytes, identityOf}
 use Rattle.modems.specs.Address as Address
 use Rattle.demands.specs.Widths.{fits64, fits32, settingsFit, requestFits, undoFits}
 
--- A call by address names its settings, its moment if it has one, and the bytes that are lent as the address, be they one or not. It is a request (a try or a
+-- A call by address names its settings, its moment if it has one, and the bytes that are lent as the address, whether or not they are one. It is a request (a try or a
 -- reservation of so many tokens), a peek at what a try for so many would be told, or the undoing of what a modem spent (a refund or a removal).
 pub data AddressCall : Type 0 where
   request : Settings → Nanos → List ℕ → Request → ℕ → AddressCall

@@ -22,7 +22,7 @@ abbrev pub areBytes : List ℕ → Bool
 areBytes [] = true
 areBytes (byte ∷ bytes) = ltb byte 256 && areBytes bytes
 
--- The key of an address is the number with the first byte highest: each byte follows on what the bytes before it make.
+-- The key of an address is the number with the first byte highest: each byte is added to 256 times the number so far.
 unfoldable pub keyFrom : ℕ → List ℕ → ℕ
 keyFrom high [] = high
 keyFrom high (byte ∷ bytes) = keyFrom (256 * high + byte) bytes

@@ -1,4 +1,4 @@
--- Settings of up to 4,096 keys come to what they came to when there could be no more.
+-- Settings of up to 4,096 keys keep the refusal, the shards and the cap that they had when there could be no more.
 use Prim.Native.Nat.{ℕ, zero, suc, _≤_, min, max}
 use native.Mathlib.Nat.{max-eq-left, max-eq-right}
 use native.Mathlib.Omega.{arith}

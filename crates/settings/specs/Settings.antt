@@ -50,11 +50,12 @@ settingsRefusal s = firstRefusal (limitRefusal (s .limit)) (sizeRefusal s)
 abbrev pub share : ℕ → ℕ → ℕ
 share n d = max (ceilDiv n d) 1
 
--- The fewest shards that hold the keys.
+-- The fewest shards that hold the keys with at most that many in each, and at least 1.
 abbrev pub leastShards : Settings → ℕ
 leastShards s = share (s .eviction .«max_keys») mostKeysInShard
 
--- The number of shards asked for, raised to the fewest that hold the keys, so that 0 counts as 1. It counts as no more than there may be.
+-- The number of shards asked for, raised to the fewest that hold the keys, so that 0 counts as 1, and cut to 64. The cut matters only to settings
+-- that are refused.
 abbrev pub askedShards : Settings → ℕ
 askedShards s = min (max (s .shards) (leastShards s)) mostShards
 
