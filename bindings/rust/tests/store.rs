@@ -177,14 +177,15 @@ fn a_retry_for_space_tells_its_moment() {
 #[test]
 fn a_clock_set_back_is_waited_for() {
     let mut store = store(Settings::new(R, 2));
-    let ([seven, eight], now) = (modems([7, 8]), 10 * SECOND);
+    let ([seven, eight], back) = (modems([7, 8]), 8 * SECOND);
+    let now = back + 2 * SECOND;
     assert!(granted(store.try_acquire(now, seven, 4)));
     // Two seconds more until something comes back, and the same moment.
-    let (back, due) = (now - 2 * SECOND, now + HALF);
+    let due = now + HALF;
     let later = (Some(2 * SECOND + HALF), Some(due));
     assert_eq!(told(store.try_acquire(back, seven, 1)), later);
     assert_eq!(store.reserve(back, seven, 1, 2 * SECOND), Ok(None));
-    let before = due - Duration::from_nanos(1);
+    let before = now + Duration::from_nanos(499_999_999);
     assert!(!granted(store.peek(before, seven, 1)));
     assert!(granted(store.try_acquire(due, seven, 1)));
     // What is there is granted at once.
