@@ -1,5 +1,5 @@
--- Settings that were accepted when there could be 4,096 keys have the words that they had, and every call under them answers and leaves what it does where
--- the shards that they had are asked for by name.
+-- Settings that were accepted when there could be 4,096 keys have as many words as the shape that they had. Set-up and every call answer and leave what they do
+-- where the caller asks for just the number of shards that the settings had then.
 use Prim.Native.Nat.{ℕ, _≤_, _^_, min, max}
 use native.Mathlib.Nat.{le-antisymm, max-eq-left, min-eq-left}
 use native.Mathlib.Omega.{arith}
@@ -104,14 +104,14 @@ module _ (s : Settings) (accepted : Before.settingsRefusal s ≡ 0) where
       let rate = accepted-parts s accepted-still .0 in
       no-refusal-hands-on _ _ rate ∙ size ∙ sym accepted-still
 
--- What settings have as they had it: their words, what set-up makes of any words, and what every call under them answers and leaves.
-pub record AsBeforeInWordsAndAnswers (s : Settings) : Type 0 where
+-- How many words the settings ask for, what set-up makes of any words, and what every call answers and leaves: all as with the shards of before.
+pub record AsWithTheShardsOfBefore (s : Settings) : Type 0 where
   pub words : memoryWords s ≡ wordsIn (Before.shapeOf s)
   pub set-up : (ws : List ℕ) → Rules.setUp (asking (Before.shardCount s) s) ws ≡ Rules.setUp s ws
   pub answers : (c : Call) (ws : List ℕ) → settingsOf c ≡ s → rules (askingIn (Before.shardCount s) c) ws ≡ rules c ws
 
-pub as-before-in-words-and-answers : (s : Settings) → Before.settingsRefusal s ≡ 0 → AsBeforeInWordsAndAnswers s
-as-before-in-words-and-answers s accepted =
+pub accepted-before-is-as-with-the-shards-of-before : (s : Settings) → Before.settingsRefusal s ≡ 0 → AsWithTheShardsOfBefore s
+accepted-before-is-as-with-the-shards-of-before s accepted =
     record {
       words = ap wordsIn (accepted-before-is-as-before s accepted .shape);
       set-up = set-up-alike (Before.shardCount s) s (shards-by-name s accepted) (refused-by-name s accepted);
