@@ -6,7 +6,12 @@ ghost use Rattle.units.specs.Units.{nanosOf};
 ghost use Rattle.perkey.specs.Rules as Rules;
 ghost use Rattle.limiter.specs.Exported.{identityOf, wordsToLend, hashOf};
 ghost use Rattle.limiter.specs.Exported.{settingsOf, limitOf, rateOf, tokensOf, boundsOf, evictionOf};
+use bucket::BucketDecision;
+use bucket::Request;
+use perkey::Attempt;
+use perkey::Reply;
 use perkey::codes::Told;
+use store::refusals;
 use settings::Limit;
 use settings::Settings;
 use settings::eviction::Eviction;
@@ -62,13 +67,14 @@ pub extern "C" fn limiter_try(
 ) -> Told
     ensures { λ r. ⌜ outcome r (now (ws .exit)) ≡ Rules.told (Rules.tryAcquire (settingsOf settings) (nanosOf at) (identityOf hash key) cost (now (ws .entry))) ⌝ }
 {
-    perkey::try_acquire_with_cost(
-        settings_of(settings),
-        ws,
-        Nanos(at),
-        Identity { hash, key },
-        cost,
-    ).told()
+    match perkey::attempt_try(settings_of(settings), ws, Nanos(at), Identity { hash, key }, cost) {
+        Attempt::Told(reply) => reply.told(),
+        Attempt::Refused => refused(settings, ws, hash, refusals::moment_refusal(Nanos(at))),
+        Attempt::New => {
+            let decision = admit(settings, ws, at, hash, key, Request::Acquire, cost);
+            perkey::try_reply(decision).told()
+        }
+    }
 }
 
 // Takes `cost` tokens for a key that become usable after a wait, if that wait is at most `max_wait`. The number is the wait.
@@ -85,14 +91,22 @@ pub extern "C" fn limiter_reserve(
     ensures { λ r. ⌜ outcome r (now (ws .exit)) ≡
         Rules.told (Rules.reserve (settingsOf settings) (nanosOf at) (identityOf hash key) cost (nanosOf «max_wait») (now (ws .entry))) ⌝ }
 {
-    perkey::reserve(
+    let longest = Nanos(max_wait);
+    match perkey::attempt_reserve(
         settings_of(settings),
         ws,
         Nanos(at),
         Identity { hash, key },
         cost,
-        Nanos(max_wait),
-    ).told()
+        longest,
+    ) {
+        Attempt::Told(reply) => reply.told(),
+        Attempt::Refused => refused(settings, ws, hash, perkey::reserve_refusal(Nanos(at), longest)),
+        Attempt::New => {
+            let decision = admit(settings, ws, at, hash, key, Request::Reserve(longest), cost);
+            perkey::reserve_reply(decision).told()
+        }
+    }
 }
 
 // What the key's bucket would answer to a try at the moment `at`. It takes nothing, and says nothing of room for a new key.
@@ -193,6 +207,32 @@ pub extern "C" fn limiter_key_hash(key: u64) -> u64
     ensures { λ r. ⌜ r ≡ hashOf key ⌝ }
 {
     hash::key_hash(key)
+}
+
+fn refused(settings: LimiterSettings, ws: &[u64], hash: u64, further: u32) -> Told
+{
+    Reply::Refused(perkey::refusal_of(settings_of(settings), ws, hash, further)).told()
+}
+
+// A request of a new key.
+fn admit(
+    settings: LimiterSettings,
+    ws: &mut [u64],
+    at: u64,
+    hash: u64,
+    key: u64,
+    request: Request,
+    cost: u32,
+) -> BucketDecision
+{
+    perkey::admit(
+        settings_of(settings),
+        ws,
+        Nanos(at),
+        Identity { hash, key },
+        request,
+        cost,
+    )
 }
 
 // The settings that the numbers are.

@@ -34,7 +34,7 @@ pub struct Part {
 }
 
 // The part of the shard of a hash.
-pub(crate) fn part_of(shape: Shape, hash: u64) -> Part
+pub fn part_of(shape: Shape, hash: u64) -> Part
     requires { ⌜ ShapeOfAccepted shape ⌝ }
     ensures { λ r. ⌜ r ≡ partIn shape hash ⌝ }
 {
