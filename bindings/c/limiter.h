@@ -1,4 +1,4 @@
-/* The per-modem limiter store: C interface of liblimiter.a (`rt staticlib limiter`), x86-64. C99 or later, or C++.
+/* The per-modem limiter store: C interface of liblimiter.a (bindings/build), x86-64. C99 or later, or C++.
  *
  * Every key (a modem) has a token bucket. The store says whether a request of so many tokens is answered now, later, or never. It has
  * no memory, clock or lock of its own: each call is given the settings, the lent words, and the moment and the key where they matter.

@@ -21,7 +21,6 @@ use settings::rate::Rate;
 use shard::Identity;
 use units::Nanos;
 
-pub mod by_address;
 mod lines;
 
 // The settings as numbers. A flag is off at 0 and on at any other number.
@@ -236,7 +235,7 @@ fn admit(
 }
 
 // The settings that the numbers are.
-fn settings_of(settings: LimiterSettings) -> Settings
+pub fn settings_of(settings: LimiterSettings) -> Settings
     ensures { λ r. ⌜ r ≡ settingsOf settings ⌝ }
 {
     Settings {

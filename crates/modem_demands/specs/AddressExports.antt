@@ -1,5 +1,5 @@
--- Calls by address as C and Rust make them: the five operations that `limiter` exports on plain numbers and lent bytes, demand 2 of them, and what a caller has
--- in them who writes settings as numbers and reads replies from their numbers (`Writer` and `reading` of demands).
+-- Calls by address as C and Rust make them: the five operations that `modem_limiter` exports on plain numbers and lent bytes, demand 2 of them, and what a
+-- caller has in them who writes settings as numbers and reads replies from their numbers (`Writer` and `reading` of demands).
 use Prim.Native.Nat.{ℕ}
 use mathlib.Core.Path.{_≡_}
 use mathlib.Core.Bool.{true}
@@ -15,11 +15,11 @@ use Rattle.perkey.specs.Calls.{kindOf}
 use Rattle.perkey.specs.Calls as Calls
 use Rattle.limiter.specs.declared.LimiterSettings.{LimiterSettings}
 use Rattle.limiter.specs.Exported.{settingsOf}
-use Rattle.limiter.proofs.by_address.limiter_modem_try.Reads as Try
-use Rattle.limiter.proofs.by_address.limiter_modem_reserve.Reads as Reserve
-use Rattle.limiter.proofs.by_address.limiter_modem_peek.Reads as Peek
-use Rattle.limiter.proofs.by_address.limiter_modem_refund.Reads as Refund
-use Rattle.limiter.proofs.by_address.limiter_modem_remove.Reads as Remove
+use Rattle.modem_limiter.proofs.limiter_modem_try.Reads as Try
+use Rattle.modem_limiter.proofs.limiter_modem_reserve.Reads as Reserve
+use Rattle.modem_limiter.proofs.limiter_modem_peek.Reads as Peek
+use Rattle.modem_limiter.proofs.limiter_modem_refund.Reads as Refund
+use Rattle.modem_limiter.proofs.limiter_modem_remove.Reads as Remove
 use Rattle.demands.specs.Widths.{lendable}
 use Rattle.demands.specs.Contracts.{lentAt}
 use Rattle.demands.specs.Exports.{numbersFit, Writer, readAs}

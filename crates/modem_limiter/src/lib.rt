@@ -1,15 +1,16 @@
 // The limiter for modems that are known by hardware address, for callers in C and Rust: the address is a lent slice of bytes, in C a pointer and a length.
-// What each operation does is the rule of `modems` that its contract names. It calls `address_refusal`, `identity` and the export on keys. It does not call the
-// operation of `modems`, since the compiler puts an operation of `perkey` into its caller only where it has one (docs/DECISIONS.md).
+// What each operation does is the rule of `modems` that its contract names; its reply is told as numbers. This is a crate of its own since it is compiled
+// apart: in one object with the exports of `limiter` it made the calls by key slower (docs/DECISIONS.md).
 ghost use mathlib.Core.Path.{_≡_};
 ghost use Rattle.rows.specs.Outcome.{outcome};
 ghost use Rattle.units.specs.Units.{nanosOf};
 ghost use Rattle.perkey.specs.Rules as Rules;
 ghost use Rattle.modems.specs.Address as Address;
 ghost use Rattle.limiter.specs.Exported.{settingsOf};
-use crate::LimiterSettings;
-use perkey::Reply;
+use limiter::LimiterSettings;
+use limiter::settings_of;
 use perkey::codes::Told;
+use units::Nanos;
 
 // Takes `cost` tokens for a modem at the moment `at`, if its bucket has them: granted, to be tried again after a wait, or impossible.
 #[no_mangle]
@@ -23,12 +24,7 @@ pub extern "C" fn limiter_modem_try(
     ensures { λ r. ⌜ outcome r (now (ws .exit)) ≡
         Rules.told (Address.tryAcquire (settingsOf settings) (nanosOf at) (now (address .entry)) cost (now (ws .entry))) ⌝ }
 {
-    let refusal = modems::address_refusal(address);
-    if refusal != 0 {
-        return Reply::Refused(refusal).told();
-    }
-    let id = modems::identity(address);
-    crate::limiter_try(settings, ws, at, id.hash, id.key, cost)
+    modems::try_acquire_with_cost(settings_of(settings), ws, Nanos(at), address, cost).told()
 }
 
 // Takes `cost` tokens for a modem that become usable after a wait, if that wait is at most `max_wait`. The number is the wait.
@@ -44,12 +40,14 @@ pub extern "C" fn limiter_modem_reserve(
     ensures { λ r. ⌜ outcome r (now (ws .exit)) ≡
         Rules.told (Address.reserve (settingsOf settings) (nanosOf at) (now (address .entry)) cost (nanosOf «max_wait») (now (ws .entry))) ⌝ }
 {
-    let refusal = modems::address_refusal(address);
-    if refusal != 0 {
-        return Reply::Refused(refusal).told();
-    }
-    let id = modems::identity(address);
-    crate::limiter_reserve(settings, ws, at, id.hash, id.key, cost, max_wait)
+    modems::reserve(
+        settings_of(settings),
+        ws,
+        Nanos(at),
+        address,
+        cost,
+        Nanos(max_wait),
+    ).told()
 }
 
 // What the modem's bucket would answer to a try at the moment `at`. It takes nothing, and says nothing of room for a new modem.
@@ -64,12 +62,7 @@ pub extern "C" fn limiter_modem_peek(
     ensures { λ r. ⌜ outcome r (now (ws .exit)) ≡
         Rules.told (Address.peek (settingsOf settings) (nanosOf at) (now (address .entry)) cost (now (ws .entry))) ⌝ }
 {
-    let refusal = modems::address_refusal(address);
-    if refusal != 0 {
-        return Reply::Refused(refusal).told();
-    }
-    let id = modems::identity(address);
-    crate::limiter_peek(settings, ws, at, id.hash, id.key, cost)
+    modems::peek(settings_of(settings), ws, Nanos(at), address, cost).told()
 }
 
 // Gives `cost` tokens back to a modem, or to the debt that is remembered for its hash; unknown if there is neither.
@@ -82,12 +75,7 @@ pub extern "C" fn limiter_modem_refund(
 ) -> Told
     ensures { λ r. ⌜ outcome r (now (ws .exit)) ≡ Rules.told (Address.refund (settingsOf settings) (now (address .entry)) cost (now (ws .entry))) ⌝ }
 {
-    let refusal = modems::address_refusal(address);
-    if refusal != 0 {
-        return Reply::Refused(refusal).told();
-    }
-    let id = modems::identity(address);
-    crate::limiter_refund(settings, ws, id.hash, id.key, cost)
+    modems::refund(settings_of(settings), ws, address, cost).told()
 }
 
 // Forgets a modem, and the debt that is remembered for its hash; unknown if there is neither.
@@ -99,10 +87,5 @@ pub extern "C" fn limiter_modem_remove(
 ) -> Told
     ensures { λ r. ⌜ outcome r (now (ws .exit)) ≡ Rules.told (Address.remove (settingsOf settings) (now (address .entry)) (now (ws .entry))) ⌝ }
 {
-    let refusal = modems::address_refusal(address);
-    if refusal != 0 {
-        return Reply::Refused(refusal).told();
-    }
-    let id = modems::identity(address);
-    crate::limiter_remove(settings, ws, id.hash, id.key)
+    modems::remove(settings_of(settings), ws, address).told()
 }
