@@ -4,14 +4,15 @@ ghost use mathlib.Core.Path.{_≡_};
 ghost use Rattle.rows.specs.Outcome.{outcome};
 ghost use Rattle.units.specs.Units.{nanosOf};
 ghost use Rattle.perkey.specs.Rules as Rules;
+ghost use Rattle.perkey.specs.Attempts.{LeftFor, ruleTo};
 ghost use Rattle.limiter.specs.Exported.{identityOf, wordsToLend, hashOf};
 ghost use Rattle.limiter.specs.Exported.{settingsOf, limitOf, rateOf, tokensOf, boundsOf, evictionOf};
-use bucket::BucketDecision;
 use bucket::Request;
-use perkey::Attempt;
 use perkey::Reply;
 use perkey::codes::Told;
-use store::refusals;
+use perkey::requests;
+use perkey::requests::Attempt;
+use perkey::requests::Why;
 use settings::Limit;
 use settings::Settings;
 use settings::eviction::Eviction;
@@ -66,12 +67,17 @@ pub extern "C" fn limiter_try(
 ) -> Told
     ensures { λ r. ⌜ outcome r (now (ws .exit)) ≡ Rules.told (Rules.tryAcquire (settingsOf settings) (nanosOf at) (identityOf hash key) cost (now (ws .entry))) ⌝ }
 {
-    match perkey::attempt_try(settings_of(settings), ws, Nanos(at), Identity { hash, key }, cost) {
+    match requests::attempt_try(
+        settings_of(settings),
+        ws,
+        Nanos(at),
+        Identity { hash, key },
+        cost,
+    ) {
         Attempt::Told(reply) => reply.told(),
-        Attempt::Refused => refused(settings, ws, hash, refusals::moment_refusal(Nanos(at))),
-        Attempt::New => {
-            let decision = admit(settings, ws, at, hash, key, Request::Acquire, cost);
-            perkey::try_reply(decision).told()
+        Attempt::Left(why) => {
+            let request = Request::Acquire;
+            finish(settings, ws, at, hash, key, request, cost, why).told()
         }
     }
 }
@@ -90,20 +96,18 @@ pub extern "C" fn limiter_reserve(
     ensures { λ r. ⌜ outcome r (now (ws .exit)) ≡
         Rules.told (Rules.reserve (settingsOf settings) (nanosOf at) (identityOf hash key) cost (nanosOf «max_wait») (now (ws .entry))) ⌝ }
 {
-    let longest = Nanos(max_wait);
-    match perkey::attempt_reserve(
+    match requests::attempt_reserve(
         settings_of(settings),
         ws,
         Nanos(at),
         Identity { hash, key },
         cost,
-        longest,
+        Nanos(max_wait),
     ) {
         Attempt::Told(reply) => reply.told(),
-        Attempt::Refused => refused(settings, ws, hash, perkey::reserve_refusal(Nanos(at), longest)),
-        Attempt::New => {
-            let decision = admit(settings, ws, at, hash, key, Request::Reserve(longest), cost);
-            perkey::reserve_reply(decision).told()
+        Attempt::Left(why) => {
+            let request = Request::Reserve(Nanos(max_wait));
+            finish(settings, ws, at, hash, key, request, cost, why).told()
         }
     }
 }
@@ -208,13 +212,8 @@ pub extern "C" fn limiter_key_hash(key: u64) -> u64
     hash::key_hash(key)
 }
 
-fn refused(settings: LimiterSettings, ws: &[u64], hash: u64, further: u32) -> Told
-{
-    Reply::Refused(perkey::refusal_of(settings_of(settings), ws, hash, further)).told()
-}
-
-// A request of a new key.
-fn admit(
+// The rest of a request that an attempt left. It is given the settings as numbers: so a known key's call does not have to keep what only a new key needs.
+fn finish(
     settings: LimiterSettings,
     ws: &mut [u64],
     at: u64,
@@ -222,15 +221,19 @@ fn admit(
     key: u64,
     request: Request,
     cost: u32,
-) -> BucketDecision
+    why: Why,
+) -> Reply
+    requires { ⌜ LeftFor why request (settingsOf settings) (nanosOf at) (identityOf hash key) cost (now ws) ⌝ }
+    ensures { λ r. ⌜ outcome r (now (ws .exit)) ≡ ruleTo request (settingsOf settings) (nanosOf at) (identityOf hash key) cost (now (ws .entry)) ⌝ }
 {
-    perkey::admit(
+    requests::finish(
         settings_of(settings),
         ws,
         Nanos(at),
         Identity { hash, key },
         request,
         cost,
+        why,
     )
 }
 

@@ -1,3 +1,4 @@
 pub mod Rules
+pub mod Attempts
 pub mod Calls
 pub mod Edges

@@ -4,9 +4,9 @@ ghost use Rattle.rows.specs.Outcome.{outcome};
 ghost use Rattle.settings.specs.declared.Limit.the-variants.{Open};
 ghost use Rattle.settings.specs.Settings.{ShapeOfAccepted, firstRefusal};
 ghost use Rattle.store.specs.Memory.{partOf};
-ghost use Rattle.store.specs.Refusals.{shapeRefusal, keyedRefusal, momentRefusal, timedRefusal, waitRefusal};
+ghost use Rattle.store.specs.Refusals.{shapeRefusal, keyedRefusal, timedRefusal};
 ghost use Rattle.perkey.specs.Rules as Rules;
-use bucket::BucketDecision;
+use crate::requests::Attempt;
 use bucket::Due;
 use bucket::Request;
 use rows::Place;
@@ -25,6 +25,7 @@ use store::refusals;
 use units::Nanos;
 
 pub mod codes;
+pub mod requests;
 
 // What an operation answers.
 pub enum Reply {
@@ -40,16 +41,6 @@ pub enum Reply {
     Count(u64),
     // Refused by number.
     Refused(u32),
-}
-
-// What a request comes to before a new key is let in.
-pub enum Attempt {
-    // Its answer.
-    Told(Reply),
-    // It is refused: `refusal_of` gives the number.
-    Refused,
-    // The key has no slot, and `admit` lets it in.
-    New,
 }
 
 // Sets the store up in the lent words.
@@ -74,101 +65,9 @@ pub fn try_acquire_with_cost(
 ) -> Reply
     ensures { λ r. ⌜ outcome r (now (ws .exit)) ≡ Rules.tryAcquire settings at id cost (now (ws .entry)) ⌝ }
 {
-    match attempt_try(settings, ws, at, id, cost) {
+    match requests::attempt_try(settings, ws, at, id, cost) {
         Attempt::Told(reply) => reply,
-        Attempt::Refused => {
-            let further = refusals::moment_refusal(at);
-            Reply::Refused(refusal_of(settings, ws, id.hash, further))
-        }
-        Attempt::New => try_reply(admit(settings, ws, at, id, Request::Acquire, cost)),
-    }
-}
-
-// A try, up to where a new key has to be let in. Each operation that asks a bucket asks first whether there is a rate, so that all that follows is compiled
-// for a limiter that has one (docs/DECISIONS.md).
-pub fn attempt_try(
-    settings: Settings,
-    ws: &mut [u64],
-    at: Nanos,
-    id: Identity,
-    cost: u32,
-) -> Attempt
-    ensures { λ r. ⌜ Meets Acquire settings at id cost (now (ws .entry)) (now (ws .exit)) r ⌝ }
-{
-    let limit = settings.limit;
-    match limit {
-        Limit::Closed => {
-            let late = refusals::moment_refusal(at);
-            let told = Reply::Tried(closed(at, cost));
-            let reply = unless_refused(
-                settings.refusal(),
-                settings.shape(),
-                ws,
-                id.hash,
-                late,
-                told,
-            );
-            Attempt::Told(reply)
-        }
-        Limit::Open(rate) => try_open(settings, rate, ws, at, id, cost),
-    }
-}
-
-// A try at a rate. By which number it is refused is not looked at, so that the common case is compiled to comparisons alone.
-fn try_open(
-    settings: Settings,
-    rate: Rate,
-    ws: &mut [u64],
-    at: Nanos,
-    id: Identity,
-    cost: u32,
-) -> Attempt
-    requires { ⌜ settings .limit ≡ Open rate ⌝ }
-    ensures { λ r. ⌜ Meets Acquire settings at id cost (now (ws .entry)) (now (ws .exit)) r ⌝ }
-{
-    if settings.refusal() != 0 {
-        return Attempt::Refused;
-    }
-    match lending::lend(settings.shape(), ws, id.hash, refusals::moment_refusal(at)) {
-        Lending::Refused(_) => Attempt::Refused,
-        Lending::Lent(part) => decide(settings, rate, ws, part, at, id, cost),
-    }
-}
-
-// A try that is not refused. No state is made for a cost that can never be granted, nor for cost 0.
-fn decide(
-    settings: Settings,
-    rate: Rate,
-    ws: &mut [u64],
-    part: Part,
-    at: Nanos,
-    id: Identity,
-    cost: u32,
-) -> Attempt
-    requires { ⌜ (timedRefusal settings (id .hash) at (now ws) ≡ 0) × (part ≡ partOf settings (id .hash)) × (settings .limit ≡ Open rate) ⌝ }
-    ensures { λ r. ⌜ Meets Acquire settings at id cost (now (ws .entry)) (now (ws .exit)) r ⌝ }
-{
-    if rate.capacity() < cost {
-        return Attempt::Told(Reply::Tried(Decision::Impossible));
-    }
-    if cost == 0 {
-        return Attempt::Told(Reply::Tried(Decision::Acquired(due_now(at))));
-    }
-    match store::position(ws, part, id) {
-        Place::At(pos) => {
-            let request = Request::Acquire;
-            let decision = store::with_existing(
-                ws,
-                part,
-                policy(settings, rate),
-                pos,
-                request,
-                cost,
-                at,
-            );
-            Attempt::Told(try_reply(decision))
-        }
-        Place::Nowhere => Attempt::New,
+        Attempt::Left(why) => requests::finish(settings, ws, at, id, Request::Acquire, cost, why),
     }
 }
 
@@ -183,152 +82,11 @@ pub fn reserve(
 ) -> Reply
     ensures { λ r. ⌜ outcome r (now (ws .exit)) ≡ Rules.reserve settings at id cost «max_wait» (now (ws .entry)) ⌝ }
 {
-    match attempt_reserve(settings, ws, at, id, cost, max_wait) {
+    match requests::attempt_reserve(settings, ws, at, id, cost, max_wait) {
         Attempt::Told(reply) => reply,
-        Attempt::Refused => {
-            let further = reserve_refusal(at, max_wait);
-            Reply::Refused(refusal_of(settings, ws, id.hash, further))
-        }
-        Attempt::New => {
+        Attempt::Left(why) => {
             let request = Request::Reserve(max_wait);
-            reserve_reply(admit(settings, ws, at, id, request, cost))
-        }
-    }
-}
-
-// A reservation, up to where a new key has to be let in.
-pub fn attempt_reserve(
-    settings: Settings,
-    ws: &mut [u64],
-    at: Nanos,
-    id: Identity,
-    cost: u32,
-    max_wait: Nanos,
-) -> Attempt
-    ensures { λ r. ⌜ Meets (Reserve «max_wait») settings at id cost (now (ws .entry)) (now (ws .exit)) r ⌝ }
-{
-    let limit = settings.limit;
-    match limit {
-        Limit::Closed => {
-            let further = reserve_refusal(at, max_wait);
-            let told = Reply::Nothing;
-            let reply = unless_refused(
-                settings.refusal(),
-                settings.shape(),
-                ws,
-                id.hash,
-                further,
-                told,
-            );
-            Attempt::Told(reply)
-        }
-        Limit::Open(rate) => reserve_open(settings, rate, ws, at, id, cost, max_wait),
-    }
-}
-
-// A reservation at a rate.
-fn reserve_open(
-    settings: Settings,
-    rate: Rate,
-    ws: &mut [u64],
-    at: Nanos,
-    id: Identity,
-    cost: u32,
-    max_wait: Nanos,
-) -> Attempt
-    requires { ⌜ settings .limit ≡ Open rate ⌝ }
-    ensures { λ r. ⌜ Meets (Reserve «max_wait») settings at id cost (now (ws .entry)) (now (ws .exit)) r ⌝ }
-{
-    if settings.refusal() != 0 {
-        return Attempt::Refused;
-    }
-    let further = reserve_refusal(at, max_wait);
-    match lending::lend(settings.shape(), ws, id.hash, further) {
-        Lending::Refused(_) => Attempt::Refused,
-        Lending::Lent(part) => reserve_within(settings, rate, ws, part, at, id, cost, max_wait),
-    }
-}
-
-// The number for the other arguments of a reservation: a late moment, else a long wait.
-pub fn reserve_refusal(at: Nanos, max_wait: Nanos) -> u32
-    ensures { λ r. ⌜ r ≡ firstRefusal (momentRefusal at) (waitRefusal «max_wait») ⌝ }
-{
-    refusals::first_refusal(
-        refusals::moment_refusal(at),
-        refusals::wait_refusal(max_wait),
-    )
-}
-
-// A reservation that is not refused.
-fn reserve_within(
-    settings: Settings,
-    rate: Rate,
-    ws: &mut [u64],
-    part: Part,
-    at: Nanos,
-    id: Identity,
-    cost: u32,
-    max_wait: Nanos,
-) -> Attempt
-    requires { ⌜ (reserveRefusal settings (id .hash) at «max_wait» (now ws) ≡ 0) × (part ≡ partOf settings (id .hash)) × (settings .limit ≡ Open rate) ⌝ }
-    ensures { λ r. ⌜ Meets (Reserve «max_wait») settings at id cost (now (ws .entry)) (now (ws .exit)) r ⌝ }
-{
-    if rate.capacity() < cost {
-        return Attempt::Told(Reply::Nothing);
-    }
-    if cost == 0 {
-        return Attempt::Told(Reply::Reserved(due_now(at)));
-    }
-    match store::position(ws, part, id) {
-        Place::At(pos) => {
-            let request = Request::Reserve(max_wait);
-            let decision = store::with_existing(
-                ws,
-                part,
-                policy(settings, rate),
-                pos,
-                request,
-                cost,
-                at,
-            );
-            Attempt::Told(reserve_reply(decision))
-        }
-        Place::Nowhere => Attempt::New,
-    }
-}
-
-// The number by which a call on a key is refused; 0 if it is not. `further` is that of its other arguments.
-pub fn refusal_of(settings: Settings, ws: &[u64], hash: u64, further: u32) -> u32
-    ensures { λ r. ⌜ r ≡ firstRefusal (keyedRefusal settings hash (now (ws .entry))) further ⌝ }
-{
-    let refusal = settings.refusal();
-    if refusal != 0 {
-        return refusal;
-    }
-    match lending::lend(settings.shape(), ws, hash, further) {
-        Lending::Refused(refusal) => refusal,
-        Lending::Lent(_) => 0,
-    }
-}
-
-// A request of a new key. It is not refused: that was looked at before, as was all else that the rule asks of it.
-pub fn admit(
-    settings: Settings,
-    ws: &mut [u64],
-    at: Nanos,
-    id: Identity,
-    request: Request,
-    cost: u32,
-) -> BucketDecision
-    requires { ⌜ Admits request settings at id cost (now ws) ⌝ }
-    ensures { λ r. ⌜ outcome (Rules.replyTo request r) (now (ws .exit)) ≡ ruled request settings at id cost (now (ws .entry)) ⌝ }
-{
-    let limit = settings.limit;
-    match limit {
-        Limit::Closed => BucketDecision::Denied(due_now(at)),
-        Limit::Open(rate) => {
-            let part = store::part_of(settings.shape(), id.hash);
-            store::admit(ws, part, policy(settings, rate), id, request, cost, at)
+            requests::finish(settings, ws, at, id, request, cost, why)
         }
     }
 }
@@ -593,33 +351,6 @@ fn forgets(when_full: WhenFull) -> bool
     match when_full {
         WhenFull::RefuseNew => false,
         WhenFull::ForgetDebt => true,
-    }
-}
-
-// What was decided, by the bucket or for want of space, as a try is told it.
-pub fn try_reply(decision: BucketDecision) -> Reply
-    ensures { λ r. ⌜ r ≡ Rules.tryReply decision ⌝ }
-{
-    Reply::Tried(map_decision(decision))
-}
-
-// The decision of a try.
-fn map_decision(decision: BucketDecision) -> Decision
-    ensures { λ r. ⌜ r ≡ Rules.mapDecision decision ⌝ }
-{
-    match decision {
-        BucketDecision::Allowed(due) => Decision::Acquired(due),
-        BucketDecision::Denied(after) => Decision::Retry { after },
-    }
-}
-
-// What was decided, by the bucket or for want of space, as a reservation is told it.
-pub fn reserve_reply(decision: BucketDecision) -> Reply
-    ensures { λ r. ⌜ r ≡ Rules.reserveReply decision ⌝ }
-{
-    match decision {
-        BucketDecision::Allowed(due) => Reply::Reserved(due),
-        BucketDecision::Denied(_) => Reply::Nothing,
     }
 }
 

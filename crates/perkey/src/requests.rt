@@ -1,0 +1,337 @@
+// A request, a try or a reservation, in two halves: an attempt, which answers a known key, and `finish` for what the attempt leaves. An operation is one
+// after the other. An export calls them itself, so that a known key's call holds nothing that only the second half needs (docs/DECISIONS.md).
+ghost use mathlib.Core.Path.{_≡_};
+ghost use Rattle.rows.specs.Outcome.{outcome};
+ghost use Rattle.bucket.specs.declared.Request.the-variants.{Acquire, Reserve};
+ghost use Rattle.settings.specs.declared.Limit.the-variants.{Open};
+ghost use Rattle.settings.specs.Settings.{firstRefusal};
+ghost use Rattle.store.specs.Memory.{partOf};
+ghost use Rattle.store.specs.Refusals.{keyedRefusal, timedRefusal, reserveRefusal, momentRefusal, waitRefusal};
+ghost use Rattle.perkey.specs.Rules as Rules;
+ghost use Rattle.perkey.specs.Attempts.{Meets, LeftFor, NewKey, furtherTo, ruleTo};
+use crate::Reply;
+use bucket::BucketDecision;
+use bucket::Request;
+use rows::Place;
+use settings::Limit;
+use settings::Settings;
+use settings::decision::Decision;
+use settings::rate::Rate;
+use shard::Identity;
+use store::Part;
+use store::lending;
+use store::lending::Lending;
+use store::refusals;
+use units::Nanos;
+
+// What an attempt comes to.
+pub enum Attempt {
+    // The answer.
+    Told(Reply),
+    // Nothing was changed, and `finish` answers.
+    Left(Why),
+}
+
+// Why an attempt leaves a request: it is refused by number, or its key has no slot.
+pub enum Why {
+    Refused,
+    New,
+}
+
+// A try, up to where a new key has to be let in. Each operation that asks a bucket asks first whether there is a rate, so that all that follows is compiled
+// for a limiter that has one (docs/DECISIONS.md).
+pub fn attempt_try(
+    settings: Settings,
+    ws: &mut [u64],
+    at: Nanos,
+    id: Identity,
+    cost: u32,
+) -> Attempt
+    ensures { λ r. ⌜ Meets Acquire settings at id cost (now (ws .entry)) (now (ws .exit)) r ⌝ }
+{
+    let limit = settings.limit;
+    match limit {
+        Limit::Closed => {
+            let late = refusals::moment_refusal(at);
+            let told = Reply::Tried(crate::closed(at, cost));
+            let reply = crate::unless_refused(
+                settings.refusal(),
+                settings.shape(),
+                ws,
+                id.hash,
+                late,
+                told,
+            );
+            Attempt::Told(reply)
+        }
+        Limit::Open(rate) => try_open(settings, rate, ws, at, id, cost),
+    }
+}
+
+// A try at a rate. By which number it is refused is not looked at, so that the common case is compiled to comparisons alone.
+fn try_open(
+    settings: Settings,
+    rate: Rate,
+    ws: &mut [u64],
+    at: Nanos,
+    id: Identity,
+    cost: u32,
+) -> Attempt
+    requires { ⌜ settings .limit ≡ Open rate ⌝ }
+    ensures { λ r. ⌜ Meets Acquire settings at id cost (now (ws .entry)) (now (ws .exit)) r ⌝ }
+{
+    if settings.refusal() != 0 {
+        return Attempt::Left(Why::Refused);
+    }
+    match lending::lend(settings.shape(), ws, id.hash, refusals::moment_refusal(at)) {
+        Lending::Refused(_) => Attempt::Left(Why::Refused),
+        Lending::Lent(part) => decide(settings, rate, ws, part, at, id, cost),
+    }
+}
+
+// A try that is not refused. No state is made for a cost that can never be granted, nor for cost 0.
+fn decide(
+    settings: Settings,
+    rate: Rate,
+    ws: &mut [u64],
+    part: Part,
+    at: Nanos,
+    id: Identity,
+    cost: u32,
+) -> Attempt
+    requires { ⌜ (timedRefusal settings (id .hash) at (now ws) ≡ 0) × (part ≡ partOf settings (id .hash)) × (settings .limit ≡ Open rate) ⌝ }
+    ensures { λ r. ⌜ Meets Acquire settings at id cost (now (ws .entry)) (now (ws .exit)) r ⌝ }
+{
+    if rate.capacity() < cost {
+        return Attempt::Told(Reply::Tried(Decision::Impossible));
+    }
+    if cost == 0 {
+        return Attempt::Told(Reply::Tried(Decision::Acquired(crate::due_now(at))));
+    }
+    match store::position(ws, part, id) {
+        Place::At(pos) => {
+            let request = Request::Acquire;
+            let decision = store::with_existing(
+                ws,
+                part,
+                crate::policy(settings, rate),
+                pos,
+                request,
+                cost,
+                at,
+            );
+            Attempt::Told(try_reply(decision))
+        }
+        Place::Nowhere => Attempt::Left(Why::New),
+    }
+}
+
+// A reservation, up to where a new key has to be let in.
+pub fn attempt_reserve(
+    settings: Settings,
+    ws: &mut [u64],
+    at: Nanos,
+    id: Identity,
+    cost: u32,
+    max_wait: Nanos,
+) -> Attempt
+    ensures { λ r. ⌜ Meets (Reserve «max_wait») settings at id cost (now (ws .entry)) (now (ws .exit)) r ⌝ }
+{
+    let limit = settings.limit;
+    match limit {
+        Limit::Closed => {
+            let further = reserve_refusal(at, max_wait);
+            let told = Reply::Nothing;
+            let reply = crate::unless_refused(
+                settings.refusal(),
+                settings.shape(),
+                ws,
+                id.hash,
+                further,
+                told,
+            );
+            Attempt::Told(reply)
+        }
+        Limit::Open(rate) => reserve_open(settings, rate, ws, at, id, cost, max_wait),
+    }
+}
+
+// A reservation at a rate.
+fn reserve_open(
+    settings: Settings,
+    rate: Rate,
+    ws: &mut [u64],
+    at: Nanos,
+    id: Identity,
+    cost: u32,
+    max_wait: Nanos,
+) -> Attempt
+    requires { ⌜ settings .limit ≡ Open rate ⌝ }
+    ensures { λ r. ⌜ Meets (Reserve «max_wait») settings at id cost (now (ws .entry)) (now (ws .exit)) r ⌝ }
+{
+    if settings.refusal() != 0 {
+        return Attempt::Left(Why::Refused);
+    }
+    let further = reserve_refusal(at, max_wait);
+    match lending::lend(settings.shape(), ws, id.hash, further) {
+        Lending::Refused(_) => Attempt::Left(Why::Refused),
+        Lending::Lent(part) => reserve_within(settings, rate, ws, part, at, id, cost, max_wait),
+    }
+}
+
+// A reservation that is not refused.
+fn reserve_within(
+    settings: Settings,
+    rate: Rate,
+    ws: &mut [u64],
+    part: Part,
+    at: Nanos,
+    id: Identity,
+    cost: u32,
+    max_wait: Nanos,
+) -> Attempt
+    requires { ⌜ (reserveRefusal settings (id .hash) at «max_wait» (now ws) ≡ 0) × (part ≡ partOf settings (id .hash)) × (settings .limit ≡ Open rate) ⌝ }
+    ensures { λ r. ⌜ Meets (Reserve «max_wait») settings at id cost (now (ws .entry)) (now (ws .exit)) r ⌝ }
+{
+    if rate.capacity() < cost {
+        return Attempt::Told(Reply::Nothing);
+    }
+    if cost == 0 {
+        return Attempt::Told(Reply::Reserved(crate::due_now(at)));
+    }
+    match store::position(ws, part, id) {
+        Place::At(pos) => {
+            let request = Request::Reserve(max_wait);
+            let decision = store::with_existing(
+                ws,
+                part,
+                crate::policy(settings, rate),
+                pos,
+                request,
+                cost,
+                at,
+            );
+            Attempt::Told(reserve_reply(decision))
+        }
+        Place::Nowhere => Attempt::Left(Why::New),
+    }
+}
+
+// The rest of a request that an attempt left: the number is told, or the key is let in.
+pub fn finish(
+    settings: Settings,
+    ws: &mut [u64],
+    at: Nanos,
+    id: Identity,
+    request: Request,
+    cost: u32,
+    why: Why,
+) -> Reply
+    requires { ⌜ LeftFor why request settings at id cost (now ws) ⌝ }
+    ensures { λ r. ⌜ outcome r (now (ws .exit)) ≡ ruleTo request settings at id cost (now (ws .entry)) ⌝ }
+{
+    match why {
+        Why::Refused => {
+            let further = further_refusal(request, at);
+            Reply::Refused(refusal_of(settings, ws, id.hash, further))
+        }
+        Why::New => {
+            let decision = admit(settings, ws, at, id, request, cost);
+            reply_to(request, decision)
+        }
+    }
+}
+
+// The number by which a call on a key is refused; 0 if it is not. `further` is the number for its other arguments.
+fn refusal_of(settings: Settings, ws: &[u64], hash: u64, further: u32) -> u32
+    ensures { λ r. ⌜ r ≡ firstRefusal (keyedRefusal settings hash (now (ws .entry))) further ⌝ }
+{
+    let refusal = settings.refusal();
+    if refusal != 0 {
+        return refusal;
+    }
+    match lending::lend(settings.shape(), ws, hash, further) {
+        Lending::Refused(number) => number,
+        Lending::Lent(_) => 0,
+    }
+}
+
+// The number for the other arguments of a request.
+fn further_refusal(request: Request, at: Nanos) -> u32
+    ensures { λ r. ⌜ r ≡ furtherTo request at ⌝ }
+{
+    match request {
+        Request::Acquire => refusals::moment_refusal(at),
+        Request::Reserve(max_wait) => reserve_refusal(at, max_wait),
+    }
+}
+
+// The number for the other arguments of a reservation: a late moment, else a long wait.
+fn reserve_refusal(at: Nanos, max_wait: Nanos) -> u32
+    ensures { λ r. ⌜ r ≡ firstRefusal (momentRefusal at) (waitRefusal «max_wait») ⌝ }
+{
+    refusals::first_refusal(
+        refusals::moment_refusal(at),
+        refusals::wait_refusal(max_wait),
+    )
+}
+
+// A request of a new key. There is a rate then: the arm of a closed limiter is never taken.
+fn admit(
+    settings: Settings,
+    ws: &mut [u64],
+    at: Nanos,
+    id: Identity,
+    request: Request,
+    cost: u32,
+) -> BucketDecision
+    requires { ⌜ NewKey request settings at id cost (now ws) ⌝ }
+    ensures { λ r. ⌜ outcome (Rules.replyTo request r) (now (ws .exit)) ≡ ruleTo request settings at id cost (now (ws .entry)) ⌝ }
+{
+    let limit = settings.limit;
+    match limit {
+        Limit::Closed => BucketDecision::Denied(crate::due_now(at)),
+        Limit::Open(rate) => {
+            let part = store::part_of(settings.shape(), id.hash);
+            store::admit(
+                ws,
+                part,
+                crate::policy(settings, rate),
+                id,
+                request,
+                cost,
+                at,
+            )
+        }
+    }
+}
+
+// What was decided, by the bucket or for want of space, as the request is told it.
+fn reply_to(request: Request, decision: BucketDecision) -> Reply
+    ensures { λ r. ⌜ r ≡ Rules.replyTo request decision ⌝ }
+{
+    match request {
+        Request::Acquire => try_reply(decision),
+        Request::Reserve(_) => reserve_reply(decision),
+    }
+}
+
+// As a try is told it.
+fn try_reply(decision: BucketDecision) -> Reply
+    ensures { λ r. ⌜ r ≡ Rules.tryReply decision ⌝ }
+{
+    match decision {
+        BucketDecision::Allowed(due) => Reply::Tried(Decision::Acquired(due)),
+        BucketDecision::Denied(after) => Reply::Tried(Decision::Retry { after }),
+    }
+}
+
+// As a reservation is told it.
+fn reserve_reply(decision: BucketDecision) -> Reply
+    ensures { λ r. ⌜ r ≡ Rules.reserveReply decision ⌝ }
+{
+    match decision {
+        BucketDecision::Allowed(due) => Reply::Reserved(due),
+        BucketDecision::Denied(_) => Reply::Nothing,
+    }
+}
