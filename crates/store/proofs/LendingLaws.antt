@@ -129,7 +129,7 @@ module _ {lending : Lending} (refusal : ℕ) (part′ : Part) (is : lending ≡ 
 -- The same for the operations on a key, by what each is refused for, where the settings are accepted.
 module _ (s : Settings) (hash : ℕ) (ws : List ℕ) (none : settingsRefusal s ≡ 0) {shape : Shape} (shaped : shape ≡ shapeOf s) {lending : Lending} (further : ℕ)
     (is : lending ≡ lentUnless (firstRefusal (shapeRefusal shape hash ws) further) (partIn shape hash)) where
-  lent-by-settings : lending ≡ lentUnless (firstRefusal (keyedRefusal s hash ws) further) (partOf s hash)
+  pub lent-by-settings : lending ≡ lentUnless (firstRefusal (keyedRefusal s hash ws) further) (partOf s hash)
   lent-by-settings = rw (memory-refuses s none hash ws) (rw shaped at is)
 
   pub keyed-lending : further ≡ 0 → lending ≡ lentUnless (keyedRefusal s hash ws) (partOf s hash)

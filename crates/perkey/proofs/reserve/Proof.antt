@@ -1,63 +1,61 @@
--- `reserve` tells nothing on a closed limiter, unless the call is refused, and what `reserve_open` tells where there is a rate.
-use mathlib.Core.Path.{refl, sym, _∙_}
+-- `reserve` tells what the attempt told, else what `finish` tells of what the attempt left.
 use Rattle.bucket.specs.declared.Request.the-variants.{Reserve}
-use Rattle.store.proofs.LendingLaws.{accepted-shape}
-use Rattle.perkey.proofs.CallLaws.{closed-request-is-told}
+use Rattle.perkey.proofs.FinishLaws.{attempt-is-told, left-may-be-finished, finished-is-told}
 use borrow.Author.Needs.{needs}
 use Rattle.perkey.proofs.reserve.Statement.{statement}
 use Rattle.perkey.proofs.reserve.Tie as tie
 
-enum-told : tie.Need-enum-told
-enum-told c = search needs
+-- Where the attempt answered, and where the call began, as seen once the words are back.
+abbrev attempted : tie.After-slice-known2 → tie.After-attempt-reserve
+attempted k = k .before .before
 
-reserve-refusal-requires : tie.Need-reserve-refusal-requires
-reserve-refusal-requires c κs = search needs
+abbrev start : tie.After-slice-known2 → tie.Start
+start k = attempted k .before .before .before
 
-refusal-requires : tie.Need-refusal-requires
-refusal-requires c κs = search needs
+attempt-reserve-requires : tie.Need-attempt-reserve-requires
+attempt-reserve-requires c κs = search needs
 
-shape-requires : tie.Need-shape-requires
-shape-requires c κs = search needs
+enum-known-reply : tie.Need-enum-known-reply
+enum-known-reply c = search needs
 
-unless-refused-requires : tie.Need-unless-refused-requires
-unless-refused-requires c κs =
-    let r = c .before .before in
-    λ none. accepted-shape (r .before .before .before .before .before .args .settings) (sym (r .refusal .ensures) ∙ none) (c .before .shape .ensures)
+enum-known-why : tie.Need-enum-known-why
+enum-known-why c = search needs
 
-enum-known-limit : tie.Need-enum-known-limit
-enum-known-limit c = search needs
-
-reserve-open-requires : tie.Need-reserve-open-requires
-reserve-open-requires c κs = c .before .before .limit .given .1
+finish-requires : tie.Need-finish-requires
+finish-requires c κs =
+    let w = c .before .before in
+    let k = w .before .before in
+    let a = start k .args in
+    left-may-be-finished (Reserve (a .max-wait)) (a .settings) (a .at) (a .id) (a .cost) (a .ws .now) _ (attempted k .attempt-reserve .ensures) (w .why .given .1)
 
 same-length : tie.Need-same-length
 same-length c = search needs
 
 returns : tie.Need-returns
 returns c =
-    let r = c .before .before .before in
-    let f = r .before in
-    let a = f .before .before .before .before .args in
-    closed-request-is-told (Reserve (a .max-wait)) (a .settings) (a .at) (a .id) (a .cost) (a .ws .now) (f .before .enum-told .given .1) refl
-    (r .refusal .ensures) (c .before .before .shape .ensures) (f .reserve-refusal .ensures) (c .unless-refused .ensures)
+    let k = c .before .before .before in
+    let a = start k .args in
+    attempt-is-told (Reserve (a .max-wait)) (a .settings) (a .at) (a .id) (a .cost) (a .ws .now) _ (attempted k .attempt-reserve .ensures) (c .before .reply .given .1)
 
 same-length-2 : tie.Need-same-length-2
 same-length-2 c = search needs
 
 returns-2 : tie.Need-returns-2
-returns-2 c = c .before .before .reserve-open .ensures
+returns-2 c =
+    let f = c .before .before in
+    let w = f .before .before .before in
+    let k = w .before .before in
+    let a = start k .args in
+    finished-is-told (Reserve (a .max-wait)) (a .settings) (a .at) (a .id) (a .cost) (a .ws .now) _ (attempted k .attempt-reserve .ensures) (w .why .given .1) (f .finish .ensures)
 
 pub reserve-spec : {M : Type 1} → statement M
 reserve-spec =
     tie.close
     (tie.spec
-    enum-told
-    reserve-refusal-requires
-    refusal-requires
-    shape-requires
-    unless-refused-requires
-    enum-known-limit
-    reserve-open-requires
+    attempt-reserve-requires
+    enum-known-reply
+    enum-known-why
+    finish-requires
     same-length
     returns
     same-length-2

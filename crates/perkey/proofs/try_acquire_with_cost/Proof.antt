@@ -1,70 +1,61 @@
--- `try_acquire_with_cost` tells a closed limiter's answer, unless the call is refused, and what `try_open` tells where there is a rate.
-use mathlib.Core.Path.{sym, ap, _∙_}
+-- `try_acquire_with_cost` tells what the attempt told, else what `finish` tells of what the attempt left.
 use Rattle.bucket.specs.declared.Request.the-variants.{Acquire}
-use Rattle.store.proofs.LendingLaws.{accepted-shape}
-use Rattle.settings.specs.declared.decision.Decision.{Decision}
-use Rattle.perkey.specs.declared.Reply.the-variants.{Tried}
-use Rattle.perkey.proofs.CallLaws.{closed-request-is-told}
+use Rattle.perkey.proofs.FinishLaws.{attempt-is-told, left-may-be-finished, finished-is-told}
 use borrow.Author.Needs.{needs}
 use Rattle.perkey.proofs.try_acquire_with_cost.Statement.{statement}
 use Rattle.perkey.proofs.try_acquire_with_cost.Tie as tie
 
-enum-told : tie.Need-enum-told
-enum-told c = search needs
+-- Where the attempt answered, and where the call began, as seen once the words are back.
+abbrev attempted : tie.After-slice-known2 → tie.After-attempt-try
+attempted k = k .before .before
 
-moment-refusal-requires : tie.Need-moment-refusal-requires
-moment-refusal-requires c κs = search needs
+abbrev start : tie.After-slice-known2 → tie.Start
+start k = attempted k .before .before .before
 
-closed-requires : tie.Need-closed-requires
-closed-requires c κs = search needs
+attempt-try-requires : tie.Need-attempt-try-requires
+attempt-try-requires c κs = search needs
 
-refusal-requires : tie.Need-refusal-requires
-refusal-requires c κs = search needs
+enum-known-reply : tie.Need-enum-known-reply
+enum-known-reply c = search needs
 
-shape-requires : tie.Need-shape-requires
-shape-requires c κs = search needs
+enum-known-why : tie.Need-enum-known-why
+enum-known-why c = search needs
 
-unless-refused-requires : tie.Need-unless-refused-requires
-unless-refused-requires c κs =
-    let r = c .before .before in
-    λ none. accepted-shape (r .before .before .before .before .before .before .args .settings) (sym (r .refusal .ensures) ∙ none) (c .before .shape .ensures)
-
-enum-known-limit : tie.Need-enum-known-limit
-enum-known-limit c = search needs
-
-try-open-requires : tie.Need-try-open-requires
-try-open-requires c κs = c .before .before .limit .given .1
+finish-requires : tie.Need-finish-requires
+finish-requires c κs =
+    let w = c .before .before in
+    let k = w .before .before in
+    let a = start k .args in
+    left-may-be-finished Acquire (a .settings) (a .at) (a .id) (a .cost) (a .ws .now) _ (attempted k .attempt-try .ensures) (w .why .given .1)
 
 same-length : tie.Need-same-length
 same-length c = search needs
 
 returns : tie.Need-returns
 returns c =
-    let r = c .before .before .before in
-    let m = r .before .before in
-    let a = m .before .before .before .before .args in
-    let closed = ap (λ (d : Decision). Tried d) (r .before .closed .ensures) in
-    closed-request-is-told Acquire (a .settings) (a .at) (a .id) (a .cost) (a .ws .now) (m .before .enum-told .given .1) closed
-    (r .refusal .ensures) (c .before .before .shape .ensures) (m .moment-refusal .ensures) (c .unless-refused .ensures)
+    let k = c .before .before .before in
+    let a = start k .args in
+    attempt-is-told Acquire (a .settings) (a .at) (a .id) (a .cost) (a .ws .now) _ (attempted k .attempt-try .ensures) (c .before .reply .given .1)
 
 same-length-2 : tie.Need-same-length-2
 same-length-2 c = search needs
 
 returns-2 : tie.Need-returns-2
-returns-2 c = c .before .before .try-open .ensures
+returns-2 c =
+    let f = c .before .before in
+    let w = f .before .before .before in
+    let k = w .before .before in
+    let a = start k .args in
+    finished-is-told Acquire (a .settings) (a .at) (a .id) (a .cost) (a .ws .now) _ (attempted k .attempt-try .ensures) (w .why .given .1) (f .finish .ensures)
 
 pub try-acquire-with-cost-spec : {M : Type 1} → statement M
 try-acquire-with-cost-spec =
     tie.close
     (tie.spec
-    enum-told
-    moment-refusal-requires
-    closed-requires
-    refusal-requires
-    shape-requires
-    unless-refused-requires
-    enum-known-limit
-    try-open-requires
+    attempt-try-requires
+    enum-known-reply
+    enum-known-why
+    finish-requires
     same-length
     returns
     same-length-2

@@ -1,7 +1,7 @@
 -- `reserve_reply` has a case for each decision.
 use borrow.Author.Needs.{needs}
-use Rattle.perkey.proofs.reserve_reply.Statement.{statement}
-use Rattle.perkey.proofs.reserve_reply.Tie as tie
+use Rattle.perkey.proofs.requests.reserve_reply.Statement.{statement}
+use Rattle.perkey.proofs.requests.reserve_reply.Tie as tie
 
 enum-known-decision : tie.Need-enum-known-decision
 enum-known-decision c = search needs

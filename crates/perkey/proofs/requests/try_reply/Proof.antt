@@ -1,7 +1,7 @@
--- `map_decision` has a case for each decision.
+-- `try_reply` has a case for each decision.
 use borrow.Author.Needs.{needs}
-use Rattle.perkey.proofs.map_decision.Statement.{statement}
-use Rattle.perkey.proofs.map_decision.Tie as tie
+use Rattle.perkey.proofs.requests.try_reply.Statement.{statement}
+use Rattle.perkey.proofs.requests.try_reply.Tie as tie
 
 enum-known-decision : tie.Need-enum-known-decision
 enum-known-decision c = search needs
@@ -15,5 +15,5 @@ returns c = rw (c .before .decision .given .1)
 returns-2 : tie.Need-returns-2
 returns-2 c = rw (c .before .decision2 .given .1)
 
-pub map-decision-spec : {M : Type 1} → statement M
-map-decision-spec = tie.close (tie.spec enum-known-decision enum-known-decision-2 returns returns-2)
+pub try-reply-spec : {M : Type 1} → statement M
+try-reply-spec = tie.close (tie.spec enum-known-decision enum-known-decision-2 returns returns-2)

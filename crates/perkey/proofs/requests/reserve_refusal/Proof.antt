@@ -1,7 +1,7 @@
 -- `reserve_refusal` tells the first number of the two.
 use borrow.Author.Needs.{needs}
-use Rattle.perkey.proofs.reserve_refusal.Statement.{statement}
-use Rattle.perkey.proofs.reserve_refusal.Tie as tie
+use Rattle.perkey.proofs.requests.reserve_refusal.Statement.{statement}
+use Rattle.perkey.proofs.requests.reserve_refusal.Tie as tie
 
 moment-refusal-requires : tie.Need-moment-refusal-requires
 moment-refusal-requires c κs = search needs

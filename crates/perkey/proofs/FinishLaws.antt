@@ -1,0 +1,104 @@
+-- The second half of a request: what was left may be finished, and what is told then is what the rule tells.
+use Prim.Native.Nat.{ℕ, _≤_}
+use mathlib.Core.Path.{_≡_, refl, sym, ap, _∙_}
+use mathlib.Core.List.{List}
+use Rattle.rows.specs.Outcome.{Outcome, outcome}
+use Rattle.units.specs.declared.Nanos.{Nanos}
+use Rattle.bucket.specs.declared.BucketDecision.{BucketDecision}
+use Rattle.bucket.specs.declared.Request.{Request}
+use Rattle.bucket.specs.declared.Request.the-variants.{Acquire, Reserve}
+use Rattle.settings.specs.declared.Limit.{Limit}
+use Rattle.settings.specs.declared.Limit.the-variants.{Closed, Open}
+use Rattle.settings.specs.declared.Settings.{Settings}
+use Rattle.settings.specs.declared.Shape.{Shape}
+use Rattle.settings.specs.declared.rate.Rate.{Rate}
+use Rattle.settings.specs.Settings.{firstRefusal, shapeOf, ShapeOfAccepted}
+use Rattle.settings.specs.Rate.{burstOf}
+use Rattle.shard.specs.declared.Identity.{Identity}
+use Rattle.shard.specs.declared.Policy.{Policy}
+use Rattle.shard.specs.Model as OneShard
+use Rattle.store.specs.declared.Part.{Part}
+use Rattle.store.specs.Memory.{partOf, shardIn, inPart}
+use Rattle.store.specs.Refusals.{keyedRefusal, momentRefusal, waitRefusal, timedRefusal}
+use Rattle.store.proofs.RefusalLaws.{refusals-in-a-row, timed-not-refused}
+use Rattle.store.proofs.LendingLaws.{accepted-shape}
+use Rattle.perkey.specs.declared.Reply.{Reply}
+use Rattle.perkey.specs.declared.Reply.the-variants.{Refused}
+use Rattle.perkey.specs.declared.requests.Attempt.{Attempt}
+use Rattle.perkey.specs.declared.requests.Attempt.the-variants.{Told, Left}
+use Rattle.perkey.specs.declared.requests.Why.{Why}
+use Rattle.perkey.specs.Rules.{policyOf, replyTo, askedBy}
+use Rattle.perkey.specs.Calls.{request}
+use Rattle.perkey.specs.Attempts.{ruleTo, refusalTo, furtherTo, NewKey, LeftFor, Meets}
+use Rattle.perkey.proofs.CallLaws.{refusal-is-told, rule-is-told}
+use Rattle.perkey.proofs.RuleLaws.{reserve-is-timed}
+use Rattle.perkey.proofs.RequestLaws.{Asks, new-is-told}
+
+-- An attempt that was answered, and one that was left: its words are those before it, so the rule is the same on them.
+module _ (r : Request) (s : Settings) (at : Nanos) (id : Identity) (cost : ℕ) (ws ws′ : List ℕ) {a : Attempt} (kept : Meets r s at id cost ws ws′ a) where
+  pub attempt-is-told : {reply : Reply} → a ≡ Told reply → outcome reply ws′ ≡ ruleTo r s at id cost ws
+  attempt-is-told is = rw is at kept
+
+  module _ {why : Why} (is : a ≡ Left why) where
+    left : (ws′ ≡ ws) × LeftFor why r s at id cost ws
+    left = rw is at kept
+
+    pub left-may-be-finished : LeftFor why r s at id cost ws′
+    left-may-be-finished = rw (left .0) (left .1)
+
+    pub finished-is-told : {o : Outcome Reply (List ℕ)} → o ≡ ruleTo r s at id cost ws′ → o ≡ ruleTo r s at id cost ws
+    finished-is-told gave = rw (left .0) at gave
+
+-- A number that is not 0 is told, and where it is 0 what is asked of the bucket or of the store decides.
+module _ (s : Settings) (at : Nanos) (id : Identity) (ws : List ℕ) where
+  refusal-by-parts : (r : Request) → firstRefusal (keyedRefusal s (id .hash) ws) (furtherTo r at) ≡ refusalTo r s at id ws
+  refusal-by-parts Acquire = refl
+  refusal-by-parts (Reserve longest) = sym (refusals-in-a-row (keyedRefusal s (id .hash) ws) (momentRefusal at) (waitRefusal longest))
+
+  number-is-ruled : (r : Request) (cost : ℕ) {told : ℕ} → told ≡ refusalTo r s at id ws → (refusalTo r s at id ws ≡ 0 → ⊥)
+      → outcome (Refused told) ws ≡ ruleTo r s at id cost ws
+  number-is-ruled Acquire cost is some = refusal-is-told (request s at id Acquire cost) ws is (λ none. some (sym is ∙ none))
+  number-is-ruled (Reserve longest) cost is some = refusal-is-told (request s at id (Reserve longest) cost) ws is (λ none. some (sym is ∙ none))
+
+  pub refused-request-is-told : (r : Request) (cost : ℕ) {further told : ℕ} → further ≡ furtherTo r at
+      → told ≡ firstRefusal (keyedRefusal s (id .hash) ws) further → (refusalTo r s at id ws ≡ 0 → ⊥)
+      → outcome (Refused told) ws ≡ ruleTo r s at id cost ws
+  refused-request-is-told r cost is-further is some = number-is-ruled r cost ((rw is-further at is) ∙ refusal-by-parts r) some
+
+  asked-is-ruled : (r : Request) (cost : ℕ) {o : Outcome Reply (List ℕ)} → refusalTo r s at id ws ≡ 0
+      → o ≡ askedBy r (s .limit) s at id cost ws → o ≡ ruleTo r s at id cost ws
+  asked-is-ruled Acquire cost none gave = rule-is-told (request s at id Acquire cost) ws refl none gave
+  asked-is-ruled (Reserve longest) cost none gave = rule-is-told (request s at id (Reserve longest) cost) ws refl none gave
+
+  not-refused-is-timed : (r : Request) → refusalTo r s at id ws ≡ 0 → timedRefusal s (id .hash) at ws ≡ 0
+  not-refused-is-timed Acquire none = none
+  not-refused-is-timed (Reserve longest) none = reserve-is-timed s (id .hash) ws at longest none
+
+-- A reply that is equal to the one that an outcome has.
+pub reply-is-told : {reply told : Reply} {ws : List ℕ} {o : Outcome Reply (List ℕ)} → reply ≡ told → outcome told ws ≡ o → outcome reply ws ≡ o
+reply-is-told is gave = rw is gave
+
+-- The rate of a limit that has one.
+abbrev rateOr : Rate → Limit → Rate
+rateOr other Closed = other
+rateOr other (Open rate) = rate
+
+-- A new key: its settings are accepted, so they have a shape; the store may be asked for it; and what the store gives is what the rule tells.
+module _ {r : Request} {s : Settings} {at : Nanos} {id : Identity} {cost : ℕ} {ws : List ℕ} (new : NewKey r s at id cost ws) where
+  timed : timedRefusal s (id .hash) at ws ≡ 0
+  timed = not-refused-is-timed s at id ws r (new .none)
+
+  pub new-key-has-shape : {shape : Shape} → shape ≡ shapeOf s → ShapeOfAccepted shape
+  new-key-has-shape is = accepted-shape s (timed-not-refused s (id .hash) ws at timed .0 .set-up .settings) is
+
+  module _ {rate : Rate} {part′ : Part} (is-limit : s .limit ≡ Open rate) (is-part : part′ ≡ partOf s (id .hash)) where
+    pub new-key-asks : Asks s at id cost ws rate part′
+    new-key-asks =
+        let same : new .rate ≡ rate = ap (rateOr rate) (sym (new .is-limit) ∙ is-limit) in
+        record { none = timed; is-part = is-part; is-limit = is-limit; within = rw same at (new .within); some = new .some }
+
+    pub new-key-is-told : {policy : Policy} {decision : BucketDecision} {ws′ : List ℕ} → policy ≡ policyOf s rate
+        → outcome decision ws′ ≡ inPart part′ ws (OneShard.admit policy id r cost at (shardIn part′ ws))
+        → outcome (replyTo r decision) ws′ ≡ ruleTo r s at id cost ws
+    new-key-is-told is-policy gave =
+        asked-is-ruled s at id ws r cost (new .none) (new-is-told new-key-asks is-policy refl r refl (rw is-part (new .no-slot)) gave)
