@@ -36,6 +36,7 @@ use Rattle.store.specs.Memory.{shardAt, slotCount}
 use Rattle.store.specs.Refusals.{memoryRefusal, countRefusal, shapeRefusal, keyedRefusal, momentRefusal, timedRefusal, waitRefusal, reserveRefusal, lenRefusal}
 use Rattle.store.proofs.RefusalLaws.{refusals-in-a-row}
 use Rattle.perkey.specs.Rules as Rules
+use Rattle.perkey.specs.Attempts.{furtherTo}
 use Rattle.perkey.proofs.RefusedLaws.{unless-refused-accepts, unless-refused-refuses}
 use Rattle.rows.specs.Places.{sum}
 use Rattle.perkey.specs.Calls.{Look, Call, request, look, undo, len, peeks, tokens, refunds, removes, rules, Answered, numbered, accepted}
@@ -102,11 +103,7 @@ keyed-number s hash ws further =
     sym (refusals-in-a-row (settingsRefusal s) (firstRefusal memory counts) further)
     ∙ ap (λ (n : ℕ). firstRefusal n further) (sym (refusals-in-a-row (settingsRefusal s) memory counts))
 
--- The number for the other arguments of a request.
-abbrev pub furtherTo : Request → Nanos → ℕ
-furtherTo Acquire at = momentRefusal at
-furtherTo (Reserve longest) at = firstRefusal (momentRefusal at) (waitRefusal longest)
-
+-- The number of a request.
 request-number : (r : Request) (s : Settings) (at : Nanos) (id : Identity) (cost : ℕ) (ws : List ℕ)
     → firstRefusal (keyedRefusal s (id .hash) ws) (furtherTo r at) ≡ refusalOf (request s at id r cost) ws
 request-number Acquire s at id cost ws = refl

@@ -2,5 +2,6 @@ pub mod RefusedLaws
 pub mod RuleLaws
 pub mod RequestLaws
 pub mod CallLaws
+pub mod AttemptLaws
 pub mod EdgeLaws
 pub mod WaitLaws

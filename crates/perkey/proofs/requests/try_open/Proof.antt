@@ -1,21 +1,17 @@
--- `try_open` tells the refusal, else what `decide` tells.
-use mathlib.Core.Path.{_≡_, sym, _∙_}
+-- `try_open` leaves a try that is refused, and else comes to what `decide` comes to.
+use mathlib.Core.Path.{_≡_, refl, sym, _∙_}
 use Rattle.store.specs.Lending.{lentUnless}
 use Rattle.store.specs.Memory.{partOf}
 use Rattle.store.specs.Refusals.{timedRefusal}
 use Rattle.store.proofs.RefusalLaws.{settings-refuse-timed}
-use Rattle.store.proofs.LendingLaws.{accepted-shape, lent-part, timed-lending}
+use Rattle.store.proofs.LendingLaws.{accepted-shape, lent-part, refused-number, timed-lending}
 use Rattle.settings.specs.Settings.{settingsRefusal}
-use Rattle.perkey.specs.Calls.{Call, try}
-use Rattle.perkey.proofs.CallLaws.{refusal-is-told, unlent-is-told, lent-is-ruled}
+use Rattle.perkey.proofs.AttemptLaws.{number-refuses}
 use borrow.Author.Needs.{needs}
-use Rattle.perkey.proofs.try_open.Statement.{statement}
-use Rattle.perkey.proofs.try_open.Tie as tie
+use Rattle.perkey.proofs.requests.try_open.Statement.{statement}
+use Rattle.perkey.proofs.requests.try_open.Tie as tie
 
--- The call; where it began, as seen once the settings are accepted and once `lend` has answered; and what `lend` answered.
-abbrev call : tie.Start → Call
-call s = try (s .args .settings) (s .args .at) (s .args .id) (s .args .cost)
-
+-- The settings are accepted; where the call began, as seen once `lend` has answered; and what `lend` answered.
 accepted : (e : tie.Else1) → settingsRefusal (e .before .before .before .args .settings) ≡ 0
 accepted e = sym (e .before .refusal .ensures) ∙ e .if1 .left
 
@@ -38,7 +34,7 @@ returns c =
     let s = c .before .before .before in
     let a = s .args in
     let told = settings-refuse-timed (a .settings) (a .id .hash) (a .ws .now) (c .before .refusal .ensures) (c .if1 .taken) (a .at) in
-    refusal-is-told (call s) (a .ws .now) told (c .if1 .taken)
+    (refl, number-refuses told (c .if1 .taken))
 
 shape-requires : tie.Need-shape-requires
 shape-requires c κs = search needs
@@ -51,8 +47,8 @@ lend-requires c κs =
     let e = c .before .before .before in
     accepted-shape (e .before .before .before .args .settings) (accepted e) (c .before .before .shape .ensures)
 
-enum-known-refusal : tie.Need-enum-known-refusal
-enum-known-refusal c = search needs
+enum-told : tie.Need-enum-told
+enum-told c = search needs
 
 enum-known-part : tie.Need-enum-known-part
 enum-known-part c = search needs
@@ -68,16 +64,15 @@ same-length c = search needs
 
 returns-2 : tie.Need-returns-2
 returns-2 c =
-    let l = c .before .before .before in
-    unlent-is-told (call (start l)) (start l .args .ws .now) _ (lending l) (c .before .refusal2 .given .1)
+    let l = c .before .before in
+    let number = refused-number _ _ (lending l) (c .enum-told .given .1) in
+    (refl, number-refuses (number .0) (number .1))
 
 same-length-2 : tie.Need-same-length-2
 same-length-2 c = search needs
 
 returns-3 : tie.Need-returns-3
-returns-3 c =
-    let l = c .before .before .before .before .before .before .before in
-    lent-is-ruled (call (start l)) (start l .args .ws .now) _ (lending l) (c .before .before .before .before .before .part .given .1) (c .before .before .decide .ensures)
+returns-3 c = c .before .before .decide .ensures
 
 pub try-open-spec : {M : Type 1} → statement M
 try-open-spec =
@@ -88,7 +83,7 @@ try-open-spec =
     shape-requires
     moment-refusal-requires
     lend-requires
-    enum-known-refusal
+    enum-told
     enum-known-part
     decide-requires
     same-length

@@ -1,18 +1,19 @@
--- `reserve_within` goes by the cost, as the rule does, and else asks the store in the key's shard, by the key's place.
-use mathlib.Core.Path.{ap}
+-- `decide` goes by the cost, as the rule does, and else asks the store in the key's shard, by the key's place; a new key is left.
+use mathlib.Core.Path.{refl, ap}
 use Rattle.bucket.specs.declared.Due.{Due}
-use Rattle.perkey.specs.declared.Reply.the-variants.{Reserved}
+use Rattle.settings.specs.declared.decision.Decision.the-variants.{Acquired}
+use Rattle.perkey.specs.declared.Reply.the-variants.{Tried}
 use Rattle.bucket.specs.declared.Request.{Request}
-use Rattle.bucket.specs.declared.Request.the-variants.{Reserve}
-use Rattle.perkey.proofs.RequestLaws.{Asks, too-much-is-told, nothing-is-granted, place-may-be-asked, known-may-be-asked, new-may-be-asked}
-use Rattle.perkey.proofs.RequestLaws.{known-is-told, new-is-told}
+use Rattle.bucket.specs.declared.Request.the-variants.{Acquire}
+use Rattle.perkey.proofs.RequestLaws.{Asks, too-much-is-told, nothing-is-granted, place-may-be-asked, known-may-be-asked, known-is-told}
+use Rattle.perkey.proofs.AttemptLaws.{asked-is-ruled, missed-is-new}
 use borrow.Author.Needs.{needs}
-use Rattle.perkey.proofs.reserve_within.Statement.{statement}
-use Rattle.perkey.proofs.reserve_within.Tie as tie
+use Rattle.perkey.proofs.requests.decide.Statement.{statement}
+use Rattle.perkey.proofs.requests.decide.Tie as tie
 
 -- What is asked for.
 abbrev request : tie.Start → Request
-request s = Reserve (s .args .max-wait)
+request s = Acquire
 
 -- Where the call began, as seen once its cost is looked at; and that it asks for some tokens that a full bucket holds.
 abbrev start : tie.Else2 → tie.Start
@@ -24,12 +25,9 @@ asks e =
     let within = rw (e .before .before .capacity .ensures) at (e .before .if1 .left) in
     record { none = pre′ .0; is-part = pre′ .1; is-limit = pre′ .2; within = within; some = e .if2 .left }
 
--- Where the key's place was asked for, as seen once the policy is made: of a known key, and of a new one.
+-- Where the key's place was asked for, as seen once the policy is made.
 abbrev found : tie.After-policy → tie.After-position
 found k = k .before .before .before .before .before
-
-abbrev missed : tie.After-policy2 → tie.After-position
-missed k = k .before .before .before .before
 
 capacity-requires : tie.Need-capacity-requires
 capacity-requires c κs = search needs
@@ -38,7 +36,9 @@ returns : tie.Need-returns
 returns c =
     let s = c .before .before .before in
     let a = s .args in
-    too-much-is-told (request s) (a .settings) (a .at) (a .id) (a .cost) (a .ws .now) (s .pre .2) (rw (c .before .capacity .ensures) at (c .if1 .taken))
+    let more = rw (c .before .capacity .ensures) at (c .if1 .taken) in
+    asked-is-ruled (request s) (a .settings) (a .at) (a .id) (a .cost) (a .ws .now) (s .pre .0)
+    (too-much-is-told (request s) (a .settings) (a .at) (a .id) (a .cost) (a .ws .now) (s .pre .2) more)
 
 due-now-requires : tie.Need-due-now-requires
 due-now-requires c κs = search needs
@@ -49,8 +49,9 @@ returns-2 c =
     let s = t .before .before .before .before in
     let a = s .args in
     let within = rw (t .before .before .capacity .ensures) at (t .before .if1 .left) in
-    let told = ap (λ (due : Due). Reserved due) (c .due-now .ensures) in
-    nothing-is-granted (request s) (a .settings) (a .at) (a .id) (a .cost) (a .ws .now) (s .pre .2) within (t .if2 .taken) told
+    let told = ap (λ (due : Due). Tried (Acquired due)) (c .due-now .ensures) in
+    asked-is-ruled (request s) (a .settings) (a .at) (a .id) (a .cost) (a .ws .now) (s .pre .0)
+    (nothing-is-granted (request s) (a .settings) (a .at) (a .id) (a .cost) (a .ws .now) (s .pre .2) within (t .if2 .taken) told)
 
 position-requires : tie.Need-position-requires
 position-requires c κs = place-may-be-asked (asks (c .before))
@@ -66,20 +67,11 @@ with-existing-requires c κs =
     let p = found c in
     known-may-be-asked (asks (p .before .before)) (c .policy .ensures) (p .position .ensures) _ (c .before .before .before .pos .given .1)
 
-reserve-reply-requires : tie.Need-reserve-reply-requires
-reserve-reply-requires c κs = search needs
+try-reply-requires : tie.Need-try-reply-requires
+try-reply-requires c κs = search needs
 
 enum-told : tie.Need-enum-told
 enum-told c = search needs
-
-policy-requires-2 : tie.Need-policy-requires-2
-policy-requires-2 c κs = search needs
-
-admit-requires : tie.Need-admit-requires
-admit-requires c κs = new-may-be-asked (asks (missed c .before .before)) (c .policy2 .ensures)
-
-reserve-reply-requires-2 : tie.Need-reserve-reply-requires-2
-reserve-reply-requires-2 c κs = search needs
 
 same-length : tie.Need-same-length
 same-length c = search needs
@@ -89,22 +81,23 @@ returns-3 c =
     let k = c .before .before .before .before in
     let p = found k in
     let e = p .before .before in
-    let known = known-is-told (asks e) (k .policy .ensures) (p .position .ensures) (request (start e)) (c .reserve-reply .ensures) in
-    known _ (k .before .before .before .pos .given .1) (c .before .before .before .with-existing .ensures)
+    let s = start e in
+    let a = s .args in
+    let known = known-is-told (asks e) (k .policy .ensures) (p .position .ensures) (request s) (c .try-reply .ensures) in
+    asked-is-ruled (request s) (a .settings) (a .at) (a .id) (a .cost) (a .ws .now) (s .pre .0)
+    (known _ (k .before .before .before .pos .given .1) (c .before .before .before .with-existing .ensures))
 
 same-length-2 : tie.Need-same-length-2
 same-length-2 c = search needs
 
 returns-4 : tie.Need-returns-4
 returns-4 c =
-    let k = c .before .before .before .before in
-    let p = missed k in
+    let p = c .before .before in
     let e = p .before .before in
-    let new = new-is-told (asks e) (k .policy2 .ensures) (p .position .ensures) (request (start e)) (c .reserve-reply2 .ensures) in
-    new (k .before .before .enum-told .given .1) (c .before .before .before .admit .ensures)
+    (refl, missed-is-new (request (start e)) (asks e) (start e .pre .0) (p .position .ensures) (c .enum-told .given .1))
 
-pub reserve-within-spec : {M : Type 1} → statement M
-reserve-within-spec =
+pub decide-spec : {M : Type 1} → statement M
+decide-spec =
     tie.close
     (tie.spec
     capacity-requires
@@ -115,11 +108,8 @@ reserve-within-spec =
     enum-known-pos
     policy-requires
     with-existing-requires
-    reserve-reply-requires
+    try-reply-requires
     enum-told
-    policy-requires-2
-    admit-requires
-    reserve-reply-requires-2
     same-length
     returns-3
     same-length-2

@@ -1,22 +1,17 @@
--- `reserve_open` tells the refusal, else what `reserve_within` tells.
+-- `reserve_open` leaves a reservation that is refused, and else comes to what `reserve_within` comes to.
 use mathlib.Core.Path.{_≡_, refl, sym, _∙_}
 use Rattle.store.specs.Lending.{lentUnless}
 use Rattle.store.specs.Memory.{partOf}
 use Rattle.store.specs.Refusals.{reserveRefusal}
 use Rattle.store.proofs.RefusalLaws.{settings-refuse-reserve}
-use Rattle.store.proofs.LendingLaws.{accepted-shape, lent-part, reserve-lending}
+use Rattle.store.proofs.LendingLaws.{accepted-shape, lent-part, refused-number, reserve-lending}
 use Rattle.settings.specs.Settings.{settingsRefusal}
-use Rattle.perkey.specs.Calls.{Call, reserve}
-use Rattle.perkey.proofs.CallLaws.{refusal-is-told, unlent-is-told, lent-is-ruled}
-use Rattle.perkey.proofs.RuleLaws.{reserve-is-timed}
+use Rattle.perkey.proofs.AttemptLaws.{number-refuses}
 use borrow.Author.Needs.{needs}
-use Rattle.perkey.proofs.reserve_open.Statement.{statement}
-use Rattle.perkey.proofs.reserve_open.Tie as tie
+use Rattle.perkey.proofs.requests.reserve_open.Statement.{statement}
+use Rattle.perkey.proofs.requests.reserve_open.Tie as tie
 
--- The call; where it began, as seen once the settings are accepted and once `lend` has answered; and what `lend` answered.
-abbrev call : tie.Start → Call
-call s = reserve (s .args .settings) (s .args .at) (s .args .id) (s .args .cost) (s .args .max-wait)
-
+-- The settings are accepted; where the call began, as seen once `lend` has answered; and what `lend` answered.
 accepted : (e : tie.Else1) → settingsRefusal (e .before .before .before .args .settings) ≡ 0
 accepted e = sym (e .before .refusal .ensures) ∙ e .if1 .left
 
@@ -42,7 +37,7 @@ returns c =
     let s = c .before .before .before in
     let a = s .args in
     let told = settings-refuse-reserve (a .settings) (a .id .hash) (a .ws .now) (c .before .refusal .ensures) (c .if1 .taken) (a .at) (a .max-wait) in
-    refusal-is-told (call s) (a .ws .now) told (c .if1 .taken)
+    (refl, number-refuses told (c .if1 .taken))
 
 reserve-refusal-requires : tie.Need-reserve-refusal-requires
 reserve-refusal-requires c κs = search needs
@@ -55,8 +50,8 @@ lend-requires c κs =
     let e = c .before .before .before in
     accepted-shape (e .before .before .before .args .settings) (accepted e) (c .before .shape .ensures)
 
-enum-known-refusal : tie.Need-enum-known-refusal
-enum-known-refusal c = search needs
+enum-told : tie.Need-enum-told
+enum-told c = search needs
 
 enum-known-part : tie.Need-enum-known-part
 enum-known-part c = search needs
@@ -64,25 +59,23 @@ enum-known-part c = search needs
 reserve-within-requires : tie.Need-reserve-within-requires
 reserve-within-requires c κs =
     let l = c .before .before .before .before in
-    let a = start l .args in
     let lent = lent-part _ _ (lending l) (c .before .before .part .given .1) in
-    (reserve-is-timed (a .settings) (a .id .hash) (a .ws .now) (a .at) (a .max-wait) (lent .0), lent .1, start l .pre)
+    (lent .0, lent .1, start l .pre)
 
 same-length : tie.Need-same-length
 same-length c = search needs
 
 returns-2 : tie.Need-returns-2
 returns-2 c =
-    let l = c .before .before .before in
-    unlent-is-told (call (start l)) (start l .args .ws .now) _ (lending l) (c .before .refusal2 .given .1)
+    let l = c .before .before in
+    let number = refused-number _ _ (lending l) (c .enum-told .given .1) in
+    (refl, number-refuses (number .0) (number .1))
 
 same-length-2 : tie.Need-same-length-2
 same-length-2 c = search needs
 
 returns-3 : tie.Need-returns-3
-returns-3 c =
-    let l = c .before .before .before .before .before .before .before in
-    lent-is-ruled (call (start l)) (start l .args .ws .now) _ (lending l) (c .before .before .before .before .before .part .given .1) (c .before .before .reserve-within .ensures)
+returns-3 c = c .before .before .reserve-within .ensures
 
 pub reserve-open-spec : {M : Type 1} → statement M
 reserve-open-spec =
@@ -93,7 +86,7 @@ reserve-open-spec =
     reserve-refusal-requires
     shape-requires
     lend-requires
-    enum-known-refusal
+    enum-told
     enum-known-part
     reserve-within-requires
     same-length
