@@ -103,7 +103,7 @@ keyed-number s hash ws further =
     sym (refusals-in-a-row (settingsRefusal s) (firstRefusal memory counts) further)
     ∙ ap (λ (n : ℕ). firstRefusal n further) (sym (refusals-in-a-row (settingsRefusal s) memory counts))
 
--- The number of a request, with that for its other arguments.
+-- The number of a request.
 request-number : (r : Request) (s : Settings) (at : Nanos) (id : Identity) (cost : ℕ) (ws : List ℕ)
     → firstRefusal (keyedRefusal s (id .hash) ws) (furtherTo r at) ≡ refusalOf (request s at id r cost) ws
 request-number Acquire s at id cost ws = refl

@@ -27,10 +27,11 @@ use Rattle.perkey.specs.declared.Reply.the-variants.{Refused}
 use Rattle.perkey.specs.declared.requests.Attempt.{Attempt}
 use Rattle.perkey.specs.declared.requests.Attempt.the-variants.{Told, Left}
 use Rattle.perkey.specs.declared.requests.Why.{Why}
-use Rattle.perkey.specs.Rules.{policyOf, replyTo, askedBy}
+use Rattle.perkey.specs.Rules.{policyOf, replyTo}
 use Rattle.perkey.specs.Calls.{request}
 use Rattle.perkey.specs.Attempts.{ruleTo, refusalTo, furtherTo, NewKey, LeftFor, Meets}
-use Rattle.perkey.proofs.CallLaws.{refusal-is-told, rule-is-told}
+use Rattle.perkey.proofs.CallLaws.{refusal-is-told}
+use Rattle.perkey.proofs.AttemptLaws.{asked-is-ruled}
 use Rattle.perkey.proofs.RuleLaws.{reserve-is-timed}
 use Rattle.perkey.proofs.RequestLaws.{Asks, new-is-told}
 
@@ -49,7 +50,7 @@ module _ (r : Request) (s : Settings) (at : Nanos) (id : Identity) (cost : ℕ) 
     pub finished-is-told : {o : Outcome Reply (List ℕ)} → o ≡ ruleTo r s at id cost ws′ → o ≡ ruleTo r s at id cost ws
     finished-is-told gave = rw (left .0) at gave
 
--- A number that is not 0 is told, and where it is 0 what is asked of the bucket or of the store decides.
+-- A number that is not 0 is told; where it is 0 the moment is not too late either.
 module _ (s : Settings) (at : Nanos) (id : Identity) (ws : List ℕ) where
   refusal-by-parts : (r : Request) → firstRefusal (keyedRefusal s (id .hash) ws) (furtherTo r at) ≡ refusalTo r s at id ws
   refusal-by-parts Acquire = refl
@@ -64,11 +65,6 @@ module _ (s : Settings) (at : Nanos) (id : Identity) (ws : List ℕ) where
       → told ≡ firstRefusal (keyedRefusal s (id .hash) ws) further → (refusalTo r s at id ws ≡ 0 → ⊥)
       → outcome (Refused told) ws ≡ ruleTo r s at id cost ws
   refused-request-is-told r cost is-further is some = number-is-ruled r cost ((rw is-further at is) ∙ refusal-by-parts r) some
-
-  asked-is-ruled : (r : Request) (cost : ℕ) {o : Outcome Reply (List ℕ)} → refusalTo r s at id ws ≡ 0
-      → o ≡ askedBy r (s .limit) s at id cost ws → o ≡ ruleTo r s at id cost ws
-  asked-is-ruled Acquire cost none gave = rule-is-told (request s at id Acquire cost) ws refl none gave
-  asked-is-ruled (Reserve longest) cost none gave = rule-is-told (request s at id (Reserve longest) cost) ws refl none gave
 
   not-refused-is-timed : (r : Request) → refusalTo r s at id ws ≡ 0 → timedRefusal s (id .hash) at ws ≡ 0
   not-refused-is-timed Acquire none = none
@@ -101,4 +97,4 @@ module _ {r : Request} {s : Settings} {at : Nanos} {id : Identity} {cost : ℕ} 
         → outcome decision ws′ ≡ inPart part′ ws (OneShard.admit policy id r cost at (shardIn part′ ws))
         → outcome (replyTo r decision) ws′ ≡ ruleTo r s at id cost ws
     new-key-is-told is-policy gave =
-        asked-is-ruled s at id ws r cost (new .none) (new-is-told new-key-asks is-policy refl r refl (rw is-part (new .no-slot)) gave)
+        asked-is-ruled r s at id cost ws (new .none) (new-is-told new-key-asks is-policy refl r refl (rw is-part (new .no-slot)) gave)

@@ -1,0 +1,95 @@
+-- `reserve_open` leaves a reservation that is refused, and else comes to what `reserve_within` comes to.
+use mathlib.Core.Path.{_≡_, refl, sym, _∙_}
+use Rattle.store.specs.Lending.{lentUnless}
+use Rattle.store.specs.Memory.{partOf}
+use Rattle.store.specs.Refusals.{reserveRefusal}
+use Rattle.store.proofs.RefusalLaws.{settings-refuse-reserve}
+use Rattle.store.proofs.LendingLaws.{accepted-shape, lent-part, refused-number, reserve-lending}
+use Rattle.settings.specs.Settings.{settingsRefusal}
+use Rattle.perkey.proofs.AttemptLaws.{number-refuses}
+use borrow.Author.Needs.{needs}
+use Rattle.perkey.proofs.requests.reserve_open.Statement.{statement}
+use Rattle.perkey.proofs.requests.reserve_open.Tie as tie
+
+-- The settings are accepted; where the call began, as seen once `lend` has answered; and what `lend` answered.
+accepted : (e : tie.Else1) → settingsRefusal (e .before .before .before .args .settings) ≡ 0
+accepted e = sym (e .before .refusal .ensures) ∙ e .if1 .left
+
+abbrev checked : tie.After-lend → tie.Else1
+checked l = l .before .before .before .before
+
+abbrev start : tie.After-lend → tie.Start
+start l = checked l .before .before .before
+
+lending : (l : tie.After-lend) → let a = start l .args in
+    l .lend .result ≡ lentUnless (reserveRefusal (a .settings) (a .id .hash) (a .at) (a .max-wait) (a .ws .now)) (partOf (a .settings) (a .id .hash))
+lending l =
+    let a = start l .args in
+    let further = l .before .before .before .reserve-refusal .ensures in
+    reserve-lending (a .settings) (a .id .hash) (a .ws .now) (accepted (checked l)) (l .before .before .shape .ensures) _ (l .lend .ensures)
+    (a .at) (a .max-wait) refl refl further
+
+refusal-requires : tie.Need-refusal-requires
+refusal-requires c κs = search needs
+
+returns : tie.Need-returns
+returns c =
+    let s = c .before .before .before in
+    let a = s .args in
+    let told = settings-refuse-reserve (a .settings) (a .id .hash) (a .ws .now) (c .before .refusal .ensures) (c .if1 .taken) (a .at) (a .max-wait) in
+    (refl, number-refuses told (c .if1 .taken))
+
+reserve-refusal-requires : tie.Need-reserve-refusal-requires
+reserve-refusal-requires c κs = search needs
+
+shape-requires : tie.Need-shape-requires
+shape-requires c κs = search needs
+
+lend-requires : tie.Need-lend-requires
+lend-requires c κs =
+    let e = c .before .before .before in
+    accepted-shape (e .before .before .before .args .settings) (accepted e) (c .before .shape .ensures)
+
+enum-told : tie.Need-enum-told
+enum-told c = search needs
+
+enum-known-part : tie.Need-enum-known-part
+enum-known-part c = search needs
+
+reserve-within-requires : tie.Need-reserve-within-requires
+reserve-within-requires c κs =
+    let l = c .before .before .before .before in
+    let lent = lent-part _ _ (lending l) (c .before .before .part .given .1) in
+    (lent .0, lent .1, start l .pre)
+
+same-length : tie.Need-same-length
+same-length c = search needs
+
+returns-2 : tie.Need-returns-2
+returns-2 c =
+    let l = c .before .before in
+    let number = refused-number _ _ (lending l) (c .enum-told .given .1) in
+    (refl, number-refuses (number .0) (number .1))
+
+same-length-2 : tie.Need-same-length-2
+same-length-2 c = search needs
+
+returns-3 : tie.Need-returns-3
+returns-3 c = c .before .before .reserve-within .ensures
+
+pub reserve-open-spec : {M : Type 1} → statement M
+reserve-open-spec =
+    tie.close
+    (tie.spec
+    refusal-requires
+    returns
+    reserve-refusal-requires
+    shape-requires
+    lend-requires
+    enum-told
+    enum-known-part
+    reserve-within-requires
+    same-length
+    returns-2
+    same-length-2
+    returns-3)
