@@ -1,7 +1,7 @@
--- The step up to a power of two: the definition finds the least one, for every number, and the leading zeros of the number before lead to the same.
+-- The step up to a power of two: the definition finds the least one, for every number, and a count of leading zeros leads to the same.
 use Prim.Native.Nat.{ℕ, zero, suc, _+_, _*_, _-_, _≤_, _<_, _^_, zero-le}
 use mathlib.Core.Path.{_≡_, refl}
-use lib.Count.{leadingZeros, leading-length}
+use lib.Count.{leadingZeros, leading-top}
 use lib.Pow.{pow-pos, pow-mono}
 use native.Mathlib.Nat.{zero-add, add-zero, add-suc, suc-add, le-antisymm, lt-of-not-le, pow-suc}
 use native.Mathlib.Omega.{arith}
@@ -74,9 +74,9 @@ length-is-least n m below above =
       least = λ k serves. by-le m k (λ least. least) (λ more. absurd (omega (arith, pow-suc 2 k, pow-mono more, pow-pos k)));
     }
 
--- So the leading zeros of n - 1 in 64 bits give the exponent of the step up.
-pub leading-zeros-give-the-exponent : (n : ℕ) → n - 1 < 2 ^ 64 → 64 - leadingZeros 64 (n - 1) ≡ exponentFor n
+-- It is also the place of the highest bit of 2 (n - 1) + 1, counted from 0: the leading zeros of that number and the exponent of the step up make 63.
+pub leading-zeros-give-the-exponent : (n : ℕ) → 2 * (n - 1) + 1 < 2 ^ 64 → leadingZeros 64 (2 * (n - 1) + 1) + exponentFor n ≡ 63
 leading-zeros-give-the-exponent n fits =
-    let length = leading-length 64 (n - 1) fits in
-    let is : 64 - leadingZeros 64 (n - 1) ≡ length .0 = omega (arith, length .1) in
-    rw is (least-exponents-agree (length-is-least n (length .0) (length .2) (length .3)) (exponent-is-least n))
+    let top = leading-top 64 (2 * (n - 1) + 1) (omega arith) fits in
+    let below : n - 1 < 2 ^ top .0 = omega (arith, top .3, pow-suc 2 (top .0)) in
+    omega (arith, top .1, least-exponents-agree (exponent-is-least n) (length-is-least n (top .0) below (top .2)))

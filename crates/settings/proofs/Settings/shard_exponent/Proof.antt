@@ -1,5 +1,6 @@
 -- `Settings::shard_exponent` is the exponent for the number asked for, raised to the fewest shards that hold the keys, or for 64 if that is less: what its
 -- calls ensure, in turn.
+use native.Mathlib.Omega.{arith}
 use borrow.Author.Needs.{needs}
 use Rattle.settings.proofs.Settings.shard_exponent.Statement.{statement}
 use Rattle.settings.proofs.Settings.shard_exponent.Tie as tie
@@ -14,7 +15,7 @@ smaller-requires : tie.Need-smaller-requires
 smaller-requires c κs = search needs
 
 exponent-for-requires : tie.Need-exponent-for-requires
-exponent-for-requires c κs = search needs
+exponent-for-requires c κs = omega (arith, c .smaller .ensures)
 
 returns : tie.Need-returns
 returns c = rw (c .exponent-for .ensures, c .before .smaller .ensures, c .before .before .larger .ensures, c .before .before .before .share .ensures)
