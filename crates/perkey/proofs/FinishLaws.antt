@@ -35,14 +35,16 @@ use Rattle.perkey.proofs.AttemptLaws.{asked-is-ruled}
 use Rattle.perkey.proofs.RuleLaws.{reserve-is-timed}
 use Rattle.perkey.proofs.RequestLaws.{Asks, new-is-told}
 
--- An attempt that was answered, and one that was left: its words are those before it, so the rule is the same on them.
-module _ (r : Request) (s : Settings) (at : Nanos) (id : Identity) (cost : ℕ) (ws ws′ : List ℕ) {a : Attempt} (kept : Meets r s at id cost ws ws′ a) where
+-- An attempt on settings that were found equal to some others: its answer is what the rule tells on those; and where it left the request, the words are those
+-- before it, so the rule is the same on them.
+module _ (r : Request) (s : Settings) (at : Nanos) (id : Identity) (cost : ℕ) (ws ws′ : List ℕ) {a : Attempt} {found : Settings} (is-settings : found ≡ s)
+    (promised : Meets r found at id cost ws ws′ a) where
   pub attempt-is-told : {reply : Reply} → a ≡ Told reply → outcome reply ws′ ≡ ruleTo r s at id cost ws
-  attempt-is-told is = rw is at kept
+  attempt-is-told is = rw (is, is-settings) at promised
 
   module _ {why : Why} (is : a ≡ Left why) where
     left : (ws′ ≡ ws) × LeftFor why r s at id cost ws
-    left = rw is at kept
+    left = rw (is, is-settings) at promised
 
     pub left-may-be-finished : LeftFor why r s at id cost ws′
     left-may-be-finished = rw (left .0) (left .1)
