@@ -1,5 +1,5 @@
-// The limiter for callers in C and Rust: the nine operations on plain numbers and lent words, the words to lend, and a hash for keys. Whatever a
-// caller gives, a call ends and answers. What each operation does is the rule of `perkey` that its contract names; its reply is told as numbers.
+// The limiter for callers in C and Rust: the nine operations on plain numbers and lent words, the number of words to lend, a hash for keys, and desk lines (`lines`).
+// Whatever a caller gives, a call ends and answers. What each operation does is the rule of `perkey` that its contract names; its reply is told as numbers.
 ghost use mathlib.Core.Path.{_≡_};
 ghost use Rattle.rows.specs.Outcome.{outcome};
 ghost use Rattle.units.specs.Units.{nanosOf};
@@ -212,7 +212,7 @@ pub extern "C" fn limiter_key_hash(key: u64) -> u64
     hash::key_hash(key)
 }
 
-// The rest of a request that an attempt left. It is given the settings as numbers: so a known key's call does not have to keep what only a new key needs.
+// The rest of a request that an attempt left. It takes the settings as numbers, so that a known key's call need not keep the converted settings in registers.
 fn finish(
     settings: LimiterSettings,
     ws: &mut [u64],

@@ -1,6 +1,6 @@
 // The limiter for modems that are known by hardware address, for callers in C and Rust: the address is a lent slice of bytes, in C a pointer and a length.
-// What each operation does is the rule of `modems` that its contract names; its reply is told as numbers. This is a crate of its own since it is compiled
-// apart: in one object with the exports of `limiter` it made the calls by key slower (docs/DECISIONS.md).
+// What each operation does is the rule of `modems` that its contract names; its reply is told as numbers. It is a separate crate so that it
+// becomes a separate object: in one object with the exports of `limiter` the calls by key were slower (docs/DECISIONS.md).
 ghost use mathlib.Core.Path.{_≡_};
 ghost use Rattle.rows.specs.Outcome.{outcome};
 ghost use Rattle.units.specs.Units.{nanosOf};

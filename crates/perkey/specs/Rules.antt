@@ -125,7 +125,7 @@ unlessTrivial rate cost tooMuch atOnce ws asked =
     cond (ltb (configOf rate .capacity) cost) (outcome tooMuch ws)
     (cond (eqb cost 0) (outcome atOnce ws) asked)
 
--- A closed limiter grants only cost 0.
+-- A closed limiter's answer to a try or a peek: cost 0 is granted, any other cost is impossible.
 unfoldable pub closed : Nanos → ℕ → Decision
 closed at cost = cond (eqb cost 0) (Acquired (dueNow at)) Impossible
 

@@ -113,7 +113,7 @@ pub fn peek(settings: Settings, ws: &[u64], at: Nanos, id: Identity, cost: u32) 
     }
 }
 
-// A peek at a rate.
+// A peek on a limiter that has a rate.
 fn peek_open(
     settings: Settings,
     rate: Rate,
@@ -187,7 +187,7 @@ pub fn available(settings: Settings, ws: &[u64], at: Nanos, id: Identity) -> Rep
     }
 }
 
-// The whole tokens at a rate.
+// The whole tokens on a limiter that has a rate.
 fn available_open(settings: Settings, rate: Rate, ws: &[u64], at: Nanos, id: Identity) -> Reply
     requires { ⌜ settings .limit ≡ Open rate ⌝ }
     ensures { λ r. ⌜ outcome r (now (ws .exit)) ≡ Rules.available settings at id (now (ws .entry)) ⌝ }
@@ -226,7 +226,7 @@ pub fn refund(settings: Settings, ws: &mut [u64], id: Identity, cost: u32) -> Re
     }
 }
 
-// A refund at a rate.
+// A refund on a limiter that has a rate.
 fn refund_open(settings: Settings, rate: Rate, ws: &mut [u64], id: Identity, cost: u32) -> Reply
     requires { ⌜ settings .limit ≡ Open rate ⌝ }
     ensures { λ r. ⌜ outcome r (now (ws .exit)) ≡ Rules.refund settings id cost (now (ws .entry)) ⌝ }
@@ -288,8 +288,8 @@ pub fn len(settings: Settings, ws: &[u64]) -> Reply
     Reply::Count(store::len(ws, settings) as u64)
 }
 
-// A call on a key to which a closed limiter tells the same whatever the words are: it is refused as any other call is, else told. `refusal` and `shape` are
-// those of the settings, `further` is the number for its other arguments.
+// A closed limiter's reply to a call on a key: the call is refused as any other is, else the reply is `told`, whatever the words are. `refusal` and `shape`
+// are those of the settings, `further` is the number for its other arguments.
 fn unless_refused(
     refusal: u32,
     shape: Shape,
@@ -318,7 +318,7 @@ fn due_now(at: Nanos) -> Due
     Due::after(at, Nanos(0))
 }
 
-// The answer of a limiter without a rate: it grants only cost 0.
+// A closed limiter's answer to a try or a peek: cost 0 is granted, any other cost is impossible.
 fn closed(at: Nanos, cost: u32) -> Decision
     ensures { λ r. ⌜ r ≡ Rules.closed at cost ⌝ }
 {

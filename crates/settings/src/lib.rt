@@ -113,8 +113,8 @@ fn share(keys: u64, exponent: u32) -> u64
     (arith::saturating_sub(keys, 1) >> exponent) + 1
 }
 
-// The least exponent whose power of two is not below n: the length of n - 1 in bits, and 0 where n is 0. It is the place, counted from 0, of the
-// highest bit of 2 (n - 1) + 1. That number is never 0, so the compiler makes one bit scan of it and no test for 0; no loop and no table is needed.
+// The least exponent whose power of two is not below n: the length of n - 1 in bits, with 0 for n - 1 where n is 0. It is the place, counted from 0, of the
+// highest 1 bit of 2 (n - 1) + 1. That number is never 0, so the compiler makes one bit scan of it and no test for 0; no loop and no table is needed.
 fn exponent_for(n: u64) -> u32
     requires { ⌜ n ≤ 64 ⌝ }
     ensures { λ r. ⌜ r ≡ exponentFor n ⌝ }

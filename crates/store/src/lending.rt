@@ -15,7 +15,7 @@ pub enum Lending {
     Lent(Part),
 }
 
-// Lends the part of a hash's shard in memory of a shape, unless the call is refused. It is refused for the memory's length, else for a count of the shard
+// Finds the part of a hash's shard in memory of a shape, unless the call is refused. It is refused for the memory's length, else for a count of the shard
 // over the cap, else by `further`, the number for its other arguments. The settings were checked before: they gave the shape.
 pub fn lend(shape: Shape, ws: &[u64], hash: u64, further: u32) -> Lending
     requires { ⌜ ShapeOfAccepted shape ⌝ }
