@@ -4,6 +4,7 @@ pub mod CycleLaws
 pub mod CopyLaws
 pub mod WalkLaws
 pub mod StepLaws
+pub mod TrailLaws
 pub mod RunLaws
 pub mod ExactLaws
 pub mod RemoveLaws
@@ -11,3 +12,4 @@ pub mod WordLaws
 pub mod FindLaws
 pub mod CountedLaws
 pub mod LayoutLaws
+pub mod PassLaws

@@ -1,3 +1,4 @@
+use Rattle.index.proofs.PassLaws.{emptied-place}
 -- `vacate` empties a place in use and passes over the places after it. An empty place, and one past the last, it leaves as it is.
 use mathlib.Core.Path.{sym, _∙_}
 use Rattle.index.proofs.StepLaws.{onward-below}
@@ -12,29 +13,18 @@ word-at-requires c κs = search needs
 empty-requires : tie.Need-empty-requires
 empty-requires c κs = search needs
 
-onward-requires : tie.Need-onward-requires
-onward-requires c κs = search needs
-
 rehome-requires : tie.Need-rehome-requires
 rehome-requires c κs =
-    let emptied = c .before .before .before .before in
-    let test = emptied .before .before in
-    let inside = test .before .before .before in
-    let pre′ = inside .before .before .before .pre in
-    (then-fits _ pre′ (set-length _ _ _ _ (pre′ .inside)) (emptied .empty .ensures), rw (c .before .onward .ensures) (onward-below _ _ (inside .if1 .taken)))
+    let start′ = c .before .before .before .before .before .before .before .before .before .before .before in
+    let empty′ = c .before .before .before .empty in
+    let if1′ = c .before .before .before .before .before .before .before .before .if1 in
+    (then-fits _ (start′ .pre) (set-length _ _ _ _ (start′ .pre .inside)) (empty′ .ensures), if1′ .taken, emptied-place _ (start′ .pre) (if1′ .taken) (empty′ .ensures))
 
 same-length : tie.Need-same-length
 same-length c = search needs
 
 returns : tie.Need-returns
-returns c =
-    let passed = c .before .before in
-    let went = passed .before .before in
-    let emptied = went .before .before .before in
-    let test = emptied .before .before in
-    let used = rw (test .before .word-at .ensures) at (test .if2 .taken) in
-    let pre′ = test .before .before .before .before .before .before .pre in
-    vacated-used pre′ _ used (emptied .empty .ensures) (rw (went .onward .ensures) at (passed .rehome .ensures))
+returns c = vacated-used (c .before .before .before .before .before .before .before .before .before .before .before .before .before .before .pre) _ (rw (c .before .before .before .before .before .before .before .before .before .word-at .ensures) at (c .before .before .before .before .before .before .before .before .if2 .taken)) (c .before .before .before .before .before .before .empty .ensures) (c .before .before .rehome .ensures)
 
 same-length-2 : tie.Need-same-length-2
 same-length-2 c = search needs
@@ -51,7 +41,6 @@ vacate-spec =
     (tie.spec
     word-at-requires
     empty-requires
-    onward-requires
     rehome-requires
     same-length
     returns
