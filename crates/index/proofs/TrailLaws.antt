@@ -138,9 +138,9 @@ trail-on size ix q gap run known k hq hg free behind further bounded less used h
       further = further;
       bounded = bounded;
       used = λ y r hy s p l m. ⊎-elim
-      (λ (e : y ≡ q). rw e (here (λ g. m (e ∙ g))))
-      (λ (b : Steps size y q (r - 1) × (1 < r)). used y (r - 1) hy (b .0) (omega (arith, b .1)) (omega arith) m)
-      (one-less hy (onward-follows size q hq) s p);
+          (λ (e : y ≡ q). rw e (here (λ g. m (e ∙ g))))
+          (λ (b : Steps size y q (r - 1) × (1 < r)). used y (r - 1) hy (b .0) (omega (arith, b .1)) (omega arith) m)
+          (one-less hy (onward-follows size q hq) s p);
     }
 
 -- After the first place is emptied.
@@ -153,8 +153,17 @@ less-more : (w : ℕ) → 0 < w → w - 1 + 1 ≡ w
 less-more w h = omega arith
 
 -- The pass is at a place q in use.
-module _ (hash : ℕ → ℕ) (n size : ℕ) (ix : List ℕ) (q gap run known : ℕ) (len : length ix ≡ size) (hq : q < size) (filled : 0 < at ix q)
-    (T : Trail size ix q (record { gap = gap; run = run; known = known })) where
+module _ (hash : ℕ → ℕ) (n : ℕ) {size : ℕ} {ix : List ℕ} {q : ℕ} {pass : Pass} (len : length ix ≡ size) (hq : q < size) (filled : 0 < at ix q)
+    (T : Trail size ix q pass) where
+  abbrev gap : ℕ
+  gap = pass .gap
+
+  abbrev run : ℕ
+  run = pass .run
+
+  abbrev known : ℕ
+  known = pass .known
+
   gap-not-q : q ≡ gap → ⊥
   gap-not-q e = let s : at ix q ≡ at ix gap = ap (λ (j : ℕ). at ix j) e in omega (arith, T .free)
 

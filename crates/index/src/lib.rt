@@ -4,6 +4,8 @@
 ghost use mathlib.Core.Path.{_≡_};
 ghost use Prim.Native.Nat.{_+_, _*_, _-_, _^_, _≤_, _<_};
 ghost use lib.ListN.{length, set};
+ghost use lib.Dec.{leb};
+ghost use mathlib.Core.Bool.{cond};
 ghost use Rattle.index.specs.Walk as Walk;
 ghost use Rattle.index.specs.Trail.{Trail, FromHome, knownAfter};
 ghost use Rattle.index.specs.Layout.{Fits, placesOf, withPlaces, itemWord, hashOf, keyed};
@@ -161,7 +163,7 @@ fn empty(ws: &mut [u64], index: Index, q: usize)
     ws[k] = 0;
 }
 
-// A place that holds a word is emptied, and the item that the word names, if any, is added again.
+// A place that holds a word is emptied, and the item that the word names, if any, is added again by its walk.
 fn rehome_one(ws: &mut [u64], index: Index, n: usize, q: usize, word: u64)
     requires { ⌜ Fits index n (now ws) × (q < index .size) × (0 < word) ⌝ }
     ensures { λ _. ⌜ now (ws .exit) ≡ withPlaces index (now (ws .entry)) (Walk.addAgain (hashOf index (now (ws .entry))) n (set (placesOf index (now (ws .entry))) q 0) word) ⌝ }
@@ -205,29 +207,28 @@ fn known_after(ws: &[u64], index: Index, gap: usize, back: usize, run: usize) ->
     back
 }
 
-// A place in use is emptied and its item, if any, added again. What the walk of the item would find is known in most cases. If its home lies after the gap, it
-// stays where it is. If all places from its home to the gap are in use, it fills the gap.
+// One of two numbers, by whether an item's home lies after the gap, so that it stays. The compiler makes no jump of it, which the processor would have to guess.
+fn by_home(back: usize, run: usize, after: usize, before: usize) -> usize
+    ensures { λ r. ⌜ r ≡ cond (leb back run) after before ⌝ }
+{
+    if back <= run { after } else { before }
+}
+
+// A place in use is emptied and its item, if any, added again. If all places from the item's home on are known, no walk is needed: it comes back to its place if
+// its home lies after the gap, and else it fills the gap.
 fn pass_one(ws: &mut [u64], index: Index, n: usize, q: usize, word: u64, pass: Pass) -> Pass
     requires { ⌜ Fits index n (now ws) × (q < index .size) × (word ≡ Walk.at (placesOf index (now ws)) q) × (0 < word) × Trail (index .size) (placesOf index (now ws)) q pass ⌝ }
     ensures { λ r. ⌜ (now (ws .exit) ≡ withPlaces index (now (ws .entry)) (Walk.addAgain (hashOf index (now (ws .entry))) n (set (placesOf index (now (ws .entry))) q 0) word)) × Trail (index .size) (placesOf index (now (ws .exit))) (Walk.onward (index .size) q) r ⌝ }
 {
     let gap = pass.gap;
     let run = pass.run;
-    let known = pass.known;
     let back = from_home(ws, index, n, q, word);
-    if back <= run {
+    if back <= pass.known {
+        move_word(ws, index, q, by_home(back, run, q, gap), word);
         return Pass {
-            gap,
-            run: run + 1,
-            known: arith::fewer(known + 1, index.size),
-        };
-    }
-    if back <= known {
-        move_word(ws, index, q, gap, word);
-        return Pass {
-            gap: q,
-            run: 0,
-            known: arith::fewer(known + 1, index.size),
+            gap: by_home(back, run, gap, q),
+            run: by_home(back, run, run + 1, 0),
+            known: arith::fewer(pass.known + 1, index.size),
         };
     }
     rehome_one(ws, index, n, q, word);

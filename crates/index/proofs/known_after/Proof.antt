@@ -1,21 +1,16 @@
-use Rattle.index.proofs.TrailLaws.{known-left, known-filled}
+-- `known_after` tells by the gap what a walk has shown.
 use mathlib.Core.Path.{sym, _∙_}
+use Rattle.index.proofs.TrailLaws.{known-left, known-filled}
 use borrow.Author.Needs.{needs}
 use Rattle.index.proofs.known_after.Statement.{statement}
 use Rattle.index.proofs.known_after.Tie as tie
-use Rattle.index.proofs.known_after.Reads as reads
-use Rattle.index.proofs.known_after.Lts as lts
-use Rattle.index.proofs.word_at.Reads as word-at-reads
 
--- src/lib.rt:202:8
 word-at-requires : tie.Need-word-at-requires
 word-at-requires c κs = search needs
 
--- src/lib.rt:203:9
 returns : tie.Need-returns
 returns c = known-left _ _ _ (sym (c .before .word-at .ensures) ∙ c .if1 .taken)
 
--- src/lib.rt:198:1
 returns-2 : tie.Need-returns-2
 returns-2 c = known-filled _ _ _ (rw (c .before .word-at .ensures) at (c .if1 .left))
 

@@ -1,41 +1,32 @@
-use Rattle.index.proofs.LayoutLaws.{two-places-set}
-use lib.ListN.{length-set}
+-- `move_word` stores at two places of the index.
 use native.Mathlib.Omega.{arith}
+use lib.ListN.{length-set}
+use Rattle.index.proofs.LayoutLaws.{two-places-set}
 use borrow.Author.Needs.{needs}
 use Rattle.index.proofs.move_word.Statement.{statement}
 use Rattle.index.proofs.move_word.Tie as tie
-use Rattle.index.proofs.move_word.Reads as reads
-use Rattle.index.proofs.move_word.Lts as lts
 
--- src/lib.rt:191:16
 add-from : tie.Need-add-from
 add-from c = search needs
 
--- src/lib.rt:192:13
 add-k : tie.Need-add-k
 add-k c = search needs
 
--- src/lib.rt:193:5
 mul-ws : tie.Need-mul-ws
 mul-ws c = search needs
 
--- src/lib.rt:193:5
 slice-write-ws : tie.Need-slice-write-ws
 slice-write-ws c = search needs
 
--- src/lib.rt:194:5
 mul-ws-2 : tie.Need-mul-ws-2
 mul-ws-2 c = search needs
 
--- src/lib.rt:194:5
 slice-write-ws-2 : tie.Need-slice-write-ws-2
 slice-write-ws-2 c = simp length-set (omega arith)
 
--- src/lib.rt:187:1
 same-length : tie.Need-same-length
 same-length c = search needs
 
--- src/lib.rt:187:1
 returns : tie.Need-returns
 returns c =
     let start′ = c .before .before in

@@ -1,8 +1,7 @@
-use Rattle.index.proofs.PassLaws.{emptied-place}
 -- `vacate` empties a place in use and passes over the places after it. An empty place, and one past the last, it leaves as it is.
 use mathlib.Core.Path.{sym, _∙_}
-use Rattle.index.proofs.StepLaws.{onward-below}
 use Rattle.index.proofs.LayoutLaws.{then-fits, set-length, vacated-empty, vacated-past, vacated-used}
+use Rattle.index.proofs.PassLaws.{emptied-place}
 use borrow.Author.Needs.{needs}
 use Rattle.index.proofs.vacate.Statement.{statement}
 use Rattle.index.proofs.vacate.Tie as tie
@@ -15,16 +14,24 @@ empty-requires c κs = search needs
 
 rehome-requires : tie.Need-rehome-requires
 rehome-requires c κs =
-    let start′ = c .before .before .before .before .before .before .before .before .before .before .before in
-    let empty′ = c .before .before .before .empty in
-    let if1′ = c .before .before .before .before .before .before .before .before .if1 in
-    (then-fits _ (start′ .pre) (set-length _ _ _ _ (start′ .pre .inside)) (empty′ .ensures), if1′ .taken, emptied-place _ (start′ .pre) (if1′ .taken) (empty′ .ensures))
+    let emptied = c .before .before .before in
+    let test = emptied .before .before in
+    let inside = test .before .before .before in
+    let pre′ = inside .before .before .before .pre in
+    let fits = then-fits _ pre′ (set-length _ _ _ _ (pre′ .inside)) (emptied .empty .ensures) in
+    (fits, inside .if1 .taken, emptied-place _ pre′ (inside .if1 .taken) (emptied .empty .ensures))
 
 same-length : tie.Need-same-length
 same-length c = search needs
 
 returns : tie.Need-returns
-returns c = vacated-used (c .before .before .before .before .before .before .before .before .before .before .before .before .before .before .pre) _ (rw (c .before .before .before .before .before .before .before .before .before .word-at .ensures) at (c .before .before .before .before .before .before .before .before .if2 .taken)) (c .before .before .before .before .before .before .empty .ensures) (c .before .before .rehome .ensures)
+returns c =
+    let passed = c .before .before in
+    let emptied = passed .before .before .before .before in
+    let test = emptied .before .before in
+    let used = rw (test .before .word-at .ensures) at (test .if2 .taken) in
+    let pre′ = test .before .before .before .before .before .before .pre in
+    vacated-used pre′ _ used (emptied .empty .ensures) (passed .rehome .ensures)
 
 same-length-2 : tie.Need-same-length-2
 same-length-2 c = search needs
