@@ -4,8 +4,8 @@ pub mod CycleLaws
 pub mod CopyLaws
 pub mod WalkLaws
 pub mod StepLaws
-pub mod TrailLaws
 pub mod RunLaws
+pub mod TrailLaws
 pub mod ExactLaws
 pub mod RemoveLaws
 pub mod WordLaws

@@ -1,7 +1,6 @@
 -- One turn of the pass in lent words: whether the item stays, fills the gap or is added by a walk, the words are those of the definition, and the pass knows what
 -- it has to know at the next place.
 use Prim.Native.Nat.{ℕ, _+_, _≤_, _<_, min}
-use native.Mathlib.Omega.{arith}
 use mathlib.Core.Path.{_≡_, sym, _∙_, ap}
 use mathlib.Core.List.{List}
 use mathlib.Core.Bool.{cond}

@@ -10,12 +10,13 @@ use lib.Seq.{set-getD, set-set}
 use borrow.Author.Tests.{eq-eqb, ne-eqb}
 use Rattle.arith.proofs.Cases.{by-eq, by-le}
 use Rattle.index.specs.declared.Pass.{Pass}
-use Rattle.index.specs.Walk.{at, onward, walk, seek, add, addAgain}
+use Rattle.index.specs.Walk.{at, onward, walk, seek, addAgain}
 use Rattle.index.specs.Exact.{Before, mid, low, high}
 use Rattle.index.specs.Trail.{Steps, ahead, round, FromHome, item, noItem, Trail, knownAfter}
-use Rattle.index.proofs.CycleLaws.{Follows, on, back, onward-follows, follows-below, which-first}
+use Rattle.index.proofs.CycleLaws.{Follows, on, back, onward-follows, which-first, not-before-itself}
 use Rattle.index.proofs.CopyLaws.{at-stored, at-kept, used-kept}
 use Rattle.index.proofs.WalkLaws.{StopsAt, walk-stops, empty-stops, isEmpty, stops-empty, passed-used}
+use Rattle.index.proofs.RunLaws.{less-more}
 use Rattle.index.proofs.StepLaws.{add-in, add-again-named, add-again-nothing}
 
 -- The walk from one place to another takes one number of steps, and none to the place itself.
@@ -38,11 +39,6 @@ steps-below a b (round c d) = omega arith
 not-here : {size q r : ℕ} → Steps size q q r → 0 < r → ⊥
 not-here (ahead a) b = omega arith
 not-here (round a c) b = omega arith
-
-not-before-itself : {a b : ℕ} → Before a b b → ⊥
-not-before-itself (mid c d) = omega arith
-not-before-itself (low c d) = omega arith
-not-before-itself (high c d) = omega arith
 
 before-same : {a x z y : ℕ} → x ≡ z → Before a x y → Before a z y
 before-same e b = rw e at b
@@ -148,9 +144,6 @@ pub trail-start : (size : ℕ) (ix : List ℕ) (z : ℕ) → z < size → at ix 
 trail-start size ix z hz free =
     trail-on size ix z z 0 1 0 hz hz free (one-step (onward-follows size z hz)) (omega arith) (omega arith) (omega arith)
     (λ y r hy s p l m. absurd (omega arith)) (λ n. absurd (n refl))
-
-less-more : (w : ℕ) → 0 < w → w - 1 + 1 ≡ w
-less-more w h = omega arith
 
 -- The pass is at a place q in use.
 module _ (hash : ℕ → ℕ) (n : ℕ) {size : ℕ} {ix : List ℕ} {q : ℕ} {pass : Pass} (len : length ix ≡ size) (hq : q < size) (filled : 0 < at ix q)
