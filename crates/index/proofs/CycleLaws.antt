@@ -26,6 +26,12 @@ pub follows-below : {size q p : ℕ} → q < size → Follows size q p → p < s
 follows-below h (on a b) = omega arith
 follows-below h (back a b) = omega arith
 
+-- No place comes before itself.
+pub not-before-itself : {a b : ℕ} → Before a b b → ⊥
+not-before-itself (mid c d) = omega arith
+not-before-itself (low c d) = omega arith
+not-before-itself (high c d) = omega arith
+
 -- Of two places one comes first on the way from a, or they are the same.
 pub which-first : (a x z : ℕ) → Before a x z ⊎ (z ≡ x) ⊎ Before a z x
 which-first a x z =

@@ -111,6 +111,15 @@ place-set index ws q v l =
     let lent = drop-set-add (index .base) ws q v in
     sym (rw (front, lent, take-set-lt (index .size) back q v l, drop-set-lt (index .size) back q v l) at (same-places index (set ws (index .base + q) v)))
 
+pub two-places-set : (index : Index) (ws : List ℕ) (q v r w : ℕ) → q < index .size → r < index .size
+    → set (set ws (index .base + q) v) (index .base + r) w ≡ withPlaces index ws (set (set (placesOf index ws) q v) r w)
+unfolding placesOf withPlaces
+two-places-set index ws q v r w l m =
+    let back : List ℕ = drop (index .base) ws in
+    let front = take-set-le (index .base) ws (index .base + q) v (omega arith) in
+    let lent = drop-set-add (index .base) ws q v in
+    rw (front, lent, take-set-lt (index .size) back q v l, drop-set-lt (index .size) back q v l) at (place-set index (set ws (index .base + q) v) r w m)
+
 pub set-length : (index : Index) (ws : List ℕ) (q v : ℕ) → index .base + index .size ≤ length ws → length (set (placesOf index ws) q v) ≡ index .size
 set-length index ws q v h = simp length-set (places-length index ws h)
 

@@ -5,9 +5,11 @@ pub mod CopyLaws
 pub mod WalkLaws
 pub mod StepLaws
 pub mod RunLaws
+pub mod TrailLaws
 pub mod ExactLaws
 pub mod RemoveLaws
 pub mod WordLaws
 pub mod FindLaws
 pub mod CountedLaws
 pub mod LayoutLaws
+pub mod PassLaws

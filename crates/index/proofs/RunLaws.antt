@@ -11,12 +11,12 @@ use Rattle.arith.proofs.Cases.{by-le, by-eq}
 use Rattle.index.specs.Walk.{at, onward, walk, seek, add, addAgain, rehome}
 use Rattle.index.specs.Exact.{copies, Before, mid, low, high, OnWalk}
 use Rattle.index.proofs.CycleLaws.{Follows, on, back, onward-follows, follows-below, which-first, before-from-next, passes-arc-end, in-one-arc, not-in-both-arcs}
-use Rattle.index.proofs.CycleLaws.{arc-gains-its-end, arc-grows, passes-other-arc, Reach, reach-none, reach-next, all-but-one}
+use Rattle.index.proofs.CycleLaws.{not-before-itself, arc-gains-its-end, arc-grows, passes-other-arc, Reach, reach-none, reach-next, all-but-one}
 use Rattle.index.proofs.CopyLaws.{copies-at, copies-moved, at-stored, at-kept, used-kept}
 use Rattle.index.proofs.WalkLaws.{StopsAt, walk-stops, empty-stops, isEmpty, stops-empty, passed-used}
 use Rattle.index.proofs.StepLaws.{rehome-empty}
 
-less-more : (w : ℕ) → 0 < w → w - 1 + 1 ≡ w
+pub less-more : (w : ℕ) → 0 < w → w - 1 + 1 ≡ w
 less-more w h = omega arith
 
 module _ (hash : ℕ → ℕ) (size : ℕ) where
@@ -103,11 +103,6 @@ pending-done hash size ix p q hq free P x y hx hy u b =
     absurd (⊎-elim (λ (v : 0 < at ix q). omega arith) (λ (d : Before p q q × Before q p x). not-before-itself (d .0))
     (P x q hx hq u (passes-arc-end b (c .0) (c .1) (λ k. let s : at ix x ≡ at ix q = ap (λ (j : ℕ). at ix j) k in omega arith)))))
     (P x y hx hy u b)
-  where
-    not-before-itself : {a b : ℕ} → Before a b b → ⊥
-    not-before-itself (mid c d) = omega arith
-    not-before-itself (low c d) = omega arith
-    not-before-itself (high c d) = omega arith
 
 -- A place has just been emptied: walks to the others may have a gap there.
 pub pending-start : (hash : ℕ → ℕ) (size : ℕ) (ix : List ℕ) (p : ℕ) → length ix ≡ size → p < size → 1 < size → OnWalk hash size ix

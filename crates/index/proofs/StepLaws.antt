@@ -142,6 +142,19 @@ pub find-home : (n : ℕ) (test : ℕ → Bool) (ix : List ℕ) (h : ℕ) {p p�
 unfolding find
 find-home n test ix h size q len room home e which = rw (len, ← home) (find-turn n test ix q size size len room e which)
 
+-- Among no items nothing is found, whatever the words are.
+find-from-none : (test : ℕ → Bool) (ix : List ℕ) (q left : ℕ) → findFrom 0 test ix q left ≡ Nowhere
+find-from-none test ix q zero = sym (find-over 0 test ix q 0 (omega arith))
+find-from-none test ix q (suc left) =
+    let look = find-look 0 test ix q (suc left) (length ix) refl (omega arith) in
+    by-eq (at ix q) 0
+    (λ e. rw (look, ← probed-empty 0 test (at ix q) e))
+    (λ k. rw (look, ← probed-no-item 0 test (at ix q) (omega arith), suc-less left) (find-from-none test ix (onward (length ix) q) left))
+
+pub find-among-none : (test : ℕ → Bool) (ix : List ℕ) (h : ℕ) → find 0 test ix h ≡ Nowhere
+unfolding find
+find-among-none test ix h = find-from-none test ix (h % length ix) (length ix)
+
 -- A word that names an item is added again, and one that names none is not.
 pub add-again-named : (hash : ℕ → ℕ) (n : ℕ) (ix : List ℕ) (v : ℕ) → v ≤ n → addAgain hash n ix v ≡ add ix (hash (v - 1)) (v - 1)
 unfolding addAgain

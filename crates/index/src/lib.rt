@@ -4,7 +4,10 @@
 ghost use mathlib.Core.Path.{_≡_};
 ghost use Prim.Native.Nat.{_+_, _*_, _-_, _^_, _≤_, _<_};
 ghost use lib.ListN.{length, set};
+ghost use lib.Dec.{leb};
+ghost use mathlib.Core.Bool.{cond};
 ghost use Rattle.index.specs.Walk as Walk;
+ghost use Rattle.index.specs.Trail.{Trail, FromHome, knownAfter};
 ghost use Rattle.index.specs.Layout.{Fits, placesOf, withPlaces, itemWord, hashOf, keyed};
 use rows::Place;
 
@@ -31,6 +34,14 @@ enum Probed {
     Hit(usize),
     Empty,
     Other,
+}
+
+// What the pass over the places after an emptied one knows when it looks at a place: the last place that it left empty, how many places lie between that one
+// and this one, and of how many places before this one it knows that all are in use but that one.
+struct Pass {
+    gap: usize,
+    run: usize,
+    known: usize,
 }
 
 // The word at a place.
@@ -152,7 +163,7 @@ fn empty(ws: &mut [u64], index: Index, q: usize)
     ws[k] = 0;
 }
 
-// A place that holds a word is emptied, and the item that the word names, if any, is added again.
+// A place that holds a word is emptied, and the item that the word names, if any, is added again by its walk.
 fn rehome_one(ws: &mut [u64], index: Index, n: usize, q: usize, word: u64)
     requires { ⌜ Fits index n (now ws) × (q < index .size) × (0 < word) ⌝ }
     ensures { λ _. ⌜ now (ws .exit) ≡ withPlaces index (now (ws .entry)) (Walk.addAgain (hashOf index (now (ws .entry))) n (set (placesOf index (now (ws .entry))) q 0) word) ⌝ }
@@ -161,21 +172,93 @@ fn rehome_one(ws: &mut [u64], index: Index, n: usize, q: usize, word: u64)
     add_again(ws, index, n, word);
 }
 
-// The places from `from` on, up to the first one that is met empty, are emptied one by one and their items added again. The pass looks at one
-// place fewer than there are, so that it never comes back to the place before `from`.
-fn rehome(ws: &mut [u64], index: Index, n: usize, from: usize)
-    requires { ⌜ Fits index n (now ws) × (from < index .size) ⌝ }
-    ensures { λ _. ⌜ now (ws .exit) ≡ withPlaces index (now (ws .entry)) (Walk.rehome (hashOf index (now (ws .entry))) n (placesOf index (now (ws .entry))) from (index .size - 1)) ⌝ }
+// How many steps a walk takes to place q from the home of the item that a word names. For a word that names no item, more than there can be.
+fn from_home(ws: &[u64], index: Index, n: usize, q: usize, word: u64) -> usize
+    requires { ⌜ Fits index n (now ws) × (q < index .size) × (0 < word) ⌝ }
+    ensures { λ r. ⌜ FromHome (hashOf index (now (ws .entry))) n (index .size) q word r ⌝ }
+{
+    if word <= n as u64 {
+        let i = (word - 1) as usize;
+        let home = places::home(index.size, item_word(ws, index, n, i, HASH));
+        return places::steps(index.size, home, q);
+    }
+    index.size + 1
+}
+
+// A place is emptied, and its word put into another place.
+fn move_word(ws: &mut [u64], index: Index, q: usize, to: usize, word: u64)
+    requires { ⌜ (index .base + index .size ≤ length (now ws)) × (q < index .size) × (to < index .size) ⌝ }
+    ensures { λ _. ⌜ now (ws .exit) ≡ withPlaces index (now (ws .entry)) (set (set (placesOf index (now (ws .entry))) q 0) to word) ⌝ }
+{
+    let from = index.base + q;
+    let k = index.base + to;
+    ws[from] = 0;
+    ws[k] = word;
+}
+
+// Where an item was added again by a walk: if it filled the gap, all places from its home on are in use, else those after the gap.
+fn known_after(ws: &[u64], index: Index, gap: usize, back: usize, run: usize) -> usize
+    requires { ⌜ (index .base + index .size ≤ length (now ws)) × (gap < index .size) ⌝ }
+    ensures { λ r. ⌜ r ≡ knownAfter (Walk.at (placesOf index (now (ws .entry))) gap) back run ⌝ }
+{
+    if word_at(ws, index, gap) == 0 {
+        return run;
+    }
+    back
+}
+
+// One of two numbers, by whether an item's home lies after the gap, so that it stays. The compiler makes no jump of it, which the processor would have to guess.
+fn by_home(back: usize, run: usize, after: usize, before: usize) -> usize
+    ensures { λ r. ⌜ r ≡ cond (leb back run) after before ⌝ }
+{
+    if back <= run { after } else { before }
+}
+
+// A place in use is emptied and its item, if any, added again. If all places from the item's home on are known, no walk is needed: it comes back to its place if
+// its home lies after the gap, and else it fills the gap.
+fn pass_one(ws: &mut [u64], index: Index, n: usize, q: usize, word: u64, pass: Pass) -> Pass
+    requires { ⌜ Fits index n (now ws) × (q < index .size) × (word ≡ Walk.at (placesOf index (now ws)) q) × (0 < word) × Trail (index .size) (placesOf index (now ws)) q pass ⌝ }
+    ensures { λ r. ⌜ (now (ws .exit) ≡ withPlaces index (now (ws .entry)) (Walk.addAgain (hashOf index (now (ws .entry))) n (set (placesOf index (now (ws .entry))) q 0) word)) × Trail (index .size) (placesOf index (now (ws .exit))) (Walk.onward (index .size) q) r ⌝ }
+{
+    let gap = pass.gap;
+    let run = pass.run;
+    let back = from_home(ws, index, n, q, word);
+    if back <= pass.known {
+        move_word(ws, index, q, by_home(back, run, q, gap), word);
+        return Pass {
+            gap: by_home(back, run, gap, q),
+            run: by_home(back, run, run + 1, 0),
+            known: arith::fewer(pass.known + 1, index.size),
+        };
+    }
+    rehome_one(ws, index, n, q, word);
+    Pass {
+        gap: q,
+        run: 0,
+        known: known_after(ws, index, gap, back, run) + 1,
+    }
+}
+
+// The places after an emptied place z, up to the first one that is met empty, are emptied one by one and their items added again. The pass looks at one
+// place fewer than there are, so that it never comes back to z.
+fn rehome(ws: &mut [u64], index: Index, n: usize, z: usize)
+    requires { ⌜ Fits index n (now ws) × (z < index .size) × (Walk.at (placesOf index (now ws)) z ≡ 0) ⌝ }
+    ensures { λ _. ⌜ now (ws .exit) ≡ withPlaces index (now (ws .entry)) (Walk.rehome (hashOf index (now (ws .entry))) n (placesOf index (now (ws .entry))) (Walk.onward (index .size) z) (index .size - 1)) ⌝ }
 {
     let size = index.size;
-    let mut q = from;
+    let mut pass = Pass {
+        gap: z,
+        run: 0,
+        known: 1,
+    };
+    let mut q = places::onward(size, z);
     let mut left = size - 1;
     while 0 < left {
         let held = word_at(ws, index, q);
         if held == 0 {
             return;
         }
-        rehome_one(ws, index, n, q, held);
+        pass = pass_one(ws, index, n, q, held, pass);
         q = places::onward(size, q);
         left -= 1;
     }
@@ -189,8 +272,7 @@ fn vacate(ws: &mut [u64], index: Index, n: usize, z: usize)
     if z < index.size {
         if word_at(ws, index, z) != 0 {
             empty(ws, index, z);
-            let from = places::onward(index.size, z);
-            rehome(ws, index, n, from);
+            rehome(ws, index, n, z);
         }
     }
 }

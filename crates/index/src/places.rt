@@ -3,6 +3,7 @@ ghost use mathlib.Core.Path.{_≡_};
 ghost use Prim.Native.Nat.{_+_, _%_, _^_, _<_};
 ghost use lib.ListN.{length};
 ghost use Rattle.index.specs.Walk as Walk;
+ghost use Rattle.index.specs.Trail.{Steps};
 
 // The place one step on: after the last place comes the first.
 pub(crate) fn onward(size: usize, q: usize) -> usize
@@ -13,6 +14,17 @@ pub(crate) fn onward(size: usize, q: usize) -> usize
         return q + 1;
     }
     0
+}
+
+// How many steps a walk takes from one place to another.
+pub(crate) fn steps(size: usize, from: usize, to: usize) -> usize
+    requires { ⌜ (from < size) × (to < size) ⌝ }
+    ensures { λ r. ⌜ Steps size from to r ⌝ }
+{
+    if from <= to {
+        return to - from;
+    }
+    size - from + to
 }
 
 // The place at which the walk of a hash starts. Where the number of places is a power of two a mask gives the remainder, and no division is made.

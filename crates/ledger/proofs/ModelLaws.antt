@@ -14,6 +14,7 @@ use Rattle.rows.specs.declared.Place.{Place}
 use Rattle.rows.specs.declared.Place.the-variants.{At, Nowhere}
 use Rattle.index.specs.Walk as Index
 use Rattle.index.specs.Layout.{Fits, placesOf, withPlaces, hashOf, keyed}
+use Rattle.index.proofs.StepLaws.{find-among-none}
 use Rattle.held.specs.Held.{withAdded, removed, withoutItem}
 use Rattle.held.specs.Round as Round
 use Rattle.rows.specs.Outcome.{Outcome, outcome}
@@ -64,6 +65,12 @@ module _ {cap : ℕ} {ws : List ℕ} (intact : Intact cap ws) where
   pub found-in-index : (hash : ℕ) → Index.find (stands .debts .count) (keyed (debtIndex cap) ws hash hash) (placesOf (debtIndex cap) ws) hash ≡ placeOf stands hash
   unfolding placeOf
   found-in-index hash = indexed-find (debts-indexed intact) hash hash (owes hash) (λ d. tested-twice (owes hash d))
+
+  -- Where there are no debts none is found, whatever the index holds.
+  pub none-found : (hash : ℕ) → stands .debts .count ≡ 0 → Nowhere ≡ placeOf stands hash
+  none-found hash e =
+      let none = find-among-none (keyed (debtIndex cap) ws hash hash) (placesOf (debtIndex cap) ws) hash in
+      sym (rw e none) ∙ found-in-index hash
 
   pub added-to-index : (hash i : ℕ) → ledger cap (withPlaces (debtIndex cap) ws (Index.add (placesOf (debtIndex cap) ws) hash i))
       ≡ withFinding stands (withAdded (stands .debts .finding) hash i)

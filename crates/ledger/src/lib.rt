@@ -49,6 +49,9 @@ pub fn position(ws: &[u64], cap: usize, hash: u64) -> Place
     ensures { λ r. ⌜ r ≡ Model.placeOf (ledger cap (now (ws .entry))) hash ⌝ }
 {
     let count = words::count(ws, cap);
+    if count == 0 {
+        return Place::Nowhere;
+    }
     index::find(ws, words::index(cap), count, hash, hash)
 }
 

@@ -1,0 +1,35 @@
+-- `from_home` counts the steps from the home of the item that the word names, if it names one.
+use mathlib.Core.Path.{refl}
+use native.Mathlib.Nat.{mod-lt}
+use Rattle.index.specs.Trail.{item, noItem}
+use borrow.Author.Needs.{needs}
+use Rattle.index.proofs.from_home.Statement.{statement}
+use Rattle.index.proofs.from_home.Tie as tie
+
+sub-i : tie.Need-sub-i
+sub-i c = search needs
+
+item-word-requires : tie.Need-item-word-requires
+item-word-requires c κs = search needs
+
+home-requires : tie.Need-home-requires
+home-requires c κs = c .before .before .before .pre .0 .room
+
+steps-requires : tie.Need-steps-requires
+steps-requires c κs =
+    let start′ = c .before .before .before .before in
+    (rw (c .home .ensures) (mod-lt _ (start′ .pre .0 .room)), start′ .pre .1)
+
+returns : tie.Need-returns
+returns c = item (c .before .before .before .if1 .taken) (rw (c .before .home .ensures, c .before .before .item-word .ensures) at (c .steps .ensures))
+
+add-result : tie.Need-add-result
+add-result c = search needs
+
+returns-2 : tie.Need-returns-2
+returns-2 c = noItem (c .before .if1 .left) refl
+
+pub from-home-spec : {M : Type 1} → statement M
+from-home-spec =
+    tie.close
+    (tie.spec sub-i item-word-requires home-requires steps-requires returns add-result returns-2)
