@@ -74,7 +74,7 @@ pub extern "C" fn limiter_try(
         Identity { hash, key },
         cost,
     ) {
-        Attempt::Told(reply) => reply.told(),
+        Attempt::Answered(reply) => reply.told(),
         Attempt::Left(why) => {
             let request = Request::Acquire;
             finish(settings, ws, at, hash, key, request, cost, why).told()
@@ -104,7 +104,7 @@ pub extern "C" fn limiter_reserve(
         cost,
         Nanos(max_wait),
     ) {
-        Attempt::Told(reply) => reply.told(),
+        Attempt::Answered(reply) => reply.told(),
         Attempt::Left(why) => {
             let request = Request::Reserve(Nanos(max_wait));
             finish(settings, ws, at, hash, key, request, cost, why).told()

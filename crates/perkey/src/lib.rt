@@ -66,7 +66,7 @@ pub fn try_acquire_with_cost(
     ensures { λ r. ⌜ outcome r (now (ws .exit)) ≡ Rules.tryAcquire settings at id cost (now (ws .entry)) ⌝ }
 {
     match requests::attempt_try(settings, ws, at, id, cost) {
-        Attempt::Told(reply) => reply,
+        Attempt::Answered(reply) => reply,
         Attempt::Left(why) => requests::finish(settings, ws, at, id, Request::Acquire, cost, why),
     }
 }
@@ -83,7 +83,7 @@ pub fn reserve(
     ensures { λ r. ⌜ outcome r (now (ws .exit)) ≡ Rules.reserve settings at id cost «max_wait» (now (ws .entry)) ⌝ }
 {
     match requests::attempt_reserve(settings, ws, at, id, cost, max_wait) {
-        Attempt::Told(reply) => reply,
+        Attempt::Answered(reply) => reply,
         Attempt::Left(why) => {
             let request = Request::Reserve(max_wait);
             requests::finish(settings, ws, at, id, request, cost, why)

@@ -1,5 +1,6 @@
-// A request, a try or a reservation, in two halves: an attempt, which answers a known key, and `finish` for what the attempt leaves. An operation is one
-// after the other. An export calls them itself, so that a known key's call holds nothing that only the second half needs (docs/DECISIONS.md).
+// A request, a try or a reservation, in two halves. The attempt answers every request on a closed limiter, cost 0, a cost over the burst, and a known key;
+// where there is a rate it leaves a refused request and a new key, and `finish` answers these. An operation calls the attempt, then `finish` if the attempt
+// left the request. An export calls both itself, so that a known key's call keeps nothing in registers that only `finish` needs (docs/DECISIONS.md).
 ghost use mathlib.Core.Path.{_≡_};
 ghost use Rattle.rows.specs.Outcome.{outcome};
 ghost use Rattle.bucket.specs.declared.Request.the-variants.{Acquire, Reserve};
@@ -8,7 +9,7 @@ ghost use Rattle.settings.specs.Settings.{firstRefusal};
 ghost use Rattle.store.specs.Memory.{partOf};
 ghost use Rattle.store.specs.Refusals.{keyedRefusal, timedRefusal, reserveRefusal, momentRefusal, waitRefusal};
 ghost use Rattle.perkey.specs.Rules as Rules;
-ghost use Rattle.perkey.specs.Attempts.{Meets, LeftFor, NewKey, furtherTo, ruleTo};
+ghost use Rattle.perkey.specs.Attempts.{LeftFor, NewKey, attempted, furtherTo, ruleTo};
 use crate::Reply;
 use bucket::BucketDecision;
 use bucket::Request;
@@ -27,12 +28,12 @@ use units::Nanos;
 // What an attempt comes to.
 pub enum Attempt {
     // The answer.
-    Told(Reply),
+    Answered(Reply),
     // Nothing was changed, and `finish` answers.
     Left(Why),
 }
 
-// Why an attempt leaves a request: it is refused by number, or its key has no slot.
+// Why an attempt leaves a request, on a limiter with a rate: it is refused by number, or its key has no slot.
 pub enum Why {
     Refused,
     New,
@@ -47,7 +48,7 @@ pub fn attempt_try(
     id: Identity,
     cost: u32,
 ) -> Attempt
-    ensures { λ r. ⌜ Meets Acquire settings at id cost (now (ws .entry)) (now (ws .exit)) r ⌝ }
+    ensures { λ r. ⌜ outcome r (now (ws .exit)) ≡ attempted Acquire settings at id cost (now (ws .entry)) ⌝ }
 {
     let limit = settings.limit;
     match limit {
@@ -62,13 +63,13 @@ pub fn attempt_try(
                 late,
                 told,
             );
-            Attempt::Told(reply)
+            Attempt::Answered(reply)
         }
         Limit::Open(rate) => try_open(settings, rate, ws, at, id, cost),
     }
 }
 
-// A try at a rate. By which number it is refused is not looked at, so that the common case is compiled to comparisons alone.
+// A try on a limiter that has a rate. By which number it is refused is not looked at, so that the common case is compiled to comparisons alone.
 fn try_open(
     settings: Settings,
     rate: Rate,
@@ -78,7 +79,7 @@ fn try_open(
     cost: u32,
 ) -> Attempt
     requires { ⌜ settings .limit ≡ Open rate ⌝ }
-    ensures { λ r. ⌜ Meets Acquire settings at id cost (now (ws .entry)) (now (ws .exit)) r ⌝ }
+    ensures { λ r. ⌜ outcome r (now (ws .exit)) ≡ attempted Acquire settings at id cost (now (ws .entry)) ⌝ }
 {
     if settings.refusal() != 0 {
         return Attempt::Left(Why::Refused);
@@ -89,7 +90,8 @@ fn try_open(
     }
 }
 
-// A try that is not refused. No state is made for a cost that can never be granted, nor for cost 0.
+// A try that is not refused. No state is made for a cost that can never be granted, nor for cost 0. The attempts of a try and of a reservation are written
+// apart, while `finish` is one function: the compiler puts a function with one caller into it, and a known key's call is to be compiled as one function.
 fn decide(
     settings: Settings,
     rate: Rate,
@@ -100,13 +102,13 @@ fn decide(
     cost: u32,
 ) -> Attempt
     requires { ⌜ (timedRefusal settings (id .hash) at (now ws) ≡ 0) × (part ≡ partOf settings (id .hash)) × (settings .limit ≡ Open rate) ⌝ }
-    ensures { λ r. ⌜ Meets Acquire settings at id cost (now (ws .entry)) (now (ws .exit)) r ⌝ }
+    ensures { λ r. ⌜ outcome r (now (ws .exit)) ≡ attempted Acquire settings at id cost (now (ws .entry)) ⌝ }
 {
     if rate.capacity() < cost {
-        return Attempt::Told(Reply::Tried(Decision::Impossible));
+        return Attempt::Answered(Reply::Tried(Decision::Impossible));
     }
     if cost == 0 {
-        return Attempt::Told(Reply::Tried(Decision::Acquired(crate::due_now(at))));
+        return Attempt::Answered(Reply::Tried(Decision::Acquired(crate::due_now(at))));
     }
     match store::position(ws, part, id) {
         Place::At(pos) => {
@@ -120,7 +122,7 @@ fn decide(
                 cost,
                 at,
             );
-            Attempt::Told(try_reply(decision))
+            Attempt::Answered(try_reply(decision))
         }
         Place::Nowhere => Attempt::Left(Why::New),
     }
@@ -135,12 +137,12 @@ pub fn attempt_reserve(
     cost: u32,
     max_wait: Nanos,
 ) -> Attempt
-    ensures { λ r. ⌜ Meets (Reserve «max_wait») settings at id cost (now (ws .entry)) (now (ws .exit)) r ⌝ }
+    ensures { λ r. ⌜ outcome r (now (ws .exit)) ≡ attempted (Reserve «max_wait») settings at id cost (now (ws .entry)) ⌝ }
 {
     let limit = settings.limit;
     match limit {
         Limit::Closed => {
-            let further = reserve_refusal(at, max_wait);
+            let further = reserve_further(at, max_wait);
             let told = Reply::Nothing;
             let reply = crate::unless_refused(
                 settings.refusal(),
@@ -150,13 +152,13 @@ pub fn attempt_reserve(
                 further,
                 told,
             );
-            Attempt::Told(reply)
+            Attempt::Answered(reply)
         }
         Limit::Open(rate) => reserve_open(settings, rate, ws, at, id, cost, max_wait),
     }
 }
 
-// A reservation at a rate.
+// A reservation on a limiter that has a rate.
 fn reserve_open(
     settings: Settings,
     rate: Rate,
@@ -167,19 +169,19 @@ fn reserve_open(
     max_wait: Nanos,
 ) -> Attempt
     requires { ⌜ settings .limit ≡ Open rate ⌝ }
-    ensures { λ r. ⌜ Meets (Reserve «max_wait») settings at id cost (now (ws .entry)) (now (ws .exit)) r ⌝ }
+    ensures { λ r. ⌜ outcome r (now (ws .exit)) ≡ attempted (Reserve «max_wait») settings at id cost (now (ws .entry)) ⌝ }
 {
     if settings.refusal() != 0 {
         return Attempt::Left(Why::Refused);
     }
-    let further = reserve_refusal(at, max_wait);
+    let further = reserve_further(at, max_wait);
     match lending::lend(settings.shape(), ws, id.hash, further) {
         Lending::Refused(_) => Attempt::Left(Why::Refused),
         Lending::Lent(part) => reserve_within(settings, rate, ws, part, at, id, cost, max_wait),
     }
 }
 
-// A reservation that is not refused.
+// A reservation that is not refused. It is written apart from a try, for the reason told above `decide`.
 fn reserve_within(
     settings: Settings,
     rate: Rate,
@@ -191,13 +193,13 @@ fn reserve_within(
     max_wait: Nanos,
 ) -> Attempt
     requires { ⌜ (reserveRefusal settings (id .hash) at «max_wait» (now ws) ≡ 0) × (part ≡ partOf settings (id .hash)) × (settings .limit ≡ Open rate) ⌝ }
-    ensures { λ r. ⌜ Meets (Reserve «max_wait») settings at id cost (now (ws .entry)) (now (ws .exit)) r ⌝ }
+    ensures { λ r. ⌜ outcome r (now (ws .exit)) ≡ attempted (Reserve «max_wait») settings at id cost (now (ws .entry)) ⌝ }
 {
     if rate.capacity() < cost {
-        return Attempt::Told(Reply::Nothing);
+        return Attempt::Answered(Reply::Nothing);
     }
     if cost == 0 {
-        return Attempt::Told(Reply::Reserved(crate::due_now(at)));
+        return Attempt::Answered(Reply::Reserved(crate::due_now(at)));
     }
     match store::position(ws, part, id) {
         Place::At(pos) => {
@@ -211,7 +213,7 @@ fn reserve_within(
                 cost,
                 at,
             );
-            Attempt::Told(reserve_reply(decision))
+            Attempt::Answered(reserve_reply(decision))
         }
         Place::Nowhere => Attempt::Left(Why::New),
     }
@@ -256,18 +258,18 @@ fn refusal_of(settings: Settings, ws: &[u64], hash: u64, further: u32) -> u32
     }
 }
 
-// The number for the other arguments of a request.
+// The number for a late moment, else for a longest wait that is too long; 0 for neither.
 fn further_refusal(request: Request, at: Nanos) -> u32
     ensures { λ r. ⌜ r ≡ furtherTo request at ⌝ }
 {
     match request {
         Request::Acquire => refusals::moment_refusal(at),
-        Request::Reserve(max_wait) => reserve_refusal(at, max_wait),
+        Request::Reserve(max_wait) => reserve_further(at, max_wait),
     }
 }
 
-// The number for the other arguments of a reservation: a late moment, else a long wait.
-fn reserve_refusal(at: Nanos, max_wait: Nanos) -> u32
+// The same of a reservation.
+fn reserve_further(at: Nanos, max_wait: Nanos) -> u32
     ensures { λ r. ⌜ r ≡ firstRefusal (momentRefusal at) (waitRefusal «max_wait») ⌝ }
 {
     refusals::first_refusal(

@@ -3,6 +3,7 @@ use mathlib.Core.Path.{refl, sym, _∙_}
 use Rattle.bucket.specs.declared.Request.the-variants.{Reserve}
 use Rattle.store.proofs.LendingLaws.{accepted-shape}
 use Rattle.perkey.proofs.CallLaws.{closed-request-is-told}
+use Rattle.perkey.proofs.AttemptLaws.{closed-is-answered}
 use borrow.Author.Needs.{needs}
 use Rattle.perkey.proofs.requests.attempt_reserve.Statement.{statement}
 use Rattle.perkey.proofs.requests.attempt_reserve.Tie as tie
@@ -10,8 +11,8 @@ use Rattle.perkey.proofs.requests.attempt_reserve.Tie as tie
 enum-told : tie.Need-enum-told
 enum-told c = search needs
 
-reserve-refusal-requires : tie.Need-reserve-refusal-requires
-reserve-refusal-requires c κs = search needs
+reserve-further-requires : tie.Need-reserve-further-requires
+reserve-further-requires c κs = search needs
 
 refusal-requires : tie.Need-refusal-requires
 refusal-requires c κs = search needs
@@ -38,8 +39,10 @@ returns c =
     let r = c .before .before .before in
     let f = r .before in
     let a = f .before .before .before .before .args in
+    let ruled =
     closed-request-is-told (Reserve (a .max-wait)) (a .settings) (a .at) (a .id) (a .cost) (a .ws .now) (f .before .enum-told .given .1) refl
-    (r .refusal .ensures) (c .before .before .shape .ensures) (f .reserve-refusal .ensures) (c .unless-refused .ensures)
+    (r .refusal .ensures) (c .before .before .shape .ensures) (f .reserve-further .ensures) (c .unless-refused .ensures) in
+    closed-is-answered (Reserve (a .max-wait)) (a .settings) (a .at) (a .id) (a .cost) (a .ws .now) (f .before .enum-told .given .1) ruled
 
 same-length-2 : tie.Need-same-length-2
 same-length-2 c = search needs
@@ -52,7 +55,7 @@ attempt-reserve-spec =
     tie.close
     (tie.spec
     enum-told
-    reserve-refusal-requires
+    reserve-further-requires
     refusal-requires
     shape-requires
     unless-refused-requires

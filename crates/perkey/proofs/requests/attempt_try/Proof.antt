@@ -5,6 +5,7 @@ use Rattle.store.proofs.LendingLaws.{accepted-shape}
 use Rattle.settings.specs.declared.decision.Decision.{Decision}
 use Rattle.perkey.specs.declared.Reply.the-variants.{Tried}
 use Rattle.perkey.proofs.CallLaws.{closed-request-is-told}
+use Rattle.perkey.proofs.AttemptLaws.{closed-is-answered}
 use borrow.Author.Needs.{needs}
 use Rattle.perkey.proofs.requests.attempt_try.Statement.{statement}
 use Rattle.perkey.proofs.requests.attempt_try.Tie as tie
@@ -44,8 +45,10 @@ returns c =
     let m = r .before .before in
     let a = m .before .before .before .before .args in
     let closed = ap (λ (d : Decision). Tried d) (r .before .closed .ensures) in
+    let ruled =
     closed-request-is-told Acquire (a .settings) (a .at) (a .id) (a .cost) (a .ws .now) (m .before .enum-told .given .1) closed
-    (r .refusal .ensures) (c .before .before .shape .ensures) (m .moment-refusal .ensures) (c .unless-refused .ensures)
+    (r .refusal .ensures) (c .before .before .shape .ensures) (m .moment-refusal .ensures) (c .unless-refused .ensures) in
+    closed-is-answered Acquire (a .settings) (a .at) (a .id) (a .cost) (a .ws .now) (m .before .enum-told .given .1) ruled
 
 same-length-2 : tie.Need-same-length-2
 same-length-2 c = search needs

@@ -12,14 +12,14 @@ moment-refusal-requires c κs = search needs
 enum-known-request : tie.Need-enum-known-request
 enum-known-request c = search needs
 
-reserve-refusal-requires : tie.Need-reserve-refusal-requires
-reserve-refusal-requires c κs = search needs
+reserve-further-requires : tie.Need-reserve-further-requires
+reserve-further-requires c κs = search needs
 
 returns : tie.Need-returns
 returns c = rw (c .before .enum-told .given .1) (c .moment-refusal .ensures)
 
 returns-2 : tie.Need-returns-2
-returns-2 c = rw (c .before .before .request .given .1) (c .reserve-refusal .ensures)
+returns-2 c = rw (c .before .before .request .given .1) (c .reserve-further .ensures)
 
 pub further-refusal-spec : {M : Type 1} → statement M
 further-refusal-spec =
@@ -28,6 +28,6 @@ further-refusal-spec =
     enum-told
     moment-refusal-requires
     enum-known-request
-    reserve-refusal-requires
+    reserve-further-requires
     returns
     returns-2)

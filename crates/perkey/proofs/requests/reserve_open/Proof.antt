@@ -1,12 +1,13 @@
 -- `reserve_open` leaves a reservation that is refused, and else comes to what `reserve_within` comes to.
 use mathlib.Core.Path.{_≡_, refl, sym, _∙_}
+use Rattle.bucket.specs.declared.Request.the-variants.{Reserve}
 use Rattle.store.specs.Lending.{lentUnless}
 use Rattle.store.specs.Memory.{partOf}
 use Rattle.store.specs.Refusals.{reserveRefusal}
 use Rattle.store.proofs.RefusalLaws.{settings-refuse-reserve}
 use Rattle.store.proofs.LendingLaws.{accepted-shape, lent-part, refused-number, reserve-lending}
 use Rattle.settings.specs.Settings.{settingsRefusal}
-use Rattle.perkey.proofs.AttemptLaws.{number-refuses}
+use Rattle.perkey.proofs.AttemptLaws.{refused-is-left}
 use borrow.Author.Needs.{needs}
 use Rattle.perkey.proofs.requests.reserve_open.Statement.{statement}
 use Rattle.perkey.proofs.requests.reserve_open.Tie as tie
@@ -25,7 +26,7 @@ lending : (l : tie.After-lend) → let a = start l .args in
     l .lend .result ≡ lentUnless (reserveRefusal (a .settings) (a .id .hash) (a .at) (a .max-wait) (a .ws .now)) (partOf (a .settings) (a .id .hash))
 lending l =
     let a = start l .args in
-    let further = l .before .before .before .reserve-refusal .ensures in
+    let further = l .before .before .before .reserve-further .ensures in
     reserve-lending (a .settings) (a .id .hash) (a .ws .now) (accepted (checked l)) (l .before .before .shape .ensures) _ (l .lend .ensures)
     (a .at) (a .max-wait) refl refl further
 
@@ -37,10 +38,10 @@ returns c =
     let s = c .before .before .before in
     let a = s .args in
     let told = settings-refuse-reserve (a .settings) (a .id .hash) (a .ws .now) (c .before .refusal .ensures) (c .if1 .taken) (a .at) (a .max-wait) in
-    (refl, number-refuses told (c .if1 .taken))
+    refused-is-left (Reserve (a .max-wait)) (a .settings) (a .at) (a .id) (a .cost) (a .ws .now) (s .pre) told (c .if1 .taken)
 
-reserve-refusal-requires : tie.Need-reserve-refusal-requires
-reserve-refusal-requires c κs = search needs
+reserve-further-requires : tie.Need-reserve-further-requires
+reserve-further-requires c κs = search needs
 
 shape-requires : tie.Need-shape-requires
 shape-requires c κs = search needs
@@ -68,8 +69,9 @@ same-length c = search needs
 returns-2 : tie.Need-returns-2
 returns-2 c =
     let l = c .before .before in
+    let a = start l .args in
     let number = refused-number _ _ (lending l) (c .enum-told .given .1) in
-    (refl, number-refuses (number .0) (number .1))
+    refused-is-left (Reserve (a .max-wait)) (a .settings) (a .at) (a .id) (a .cost) (a .ws .now) (start l .pre) (number .0) (number .1)
 
 same-length-2 : tie.Need-same-length-2
 same-length-2 c = search needs
@@ -83,7 +85,7 @@ reserve-open-spec =
     (tie.spec
     refusal-requires
     returns
-    reserve-refusal-requires
+    reserve-further-requires
     shape-requires
     lend-requires
     enum-told

@@ -1,12 +1,12 @@
 -- `reserve_within` goes by the cost, as the rule does, and else asks the store in the key's shard, by the key's place; a new key is left.
-use mathlib.Core.Path.{refl, ap}
+use mathlib.Core.Path.{ap}
 use Rattle.bucket.specs.declared.Due.{Due}
 use Rattle.perkey.specs.declared.Reply.the-variants.{Reserved}
 use Rattle.bucket.specs.declared.Request.{Request}
 use Rattle.bucket.specs.declared.Request.the-variants.{Reserve}
 use Rattle.perkey.proofs.RuleLaws.{reserve-is-timed}
 use Rattle.perkey.proofs.RequestLaws.{Asks, place-may-be-asked, known-may-be-asked, known-is-told}
-use Rattle.perkey.proofs.AttemptLaws.{asked-is-ruled, too-much-is-ruled, nothing-is-ruled, missed-is-new}
+use Rattle.perkey.proofs.AttemptLaws.{too-much-is-answered, nothing-is-answered, known-is-answered, new-is-left}
 use borrow.Author.Needs.{needs}
 use Rattle.perkey.proofs.requests.reserve_within.Statement.{statement}
 use Rattle.perkey.proofs.requests.reserve_within.Tie as tie
@@ -39,7 +39,7 @@ returns c =
     let s = c .before .before .before in
     let a = s .args in
     let more = rw (c .before .capacity .ensures) at (c .if1 .taken) in
-    too-much-is-ruled (request s) (a .settings) (a .at) (a .id) (a .cost) (a .ws .now) (s .pre .0) (s .pre .2) more
+    too-much-is-answered (request s) (a .settings) (a .at) (a .id) (a .cost) (a .ws .now) (s .pre .2) (s .pre .0) more
 
 due-now-requires : tie.Need-due-now-requires
 due-now-requires c κs = search needs
@@ -51,7 +51,7 @@ returns-2 c =
     let a = s .args in
     let within = rw (t .before .before .capacity .ensures) at (t .before .if1 .left) in
     let told = ap (λ (due : Due). Reserved due) (c .due-now .ensures) in
-    nothing-is-ruled (request s) (a .settings) (a .at) (a .id) (a .cost) (a .ws .now) (s .pre .0) (s .pre .2) within (t .if2 .taken) told
+    nothing-is-answered (request s) (a .settings) (a .at) (a .id) (a .cost) (a .ws .now) (s .pre .2) (s .pre .0) within (t .if2 .taken) told
 
 position-requires : tie.Need-position-requires
 position-requires c κs = place-may-be-asked (asks (c .before))
@@ -81,11 +81,10 @@ returns-3 c =
     let k = c .before .before .before .before in
     let p = found k in
     let e = p .before .before in
-    let s = start e in
-    let a = s .args in
-    let known = known-is-told (asks e) (k .policy .ensures) (p .position .ensures) (request s) (c .reserve-reply .ensures) in
-    asked-is-ruled (request s) (a .settings) (a .at) (a .id) (a .cost) (a .ws .now) (s .pre .0)
-    (known _ (k .before .before .before .pos .given .1) (c .before .before .before .with-existing .ensures))
+    let r = request (start e) in
+    let found′ = k .before .before .before .pos .given .1 in
+    let known = known-is-told (asks e) (k .policy .ensures) (p .position .ensures) r (c .reserve-reply .ensures) in
+    known-is-answered r (asks e) (start e .pre .0) (p .position .ensures) _ found′ (known _ found′ (c .before .before .before .with-existing .ensures))
 
 same-length-2 : tie.Need-same-length-2
 same-length-2 c = search needs
@@ -94,7 +93,7 @@ returns-4 : tie.Need-returns-4
 returns-4 c =
     let p = c .before .before in
     let e = p .before .before in
-    (refl, missed-is-new (request (start e)) (asks e) (start e .pre .0) (p .position .ensures) (c .enum-told .given .1))
+    new-is-left (request (start e)) (asks e) (start e .pre .0) (p .position .ensures) (c .enum-told .given .1)
 
 pub reserve-within-spec : {M : Type 1} → statement M
 reserve-within-spec =

@@ -1,12 +1,13 @@
 -- `try_open` leaves a try that is refused, and else comes to what `decide` comes to.
-use mathlib.Core.Path.{_≡_, refl, sym, _∙_}
+use mathlib.Core.Path.{_≡_, sym, _∙_}
+use Rattle.bucket.specs.declared.Request.the-variants.{Acquire}
 use Rattle.store.specs.Lending.{lentUnless}
 use Rattle.store.specs.Memory.{partOf}
 use Rattle.store.specs.Refusals.{timedRefusal}
 use Rattle.store.proofs.RefusalLaws.{settings-refuse-timed}
 use Rattle.store.proofs.LendingLaws.{accepted-shape, lent-part, refused-number, timed-lending}
 use Rattle.settings.specs.Settings.{settingsRefusal}
-use Rattle.perkey.proofs.AttemptLaws.{number-refuses}
+use Rattle.perkey.proofs.AttemptLaws.{refused-is-left}
 use borrow.Author.Needs.{needs}
 use Rattle.perkey.proofs.requests.try_open.Statement.{statement}
 use Rattle.perkey.proofs.requests.try_open.Tie as tie
@@ -34,7 +35,7 @@ returns c =
     let s = c .before .before .before in
     let a = s .args in
     let told = settings-refuse-timed (a .settings) (a .id .hash) (a .ws .now) (c .before .refusal .ensures) (c .if1 .taken) (a .at) in
-    (refl, number-refuses told (c .if1 .taken))
+    refused-is-left Acquire (a .settings) (a .at) (a .id) (a .cost) (a .ws .now) (s .pre) told (c .if1 .taken)
 
 shape-requires : tie.Need-shape-requires
 shape-requires c κs = search needs
@@ -65,8 +66,9 @@ same-length c = search needs
 returns-2 : tie.Need-returns-2
 returns-2 c =
     let l = c .before .before in
+    let a = start l .args in
     let number = refused-number _ _ (lending l) (c .enum-told .given .1) in
-    (refl, number-refuses (number .0) (number .1))
+    refused-is-left Acquire (a .settings) (a .at) (a .id) (a .cost) (a .ws .now) (start l .pre) (number .0) (number .1)
 
 same-length-2 : tie.Need-same-length-2
 same-length-2 c = search needs

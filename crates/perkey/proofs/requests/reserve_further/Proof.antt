@@ -1,7 +1,7 @@
--- `reserve_refusal` tells the first number of the two.
+-- `reserve_further` tells the first number of the two.
 use borrow.Author.Needs.{needs}
-use Rattle.perkey.proofs.requests.reserve_refusal.Statement.{statement}
-use Rattle.perkey.proofs.requests.reserve_refusal.Tie as tie
+use Rattle.perkey.proofs.requests.reserve_further.Statement.{statement}
+use Rattle.perkey.proofs.requests.reserve_further.Tie as tie
 
 moment-refusal-requires : tie.Need-moment-refusal-requires
 moment-refusal-requires c κs = search needs
@@ -15,5 +15,5 @@ first-refusal-requires c κs = search needs
 returns : tie.Need-returns
 returns c = rw (c .before .before .moment-refusal .ensures, c .before .wait-refusal .ensures) at (c .first-refusal .ensures)
 
-pub reserve-refusal-spec : {M : Type 1} → statement M
-reserve-refusal-spec = tie.close (tie.spec moment-refusal-requires wait-refusal-requires first-refusal-requires returns)
+pub reserve-further-spec : {M : Type 1} → statement M
+reserve-further-spec = tie.close (tie.spec moment-refusal-requires wait-refusal-requires first-refusal-requires returns)
