@@ -33,10 +33,10 @@ use Rattle.store.specs.declared.lending.Lending.the-variants as Lending
 use Rattle.store.specs.Lending.{lentUnless}
 use Rattle.store.proofs.LendingLaws.{refused-number, lent-part}
 use Rattle.store.specs.Memory.{shardAt, slotCount}
-use Rattle.store.specs.Refusals.{memoryRefusal, countRefusal, shapeRefusal, keyedRefusal, momentRefusal, timedRefusal, waitRefusal, reserveRefusal, lenRefusal}
+use Rattle.store.specs.Refusals.{memoryRefusal, countRefusal, shapeRefusal, keyedRefusal, momentRefusal, timedRefusal, waitRefusal, lenRefusal}
 use Rattle.store.proofs.RefusalLaws.{refusals-in-a-row}
 use Rattle.perkey.specs.Rules as Rules
-use Rattle.perkey.specs.Attempts.{furtherTo}
+use Rattle.perkey.specs.Attempts.{refusalTo, furtherTo}
 use Rattle.perkey.proofs.RefusedLaws.{unless-refused-accepts, unless-refused-refuses}
 use Rattle.rows.specs.Places.{sum}
 use Rattle.perkey.specs.Calls.{Look, Call, request, look, undo, len, peeks, tokens, refunds, removes, rules, Answered, numbered, accepted}
@@ -48,8 +48,7 @@ use Rattle.store.specs.Memory.{memoryWords}
 
 -- The number by which a call is refused, 0 if it is not.
 abbrev pub refusalOf : Call → List ℕ → ℕ
-refusalOf (request s at id Acquire cost) ws = timedRefusal s (id .hash) at ws
-refusalOf (request s at id (Reserve longest) cost) ws = reserveRefusal s (id .hash) at longest ws
+refusalOf (request s at id r cost) ws = refusalTo r s at id ws
 refusalOf (look s at id l) ws = timedRefusal s (id .hash) at ws
 refusalOf (len s) ws = lenRefusal s ws
 refusalOf (undo s id r) ws = keyedRefusal s (id .hash) ws
@@ -104,10 +103,10 @@ keyed-number s hash ws further =
     ∙ ap (λ (n : ℕ). firstRefusal n further) (sym (refusals-in-a-row (settingsRefusal s) memory counts))
 
 -- The number of a request.
-request-number : (r : Request) (s : Settings) (at : Nanos) (id : Identity) (cost : ℕ) (ws : List ℕ)
-    → firstRefusal (keyedRefusal s (id .hash) ws) (furtherTo r at) ≡ refusalOf (request s at id r cost) ws
-request-number Acquire s at id cost ws = refl
-request-number (Reserve longest) s at id cost ws = sym (refusals-in-a-row (keyedRefusal s (id .hash) ws) (momentRefusal at) (waitRefusal longest))
+pub request-number : (r : Request) (s : Settings) (at : Nanos) (id : Identity) (ws : List ℕ)
+    → firstRefusal (keyedRefusal s (id .hash) ws) (furtherTo r at) ≡ refusalTo r s at id ws
+request-number Acquire s at id ws = refl
+request-number (Reserve longest) s at id ws = sym (refusals-in-a-row (keyedRefusal s (id .hash) ws) (momentRefusal at) (waitRefusal longest))
 
 -- A call on a key is told by its number and by its rule.
 module _ (c : Call) (s : Settings) (hash : ℕ) (ws : List ℕ) {refusal further : ℕ} {shape : Shape} {told o : Outcome Reply (List ℕ)} where
@@ -141,7 +140,7 @@ module _ (r : Request) (s : Settings) (at : Nanos) (id : Identity) (cost : ℕ) 
       → o ≡ rules (request s at id r cost) ws
   closed-request-is-told closed is-reply is-refusal is-shape is-further gave =
       let ruled = closed-request s closed r at id cost ws is-reply in
-      closed-is-told (request s at id r cost) s (id .hash) ws (furtherTo r at) is-refusal is-shape is-further (request-number r s at id cost ws) ruled gave
+      closed-is-told (request s at id r cost) s (id .hash) ws (furtherTo r at) is-refusal is-shape is-further (request-number r s at id ws) ruled gave
 
 -- A reply of each kind, to a call at a moment. A grant and a retry tell that moment plus their wait; Acquired has no wait.
 pub data OfKind (at : Nanos) : Kind → Reply → Type 0 where

@@ -25,8 +25,8 @@ use Rattle.shard.specs.Model as OneShard
 use Rattle.shard_map.specs.Model.{Shard, placeOf}
 use Rattle.store.specs.declared.Part.{Part}
 use Rattle.store.specs.Memory.{partOf, shardIn, shardAt, inPart}
-use Rattle.store.specs.Refusals.{keyedRefusal, momentRefusal, waitRefusal, timedRefusal}
-use Rattle.store.proofs.RefusalLaws.{refusals-in-a-row, timed-not-refused}
+use Rattle.store.specs.Refusals.{keyedRefusal, timedRefusal}
+use Rattle.store.proofs.RefusalLaws.{timed-not-refused}
 use Rattle.store.proofs.LendingLaws.{accepted-shape}
 use Rattle.perkey.specs.declared.Reply.{Reply}
 use Rattle.perkey.specs.declared.Reply.the-variants.{Refused}
@@ -36,7 +36,7 @@ use Rattle.perkey.specs.declared.requests.Why.{Why}
 use Rattle.perkey.specs.Rules.{policyOf, replyTo}
 use Rattle.perkey.specs.Calls.{request}
 use Rattle.perkey.specs.Attempts.{ruleTo, refusalTo, furtherTo, isNowhere, needsSlot, attemptedBy, attempted, NewKey, LeftFor}
-use Rattle.perkey.proofs.CallLaws.{refusal-is-told}
+use Rattle.perkey.proofs.CallLaws.{refusal-is-told, request-number}
 use Rattle.perkey.proofs.AttemptLaws.{asked-is-ruled}
 use Rattle.perkey.proofs.RuleLaws.{reserve-is-timed}
 use Rattle.perkey.proofs.RequestLaws.{Asks, new-is-told}
@@ -105,10 +105,6 @@ module _ (r : Request) (s : Settings) (at : Nanos) (id : Identity) (cost : ℕ) 
 
 -- A number that is not 0 is told; where it is 0 the moment is not too late either.
 module _ (s : Settings) (at : Nanos) (id : Identity) (ws : List ℕ) where
-  refusal-by-parts : (r : Request) → firstRefusal (keyedRefusal s (id .hash) ws) (furtherTo r at) ≡ refusalTo r s at id ws
-  refusal-by-parts Acquire = refl
-  refusal-by-parts (Reserve longest) = sym (refusals-in-a-row (keyedRefusal s (id .hash) ws) (momentRefusal at) (waitRefusal longest))
-
   number-is-ruled : (r : Request) (cost : ℕ) {told : ℕ} → told ≡ refusalTo r s at id ws → (refusalTo r s at id ws ≡ 0 → ⊥)
       → outcome (Refused told) ws ≡ ruleTo r s at id cost ws
   number-is-ruled Acquire cost is some = refusal-is-told (request s at id Acquire cost) ws is (λ none. some (sym is ∙ none))
@@ -117,7 +113,7 @@ module _ (s : Settings) (at : Nanos) (id : Identity) (ws : List ℕ) where
   pub refused-request-is-told : (r : Request) (cost : ℕ) {further told : ℕ} → further ≡ furtherTo r at
       → told ≡ firstRefusal (keyedRefusal s (id .hash) ws) further → (refusalTo r s at id ws ≡ 0 → ⊥)
       → outcome (Refused told) ws ≡ ruleTo r s at id cost ws
-  refused-request-is-told r cost is-further is some = number-is-ruled r cost ((rw is-further at is) ∙ refusal-by-parts r) some
+  refused-request-is-told r cost is-further is some = number-is-ruled r cost ((rw is-further at is) ∙ request-number r s at id ws) some
 
   not-refused-is-timed : (r : Request) → refusalTo r s at id ws ≡ 0 → timedRefusal s (id .hash) at ws ≡ 0
   not-refused-is-timed Acquire none = none
