@@ -1,4 +1,4 @@
--- Calls by address as C and Rust make them: the five operations that `modem_limiter` exports on plain numbers and lent bytes, demand 2 of them, and what a
+-- Calls by address as C and Rust make them: the five operations that `limiter_modems` exports on plain numbers and lent bytes, demand 2 of them, and what a
 -- caller has in them who writes settings as numbers and reads replies from their numbers (`Writer` and `reading` of demands).
 use Prim.Native.Nat.{ℕ}
 use mathlib.Core.Path.{_≡_}
@@ -15,15 +15,15 @@ use Rattle.perkey.specs.Calls.{kindOf}
 use Rattle.perkey.specs.Calls as Calls
 use Rattle.limiter.specs.declared.LimiterSettings.{LimiterSettings}
 use Rattle.limiter.specs.Exported.{settingsOf}
-use Rattle.modem_limiter.proofs.limiter_modem_try.Reads as Try
-use Rattle.modem_limiter.proofs.limiter_modem_reserve.Reads as Reserve
-use Rattle.modem_limiter.proofs.limiter_modem_peek.Reads as Peek
-use Rattle.modem_limiter.proofs.limiter_modem_refund.Reads as Refund
-use Rattle.modem_limiter.proofs.limiter_modem_remove.Reads as Remove
+use Rattle.limiter_modems.proofs.limiter_modem_try.Reads as Try
+use Rattle.limiter_modems.proofs.limiter_modem_reserve.Reads as Reserve
+use Rattle.limiter_modems.proofs.limiter_modem_peek.Reads as Peek
+use Rattle.limiter_modems.proofs.limiter_modem_refund.Reads as Refund
+use Rattle.limiter_modems.proofs.limiter_modem_remove.Reads as Remove
 use Rattle.demands.specs.Widths.{lendable}
 use Rattle.demands.specs.Contracts.{lentAt}
 use Rattle.demands.specs.Exports.{numbersFit, Writer, readAs}
-use Rattle.modem_demands.specs.AddressCalls.{AddressCall, request, peek, undo, limiterCall, Implementation, rules, fits}
+use Rattle.demands_modems.specs.AddressCalls.{AddressCall, request, peek, undo, limiterCall, Implementation, rules, fits}
 
 -- What each export gives for its numbers, bytes and words: three numbers, and words.
 abbrev Gives : Type 0

@@ -23,9 +23,9 @@ use Rattle.modems.proofs.AddressLaws.{not-refused-is-six-bytes}
 use Rattle.modems.proofs.KeyLaws.{equal-addresses-have-equal-keys, equal-keys-have-equal-addresses}
 use Rattle.demands.specs.Demands as Demands
 use Rattle.demands.proofs.WidthLaws.{both-true}
-use Rattle.modem_demands.specs.AddressCalls.{AddressCall, request, peek, undo, addressOf, limiterCall, rules, Answered, replies, accepted, fits, allFit}
-use Rattle.modem_demands.specs.AddressDemands.{SameSettings, clock, TimesNeverFall, Agree, NoSharedHash, ofUndone, NeverRefundedOrRemoved}
-use Rattle.modem_demands.proofs.WidthLaws.{bytes-of-call}
+use Rattle.demands_modems.specs.AddressCalls.{AddressCall, request, peek, undo, addressOf, limiterCall, rules, Answered, replies, accepted, fits, allFit}
+use Rattle.demands_modems.specs.AddressDemands.{SameSettings, clock, TimesNeverFall, Agree, NoSharedHash, ofUndone, NeverRefundedOrRemoved}
+use Rattle.demands_modems.proofs.WidthLaws.{bytes-of-call}
 
 -- The number as which a call is refused for its address.
 abbrev pub numberOf : AddressCall → ℕ

@@ -26,13 +26,13 @@ use Rattle.demands.proofs.WidthLaws.{both-true}
 use Rattle.demands.proofs.LendableTheorem.{rules-leave-words-lendable, set-up-leaves-words-lendable}
 use Rattle.demands.proofs.OwnBucket.{rules-decide-by-own-bucket}
 use Rattle.demands.proofs.Theorem.{rules-stay-within-the-window}
-use Rattle.modem_demands.specs.AddressCalls.{AddressCall, request, peek, undo, limiterCall, Implementation, rules, Answered, replies, fits, allFit}
-use Rattle.modem_demands.specs.AddressDemands.{AddressDemand2, tokensUsable, WithinWindow, Window, decidedBy, OwnBucket, AddressDemand3}
-use Rattle.modem_demands.proofs.WidthLaws.{limiters-call-fits}
-use Rattle.modem_demands.proofs.Translation.{numberOf, unrefused-is-the-limiters, refused-changes-nothing, made, translated, limiter-answers-alike}
-use Rattle.modem_demands.proofs.Translation.{accepted-alike, refused-is-not-accepted, Kept, rules-keep}
-use Rattle.modem_demands.proofs.Translation.{same-settings, times-never-fall, no-shared-hash, never-refunded-or-removed}
-use Rattle.modem_demands.proofs.TokenLaws.{tokens-among-the-limiters, no-address-no-tokens}
+use Rattle.demands_modems.specs.AddressCalls.{AddressCall, request, peek, undo, limiterCall, Implementation, rules, Answered, replies, fits, allFit}
+use Rattle.demands_modems.specs.AddressDemands.{AddressDemand2, tokensUsable, WithinWindow, Window, decidedBy, OwnBucket, AddressDemand3}
+use Rattle.demands_modems.proofs.WidthLaws.{limiters-call-fits}
+use Rattle.demands_modems.proofs.Translation.{numberOf, unrefused-is-the-limiters, refused-changes-nothing, made, translated, limiter-answers-alike}
+use Rattle.demands_modems.proofs.Translation.{accepted-alike, refused-is-not-accepted, Kept, rules-keep}
+use Rattle.demands_modems.proofs.Translation.{same-settings, times-never-fall, no-shared-hash, never-refunded-or-removed}
+use Rattle.demands_modems.proofs.TokenLaws.{tokens-among-the-limiters, no-address-no-tokens}
 
 -- The window, from a list that stands for one of the limiter's.
 module _ (s : Settings) (rate : Rate) (told : List Answered) (kept : Every Kept told) (below : Demands.WithinWindow 1 s rate (translated told)) where

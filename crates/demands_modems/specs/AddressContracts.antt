@@ -18,7 +18,7 @@ use Rattle.modems.proofs.refund.Reads as Refund
 use Rattle.modems.proofs.remove.Reads as Remove
 use Rattle.demands.specs.Widths.{lendable}
 use Rattle.demands.specs.Contracts.{lentAt}
-use Rattle.modem_demands.specs.AddressCalls.{request, peek, undo, Implementation, fits}
+use Rattle.demands_modems.specs.AddressCalls.{request, peek, undo, Implementation, fits}
 
 -- For any lifetimes and any places of the lent words and bytes: no answer depends on them.
 module _ (κs : Lfts 2) (ptr bytesPtr : ℕ × ℕ) (name bytesName : ℕ) where

@@ -14,7 +14,7 @@ use Rattle.modems.proofs.KeyLaws.{keys-fit-48-bits}
 use Rattle.demands.specs.Widths.{fits64, fits32, settingsFit, keyFits, requestFits, undoFits}
 use Rattle.demands.specs.Widths as Widths
 use Rattle.demands.proofs.WidthLaws.{both-true}
-use Rattle.modem_demands.specs.AddressCalls.{AddressCall, request, peek, undo, addressOf, limiterCall, bytesLendable, fits}
+use Rattle.demands_modems.specs.AddressCalls.{AddressCall, request, peek, undo, addressOf, limiterCall, bytesLendable, fits}
 
 -- A hash fits 64 bits, whatever it is taken over.
 hash-fits : (h : ℕ) (bytes : List ℕ) → h < 2 ^ 64 → hashFrom h bytes < 2 ^ 64

@@ -4,10 +4,10 @@ use mathlib.Core.Path.{refl}
 use contract.Lifetimes.{Lfts}
 use Rattle.bucket.specs.declared.Request.the-variants.{Acquire, Reserve}
 use Rattle.perkey.specs.Calls as Calls
-use Rattle.modem_demands.specs.AddressCalls.{request, peek, undo, Implementation, rules}
-use Rattle.modem_demands.specs.AddressDemands.{AddressDemand2, AddressDemand3}
-use Rattle.modem_demands.specs.AddressContracts.{AddressContracts}
-use Rattle.modem_demands.proofs.Theorem.{address-demand2-gives-address-demand3}
+use Rattle.demands_modems.specs.AddressCalls.{request, peek, undo, Implementation, rules}
+use Rattle.demands_modems.specs.AddressDemands.{AddressDemand2, AddressDemand3}
+use Rattle.demands_modems.specs.AddressContracts.{AddressContracts}
+use Rattle.demands_modems.proofs.Theorem.{address-demand2-gives-address-demand3}
 
 module _ (κs : Lfts 2) (ptr bytesPtr : ℕ × ℕ) (name bytesName : ℕ) where
   -- The rules themselves are as the contracts tell, so that what follows is said of something.

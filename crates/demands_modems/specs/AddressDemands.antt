@@ -48,8 +48,8 @@ use Rattle.perkey.specs.Calls.{settingsOf, clockAfter, ofGrant, Every}
 use Rattle.modems.specs.Address.{hashOf, identityOf}
 use Rattle.demands.specs.Widths.{settingsFit, lendable}
 use Rattle.demands.specs.Demands.{usableFrom, ownReply}
-use Rattle.modem_demands.specs.AddressCalls.{AddressCall, request, peek, undo, addressOf, limiterCall, Implementation, rules}
-use Rattle.modem_demands.specs.AddressCalls.{Answered, replies, accepted, fits, allFit}
+use Rattle.demands_modems.specs.AddressCalls.{AddressCall, request, peek, undo, addressOf, limiterCall, Implementation, rules}
+use Rattle.demands_modems.specs.AddressCalls.{Answered, replies, accepted, fits, allFit}
 
 -- Demand 2, for all that code can be given: every reply, and all words after it, are those of the rules.
 abbrev pub AddressDemand2 : Implementation → Type 0

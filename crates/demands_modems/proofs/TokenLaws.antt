@@ -17,10 +17,10 @@ use Rattle.modems.specs.Address.{addressBytes, areBytes, identityOf, hashOf, ke
 use Rattle.modems.proofs.AddressLaws.{not-refused-is-six-bytes}
 use Rattle.demands.specs.Demands as Demands
 use Rattle.demands.proofs.WidthLaws.{both-true}
-use Rattle.modem_demands.specs.AddressCalls.{AddressCall, request, peek, undo, addressOf, limiterCall, Answered, fits}
-use Rattle.modem_demands.specs.AddressDemands.{sameBytes, usable, tokensOf, tokensUsable}
-use Rattle.modem_demands.proofs.WidthLaws.{bytes-of-call}
-use Rattle.modem_demands.proofs.Translation.{numberOf, refused-changes-nothing, translated, Kept}
+use Rattle.demands_modems.specs.AddressCalls.{AddressCall, request, peek, undo, addressOf, limiterCall, Answered, fits}
+use Rattle.demands_modems.specs.AddressDemands.{sameBytes, usable, tokensOf, tokensUsable}
+use Rattle.demands_modems.proofs.WidthLaws.{bytes-of-call}
+use Rattle.demands_modems.proofs.Translation.{numberOf, refused-changes-nothing, translated, Kept}
 
 -- The same bytes are equal lists.
 same-bytes-are-equal : (a b : List ℕ) → sameBytes a b ≡ true → a ≡ b

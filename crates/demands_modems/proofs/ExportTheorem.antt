@@ -16,11 +16,11 @@ use Rattle.demands.specs.Widths.{settingsFit, fits64, fits32, requestFits, undo
 use Rattle.demands.specs.Exports.{Writer, readAs}
 use Rattle.demands.proofs.WidthLaws.{both-true}
 use Rattle.demands.proofs.ExportTheorem.{refusal-comes-back, reply-comes-back}
-use Rattle.modem_demands.specs.AddressCalls.{AddressCall, request, peek, undo, limiterCall, rules, bytesLendable, fits}
-use Rattle.modem_demands.specs.AddressDemands.{AddressDemand2, AddressDemand3}
-use Rattle.modem_demands.specs.AddressExports.{AddressExports, AddressExportDemand2, called, AddressExportContracts}
-use Rattle.modem_demands.proofs.Translation.{numberOf, unrefused-is-the-limiters, refused-changes-nothing}
-use Rattle.modem_demands.proofs.Theorem.{address-demand2-gives-address-demand3}
+use Rattle.demands_modems.specs.AddressCalls.{AddressCall, request, peek, undo, limiterCall, rules, bytesLendable, fits}
+use Rattle.demands_modems.specs.AddressDemands.{AddressDemand2, AddressDemand3}
+use Rattle.demands_modems.specs.AddressExports.{AddressExports, AddressExportDemand2, called, AddressExportContracts}
+use Rattle.demands_modems.proofs.Translation.{numberOf, unrefused-is-the-limiters, refused-changes-nothing}
+use Rattle.demands_modems.proofs.Theorem.{address-demand2-gives-address-demand3}
 
 -- What the rules answer to a call by address comes back from its numbers.
 address-reply-comes-back : (c : AddressCall) (ws : List ℕ) → readAs (kindOf (limiterCall c)) (told (rules c ws)) ≡ rules c ws
