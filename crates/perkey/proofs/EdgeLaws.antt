@@ -20,7 +20,8 @@ use Rattle.shard_map.specs.Model as Shard
 use Rattle.evict.specs.Evict.{awaiting, soonestIn, noted, walkFrom, walked, evicted}
 use Rattle.shard.specs.Model as OneShard
 use Rattle.store.specs.Refusals as Refusals
-use Rattle.perkey.specs.Rules as Rules
+use Rattle.rules.specs.Asks as Asks
+use Rattle.rules.specs.Rules as Rules
 use Rattle.perkey.specs.Edges.{allHold, edges}
 
 pub every-edge-holds : allHold edges ≡ true
@@ -33,5 +34,5 @@ unfolding ceilDiv rows unrow tableIn removed Index.onward Index.walkFrom Index.w
     Layout.shard Layout.wordsOf Shard.placeOf Shard.removeAt Shard.insert Shard.sweepIdle
     awaiting soonestIn noted walkFrom walked evicted OneShard.makeRoom OneShard.withExisting OneShard.admit OneShard.withOrInsert OneShard.viewed OneShard.refunded
     Refusals.memoryRefusal Refusals.countRefusal Refusals.momentRefusal
-    Rules.unlessRefused Rules.setUp Rules.unlessTrivial Rules.tryAcquire Rules.available Rules.refund
+    Asks.askedIn Rules.unlessRefused Rules.setUpIn Rules.keyedRuleIn
 every-edge-holds = refl

@@ -1,8 +1,3 @@
-pub mod RefusedLaws
-pub mod RuleLaws
-pub mod RequestLaws
-pub mod CallLaws
-pub mod AttemptLaws
-pub mod FinishLaws
+pub mod PeekLaws
+pub mod KnownLaws
 pub mod EdgeLaws
-pub mod WaitLaws

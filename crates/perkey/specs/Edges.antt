@@ -17,9 +17,10 @@ use Rattle.settings.specs.Eviction.{capacityOf, boundedBy}
 use Rattle.settings.specs.Settings.{shardCount, capOf, idleLimit}
 use Rattle.hash.specs.Fnv.{fnv1a}
 use Rattle.shard.specs.declared.Identity.{Identity}
-use Rattle.perkey.specs.declared.Reply.{Reply}
-use Rattle.perkey.specs.Rules.{codeOf, numberOf, momentOf, setUp}
-use Rattle.perkey.specs.Calls.{Call, try, available, refund, rules}
+use Rattle.rules.specs.declared.Reply.{Reply}
+use Rattle.rules.specs.Replies.{codeOf, numberOf, momentOf}
+use Rattle.rules.specs.Rules.{setUp}
+use Rattle.rules.specs.Calls.{Call, try, available, refund, byKey, rules}
 use Rattle.store.specs.Memory.{memoryWords}
 
 -- Rates by amount, period and burst, with the initial tokens unset. Two tokens a second, up to four, is the rate that document 01 calls R; the last has
@@ -53,26 +54,26 @@ abbrev pub keyOf : ℕ → Identity
 keyOf n = record { hash = n; key = n }
 
 -- Calls by moment, key and cost, for settings that the row gives.
-abbrev pub asks : ℕ → ℕ → ℕ → Settings → Call
+abbrev pub asks : ℕ → ℕ → ℕ → Settings → Call Settings Identity
 asks moment key cost s = try s (record { 0 = moment }) (keyOf key) cost
 
 -- A try by a key of the hash 7.
-abbrev pub asksAsSeven : ℕ → ℕ → ℕ → Settings → Call
+abbrev pub asksAsSeven : ℕ → ℕ → ℕ → Settings → Call Settings Identity
 asksAsSeven moment key cost s = try s (record { 0 = moment }) (record { hash = 7; key = key }) cost
 
-abbrev looksAt : ℕ → ℕ → Settings → Call
+abbrev looksAt : ℕ → ℕ → Settings → Call Settings Identity
 looksAt moment key s = available s (record { 0 = moment }) (keyOf key)
 
-abbrev returns : ℕ → ℕ → Settings → Call
+abbrev returns : ℕ → ℕ → Settings → Call Settings Identity
 returns key cost s = refund s (keyOf key) cost
 
 -- The last answer and the last words of a run through the rules.
-abbrev ranFrom : Settings → List (Settings → Call) → Outcome Reply (List ℕ) → Outcome Reply (List ℕ)
+abbrev ranFrom : Settings → List (Settings → Call Settings Identity) → Outcome Reply (List ℕ) → Outcome Reply (List ℕ)
 ranFrom s [] o = o
-ranFrom s (c ∷ cs) o = ranFrom s cs (rules (c s) (o .after))
+ranFrom s (c ∷ cs) o = ranFrom s cs (rules byKey (c s) (o .after))
 
 -- A run begins with set-up, on memory that is not yet zero.
-abbrev ran : Settings → List (Settings → Call) → Outcome Reply (List ℕ)
+abbrev ran : Settings → List (Settings → Call Settings Identity) → Outcome Reply (List ℕ)
 ran s cs = ranFrom s cs (setUp s (replicate (memoryWords s) 1))
 
 -- A row of the table.
@@ -82,7 +83,7 @@ pub data Edge : Type 0 where
   -- Settings with an idle limit of so many milliseconds.
   idles : Settings → (limit : ℕ) → Edge
   -- A run whose last answer has this code, this number and this moment, and which leaves these words.
-  ends : Settings → List (Settings → Call) → (code number moment : ℕ) → (words : List ℕ) → Edge
+  ends : Settings → List (Settings → Call Settings Identity) → (code number moment : ℕ) → (words : List ℕ) → Edge
   -- Bytes with this hash.
   hashes : List ℕ → (hash : ℕ) → Edge
 

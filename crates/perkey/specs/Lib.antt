@@ -1,4 +1,1 @@
-pub mod Rules
-pub mod Attempts
-pub mod Calls
 pub mod Edges

@@ -6,14 +6,13 @@ use native.Mathlib.Nat.{le-add-right, le-trans}
 use mathlib.Core.Path.{_≡_, refl, sym, ap, _∙_}
 use mathlib.Core.Bool.{Bool, true, false, true≢false}
 use mathlib.Core.List.{List}
-use lib.ListN.{length}
+use lib.ListN.{length, take-append-drop}
 use borrow.Author.Tests.{eq-eqb, ne-eqb}
 use borrow.Rule.Slice.PartMut.{putMid}
 use Rattle.arith.proofs.Cases.{by-eq}
 use Rattle.rows.specs.Segments.{segment}
 use Rattle.rows.specs.Outcome.{Outcome, outcome}
 use Rattle.rows.proofs.SegmentLaws.{segment-length}
-use Rattle.units.specs.declared.Nanos.{Nanos}
 use Rattle.settings.specs.declared.Settings.{Settings}
 use Rattle.settings.specs.declared.Shape.{Shape}
 use Rattle.settings.specs.Settings.{settingsRefusal, firstRefusal, ShapeOfAccepted, mostKeysInShard, mostShards, capOf, shapeOf}
@@ -27,11 +26,11 @@ use Rattle.store.specs.declared.Part.{Part}
 use Rattle.store.specs.declared.lending.Lending.{Lending}
 use Rattle.store.specs.declared.lending.Lending.the-variants.{Refused, Lent}
 use Rattle.store.specs.Memory.{Placed, partIn, partOf, shardIn, shardAt, inPart, shardEnd, slotCount}
-use Rattle.store.specs.Refusals.{memoryRefusal, shapeRefusal, countRefusal, keyedRefusal, momentRefusal, timedRefusal, waitRefusal, reserveRefusal}
+use Rattle.store.specs.Refusals.{memoryRefusal, shapeRefusal, countRefusal, keyedRefusal}
 use Rattle.store.specs.Refusals.{lenRefusal}
 use Rattle.store.specs.Lending.{lentUnless}
 use Rattle.store.proofs.MemoryLaws.{part-placed, shard-ends}
-use Rattle.store.proofs.RefusalLaws.{SetUp, Accepted, length-is-accepted, len-not-refused, refusals-in-a-row, no-further-refusal}
+use Rattle.store.proofs.RefusalLaws.{SetUp, Accepted, length-is-accepted, len-not-refused}
 use Rattle.shard_map.specs.Layout.{shardWords}
 use Rattle.store.specs.Memory.{wordsIn}
 
@@ -67,6 +66,12 @@ module _ {p : Part} {ws : List ℕ} (placed : Placed p ws) where
       let long : p .end - p .start ≡ shardWords (p .cap) = rw (placed .ends) (omega arith) in
       let words = words-shard (p .cap) ys (same ∙ lent-length) in
       rw long (rw words at (ap (inPart p ws) (rw lent-shard at gave)))
+
+  -- An operation that leaves the shard as it is leaves every word as it is.
+  pub in-part-unchanged : {A : Type 0} (a : A) → inPart p ws (outcome a (shardIn p ws)) ≡ outcome a ws
+  in-part-unchanged a =
+      let size = segment-length (p .start) (shardWords (p .cap)) ws (rw (placed .ends) at (placed .within)) in
+      rw (words-shard (p .cap) (segment (p .start) (shardWords (p .cap)) ws) size, take-append-drop, take-append-drop)
 
 -- Settings that are accepted come to a shape of an accepted size, and leave the refusal to the memory.
 module _ (s : Settings) (none : settingsRefusal s ≡ 0) where
@@ -126,23 +131,11 @@ module _ {lending : Lending} (refusal : ℕ) (part′ : Part) (is : lending ≡ 
       (λ none. absurd (true≢false (ap isLent (not-refused-lends part′ refl none ∙ sym is ∙ gave))))
       (λ some. let same : n ≡ refusal = ap refusalOf (sym gave ∙ is ∙ sym (refused-lends-nothing part′ refl some)) in (same, λ none. some (sym same ∙ none)))
 
--- The same for the operations on a key, by what each is refused for, where the settings are accepted.
+-- The same for a call on a key, where the settings are accepted.
 module _ (s : Settings) (hash : ℕ) (ws : List ℕ) (none : settingsRefusal s ≡ 0) {shape : Shape} (shaped : shape ≡ shapeOf s) {lending : Lending} (further : ℕ)
     (is : lending ≡ lentUnless (firstRefusal (shapeRefusal shape hash ws) further) (partIn shape hash)) where
   pub lent-by-settings : lending ≡ lentUnless (firstRefusal (keyedRefusal s hash ws) further) (partOf s hash)
   lent-by-settings = rw (memory-refuses s none hash ws) (rw shaped at is)
-
-  pub keyed-lending : further ≡ 0 → lending ≡ lentUnless (keyedRefusal s hash ws) (partOf s hash)
-  keyed-lending nothing =
-      lent-by-settings ∙ ap (λ (n : ℕ). lentUnless n (partOf s hash)) (ap (firstRefusal (keyedRefusal s hash ws)) nothing ∙ no-further-refusal (keyedRefusal s hash ws))
-
-  pub timed-lending : (at : Nanos) → further ≡ momentRefusal at → lending ≡ lentUnless (timedRefusal s hash at ws) (partOf s hash)
-  timed-lending at late = rw late at lent-by-settings
-
-  pub reserve-lending : (at longest : Nanos) {late long : ℕ} → late ≡ momentRefusal at → long ≡ waitRefusal longest → further ≡ firstRefusal late long
-      → lending ≡ lentUnless (reserveRefusal s hash at longest ws) (partOf s hash)
-  reserve-lending at longest late long both =
-      (rw (both, late, long) at lent-by-settings) ∙ ap (λ (n : ℕ). lentUnless n (partOf s hash)) (sym (refusals-in-a-row (keyedRefusal s hash ws) (momentRefusal at) (waitRefusal longest)))
 
 -- The part of an accepted call lies in the memory, and its shard is sound.
 pub accepted-part : (s : Settings) (hash : ℕ) (ws : List ℕ) {p : Part} → Accepted s hash ws → p ≡ partOf s hash → Placed p ws × Shard.Sound (shardIn p ws)

@@ -39,7 +39,8 @@ other-shard-kept cap i j ws new fits same other =
 
 -- The words of a memory are few enough to be counted in 64 bits, if the sizes are accepted.
 words-most : (s : Settings) → sizeRefusal s ≡ 0 → memoryWords s ≤ mostShards * shardWords mostKeysInShard
-words-most s accepted = mul-le-mul {m₂ = shardWords mostKeysInShard} (shards-most s) (omega (arith, cap-most s accepted))
+words-most s accepted =
+    omega (arith, mul-le-mul {m₁ = shardWords (capOf s)} {m₂ = shardWords mostKeysInShard} (shards-most s) (omega (arith, cap-most s accepted)))
 
 pub accepted-words-most : {shape : Shape} → ShapeOfAccepted shape → wordsIn shape ≤ mostShards * shardWords mostKeysInShard
 accepted-words-most shaped = rw (shaped .is) (words-most (shaped .settings) (shaped .accepted))

@@ -14,8 +14,8 @@ use Rattle.settings.specs.Settings.{firstRefusal, settingsRefusal, capOf, shard
 use Rattle.settings.proofs.SettingsLaws.{first-refusal-stands, no-refusal-hands-on, neither-refuses}
 use Rattle.shard_map.specs.Model as Shard
 use Rattle.store.specs.Memory.{shardAt, slotCount}
-use Rattle.store.specs.Refusals.{latestMoment, longestMaxWait, memoryRefusal, setUpRefusal, countRefusal, keyedRefusal, momentRefusal, timedRefusal}
-use Rattle.store.specs.Refusals.{waitRefusal, reserveRefusal, mostSlots, slotsRefusal, lenRefusal}
+use Rattle.store.specs.Refusals.{latestMoment, longestMaxWait, memoryRefusal, setUpRefusal, countRefusal, keyedRefusal, momentRefusal, waitRefusal}
+use Rattle.store.specs.Refusals.{mostSlots, slotsRefusalIn, slotsRefusal, lenRefusal}
 use Rattle.store.proofs.MemoryLaws.{shard-at-cap, shard-at-debt-cap, sound-shard}
 use Rattle.store.specs.Memory.{memoryWords}
 use borrow.Author.Tests.{le-ltb, lt-ltb, eq-eqb, ne-eqb}
@@ -63,7 +63,7 @@ module _ (cap : ℕ) (sh : Shard.Shard) where
 
 -- A moment, and the longest wait of a reservation.
 module _ (t : Nanos) where
-  moment-not-refused : momentRefusal t ≡ 0 → t .0 ≤ latestMoment
+  pub moment-not-refused : momentRefusal t ≡ 0 → t .0 ≤ latestMoment
   unfolding momentRefusal
   moment-not-refused none = within-bound latestMoment (t .0) 5 0 none .0
 
@@ -75,7 +75,7 @@ module _ (t : Nanos) where
   unfolding momentRefusal
   late-moment-is-refused late = rw (lt-ltb _ _ late)
 
-  wait-not-refused : waitRefusal t ≡ 0 → t .0 ≤ longestMaxWait
+  pub wait-not-refused : waitRefusal t ≡ 0 → t .0 ≤ longestMaxWait
   unfolding waitRefusal
   wait-not-refused none = within-bound longestMaxWait (t .0) 6 0 none .0
 
@@ -122,16 +122,16 @@ module _ (cap : ℕ) (ws : List ℕ) where
 
 module _ (s : Settings) (ws : List ℕ) where
   pub shard-over-is-refused : (i : ℕ) → i < shardCount s → capOf s < slotCount (capOf s) i ws → slotsRefusal s ws ≡ 5
-  unfolding slotsRefusal
+  unfolding slotsRefusalIn
   shard-over-is-refused i below over = rw (lt-ltb _ _ (lt-of-lt-of-le over (slot-count-within (capOf s) ws (shardCount s) i below)))
 
   pub shards-are-accepted : mostSlots (capOf s) (shardCount s) ws ≤ capOf s → slotsRefusal s ws ≡ 0
-  unfolding slotsRefusal
+  unfolding slotsRefusalIn
   shards-are-accepted within = rw (le-ltb _ _ within)
 
   -- A look at the length that is not refused: no shard has more slots than the cap.
   pub len-not-refused : lenRefusal s ws ≡ 0 → SetUp s ws × ((i : ℕ) → i < shardCount s → slotCount (capOf s) i ws ≤ capOf s)
-  unfolding slotsRefusal
+  unfolding slotsRefusalIn
   len-not-refused none =
       let parts = neither-refuses (setUpRefusal s ws) (slotsRefusal s ws) none in
       let most = within-bound (capOf s) (mostSlots (capOf s) (shardCount s) ws) 4 0 (parts .1) .0 in
@@ -153,28 +153,6 @@ module _ (s : Settings) (hash : ℕ) (ws : List ℕ) where
   keyed-is-accepted a =
       no-refusal-hands-on (setUpRefusal s ws) (countRefusal (capOf s) (shardAt s hash ws)) (set-up-is-accepted s ws (a .set-up))
       ∙ counts-are-accepted (capOf s) (shardAt s hash ws) (rw (shard-at-cap s hash ws) at (a .sound .count-fits)) (rw (shard-at-debt-cap s hash ws) at (a .sound .ledger .count-fits))
-
-  -- A call at a moment: the moment is not too late either.
-  module _ (at : Nanos) where
-    pub timed-not-refused : timedRefusal s hash at ws ≡ 0 → Accepted s hash ws × (at .0 ≤ latestMoment)
-    timed-not-refused none =
-        let parts = neither-refuses (keyedRefusal s hash ws) (momentRefusal at) none in
-        (keyed-not-refused (parts .0), moment-not-refused at (parts .1))
-
-    pub timed-is-accepted : Accepted s hash ws → at .0 ≤ latestMoment → timedRefusal s hash at ws ≡ 0
-    timed-is-accepted a early = no-refusal-hands-on (keyedRefusal s hash ws) (momentRefusal at) (keyed-is-accepted a) ∙ moment-is-accepted at early
-
-    -- A reservation: nor is the longest wait that it asks for too long.
-    module _ (longest : Nanos) where
-      pub reserve-not-refused : reserveRefusal s hash at longest ws ≡ 0 → Accepted s hash ws × (at .0 ≤ latestMoment) × (longest .0 ≤ longestMaxWait)
-      reserve-not-refused none =
-          let parts = neither-refuses (timedRefusal s hash at ws) (waitRefusal longest) none in
-          let timed = timed-not-refused (parts .0) in
-          (timed .0, timed .1, wait-not-refused longest (parts .1))
-
-      pub reserve-is-accepted : Accepted s hash ws → at .0 ≤ latestMoment → longest .0 ≤ longestMaxWait → reserveRefusal s hash at longest ws ≡ 0
-      reserve-is-accepted a early short =
-          no-refusal-hands-on (timedRefusal s hash at ws) (waitRefusal longest) (timed-is-accepted a early) ∙ wait-is-accepted longest short
 
 -- Of three refusals in a row the first that there is stands, however they are taken together.
 pub refusals-in-a-row : (a b c : ℕ) → firstRefusal (firstRefusal a b) c ≡ firstRefusal a (firstRefusal b c)
@@ -198,9 +176,3 @@ second-is-told {first = first} {second = second} is none then = then ∙ sym (no
 module _ (s : Settings) (hash : ℕ) (ws : List ℕ) {told : ℕ} (is : told ≡ settingsRefusal s) (some : told ≡ 0 → ⊥) where
   pub settings-refuse-keyed : told ≡ keyedRefusal s hash ws
   settings-refuse-keyed = first-is-told _ (first-is-told _ is some) some
-
-  pub settings-refuse-timed : (at : Nanos) → told ≡ timedRefusal s hash at ws
-  settings-refuse-timed at = first-is-told _ settings-refuse-keyed some
-
-  pub settings-refuse-reserve : (at longest : Nanos) → told ≡ reserveRefusal s hash at longest ws
-  settings-refuse-reserve at longest = first-is-told _ (settings-refuse-timed at) some

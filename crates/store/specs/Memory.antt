@@ -16,16 +16,19 @@ use Rattle.store.specs.declared.Part.{Part}
 abbrev pub withSegment : ℕ → ℕ → List ℕ → List ℕ → List ℕ
 withSegment a n ws new = take a ws ++ (new ++ drop n (drop a ws))
 
--- The shards lie side by side: the word at which one begins, by its number, and the word after it.
+-- The first shard begins at this word. The shards lie side by side: the word at which one begins, by its number, and the word after it.
+abbrev pub shardsAt : ℕ
+shardsAt = 0
+
 abbrev pub shardStart : ℕ → ℕ → ℕ
-shardStart cap i = i * shardWords cap
+shardStart cap i = shardsAt + i * shardWords cap
 
 abbrev pub shardEnd : ℕ → ℕ → ℕ
 shardEnd cap i = shardStart cap i + shardWords cap
 
--- The words of a memory of a shape, and those that settings ask for.
+-- The words of a memory of a shape: the last shard ends where they end. The words that settings ask for.
 abbrev pub wordsIn : Shape → ℕ
-wordsIn shape = shape .shards * shardWords (shape .cap)
+wordsIn shape = shardStart (shape .cap) (shape .shards)
 
 abbrev pub memoryWords : Settings → ℕ
 memoryWords s = wordsIn (shapeOf s)

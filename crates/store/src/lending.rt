@@ -1,12 +1,13 @@
-// What a call on a key is lent. The shape of its store is worked out once: it serves the refusals, and the part that is found in it serves the operation.
+// What a call on a key is lent. Within a call the shape of the store serves the refusals, and the part that is found in it serves the operation.
 ghost use mathlib.Core.Path.{_≡_};
 ghost use Rattle.settings.specs.Settings.{ShapeOfAccepted, firstRefusal};
-ghost use Rattle.store.specs.Memory.{partIn};
-ghost use Rattle.store.specs.Refusals.{shapeRefusal};
+ghost use Rattle.store.specs.Memory.{partIn, partOf};
+ghost use Rattle.store.specs.Refusals.{shapeRefusal, keyedRefusal};
 ghost use Rattle.store.specs.Lending.{lentUnless};
 use crate::Part;
 use crate::refusals;
 use crate::words;
+use settings::Settings;
 use settings::Shape;
 
 // The part of the key's shard; or nothing, and the number by which the call is refused.
@@ -36,4 +37,15 @@ pub fn lend(shape: Shape, ws: &[u64], hash: u64, further: u32) -> Lending
         return Lending::Refused(refusal);
     }
     Lending::Lent(part)
+}
+
+// The same from the settings, which are checked first.
+pub fn lend_for(settings: Settings, ws: &[u64], hash: u64, further: u32) -> Lending
+    ensures { λ r. ⌜ r ≡ lentUnless (firstRefusal (keyedRefusal settings hash (now (ws .entry))) further) (partOf settings hash) ⌝ }
+{
+    let refusal = settings.refusal();
+    if refusal != 0 {
+        return Lending::Refused(refusal);
+    }
+    lend(settings.shape(), ws, hash, further)
 }

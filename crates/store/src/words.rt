@@ -7,6 +7,9 @@ use settings::Settings;
 use settings::Shape;
 use shard_map::words;
 
+// The word at which the first shard begins.
+const SHARDS_AT: usize = 0;
+
 // The words that a store of these settings is lent.
 pub fn memory_words(settings: Settings) -> usize
     requires { ⌜ sizeRefusal settings ≡ 0 ⌝ }
@@ -20,7 +23,7 @@ pub(crate) fn words_in(shape: Shape) -> usize
     requires { ⌜ ShapeOfAccepted shape ⌝ }
     ensures { λ r. ⌜ r ≡ wordsIn shape ⌝ }
 {
-    shape.shards * words::shard_words(shape.cap)
+    SHARDS_AT + shape.shards * words::shard_words(shape.cap)
 }
 
 // The word at which a shard begins, by its number.
@@ -28,5 +31,5 @@ pub(crate) fn shard_start(cap: usize, shard: usize) -> usize
     requires { ⌜ shardEnd cap shard < 2 ^ 64 ⌝ }
     ensures { λ r. ⌜ r ≡ shardStart cap shard ⌝ }
 {
-    shard * words::shard_words(cap)
+    SHARDS_AT + shard * words::shard_words(cap)
 }

@@ -1,5 +1,5 @@
 -- `due_reply` grants where there is no wait.
-use Rattle.perkey.proofs.RuleLaws.{no-wait-is-granted, wait-is-told}
+use Rattle.perkey.proofs.PeekLaws.{no-wait-is-granted, wait-is-told}
 use Rattle.perkey.proofs.due_reply.Statement.{statement}
 use Rattle.perkey.proofs.due_reply.Tie as tie
 

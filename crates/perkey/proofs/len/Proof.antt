@@ -1,7 +1,7 @@
 -- `len` tells the refusal, else the slots of all shards.
 use mathlib.Core.Path.{sym, _∙_}
-use Rattle.perkey.specs.Calls.{len}
-use Rattle.perkey.proofs.CallLaws.{refusal-is-told, rule-is-told}
+use Rattle.rules.specs.Rules.{lenIn}
+use Rattle.rules.proofs.RefusedLaws.{number-is-told, unless-refused-accepts}
 use borrow.Author.Needs.{needs}
 use Rattle.perkey.proofs.len.Statement.{statement}
 use Rattle.perkey.proofs.len.Tie as tie
@@ -10,17 +10,15 @@ len-refusal-requires : tie.Need-len-refusal-requires
 len-refusal-requires c κs = search needs
 
 returns : tie.Need-returns
-returns c =
-    let args′ = c .before .before .before .args in
-    refusal-is-told (len (args′ .settings)) (args′ .ws .now) (c .before .len-refusal .ensures) (c .if1 .taken)
+unfolding lenIn
+returns c = number-is-told _ _ _ (c .before .len-refusal .ensures) (c .if1 .taken)
 
 len-requires : tie.Need-len-requires
 len-requires c κs = sym (c .before .len-refusal .ensures) ∙ c .if1 .left
 
 returns-2 : tie.Need-returns-2
-returns-2 c =
-    let args′ = c .before .before .before .before .args in
-    rule-is-told (len (args′ .settings)) (args′ .ws .now) (c .before .before .len-refusal .ensures) (c .before .if1 .left) (rw (c .len .ensures))
+unfolding lenIn
+returns-2 c = rw (c .len .ensures) (sym (unless-refused-accepts _ _ _ (sym (c .before .before .len-refusal .ensures) ∙ c .before .if1 .left)))
 
 pub len-spec : {M : Type 1} → statement M
 len-spec = tie.close (tie.spec len-refusal-requires returns len-requires returns-2)

@@ -9,9 +9,10 @@ use Rattle.shard.proofs.OwnBucketLaws.{view-of-slot, view-without-slot}
 use Rattle.shard_map.specs.Model.{Sound}
 use Rattle.store.specs.Memory.{Placed, shardIn}
 use Rattle.store.proofs.LendingLaws.{found-place-below}
-use Rattle.perkey.specs.declared.Reply.{Reply}
-use Rattle.perkey.specs.Rules.{dueReply, peekedBy}
-use Rattle.perkey.proofs.RuleLaws.{peek-of-too-much, bucket-may-be-viewed, viewed-due-is-told}
+use Rattle.settings.specs.declared.Limit.the-variants.{Open}
+use Rattle.rules.specs.declared.Reply.{Reply}
+use Rattle.rules.specs.Asks.{dueReply, peekedIn}
+use Rattle.perkey.proofs.PeekLaws.{peek-of-too-much, viewed-due-is-told}
 use borrow.Author.Needs.{needs}
 use Rattle.perkey.proofs.peek_bucket.Statement.{statement}
 use Rattle.perkey.proofs.peek_bucket.Tie as tie
@@ -21,10 +22,7 @@ abbrev start : tie.After-config → tie.Start
 start k = k .before .before
 
 viewed : (k : tie.After-config) → let a = start k .args in Placed (a .part) (a .ws .now) × Sound (shardIn (a .part) (a .ws .now)) × Accepted (k .config .result)
-viewed k =
-    let a = start k .args in
-    let pre′ = start k .pre in
-    bucket-may-be-viewed (a .settings) (a .id .hash) (a .ws .now) (pre′ .1) (a .at) (pre′ .0) (a .rate) (pre′ .2) (k .config .ensures)
+viewed k = let pre′ = start k .pre in (pre′ .0, pre′ .1, rw (k .config .ensures) (pre′ .2))
 
 -- Where the configuration was made, once the key's place is asked for.
 abbrev made : tie.After-position → tie.After-config
@@ -43,16 +41,15 @@ may-be-asked : (p : tie.After-position) → let a = start (made p) .args in
 may-be-asked p =
     (viewed (made p) .2, p .before .if1 .left)
 
--- What is told of the bucket viewed, by its due and its reply.
+-- What is answered by the bucket viewed, by its due and its reply.
 told-of : (p : tie.After-position) {bucket : BucketCore} {due : Due} {told : Reply} → let k = made p in let a = start k .args in
     bucket ≡ OneShard.viewed (k .config .result) (a .id) (a .at) (shardIn (a .part) (a .ws .now)) → due ≡ dueAt (k .config .result) bucket (a .cost) (a .at)
-    → told ≡ dueReply due → told ≡ peekedBy (a .settings .limit) (a .settings) (a .at) (a .id) (a .cost) (a .ws .now)
+    → told ≡ dueReply due → told ≡ peekedIn (Open (a .rate)) (a .at) (a .cost) (a .id) (shardIn (a .part) (a .ws .now))
 told-of p is-bucket is-due is-reply =
     let k = made p in
     let a = start k .args in
-    let pre′ = start k .pre in
     let within = rw (k .config .ensures) at (p .before .if1 .left) in
-    viewed-due-is-told (a .settings) (a .rate) (a .at) (a .id) (a .ws .now) (pre′ .2) (pre′ .1) (k .config .ensures) is-bucket (a .cost) within is-due is-reply
+    viewed-due-is-told (a .rate) (a .at) (a .cost) (a .id) (shardIn (a .part) (a .ws .now)) within (k .config .ensures) is-bucket is-due is-reply
 
 config-requires : tie.Need-config-requires
 config-requires c κs = search needs
@@ -60,7 +57,7 @@ config-requires c κs = search needs
 returns : tie.Need-returns
 returns c =
     let k = c .before .before in
-    rw (start k .pre .2) (peek-of-too-much _ _ _ _ _ _ (rw (k .config .ensures) at (c .if1 .taken)))
+    peek-of-too-much _ _ _ _ _ (rw (k .config .ensures) at (c .if1 .taken))
 
 position-requires : tie.Need-position-requires
 position-requires c κs = let may = viewed (c .before .before) in (may .0, may .1)

@@ -1,61 +1,62 @@
--- `refund` tells a closed limiter's answer, unless the call is refused, and what `refund_open` tells where there is a rate.
-use mathlib.Core.Path.{refl, sym, _∙_}
-use Rattle.store.specs.Refusals.{keyedRefusal}
-use Rattle.store.proofs.RefusalLaws.{no-further-refusal}
-use Rattle.store.proofs.LendingLaws.{accepted-shape}
-use Rattle.perkey.specs.Calls.{refund}
-use Rattle.perkey.proofs.CallLaws.{closed-is-told, closed-refund}
+use Rattle.rules.proofs.KeyedLaws.{unlent-is-told, lent-may-be-asked, lent-limit-accepted, lent-is-told}
+use Rattle.rules.specs.Asks.{undoes, refunds}
 use borrow.Author.Needs.{needs}
 use Rattle.perkey.proofs.refund.Statement.{statement}
 use Rattle.perkey.proofs.refund.Tie as tie
+use Rattle.perkey.proofs.refund.Reads as reads
+use Rattle.perkey.proofs.refund.Lts as lts
+use Rattle.perkey.proofs.give_back.Reads as give-back-reads
+use Rattle.store.proofs.lending.lend_for.Reads as lend-for-reads
 
-enum-told : tie.Need-enum-told
-enum-told c = search needs
+-- src/lib.rt:163:11
+lend-for-requires : tie.Need-lend-for-requires
+lend-for-requires c κs = search needs
 
-refusal-requires : tie.Need-refusal-requires
-refusal-requires c κs = search needs
+-- src/lib.rt:164:26
+enum-known-refusal : tie.Need-enum-known-refusal
+enum-known-refusal c = search needs
 
-shape-requires : tie.Need-shape-requires
-shape-requires c κs = search needs
+-- src/lib.rt:165:23
+enum-known-part : tie.Need-enum-known-part
+enum-known-part c = search needs
 
-unless-refused-requires : tie.Need-unless-refused-requires
-unless-refused-requires c κs =
-    let r = c .before .before in
-    λ none. accepted-shape (r .before .before .before .before .args .settings) (sym (r .refusal .ensures) ∙ none) (c .before .shape .ensures)
+-- src/lib.rt:165:32
+give-back-requires : tie.Need-give-back-requires
+give-back-requires c κs =
+    let lend-for′ = c .before .before .before .before .lend-for in
+    let part′ = c .before .before .part in
+    let a = c .before .before .before .before .before .before .before .args in
+    let may = lent-may-be-asked (a .settings) (a .id) (undoes (refunds (a .cost))) (a .ws .now) (lend-for′ .ensures) (part′ .given .1) in
+    (may .0, may .1, lent-limit-accepted (a .settings) (a .id) (undoes (refunds (a .cost))) (a .ws .now) (lend-for′ .ensures) (part′ .given .1))
 
-enum-known-limit : tie.Need-enum-known-limit
-enum-known-limit c = search needs
-
-refund-open-requires : tie.Need-refund-open-requires
-refund-open-requires c κs = c .before .before .limit .given .1
-
+-- src/lib.rt:159:1
 same-length : tie.Need-same-length
 same-length c = search needs
 
+-- src/lib.rt:159:1
 returns : tie.Need-returns
 returns c =
-    let r = c .before .before .before in
-    let a = r .before .before .before .before .args in
-    let ruled = closed-refund (a .settings) (r .before .enum-told .given .1) (a .id) (a .ws .now) (a .cost) in
-    closed-is-told (refund (a .settings) (a .id) (a .cost)) (a .settings) (a .id .hash) (a .ws .now) 0 (r .refusal .ensures) (c .before .before .shape .ensures)
-    refl (no-further-refusal (keyedRefusal (a .settings) (a .id .hash) (a .ws .now))) ruled (c .unless-refused .ensures)
+    let a = c .before .before .before .before .before .before .args in
+    unlent-is-told (a .settings) (a .id) (undoes (refunds (a .cost))) (a .ws .now) (c .before .before .before .lend-for .ensures) (c .before .refusal .given .1)
 
+-- src/lib.rt:159:1
 same-length-2 : tie.Need-same-length-2
 same-length-2 c = search needs
 
+-- src/lib.rt:159:1
 returns-2 : tie.Need-returns-2
-returns-2 c = c .before .before .refund-open .ensures
+returns-2 c =
+    let a = c .before .before .before .before .before .before .before .before .before .before .args in
+    lent-is-told (a .settings) (a .id) (undoes (refunds (a .cost))) (a .ws .now) (c .before .before .before .before .before .before .before .lend-for .ensures) (c .before .before .before .before .before .part .given .1) (c .before .before .give-back .ensures)
 
 pub refund-spec : {M : Type 1} → statement M
 refund-spec =
     tie.close
     (tie.spec
-    enum-told
-    refusal-requires
-    shape-requires
-    unless-refused-requires
-    enum-known-limit
-    refund-open-requires
+    lend-for-requires
+    enum-known-refusal
+    enum-known-part
+    give-back-requires
     same-length
     returns
     same-length-2

@@ -1,99 +1,68 @@
--- `remove` tells the refusal, else what the store tells of the key's shard.
-use mathlib.Core.Path.{_≡_, refl, sym, _∙_}
-use Rattle.settings.specs.Settings.{settingsRefusal}
-use Rattle.store.specs.Lending.{lentUnless}
-use Rattle.store.specs.Memory.{partOf}
-use Rattle.store.specs.Refusals.{keyedRefusal}
-use Rattle.store.proofs.RefusalLaws.{settings-refuse-keyed}
-use Rattle.store.proofs.LendingLaws.{accepted-shape, lent-part, keyed-lending}
-use Rattle.perkey.specs.Calls.{Call, remove}
-use Rattle.perkey.proofs.CallLaws.{refusal-is-told, unlent-is-told, lent-is-ruled}
-use Rattle.perkey.proofs.RuleLaws.{removal-may-be-asked, key-is-told}
+use Rattle.perkey.proofs.KnownLaws.{key-is-told}
+use Rattle.rules.proofs.KeyedLaws.{unlent-is-told, lent-may-be-asked, lent-is-told}
+use Rattle.rules.specs.Asks.{undoes, removes}
 use borrow.Author.Needs.{needs}
 use Rattle.perkey.proofs.remove.Statement.{statement}
 use Rattle.perkey.proofs.remove.Tie as tie
+use Rattle.perkey.proofs.remove.Reads as reads
+use Rattle.perkey.proofs.remove.Lts as lts
+use Rattle.perkey.proofs.known_reply.Reads as known-reply-reads
+use Rattle.store.proofs.lending.lend_for.Reads as lend-for-reads
+use Rattle.store.proofs.remove.Reads as remove-reads
 
--- The call; where it began, as seen once the settings are accepted and once `lend` has answered; and what `lend` answered.
-abbrev call : tie.Start → Call
-call s = remove (s .args .settings) (s .args .id)
+-- src/lib.rt:184:11
+lend-for-requires : tie.Need-lend-for-requires
+lend-for-requires c κs = search needs
 
-accepted : (e : tie.Else1) → settingsRefusal (e .before .before .before .args .settings) ≡ 0
-accepted e = sym (e .before .refusal .ensures) ∙ e .if1 .left
-
-abbrev start : tie.After-lend → tie.Start
-start l = l .before .before .before .before .before .before
-
-lending : (l : tie.After-lend) → let a = start l .args in l .lend .result ≡ lentUnless (keyedRefusal (a .settings) (a .id .hash) (a .ws .now)) (partOf (a .settings) (a .id .hash))
-lending l =
-    let a = start l .args in
-    let e = l .before .before .before in
-    keyed-lending (a .settings) (a .id .hash) (a .ws .now) (accepted e) (l .before .before .shape .ensures) _ (l .lend .ensures) refl
-
-refusal-requires : tie.Need-refusal-requires
-refusal-requires c κs = search needs
-
-returns : tie.Need-returns
-returns c =
-    let s = c .before .before .before in
-    let a = s .args in
-    refusal-is-told (call s) (a .ws .now) (settings-refuse-keyed (a .settings) (a .id .hash) (a .ws .now) (c .before .refusal .ensures) (c .if1 .taken)) (c .if1 .taken)
-
-shape-requires : tie.Need-shape-requires
-shape-requires c κs = search needs
-
-lend-requires : tie.Need-lend-requires
-lend-requires c κs =
-    let e = c .before .before in
-    accepted-shape (e .before .before .before .args .settings) (accepted e) (c .before .shape .ensures)
-
+-- src/lib.rt:185:26
 enum-known-refusal : tie.Need-enum-known-refusal
 enum-known-refusal c = search needs
 
+-- src/lib.rt:186:23
 enum-known-part : tie.Need-enum-known-part
 enum-known-part c = search needs
 
+-- src/lib.rt:186:44
 remove-requires : tie.Need-remove-requires
 remove-requires c κs =
-    let l = c .before .before .before .before in
-    let lent = lent-part _ _ (lending l) (c .before .before .part .given .1) in
-    let a = start l .args in
-    removal-may-be-asked (a .settings) (a .id .hash) (a .ws .now) (lent .1) (lent .0)
+    let a = c .before .before .before .before .before .before .before .args in
+    lent-may-be-asked (a .settings) (a .id) (undoes removes) (a .ws .now) (c .before .before .before .before .lend-for .ensures) (c .before .before .part .given .1)
 
+-- src/lib.rt:186:32
 known-reply-requires : tie.Need-known-reply-requires
 known-reply-requires c κs = search needs
 
+-- src/lib.rt:181:1
 same-length : tie.Need-same-length
 same-length c = search needs
 
-returns-2 : tie.Need-returns-2
-returns-2 c =
-    let l = c .before .before .before in
-    unlent-is-told (call (start l)) (start l .args .ws .now) _ (lending l) (c .before .refusal2 .given .1)
+-- src/lib.rt:181:1
+returns : tie.Need-returns
+returns c =
+    let a = c .before .before .before .before .before .before .args in
+    unlent-is-told (a .settings) (a .id) (undoes removes) (a .ws .now) (c .before .before .before .lend-for .ensures) (c .before .refusal .given .1)
 
+-- src/lib.rt:181:1
 same-length-2 : tie.Need-same-length-2
 same-length-2 c = search needs
 
-returns-3 : tie.Need-returns-3
-returns-3 c =
-    let p = c .before .before .before .before .before .before in
-    let l = p .before .before in
-    let a = start l .args in
-    let removed = rw (lent-part _ _ (lending l) (p .part .given .1) .1) at (c .before .before .before .remove .ensures) in
-    lent-is-ruled (call (start l)) (a .ws .now) _ (lending l) (p .part .given .1) (key-is-told (a .settings) (a .id) (a .ws .now) _ removed (c .known-reply .ensures))
+-- src/lib.rt:181:1
+returns-2 : tie.Need-returns-2
+returns-2 c =
+    let a = c .before .before .before .before .before .before .before .before .before .before .before .args in
+    let removed = key-is-told (c .before .before .before .remove .ensures) (c .known-reply .ensures) in
+    lent-is-told (a .settings) (a .id) (undoes removes) (a .ws .now) (c .before .before .before .before .before .before .before .before .lend-for .ensures) (c .before .before .before .before .before .before .part .given .1) removed
 
 pub remove-spec : {M : Type 1} → statement M
 remove-spec =
     tie.close
     (tie.spec
-    refusal-requires
-    returns
-    shape-requires
-    lend-requires
+    lend-for-requires
     enum-known-refusal
     enum-known-part
     remove-requires
     known-reply-requires
     same-length
-    returns-2
+    returns
     same-length-2
-    returns-3)
+    returns-2)

@@ -1,7 +1,7 @@
 -- `reserve` tells what the attempt told, else what `finish` tells of what the attempt left.
 use mathlib.Core.Path.{refl}
 use Rattle.bucket.specs.declared.Request.the-variants.{Reserve}
-use Rattle.perkey.proofs.FinishLaws.{attempt-is-told, left-may-be-finished, finished-is-told}
+use Rattle.requests.proofs.FinishLaws.{attempt-is-told, left-may-be-finished, finished-is-told}
 use borrow.Author.Needs.{needs}
 use Rattle.perkey.proofs.reserve.Statement.{statement}
 use Rattle.perkey.proofs.reserve.Tie as tie

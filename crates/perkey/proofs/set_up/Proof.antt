@@ -1,5 +1,5 @@
 -- `set_up` tells the refusal, else zeroes all words, which are as many as the settings ask for.
-use Rattle.perkey.proofs.RefusedLaws.{set-up-refusal-is-told, set-up-zeroes}
+use Rattle.rules.proofs.RefusedLaws.{set-up-refusal-is-told, set-up-zeroes}
 use borrow.Author.Needs.{needs}
 use Rattle.perkey.proofs.set_up.Statement.{statement}
 use Rattle.perkey.proofs.set_up.Tie as tie

@@ -10,8 +10,11 @@ shard-words-requires c κs = search needs
 mul-result : tie.Need-mul-result
 mul-result c = record { fits = rw (c .shard-words .ensures) (omega (arith, c .before .pre)) }
 
+add-result : tie.Need-add-result
+add-result c = record { fits = rw (c .shard-words .ensures) (omega (arith, c .before .pre)) }
+
 returns : tie.Need-returns
 returns c = rw (c .shard-words .ensures)
 
 pub shard-start-spec : {M : Type 1} → statement M
-shard-start-spec = tie.close (tie.spec shard-words-requires mul-result returns)
+shard-start-spec = tie.close (tie.spec shard-words-requires mul-result add-result returns)

@@ -1,0 +1,3 @@
+pub mod RequestLaws
+pub mod AttemptLaws
+pub mod FinishLaws

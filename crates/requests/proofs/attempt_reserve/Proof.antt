@@ -1,0 +1,55 @@
+-- `attempt_reserve` tells nothing on a closed limiter, unless the call is refused, and comes to what `reserve_open` comes to where there is a rate.
+use mathlib.Core.Path.{refl}
+use Rattle.bucket.specs.declared.Request.the-variants.{Reserve}
+use Rattle.requests.proofs.RequestLaws.{closed-request-is-told}
+use Rattle.requests.proofs.AttemptLaws.{closed-is-answered}
+use borrow.Author.Needs.{needs}
+use Rattle.requests.proofs.attempt_reserve.Statement.{statement}
+use Rattle.requests.proofs.attempt_reserve.Tie as tie
+
+enum-told : tie.Need-enum-told
+enum-told c = search needs
+
+reserve-further-requires : tie.Need-reserve-further-requires
+reserve-further-requires c κs = search needs
+
+unless-refused-requires : tie.Need-unless-refused-requires
+unless-refused-requires c κs = search needs
+
+enum-known-limit : tie.Need-enum-known-limit
+enum-known-limit c = search needs
+
+reserve-open-requires : tie.Need-reserve-open-requires
+reserve-open-requires c κs = c .before .before .limit .given .1
+
+same-length : tie.Need-same-length
+same-length c = search needs
+
+returns : tie.Need-returns
+returns c =
+    let f = c .before .before in
+    let a = f .before .before .before .before .args in
+    let ruled =
+    closed-request-is-told (Reserve (a .max-wait)) (a .settings) (a .at) (a .id) (a .cost) (a .ws .now) (f .before .enum-told .given .1) refl
+    (f .reserve-further .ensures) (c .unless-refused .ensures) in
+    closed-is-answered (Reserve (a .max-wait)) (a .settings) (a .at) (a .id) (a .cost) (a .ws .now) (f .before .enum-told .given .1) ruled
+
+same-length-2 : tie.Need-same-length-2
+same-length-2 c = search needs
+
+returns-2 : tie.Need-returns-2
+returns-2 c = c .before .before .reserve-open .ensures
+
+pub attempt-reserve-spec : {M : Type 1} → statement M
+attempt-reserve-spec =
+    tie.close
+    (tie.spec
+    enum-told
+    reserve-further-requires
+    unless-refused-requires
+    enum-known-limit
+    reserve-open-requires
+    same-length
+    returns
+    same-length-2
+    returns-2)

@@ -1,0 +1,89 @@
+-- A call on a key: it is refused by its number and leaves the words as they are, or it does what it asks in the shard of its key.
+use Prim.Native.Nat.{ℕ, _≤_}
+use native.Mathlib.Omega.{arith}
+use mathlib.Core.Path.{_≡_, sym, ap, _∙_}
+use mathlib.Core.List.{List}
+use Rattle.arith.proofs.Cases.{by-eq}
+use Rattle.rows.specs.Outcome.{Outcome, outcome}
+use Rattle.units.specs.declared.Nanos.{Nanos}
+use Rattle.bucket.specs.declared.Request.{Request}
+use Rattle.bucket.specs.declared.Request.the-variants.{Acquire, Reserve}
+use Rattle.bucket.specs.Bucket.{longestWait}
+use Rattle.settings.specs.declared.Settings.{Settings}
+use Rattle.settings.specs.Settings.{limitRefusal, shapeOf}
+use Rattle.settings.proofs.SettingsLaws.{accepted-parts, neither-refuses}
+use Rattle.shard_map.specs.Model.{Sound}
+use Rattle.shard.specs.declared.Identity.{Identity}
+use Rattle.store.specs.declared.Part.{Part}
+use Rattle.store.specs.declared.lending.Lending.{Lending}
+use Rattle.store.specs.declared.lending.Lending.the-variants as Lending
+use Rattle.store.specs.Lending.{lentUnless}
+use Rattle.store.specs.Memory.{Placed, partOf, shardIn, shardAt, inPart, inShard}
+use Rattle.store.specs.Refusals.{latestMoment, longestMaxWait, keyedRefusal, momentRefusal, waitRefusal}
+use Rattle.store.proofs.LendingLaws.{lent-part, accepted-part, in-part-unchanged}
+use Rattle.store.proofs.MemoryLaws.{part-placed}
+use Rattle.store.proofs.RefusalLaws.{Accepted, keyed-not-refused, moment-not-refused, wait-not-refused}
+use Rattle.rules.specs.declared.Reply.{Reply}
+use Rattle.rules.specs.declared.Reply.the-variants.{Refused}
+use Rattle.rules.specs.Asks.{Look, Ask, looks, furtherTo, furtherOf, lookedIn, inItsShard}
+use Rattle.rules.specs.Rules.{askRefusal, askedOf, keyedRuleIn, keyedRule}
+use Rattle.rules.proofs.RefusedLaws.{unless-refused-accepts, unless-refused-refuses, unlent-is-refused}
+
+-- What a call that is not refused may count on: accepted settings, memory of the right length, a sound shard; nor is what it asks refused.
+pub ask-not-refused : (s : Settings) (id : Identity) (ask : Ask) (ws : List ℕ) → askRefusal s id ask ws ≡ 0 → Accepted s (id .hash) ws × (furtherOf ask ≡ 0)
+ask-not-refused s id ask ws none =
+    let parts = neither-refuses (keyedRefusal s (id .hash) ws) (furtherOf ask) none in
+    (keyed-not-refused s (id .hash) ws (parts .0), parts .1)
+
+-- A request that is not refused for what it asks: its moment is not late, and the longest wait that it asks for is not too long.
+pub request-in-time : (r : Request) (at : Nanos) → furtherTo r at ≡ 0 → (at .0 ≤ latestMoment) × (longestWait r ≤ longestMaxWait)
+request-in-time Acquire at none = (moment-not-refused at none, omega arith)
+request-in-time (Reserve longest) at none =
+    let parts = neither-refuses (momentRefusal at) (waitRefusal longest) none in
+    (moment-not-refused at (parts .0), wait-not-refused longest (parts .1))
+
+module _ (s : Settings) (id : Identity) (ask : Ask) (ws : List ℕ) where
+  pub not-refused-is-asked : askRefusal s id ask ws ≡ 0 → keyedRule s id ask ws ≡ askedOf (shapeOf s) s id ask ws
+  unfolding keyedRuleIn
+  not-refused-is-asked none = unless-refused-accepts (askRefusal s id ask ws) ws (askedOf (shapeOf s) s id ask ws) none
+
+  pub refused-is-numbered : (askRefusal s id ask ws ≡ 0 → ⊥) → keyedRule s id ask ws ≡ outcome (Refused (askRefusal s id ask ws)) ws
+  unfolding keyedRuleIn
+  refused-is-numbered some = unless-refused-refuses (askRefusal s id ask ws) ws (askedOf (shapeOf s) s id ask ws) some
+
+  -- As the code comes to it, by a number that it has found;
+  pub refusal-is-told : {told : ℕ} → told ≡ askRefusal s id ask ws → (told ≡ 0 → ⊥) → outcome (Refused told) ws ≡ keyedRule s id ask ws
+  refusal-is-told is some = rw is (sym (refused-is-numbered (λ none. some (is ∙ none))))
+
+  -- and by what the call was lent: nothing, and the number by which it is refused,
+  module _ {lending : Lending} (is : lending ≡ lentUnless (askRefusal s id ask ws) (partOf s (id .hash))) where
+    pub unlent-is-told : {told : ℕ} → lending ≡ Lending.Refused told → outcome (Refused told) ws ≡ keyedRule s id ask ws
+    unfolding keyedRuleIn
+    unlent-is-told gave = unlent-is-refused (askRefusal s id ask ws) ws (askedOf (shapeOf s) s id ask ws) (partOf s (id .hash)) is gave
+
+    -- or the part of its key's shard. That lies in the memory, its shard is sound, and the limit is accepted.
+    module _ {part′ : Part} (gave : lending ≡ Lending.Lent part′) where
+      none-refuses : (askRefusal s id ask ws ≡ 0) × (part′ ≡ partOf s (id .hash))
+      none-refuses = lent-part (askRefusal s id ask ws) (partOf s (id .hash)) is gave
+
+      pub lent-may-be-asked : Placed part′ ws × Sound (shardIn part′ ws)
+      lent-may-be-asked = accepted-part s (id .hash) ws (ask-not-refused s id ask ws (none-refuses .0) .0) (none-refuses .1)
+
+      pub lent-limit-accepted : limitRefusal (s .limit) ≡ 0
+      lent-limit-accepted = accepted-parts s (ask-not-refused s id ask ws (none-refuses .0) .0 .set-up .settings) .0
+
+      pub lent-is-told : {o : Outcome Reply (List ℕ)} → o ≡ inPart part′ ws (inItsShard s id ask (shardIn part′ ws)) → o ≡ keyedRule s id ask ws
+      lent-is-told answered = (rw (none-refuses .1) at answered) ∙ sym (not-refused-is-asked (none-refuses .0))
+
+-- A call that leaves its shard as it is leaves every word as it is.
+pub in-shard-unchanged : {A : Type 0} (s : Settings) (hash : ℕ) (ws : List ℕ) → Accepted s hash ws → (a : A)
+    → inShard s hash ws (outcome a (shardAt s hash ws)) ≡ outcome a ws
+in-shard-unchanged s hash ws accepted a = in-part-unchanged (part-placed s hash ws (accepted .set-up .size)) a
+
+-- So it is with a look, as the code comes to it.
+pub lent-look-is-told : (s : Settings) (id : Identity) (l : Look) (ws : List ℕ) {lending : Lending} → lending ≡ lentUnless (askRefusal s id (looks l) ws) (partOf s (id .hash))
+    → {part′ : Part} → lending ≡ Lending.Lent part′ → {reply : Reply} → reply ≡ lookedIn l (s .limit) id (shardIn part′ ws)
+    → outcome reply ws ≡ keyedRule s id (looks l) ws
+lent-look-is-told s id l ws is gave answered =
+    let placed = lent-may-be-asked s id (looks l) ws is gave .0 in
+    lent-is-told s id (looks l) ws is gave (rw answered (sym (in-part-unchanged placed _)))

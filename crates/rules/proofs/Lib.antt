@@ -1,0 +1,6 @@
+pub mod RefusedLaws
+pub mod RuleLaws
+pub mod KeyedLaws
+pub mod KindLaws
+pub mod CallLaws
+pub mod WaitLaws

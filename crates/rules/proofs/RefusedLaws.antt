@@ -1,0 +1,64 @@
+-- The two cases of a call: refused by number or not.
+use Prim.Native.Nat.{ℕ}
+use mathlib.Core.Path.{_≡_, sym, ap, _∙_}
+use mathlib.Core.List.{List}
+use lib.ListN.{length, replicate}
+use borrow.Author.Tests.{eq-eqb, ne-eqb}
+use Rattle.arith.proofs.Cases.{by-eq}
+use Rattle.rows.specs.Outcome.{Outcome, outcome}
+use Rattle.settings.specs.declared.Settings.{Settings}
+use Rattle.settings.specs.Settings.{firstRefusal}
+use Rattle.settings.proofs.SettingsLaws.{first-refusal-stands, no-refusal-hands-on}
+use Rattle.store.specs.declared.Part.{Part}
+use Rattle.store.specs.declared.lending.Lending.{Lending}
+use Rattle.store.specs.declared.lending.Lending.the-variants as Lending
+use Rattle.store.specs.Lending.{lentUnless}
+use Rattle.store.specs.Refusals.{setUpRefusal}
+use Rattle.store.proofs.LendingLaws.{refused-number, lent-part}
+use Rattle.store.proofs.RefusalLaws.{set-up-not-refused}
+use Rattle.rules.specs.declared.Reply.{Reply}
+use Rattle.rules.specs.declared.Reply.the-variants.{Done, Refused}
+use Rattle.rules.specs.Rules.{unlessRefused, setUpIn, setUp}
+
+-- A call that is not refused gives what the rules give; one that is refused answers its number and changes no word.
+module _ (refusal : ℕ) (ws : List ℕ) (accepted : Outcome Reply (List ℕ)) where
+  pub unless-refused-accepts : refusal ≡ 0 → unlessRefused refusal ws accepted ≡ accepted
+  unfolding unlessRefused
+  unless-refused-accepts none = rw (eq-eqb _ _ none)
+
+  pub unless-refused-refuses : (refusal ≡ 0 → ⊥) → unlessRefused refusal ws accepted ≡ outcome (Refused refusal) ws
+  unfolding unlessRefused
+  unless-refused-refuses some = rw (ne-eqb _ _ some)
+
+  -- As the code comes to it: by a number that it has found, or by what the call was lent.
+  pub number-is-told : {told : ℕ} → told ≡ refusal → (told ≡ 0 → ⊥) → outcome (Refused told) ws ≡ unlessRefused refusal ws accepted
+  number-is-told is some = rw is (sym (unless-refused-refuses (λ none. some (is ∙ none))))
+
+  module _ {lending : Lending} (part′ : Part) (is : lending ≡ lentUnless refusal part′) where
+    pub unlent-is-refused : {told : ℕ} → lending ≡ Lending.Refused told → outcome (Refused told) ws ≡ unlessRefused refusal ws accepted
+    unlent-is-refused gave = let number = refused-number refusal part′ is gave in number-is-told (number .0) (number .1)
+
+    pub lent-is-accepted : {p : Part} → lending ≡ Lending.Lent p → accepted ≡ unlessRefused refusal ws accepted
+    lent-is-accepted gave = sym (unless-refused-accepts (lent-part refusal part′ is gave .0))
+
+-- A refusal within a refusal is the first of the two.
+pub first-of-two-refuses : (first second : ℕ) (ws : List ℕ) (accepted : Outcome Reply (List ℕ))
+    → unlessRefused first ws (unlessRefused second ws accepted) ≡ unlessRefused (firstRefusal first second) ws accepted
+first-of-two-refuses first second ws accepted =
+    by-eq first 0
+    (λ none. rw (no-refusal-hands-on first second none) (unless-refused-accepts first ws (unlessRefused second ws accepted) none))
+    (λ some.
+    rw (first-refusal-stands first second some)
+    (unless-refused-refuses first ws (unlessRefused second ws accepted) some ∙ sym (unless-refused-refuses first ws accepted some)))
+
+-- Set-up and clear, as the code comes to them.
+module _ (s : Settings) (ws : List ℕ) {told : ℕ} (is : told ≡ setUpRefusal s ws) where
+  pub set-up-refusal-is-told : (told ≡ 0 → ⊥) → outcome (Refused told) ws ≡ setUp s ws
+  unfolding setUpIn
+  set-up-refusal-is-told some = number-is-told (setUpRefusal s ws) ws _ is some
+
+  pub set-up-zeroes : told ≡ 0 → outcome Done (replicate (length ws) 0) ≡ setUp s ws
+  unfolding setUpIn
+  set-up-zeroes none =
+      let accepted = sym is ∙ none in
+      rw (set-up-not-refused s ws accepted .size) (sym (unless-refused-accepts (setUpRefusal s ws) ws _ accepted))

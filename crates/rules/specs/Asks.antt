@@ -1,0 +1,178 @@
+-- What a call asks of a key, and the rule of it in the key's shard. No words appear here: `Rules` lends a call the shard of its key.
+use Prim.Native.Nat.{ℕ}
+use mathlib.Core.Bool.{Bool, true, false, cond}
+use lib.Dec.{ltb, eqb}
+use Rattle.rows.specs.Outcome.{Outcome, outcome}
+use Rattle.units.specs.declared.Nanos.{Nanos}
+use Rattle.bucket.specs.declared.BucketDecision.{BucketDecision}
+use Rattle.bucket.specs.declared.BucketDecision.the-variants.{Allowed, Denied}
+use Rattle.bucket.specs.declared.Request.{Request}
+use Rattle.bucket.specs.declared.Request.the-variants.{Acquire, Reserve}
+use Rattle.bucket.specs.declared.Due.{Due}
+use Rattle.bucket.specs.Bucket.{dueAfter, dueAt, availableAt}
+use Rattle.settings.specs.declared.Limit.{Limit}
+use Rattle.settings.specs.declared.Limit.the-variants.{Closed, Open}
+use Rattle.settings.specs.declared.Settings.{Settings}
+use Rattle.settings.specs.declared.decision.Decision.{Decision}
+use Rattle.settings.specs.declared.decision.Decision.the-variants.{Acquired, Retry, Impossible}
+use Rattle.settings.specs.declared.eviction.WhenFull.{WhenFull}
+use Rattle.settings.specs.declared.eviction.WhenFull.the-variants.{RefuseNew, ForgetDebt}
+use Rattle.settings.specs.declared.rate.Rate.{Rate}
+use Rattle.settings.specs.Rate.{configOf}
+use Rattle.settings.specs.Settings.{firstRefusal}
+use Rattle.shard_map.specs.Model.{Shard}
+use Rattle.shard.specs.declared.Identity.{Identity}
+use Rattle.shard.specs.declared.Policy.{Policy}
+use Rattle.shard.specs.Model as OneShard
+use Rattle.store.specs.Refusals.{momentRefusal, waitRefusal}
+use Rattle.rules.specs.declared.Reply.{Reply}
+use Rattle.rules.specs.declared.Reply.the-variants.{Tried, Reserved, Nothing, Done, Count}
+use Rattle.rules.specs.Replies.{Kind, decides, reserves, counts, knows}
+
+-- What a look at a key asks, at a moment: what a try for N tokens would be answered, or how many tokens there are.
+pub data Look : Type 0 where
+  peeks : Nanos → ℕ → Look
+  tokens : Nanos → Look
+
+-- How what a key spent is undone: N tokens are given back, or the key is forgotten.
+pub data Undo : Type 0 where
+  refunds : ℕ → Undo
+  removes : Undo
+
+-- What a call asks of a key: a request (a try or a reservation) at a moment for N tokens, a look, or the undoing of what the key spent.
+pub data Ask : Type 0 where
+  requests : Request → Nanos → ℕ → Ask
+  looks : Look → Ask
+  undoes : Undo → Ask
+
+-- A request is answered as a try, which is granted now or not at all, or as a reservation, which is granted for later.
+pub data Manner : Type 0 where
+  asTry : Manner
+  asReservation : Manner
+
+abbrev pub mannerOf : Request → Manner
+mannerOf Acquire = asTry
+mannerOf (Reserve longest) = asReservation
+
+-- The clock after an ask, given the clock before: the moment of the ask, if it has one.
+abbrev pub clockAfterLook : Look → ℕ → ℕ
+clockAfterLook (peeks at cost) before = at .0
+clockAfterLook (tokens at) before = at .0
+
+abbrev pub clockAfterAsk : Ask → ℕ → ℕ
+clockAfterAsk (requests r at cost) before = at .0
+clockAfterAsk (looks l) before = clockAfterLook l before
+clockAfterAsk (undoes u) before = before
+
+-- The kind of the reply to an ask.
+abbrev pub kindIn : Manner → Kind
+kindIn asTry = decides
+kindIn asReservation = reserves
+
+abbrev pub kindOfLook : Look → Kind
+kindOfLook (peeks at cost) = decides
+kindOfLook (tokens at) = counts
+
+abbrev pub kindOfAsk : Ask → Kind
+kindOfAsk (requests r at cost) = kindIn (mannerOf r)
+kindOfAsk (looks l) = kindOfLook l
+kindOfAsk (undoes u) = knows
+
+-- The number by which an ask is refused, after the settings and the memory: 6 for a late moment, then 7 for a longest wait that is too long; 0 if it is not.
+abbrev pub furtherTo : Request → Nanos → ℕ
+furtherTo Acquire at = momentRefusal at
+furtherTo (Reserve longest) at = firstRefusal (momentRefusal at) (waitRefusal longest)
+
+abbrev pub furtherOfLook : Look → ℕ
+furtherOfLook (peeks at cost) = momentRefusal at
+furtherOfLook (tokens at) = momentRefusal at
+
+abbrev pub furtherOf : Ask → ℕ
+furtherOf (requests r at cost) = furtherTo r at
+furtherOf (looks l) = furtherOfLook l
+furtherOf (undoes u) = 0
+
+-- Whether a full ledger forgets a debt rather than turning a new key away; and the settings that a shard needs.
+abbrev pub forgets : WhenFull → Bool
+forgets RefuseNew = false
+forgets ForgetDebt = true
+
+abbrev pub policyOf : Settings → Rate → Policy
+policyOf s rate = record { config = configOf rate; «idle_ttl» = s .eviction .«idle_ttl»; «forget_debt» = forgets (s .eviction .«when_full») }
+
+-- Due at the moment itself, without a wait.
+abbrev pub dueNow : Nanos → Due
+dueNow at = dueAfter at (record { 0 = 0 })
+
+-- A closed limiter's answer to a try or a peek: cost 0 is granted, any other cost is impossible.
+unfoldable pub closed : Nanos → ℕ → Decision
+closed at cost = cond (eqb cost 0) (Acquired (dueNow at)) Impossible
+
+-- The answer to a request on a closed limiter: a reservation gets none, even of cost 0.
+abbrev pub closedTo : Manner → Nanos → ℕ → Reply
+closedTo asTry at cost = Tried (closed at cost)
+closedTo asReservation at cost = Nothing
+
+-- The answer for more tokens than a full bucket holds.
+abbrev pub tooMuch : Manner → Reply
+tooMuch asTry = Tried Impossible
+tooMuch asReservation = Nothing
+
+-- The answer for cost 0, if there is a rate: it is granted.
+abbrev pub atOnce : Manner → Nanos → Reply
+atOnce asTry at = Tried (Acquired (dueNow at))
+atOnce asReservation at = Reserved (dueNow at)
+
+-- The answer by what was decided, by a bucket or for lack of space: a try is granted now, or is to be made again; a reservation is granted with its wait, or
+-- there is none.
+abbrev pub replyTo : Manner → BucketDecision → Reply
+replyTo asTry (Allowed due) = Tried (Acquired due)
+replyTo asTry (Denied due) = Tried (Retry due)
+replyTo asReservation (Allowed due) = Reserved due
+replyTo asReservation (Denied due) = Nothing
+
+-- What an operation on a shard gives, with its answer as a reply.
+abbrev pub toldAs : {A : Type 0} → (A → Reply) → Outcome A Shard → Outcome Reply Shard
+toldAs reply o = outcome (reply (o .answer)) (o .after)
+
+-- A request in its key's shard. Only a cost from 1 to a full bucket reaches the bucket, and only where there is a rate; any other leaves the shard as it is.
+unfoldable pub askedIn : Request → Limit → Settings → Nanos → Identity → ℕ → Shard → Outcome Reply Shard
+askedIn r Closed s at id cost own = outcome (closedTo (mannerOf r) at cost) own
+askedIn r (Open rate) s at id cost own =
+    cond (ltb (configOf rate .capacity) cost) (outcome (tooMuch (mannerOf r)) own)
+    (cond (eqb cost 0) (outcome (atOnce (mannerOf r) at) own) (toldAs (replyTo (mannerOf r)) (OneShard.withOrInsert (policyOf s rate) id r cost at own)))
+
+-- A peek: when the bucket that the key has, or would have if it came in now, has the cost.
+unfoldable pub dueReply : Due → Reply
+dueReply due = cond (eqb (due .wait .0) 0) (Tried (Acquired due)) (Tried (Retry due))
+
+unfoldable pub peekedIn : Limit → Nanos → ℕ → Identity → Shard → Reply
+peekedIn Closed at cost id own = Tried (closed at cost)
+peekedIn (Open rate) at cost id own =
+    cond (ltb (configOf rate .capacity) cost) (Tried Impossible) (dueReply (dueAt (configOf rate) (OneShard.viewed (configOf rate) id at own) cost at))
+
+-- Available: the tokens of the same bucket.
+abbrev pub tokensIn : Limit → Nanos → Identity → Shard → ℕ
+tokensIn Closed at id own = 0
+tokensIn (Open rate) at id own = availableAt (configOf rate) (OneShard.viewed (configOf rate) id at own) at
+
+abbrev pub lookedIn : Look → Limit → Identity → Shard → Reply
+lookedIn (peeks at cost) limit id own = peekedIn limit at cost id own
+lookedIn (tokens at) limit id own = Count (tokensIn limit at id own)
+
+-- Whether a key was known.
+abbrev pub knownReply : Bool → Reply
+knownReply true = Done
+knownReply false = Nothing
+
+-- A refund and a removal. To a refund on a closed limiter every key is unknown.
+abbrev pub undoneIn : Undo → Limit → Identity → Shard → Outcome Reply Shard
+undoneIn (refunds cost) Closed id own = outcome Nothing own
+undoneIn (refunds cost) (Open rate) id own = toldAs knownReply (OneShard.refunded (configOf rate) id cost own)
+undoneIn removes limit id own = toldAs knownReply (OneShard.removed id own)
+
+-- What a call that is not refused answers, and what it leaves in the shard of its key. A look leaves the shard as it is.
+abbrev pub inItsShard : Settings → Identity → Ask → Shard → Outcome Reply Shard
+inItsShard s id (requests r at cost) own = askedIn r (s .limit) s at id cost own
+inItsShard s id (looks l) own = outcome (lookedIn l (s .limit) id own) own
+inItsShard s id (undoes u) own = undoneIn u (s .limit) id own

@@ -1,0 +1,77 @@
+-- The rules: what every operation answers and leaves, for settings and words of any kind.
+use Prim.Native.Nat.{ℕ}
+use mathlib.Core.Bool.{cond}
+use mathlib.Core.List.{List}
+use lib.Dec.{eqb}
+use lib.ListN.{replicate}
+use Rattle.rows.specs.Places.{sum}
+use Rattle.rows.specs.Outcome.{Outcome, outcome}
+use Rattle.units.specs.declared.Nanos.{Nanos}
+use Rattle.bucket.specs.declared.Request.the-variants.{Acquire, Reserve}
+use Rattle.settings.specs.declared.Settings.{Settings}
+use Rattle.settings.specs.declared.Shape.{Shape}
+use Rattle.settings.specs.Settings.{firstRefusal, shapeOf}
+use Rattle.shard.specs.declared.Identity.{Identity}
+use Rattle.store.specs.Memory.{wordsIn, partIn, shardIn, inPart, slotCount}
+use Rattle.store.specs.Refusals.{setUpRefusalIn, keyedRefusalIn, lenRefusalIn}
+use Rattle.rules.specs.declared.Reply.{Reply}
+use Rattle.rules.specs.declared.Reply.the-variants.{Done, Count, Refused}
+use Rattle.rules.specs.Asks.{Ask, requests, looks, undoes, peeks, tokens, refunds, removes, furtherOf, inItsShard}
+
+-- A call that is refused by number changes no word.
+unfoldable pub unlessRefused : ℕ → List ℕ → Outcome Reply (List ℕ) → Outcome Reply (List ℕ)
+unlessRefused refusal ws accepted = cond (eqb refusal 0) accepted (outcome (Refused refusal) ws)
+
+-- A call on a key, in memory of a shape. It is refused first for the settings and the memory, then for what it asks.
+abbrev pub askRefusalIn : Shape → Settings → Identity → Ask → List ℕ → ℕ
+askRefusalIn shape s id ask ws = firstRefusal (keyedRefusalIn shape s (id .hash) ws) (furtherOf ask)
+
+-- Else it does what it asks in the shard of its key. The other shards stay as they are.
+abbrev pub askedOf : Shape → Settings → Identity → Ask → List ℕ → Outcome Reply (List ℕ)
+askedOf shape s id ask ws = let part = partIn shape (id .hash) in inPart part ws (inItsShard s id ask (shardIn part ws))
+
+unfoldable pub keyedRuleIn : Shape → Settings → Identity → Ask → List ℕ → Outcome Reply (List ℕ)
+keyedRuleIn shape s id ask ws = unlessRefused (askRefusalIn shape s id ask ws) ws (askedOf shape s id ask ws)
+
+-- The shape is that of the settings.
+abbrev pub askRefusal : Settings → Identity → Ask → List ℕ → ℕ
+askRefusal s id ask ws = askRefusalIn (shapeOf s) s id ask ws
+
+abbrev pub keyedRule : Settings → Identity → Ask → List ℕ → Outcome Reply (List ℕ)
+keyedRule s id ask ws = keyedRuleIn (shapeOf s) s id ask ws
+
+-- A try, a reservation, a peek, a look at the tokens, a refund, a removal.
+abbrev pub tryAcquire : Settings → Nanos → Identity → ℕ → List ℕ → Outcome Reply (List ℕ)
+tryAcquire s at id cost ws = keyedRule s id (requests Acquire at cost) ws
+
+abbrev pub reserve : Settings → Nanos → Identity → ℕ → Nanos → List ℕ → Outcome Reply (List ℕ)
+reserve s at id cost longest ws = keyedRule s id (requests (Reserve longest) at cost) ws
+
+abbrev pub peek : Settings → Nanos → Identity → ℕ → List ℕ → Outcome Reply (List ℕ)
+peek s at id cost ws = keyedRule s id (looks (peeks at cost)) ws
+
+abbrev pub available : Settings → Nanos → Identity → List ℕ → Outcome Reply (List ℕ)
+available s at id ws = keyedRule s id (looks (tokens at)) ws
+
+abbrev pub refund : Settings → Identity → ℕ → List ℕ → Outcome Reply (List ℕ)
+refund s id cost ws = keyedRule s id (undoes (refunds cost)) ws
+
+abbrev pub remove : Settings → Identity → List ℕ → Outcome Reply (List ℕ)
+remove s id ws = keyedRule s id (undoes removes) ws
+
+-- Set-up and clear zero all words.
+unfoldable pub setUpIn : Shape → Settings → List ℕ → Outcome Reply (List ℕ)
+setUpIn shape s ws = unlessRefused (setUpRefusalIn shape s ws) ws (outcome Done (replicate (wordsIn shape) 0))
+
+abbrev pub setUp : Settings → List ℕ → Outcome Reply (List ℕ)
+setUp s ws = setUpIn (shapeOf s) s ws
+
+abbrev pub clear : Settings → List ℕ → Outcome Reply (List ℕ)
+clear s ws = setUp s ws
+
+-- Length: the slots of all shards.
+unfoldable pub lenIn : Shape → Settings → List ℕ → Outcome Reply (List ℕ)
+lenIn shape s ws = unlessRefused (lenRefusalIn shape s ws) ws (outcome (Count (sum (shape .shards) (λ i. slotCount (shape .cap) i ws))) ws)
+
+abbrev pub len : Settings → List ℕ → Outcome Reply (List ℕ)
+len s ws = lenIn (shapeOf s) s ws
