@@ -15,10 +15,10 @@ use Rattle.settings.specs.Settings.{settingsRefusal, sizeRefusal}
 use Rattle.settings.proofs.SettingsLaws.{no-refusal-hands-on}
 use Rattle.store.specs.Refusals.{setUpRefusal}
 use Rattle.store.proofs.RefusalLaws.{other-length-is-refused}
-use Rattle.perkey.proofs.RefusedLaws.{set-up-refusal-is-told}
-use Rattle.perkey.specs.declared.Reply.{Reply}
-use Rattle.perkey.specs.Rules as Rules
-use Rattle.perkey.specs.declared.codes.Told.{Told}
+use Rattle.rules.proofs.RefusedLaws.{set-up-refusal-is-told}
+use Rattle.rules.specs.declared.Reply.{Reply}
+use Rattle.rules.specs.Replies as Replies
+use Rattle.rules.specs.declared.codes.Told.{Told}
 use Rattle.desk_answers.specs.declared.Stage.{Stage}
 use Rattle.desk_answers.specs.declared.Stage.the-variants.{Open, Ended}
 use Rattle.desk_answers.specs.Desk.{storeSize, stageAfter, inStore, setUp, servedFirst, servedNext}
@@ -75,4 +75,4 @@ too-large-is-refused-5 s memory accepted more =
     let other : length lent ≡ memoryWords s → ⊥ = λ same. omega (arith, same, more, size-fits s (length memory), length-take size memory) in
     let refusal : 5 ≡ setUpRefusal s lent = sym (no-refusal-hands-on _ _ accepted ∙ other-length-is-refused (memoryWords s) lent other) in
     sym (rw (ends s 15 (λ none. omega (arith, none)))
-    (ap (λ (o : Outcome Reply (List ℕ)). servedFirst s (Rules.told o) .answer) (set-up-refusal-is-told s lent refusal (λ none. omega (arith, none)))))
+    (ap (λ (o : Outcome Reply (List ℕ)). servedFirst s (Replies.told o) .answer) (set-up-refusal-is-told s lent refusal (λ none. omega (arith, none)))))

@@ -4,12 +4,13 @@ use native.Mathlib.Omega.{arith}
 use mathlib.Core.Path.{_≡_, refl}
 use mathlib.Core.List.{List}
 use Rattle.settings.specs.declared.Settings.{Settings}
-use Rattle.perkey.specs.Calls as Calls
-use Rattle.perkey.proofs.WaitLaws.{WaitsOnRetry, rules-are-prompt}
+use Rattle.bucket.specs.declared.Request.the-variants.{Acquire}
+use Rattle.rules.specs.Asks.{requests, looks, undoes, peeks, refunds, removes}
+use Rattle.rules.proofs.WaitLaws.{WaitsOnRetry, asks-are-prompt}
 use Rattle.desk_lines.specs.declared.Request.{Request}
 use Rattle.desk_lines.specs.declared.Line.{Line}
 use Rattle.desk_lines.specs.declared.Line.the-variants.{SetUp, Try, Peek, Reserve, Refund, Remove, Malformed}
-use Rattle.perkey.specs.declared.codes.Told.{Told}
+use Rattle.rules.specs.declared.codes.Told.{Told}
 use Rattle.desk_answers.specs.Desk.{tried, answered, identityOf}
 
 -- Every line but a reservation.
@@ -24,11 +25,11 @@ PromptLine Malformed told = WaitsOnRetry told
 
 pub waits-only-on-retry : (s : Settings) (line : Line) (ws : List ℕ) → PromptLine line (answered s line ws .answer)
 waits-only-on-retry s (SetUp t) ws = λ other. refl
-waits-only-on-retry s (Try q) ws = rules-are-prompt (Calls.try s (q .at) (identityOf (q .key)) (q .cost)) ws
-waits-only-on-retry s (Peek q) ws = rules-are-prompt (Calls.peek s (q .at) (identityOf (q .key)) (q .cost)) ws
+waits-only-on-retry s (Try q) ws = asks-are-prompt s (identityOf (q .key)) (requests Acquire (q .at) (q .cost)) ws
+waits-only-on-retry s (Peek q) ws = asks-are-prompt s (identityOf (q .key)) (looks (peeks (q .at) (q .cost))) ws
 waits-only-on-retry s (Reserve q longest) ws = tt
-waits-only-on-retry s (Refund key cost) ws = rules-are-prompt (Calls.refund s (identityOf key) cost) ws
-waits-only-on-retry s (Remove key) ws = rules-are-prompt (Calls.remove s (identityOf key)) ws
+waits-only-on-retry s (Refund key cost) ws = asks-are-prompt s (identityOf key) (undoes (refunds cost)) ws
+waits-only-on-retry s (Remove key) ws = asks-are-prompt s (identityOf key) (undoes removes) ws
 waits-only-on-retry s Malformed ws = λ other. refl
 
 -- So a granted try tells wait 0.

@@ -10,12 +10,13 @@ use Rattle.settings.specs.declared.Settings.{Settings}
 use Rattle.settings.specs.Settings.{sizeRefusal}
 use Rattle.hash.specs.Fnv.{keyHash}
 use Rattle.shard.specs.declared.Identity.{Identity}
-use Rattle.perkey.specs.declared.Reply.{Reply}
-use Rattle.perkey.specs.Rules as Rules
+use Rattle.rules.specs.declared.Reply.{Reply}
+use Rattle.rules.specs.Replies as Replies
+use Rattle.rules.specs.Rules as Rules
 use Rattle.desk_lines.specs.declared.Request.{Request}
 use Rattle.desk_lines.specs.declared.Line.{Line}
 use Rattle.desk_lines.specs.declared.Line.the-variants.{SetUp, Try, Peek, Reserve, Refund, Remove, Malformed}
-use Rattle.perkey.specs.declared.codes.Told.{Told}
+use Rattle.rules.specs.declared.codes.Told.{Told}
 use Rattle.desk_answers.specs.declared.Served.{Served}
 use Rattle.desk_answers.specs.declared.Stage.{Stage}
 use Rattle.desk_answers.specs.declared.Stage.the-variants.{First, Open, Ended}
@@ -30,13 +31,13 @@ abbrev pub identityOf : ℕ → Identity
 identityOf key = record { hash = keyHash key; key = key }
 
 abbrev pub tried : Settings → Request → List ℕ → Outcome Told (List ℕ)
-tried s q ws = Rules.told (Rules.tryAcquire s (q .at) (identityOf (q .key)) (q .cost) ws)
+tried s q ws = Replies.told (Rules.tryAcquire s (q .at) (identityOf (q .key)) (q .cost) ws)
 
 abbrev pub peeked : Settings → Request → List ℕ → Outcome Told (List ℕ)
-peeked s q ws = Rules.told (Rules.peek s (q .at) (identityOf (q .key)) (q .cost) ws)
+peeked s q ws = Replies.told (Rules.peek s (q .at) (identityOf (q .key)) (q .cost) ws)
 
 abbrev pub reserved : Settings → Request → Nanos → List ℕ → Outcome Told (List ℕ)
-reserved s q longest ws = Rules.told (Rules.reserve s (q .at) (identityOf (q .key)) (q .cost) longest ws)
+reserved s q longest ws = Replies.told (Rules.reserve s (q .at) (identityOf (q .key)) (q .cost) longest ws)
 
 -- A line after the first, on the words of the store: the call that it is. A second settings line is malformed, and a malformed line changes no word.
 abbrev pub answered : Settings → Line → List ℕ → Outcome Told (List ℕ)
@@ -44,8 +45,8 @@ answered s (SetUp t) ws = outcome malformed ws
 answered s (Try q) ws = tried s q ws
 answered s (Peek q) ws = peeked s q ws
 answered s (Reserve q longest) ws = reserved s q longest ws
-answered s (Refund key cost) ws = Rules.told (Rules.refund s (identityOf key) cost ws)
-answered s (Remove key) ws = Rules.told (Rules.remove s (identityOf key) ws)
+answered s (Refund key cost) ws = Replies.told (Rules.refund s (identityOf key) cost ws)
+answered s (Remove key) ws = Replies.told (Rules.remove s (identityOf key) ws)
 answered s Malformed ws = outcome malformed ws
 
 -- The store is lent the words that it needs, or all of the memory where it needs more: set-up refuses that as 5. The words of settings that are
@@ -68,7 +69,7 @@ abbrev pub servedFirst : Settings → Outcome Told (List ℕ) → Outcome Served
 servedFirst s o = outcome (record { told = o .answer; stage = stageAfter s (o .answer .code) }) (o .after)
 
 abbrev pub setUp : Settings → List ℕ → Outcome Served (List ℕ)
-setUp s memory = servedFirst s (inStore s (λ ws. Rules.told (Rules.setUp s ws)) memory)
+setUp s memory = servedFirst s (inStore s (λ ws. Replies.told (Rules.setUp s ws)) memory)
 
 abbrev pub unopened : Served
 unopened = record { told = malformed; stage = Ended (malformed .code) }

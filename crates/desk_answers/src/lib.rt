@@ -1,11 +1,10 @@
 // What a line is answered, and what it does to the memory.
 ghost use mathlib.Core.Path.{_≡_};
 ghost use Rattle.rows.specs.Outcome.{outcome};
-ghost use Rattle.perkey.specs.Rules as Rules;
 ghost use Rattle.desk_answers.specs.Desk as Desk;
 use desk_lines::Line;
 use desk_lines::Request;
-use perkey::codes::Told;
+use rules::codes::Told;
 use settings::Settings;
 use shard::Identity;
 use units::Nanos;

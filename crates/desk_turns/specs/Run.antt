@@ -7,7 +7,7 @@ use lib.ListN.{take}
 use Rattle.rows.specs.Outcome.{Outcome, outcome}
 use Rattle.desk_lines.specs.Lines.{longestLine, lineOf}
 use Rattle.desk_lines.specs.Printed.{lineFeed, printed}
-use Rattle.perkey.specs.declared.codes.Told.{Told}
+use Rattle.rules.specs.declared.codes.Told.{Told}
 use Rattle.desk_answers.specs.declared.Stage.{Stage}
 use Rattle.desk_answers.specs.declared.Stage.the-variants.{First, Open, Ended}
 use Rattle.desk_answers.specs.Desk.{served}

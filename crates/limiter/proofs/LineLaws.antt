@@ -4,7 +4,7 @@ use mathlib.Core.Path.{_≡_, _∙_, ap}
 use mathlib.Core.List.{List}
 use Rattle.rows.specs.Outcome.{outcome}
 use Rattle.rows.proofs.OutcomeLaws.{answer-is, after-is}
-use Rattle.perkey.specs.declared.codes.Told.{Told}
+use Rattle.rules.specs.declared.codes.Told.{Told}
 use Rattle.desk_writer.specs.declared.Call.{Call}
 use Rattle.desk_writer.specs.declared.Written.{Written}
 use Rattle.desk_writer.specs.Writer.{written}

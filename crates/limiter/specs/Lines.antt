@@ -5,7 +5,7 @@ use mathlib.Core.List.{List}
 use lib.Dec.{eqb}
 use Rattle.rows.specs.Outcome.{Outcome, outcome}
 use Rattle.units.specs.Units.{nanosOf}
-use Rattle.perkey.specs.declared.codes.Told.{Told}
+use Rattle.rules.specs.declared.codes.Told.{Told}
 use Rattle.desk_lines.specs.declared.Request.{Request}
 use Rattle.desk_writer.specs.declared.Call.{Call}
 use Rattle.desk_writer.specs.declared.Written.{Written}

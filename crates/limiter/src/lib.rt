@@ -3,16 +3,16 @@
 ghost use mathlib.Core.Path.{_≡_};
 ghost use Rattle.rows.specs.Outcome.{outcome};
 ghost use Rattle.units.specs.Units.{nanosOf};
-ghost use Rattle.perkey.specs.Rules as Rules;
-ghost use Rattle.perkey.specs.Attempts.{LeftFor, ruleTo};
+ghost use Rattle.rules.specs.Replies as Replies;
+ghost use Rattle.rules.specs.Rules as Rules;
+ghost use Rattle.requests.specs.code.Attempts.{LeftFor, ruleTo};
 ghost use Rattle.limiter.specs.Exported.{identityOf, wordsToLend, hashOf};
 ghost use Rattle.limiter.specs.Exported.{settingsOf, limitOf, rateOf, tokensOf, boundsOf, evictionOf};
 use bucket::Request;
-use perkey::Reply;
-use perkey::codes::Told;
-use perkey::requests;
-use perkey::requests::Attempt;
-use perkey::requests::Why;
+use requests::Attempt;
+use requests::Why;
+use rules::Reply;
+use rules::codes::Told;
 use settings::Limit;
 use settings::Settings;
 use settings::eviction::Eviction;
@@ -50,7 +50,7 @@ pub struct LimiterSettings {
 // Makes the words an empty store of these settings. Where it is accepted every word is written; what stood in them does not matter.
 #[no_mangle]
 pub extern "C" fn limiter_set_up(settings: LimiterSettings, ws: &mut [u64]) -> Told
-    ensures { λ r. ⌜ outcome r (now (ws .exit)) ≡ Rules.told (Rules.setUp (settingsOf settings) (now (ws .entry))) ⌝ }
+    ensures { λ r. ⌜ outcome r (now (ws .exit)) ≡ Replies.told (Rules.setUp (settingsOf settings) (now (ws .entry))) ⌝ }
 {
     perkey::set_up(settings_of(settings), ws).told()
 }
@@ -65,7 +65,7 @@ pub extern "C" fn limiter_try(
     key: u64,
     cost: u32,
 ) -> Told
-    ensures { λ r. ⌜ outcome r (now (ws .exit)) ≡ Rules.told (Rules.tryAcquire (settingsOf settings) (nanosOf at) (identityOf hash key) cost (now (ws .entry))) ⌝ }
+    ensures { λ r. ⌜ outcome r (now (ws .exit)) ≡ Replies.told (Rules.tryAcquire (settingsOf settings) (nanosOf at) (identityOf hash key) cost (now (ws .entry))) ⌝ }
 {
     match requests::attempt_try(
         settings_of(settings),
@@ -94,7 +94,7 @@ pub extern "C" fn limiter_reserve(
     max_wait: u64,
 ) -> Told
     ensures { λ r. ⌜ outcome r (now (ws .exit)) ≡
-        Rules.told (Rules.reserve (settingsOf settings) (nanosOf at) (identityOf hash key) cost (nanosOf «max_wait») (now (ws .entry))) ⌝ }
+        Replies.told (Rules.reserve (settingsOf settings) (nanosOf at) (identityOf hash key) cost (nanosOf «max_wait») (now (ws .entry))) ⌝ }
 {
     match requests::attempt_reserve(
         settings_of(settings),
@@ -122,7 +122,7 @@ pub extern "C" fn limiter_peek(
     key: u64,
     cost: u32,
 ) -> Told
-    ensures { λ r. ⌜ outcome r (now (ws .exit)) ≡ Rules.told (Rules.peek (settingsOf settings) (nanosOf at) (identityOf hash key) cost (now (ws .entry))) ⌝ }
+    ensures { λ r. ⌜ outcome r (now (ws .exit)) ≡ Replies.told (Rules.peek (settingsOf settings) (nanosOf at) (identityOf hash key) cost (now (ws .entry))) ⌝ }
 {
     perkey::peek(
         settings_of(settings),
@@ -142,7 +142,7 @@ pub extern "C" fn limiter_available(
     hash: u64,
     key: u64,
 ) -> Told
-    ensures { λ r. ⌜ outcome r (now (ws .exit)) ≡ Rules.told (Rules.available (settingsOf settings) (nanosOf at) (identityOf hash key) (now (ws .entry))) ⌝ }
+    ensures { λ r. ⌜ outcome r (now (ws .exit)) ≡ Replies.told (Rules.available (settingsOf settings) (nanosOf at) (identityOf hash key) (now (ws .entry))) ⌝ }
 {
     perkey::available(settings_of(settings), ws, Nanos(at), Identity { hash, key }).told()
 }
@@ -156,7 +156,7 @@ pub extern "C" fn limiter_refund(
     key: u64,
     cost: u32,
 ) -> Told
-    ensures { λ r. ⌜ outcome r (now (ws .exit)) ≡ Rules.told (Rules.refund (settingsOf settings) (identityOf hash key) cost (now (ws .entry))) ⌝ }
+    ensures { λ r. ⌜ outcome r (now (ws .exit)) ≡ Replies.told (Rules.refund (settingsOf settings) (identityOf hash key) cost (now (ws .entry))) ⌝ }
 {
     perkey::refund(settings_of(settings), ws, Identity { hash, key }, cost).told()
 }
@@ -169,7 +169,7 @@ pub extern "C" fn limiter_remove(
     hash: u64,
     key: u64,
 ) -> Told
-    ensures { λ r. ⌜ outcome r (now (ws .exit)) ≡ Rules.told (Rules.remove (settingsOf settings) (identityOf hash key) (now (ws .entry))) ⌝ }
+    ensures { λ r. ⌜ outcome r (now (ws .exit)) ≡ Replies.told (Rules.remove (settingsOf settings) (identityOf hash key) (now (ws .entry))) ⌝ }
 {
     perkey::remove(settings_of(settings), ws, Identity { hash, key }).told()
 }
@@ -177,7 +177,7 @@ pub extern "C" fn limiter_remove(
 // Forgets all keys and debts.
 #[no_mangle]
 pub extern "C" fn limiter_clear(settings: LimiterSettings, ws: &mut [u64]) -> Told
-    ensures { λ r. ⌜ outcome r (now (ws .exit)) ≡ Rules.told (Rules.clear (settingsOf settings) (now (ws .entry))) ⌝ }
+    ensures { λ r. ⌜ outcome r (now (ws .exit)) ≡ Replies.told (Rules.clear (settingsOf settings) (now (ws .entry))) ⌝ }
 {
     perkey::clear(settings_of(settings), ws).told()
 }
@@ -185,7 +185,7 @@ pub extern "C" fn limiter_clear(settings: LimiterSettings, ws: &mut [u64]) -> To
 // The number of keys that have a slot.
 #[no_mangle]
 pub extern "C" fn limiter_length(settings: LimiterSettings, ws: &[u64]) -> Told
-    ensures { λ r. ⌜ outcome r (now (ws .exit)) ≡ Rules.told (Rules.len (settingsOf settings) (now (ws .entry))) ⌝ }
+    ensures { λ r. ⌜ outcome r (now (ws .exit)) ≡ Replies.told (Rules.len (settingsOf settings) (now (ws .entry))) ⌝ }
 {
     perkey::len(settings_of(settings), ws).told()
 }

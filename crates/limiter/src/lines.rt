@@ -8,7 +8,7 @@ ghost use Rattle.limiter.specs.Lines.{requestOf, lineTold, toldWritten};
 use desk_lines::Request;
 use desk_writer::Call;
 use desk_writer::Written;
-use perkey::codes::Told;
+use rules::codes::Told;
 use units::Nanos;
 
 // The line of a try at the moment `at`.

@@ -4,12 +4,12 @@
 ghost use mathlib.Core.Path.{_≡_};
 ghost use Rattle.rows.specs.Outcome.{outcome};
 ghost use Rattle.units.specs.Units.{nanosOf};
-ghost use Rattle.perkey.specs.Rules as Rules;
+ghost use Rattle.rules.specs.Replies as Replies;
 ghost use Rattle.modems.specs.Address as Address;
 ghost use Rattle.limiter.specs.Exported.{settingsOf};
 use limiter::LimiterSettings;
 use limiter::settings_of;
-use perkey::codes::Told;
+use rules::codes::Told;
 use units::Nanos;
 
 // Takes `cost` tokens for a modem at the moment `at`, if its bucket has them: granted, to be tried again after a wait, or impossible.
@@ -22,7 +22,7 @@ pub extern "C" fn limiter_modem_try(
     cost: u32,
 ) -> Told
     ensures { λ r. ⌜ outcome r (now (ws .exit)) ≡
-        Rules.told (Address.tryAcquire (settingsOf settings) (nanosOf at) (now (address .entry)) cost (now (ws .entry))) ⌝ }
+        Replies.told (Address.tryAcquire (settingsOf settings) (nanosOf at) (now (address .entry)) cost (now (ws .entry))) ⌝ }
 {
     modems::try_acquire_with_cost(settings_of(settings), ws, Nanos(at), address, cost).told()
 }
@@ -38,7 +38,7 @@ pub extern "C" fn limiter_modem_reserve(
     max_wait: u64,
 ) -> Told
     ensures { λ r. ⌜ outcome r (now (ws .exit)) ≡
-        Rules.told (Address.reserve (settingsOf settings) (nanosOf at) (now (address .entry)) cost (nanosOf «max_wait») (now (ws .entry))) ⌝ }
+        Replies.told (Address.reserve (settingsOf settings) (nanosOf at) (now (address .entry)) cost (nanosOf «max_wait») (now (ws .entry))) ⌝ }
 {
     modems::reserve(
         settings_of(settings),
@@ -60,7 +60,7 @@ pub extern "C" fn limiter_modem_peek(
     cost: u32,
 ) -> Told
     ensures { λ r. ⌜ outcome r (now (ws .exit)) ≡
-        Rules.told (Address.peek (settingsOf settings) (nanosOf at) (now (address .entry)) cost (now (ws .entry))) ⌝ }
+        Replies.told (Address.peek (settingsOf settings) (nanosOf at) (now (address .entry)) cost (now (ws .entry))) ⌝ }
 {
     modems::peek(settings_of(settings), ws, Nanos(at), address, cost).told()
 }
@@ -73,7 +73,7 @@ pub extern "C" fn limiter_modem_refund(
     address: &[u8],
     cost: u32,
 ) -> Told
-    ensures { λ r. ⌜ outcome r (now (ws .exit)) ≡ Rules.told (Address.refund (settingsOf settings) (now (address .entry)) cost (now (ws .entry))) ⌝ }
+    ensures { λ r. ⌜ outcome r (now (ws .exit)) ≡ Replies.told (Address.refund (settingsOf settings) (now (address .entry)) cost (now (ws .entry))) ⌝ }
 {
     modems::refund(settings_of(settings), ws, address, cost).told()
 }
@@ -85,7 +85,7 @@ pub extern "C" fn limiter_modem_remove(
     ws: &mut [u64],
     address: &[u8],
 ) -> Told
-    ensures { λ r. ⌜ outcome r (now (ws .exit)) ≡ Rules.told (Address.remove (settingsOf settings) (now (address .entry)) (now (ws .entry))) ⌝ }
+    ensures { λ r. ⌜ outcome r (now (ws .exit)) ≡ Replies.told (Address.remove (settingsOf settings) (now (address .entry)) (now (ws .entry))) ⌝ }
 {
     modems::remove(settings_of(settings), ws, address).told()
 }

@@ -11,9 +11,9 @@ use native.Mathlib.Numerals.{add-one}
 use native.Mathlib.Omega.{arith}
 use borrow.Author.Tests.{eq-eqb, ne-eqb, eqb-true}
 use Rattle.rows.specs.Outcome.{Outcome, outcome}
-use Rattle.perkey.specs.declared.Reply.{Reply}
-use Rattle.perkey.specs.declared.Reply.the-variants.{Refused}
-use Rattle.perkey.specs.Rules.{unlessRefused}
+use Rattle.rules.specs.declared.Reply.{Reply}
+use Rattle.rules.specs.declared.Reply.the-variants.{Refused}
+use Rattle.rules.specs.Rules.{unlessRefused}
 use Rattle.modems.specs.Address.{addressBytes, keyFrom, groupBit, addressRefusal}
 
 module _ (address : List ℕ) where

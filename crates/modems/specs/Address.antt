@@ -10,9 +10,9 @@ use Rattle.units.specs.declared.Nanos.{Nanos}
 use Rattle.settings.specs.declared.Settings.{Settings}
 use Rattle.hash.specs.Fnv.{fnv1a}
 use Rattle.shard.specs.declared.Identity.{Identity}
-use Rattle.perkey.specs.declared.Reply.{Reply}
-use Rattle.perkey.specs.Rules.{unlessRefused}
-use Rattle.perkey.specs.Rules as Rules
+use Rattle.rules.specs.declared.Reply.{Reply}
+use Rattle.rules.specs.Rules.{unlessRefused}
+use Rattle.rules.specs.Rules as Rules
 
 -- An address has six bytes, and a byte is a number below 256.
 abbrev pub addressBytes : ℕ

@@ -4,7 +4,7 @@ ghost use mathlib.Core.Path.{_≡_};
 ghost use lib.ListN.{length};
 ghost use Rattle.rows.specs.Outcome.{outcome};
 ghost use Rattle.modems.specs.Address as Address;
-use perkey::Reply;
+use rules::Reply;
 use settings::Settings;
 use shard::Identity;
 use units::Nanos;

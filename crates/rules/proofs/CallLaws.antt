@@ -8,16 +8,18 @@ use Rattle.arith.proofs.Cases.{by-eq}
 use Rattle.rows.specs.Outcome.{Outcome, outcome}
 use Rattle.rows.specs.Places.{sum}
 use Rattle.units.specs.declared.Nanos.{Nanos}
+use Rattle.settings.specs.declared.Settings.{Settings}
 use Rattle.settings.specs.Settings.{firstRefusal, shapeOf, shardCount, capOf}
 use Rattle.settings.proofs.SettingsLaws.{neither-refuses}
+use Rattle.shard.specs.declared.Identity.{Identity}
 use Rattle.store.specs.Memory.{shardAt, slotCount}
 use Rattle.store.specs.Refusals.{lenRefusal}
 use Rattle.rules.specs.declared.Reply.{Reply}
 use Rattle.rules.specs.declared.Reply.the-variants.{Count, Refused}
 use Rattle.rules.specs.Replies.{numbered}
-use Rattle.rules.specs.Asks.{Look, looks, lookedIn}
-use Rattle.rules.specs.Rules.{unlessRefused, askRefusal, askedOf, keyedRuleIn, lenIn}
-use Rattle.rules.specs.Calls.{Call, keyed, whole, Whole, len, Terms, Answered, clockAfter, kindOf, rules, accepted}
+use Rattle.rules.specs.Asks.{Look, Ask, looks, lookedIn}
+use Rattle.rules.specs.Rules.{unlessRefused, askRefusal, askedOf, keyedRuleIn, keyedRule, lenIn}
+use Rattle.rules.specs.Calls.{Call, keyed, whole, Whole, len, Terms, byKey, Answered, clockAfter, kindOf, rules, accepted}
 use Rattle.rules.proofs.RefusedLaws.{unless-refused-accepts, unless-refused-refuses, first-of-two-refuses}
 use Rattle.rules.proofs.KeyedLaws.{ask-not-refused, in-shard-unchanged}
 use Rattle.rules.proofs.KindLaws.{OfKind, counted, asks-are-answered-in-kind, in-kind-not-numbered}
@@ -25,6 +27,10 @@ use Rattle.rules.proofs.KindLaws.{OfKind, counted, asks-are-answered-in
 -- The moment of a call; 0 for one that names none.
 abbrev pub momentOfCall : {S N : Type 0} → Call S N → Nanos
 momentOfCall c = record { 0 = clockAfter c 0 }
+
+-- A call by key follows the rule of what it asks.
+pub by-key-is-the-rule : (s : Settings) (id : Identity) (ask : Ask) (ws : List ℕ) → rules byKey (keyed s id ask) ws ≡ keyedRule s id ask ws
+by-key-is-the-rule s id ask ws = unless-refused-accepts 0 ws (keyedRule s id ask ws) refl
 
 -- Looks change no word: a look at a key, and a look at the whole store.
 pub data Reads {S N : Type 0} : Call S N → Type 0 where
@@ -54,7 +60,7 @@ module _ {S N : Type 0} (terms : Terms S N) where
   refused-is-told c ws some = rules-are c ws ∙ unless-refused-refuses (refusalOf c ws) ws (ruleOf c ws) some
 
   -- A call on a key that is not refused: neither its name is, nor what it asks.
-  pub keyed-not-refused : (s : S) (n : N) (ask : _) (ws : List ℕ) → refusalOf (keyed s n ask) ws ≡ 0
+  pub keyed-not-refused : (s : S) (n : N) (ask : Ask) (ws : List ℕ) → refusalOf (keyed s n ask) ws ≡ 0
       → (terms .refusal n ≡ 0) × (askRefusal (terms .settings s) (terms .identity n) ask ws ≡ 0)
   keyed-not-refused s n ask ws none = neither-refuses (terms .refusal n) (askRefusal (terms .settings s) (terms .identity n) ask ws) none
 

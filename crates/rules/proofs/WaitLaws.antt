@@ -4,13 +4,17 @@ use mathlib.Core.Path.{_≡_, refl}
 use mathlib.Core.List.{List}
 use Rattle.arith.proofs.Cases.{by-eq}
 use Rattle.units.specs.declared.Nanos.{Nanos}
+use Rattle.settings.specs.declared.Settings.{Settings}
+use Rattle.shard.specs.declared.Identity.{Identity}
 use Rattle.rules.specs.declared.Reply.{Reply}
 use Rattle.rules.specs.declared.Reply.the-variants.{Refused}
 use Rattle.rules.specs.declared.codes.Told.{Told}
 use Rattle.rules.specs.Replies.{toldOf, Kind, decides, reserves, counts, knows}
-use Rattle.rules.specs.Calls.{Call, Terms, rules, kindOf}
+use Rattle.rules.specs.Asks.{Ask, kindOfAsk}
+use Rattle.rules.specs.Rules.{keyedRule}
+use Rattle.rules.specs.Calls.{Call, keyed, Terms, byKey, rules, kindOf}
 use Rattle.rules.proofs.KindLaws.{OfKind, acquired, retried, impossible, reserved, not-reserved, counted, known, unknown}
-use Rattle.rules.proofs.CallLaws.{refusalOf, not-refused-is-ruled, refused-is-told, rule-answers-in-kind}
+use Rattle.rules.proofs.CallLaws.{by-key-is-the-rule, refusalOf, not-refused-is-ruled, refused-is-told, rule-answers-in-kind}
 
 -- A number other than 0 comes with code 1 alone.
 abbrev pub WaitsOnRetry : Told → Type 0
@@ -44,3 +48,6 @@ rules-are-prompt terms c ws =
     by-eq (refusalOf terms c ws) 0
     (λ none. rw (not-refused-is-ruled terms c ws none) (in-kind-is-prompt (rule-answers-in-kind terms c ws)))
     (λ some. rw (refused-is-told terms c ws some) (refusal-is-prompt (kindOf c) (refusalOf terms c ws)))
+
+pub asks-are-prompt : (s : Settings) (id : Identity) (ask : Ask) (ws : List ℕ) → Prompt (kindOfAsk ask) (keyedRule s id ask ws .answer)
+asks-are-prompt s id ask ws = rw (by-key-is-the-rule s id ask ws) at (rules-are-prompt byKey (keyed s id ask) ws)

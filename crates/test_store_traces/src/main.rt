@@ -7,7 +7,7 @@ use libc::STDIN_FILENO;
 use libc::STDOUT_FILENO;
 use line::Call;
 use line::Store;
-use perkey::codes::Told;
+use rules::codes::Told;
 use shard_map::words;
 
 mod digest;

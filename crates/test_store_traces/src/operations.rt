@@ -1,7 +1,7 @@
 // The operations, by their numbers in the traces.
 use crate::line::Call;
 use limiter::LimiterSettings;
-use perkey::codes::Told;
+use rules::codes::Told;
 
 // No operation: the line has the store that the next calls are on.
 pub(crate) const STORE: u64 = 0;

@@ -1,5 +1,5 @@
 -- `answer` has a case for each line, and each is the rule's outcome, told.
-use Rattle.perkey.proofs.RuleLaws.{outcome-is-told}
+use Rattle.rules.proofs.RuleLaws.{outcome-is-told}
 use borrow.Author.Needs.{needs}
 use Rattle.desk_answers.proofs.answer.Statement.{statement}
 use Rattle.desk_answers.proofs.answer.Tie as tie

@@ -1,5 +1,5 @@
 -- `peeked` tells the outcome of the rule that perkey's peek gives.
-use Rattle.perkey.proofs.RuleLaws.{outcome-is-told}
+use Rattle.rules.proofs.RuleLaws.{outcome-is-told}
 use borrow.Author.Needs.{needs}
 use Rattle.desk_answers.proofs.peeked.Statement.{statement}
 use Rattle.desk_answers.proofs.peeked.Tie as tie

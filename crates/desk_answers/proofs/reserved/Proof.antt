@@ -1,5 +1,5 @@
 -- `reserved` tells the outcome of the rule that perkey's reserve gives.
-use Rattle.perkey.proofs.RuleLaws.{outcome-is-told}
+use Rattle.rules.proofs.RuleLaws.{outcome-is-told}
 use borrow.Author.Needs.{needs}
 use Rattle.desk_answers.proofs.reserved.Statement.{statement}
 use Rattle.desk_answers.proofs.reserved.Tie as tie

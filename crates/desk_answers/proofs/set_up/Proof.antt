@@ -1,7 +1,7 @@
 -- `set_up` lends the words of the store to perkey's set-up, and the run goes on if that accepts.
 use Rattle.desk_answers.proofs.DeskLaws.{size-fits, lent-answered, first-served}
-use Rattle.perkey.proofs.RuleLaws.{outcome-is-told}
-use Rattle.perkey.specs.Rules as Rules
+use Rattle.rules.proofs.RuleLaws.{outcome-is-told}
+use Rattle.rules.specs.Rules as Rules
 use borrow.Author.Needs.{needs}
 use Rattle.desk_answers.proofs.set_up.Statement.{statement}
 use Rattle.desk_answers.proofs.set_up.Tie as tie

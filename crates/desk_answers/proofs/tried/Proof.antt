@@ -1,5 +1,5 @@
 -- `tried` tells the outcome of the rule that perkey's try gives.
-use Rattle.perkey.proofs.RuleLaws.{outcome-is-told}
+use Rattle.rules.proofs.RuleLaws.{outcome-is-told}
 use borrow.Author.Needs.{needs}
 use Rattle.desk_answers.proofs.tried.Statement.{statement}
 use Rattle.desk_answers.proofs.tried.Tie as tie
