@@ -1,10 +1,10 @@
 -- One call of the list, under the rules: the state of the memory stands after it, with what it did to the key, for any bound by the line.
 use Prim.Native.Nat.{ℕ, _≤_, _<_, _^_}
-use mathlib.Core.Path.{_≡_, refl, sym, ap, _∙_}
+use mathlib.Core.Path.{_≡_, refl, sym, ap, subst}
 use mathlib.Core.Bool.{true, false}
 use mathlib.Core.List.{List}
 use native.Mathlib.Omega.{arith}
-use borrow.Author.Tests.{lt-ltb, le-ltb}
+use borrow.Author.Tests.{lt-ltb, le-ltb, eq-eqb, ne-eqb}
 use Rattle.arith.proofs.Cases.{by-test, by-eq, by-le}
 use Rattle.rows.specs.Outcome.{Outcome, outcome}
 use Rattle.units.specs.declared.Nanos.{Nanos}
@@ -23,38 +23,26 @@ use Rattle.shard.specs.declared.Identity.{Identity}
 use Rattle.bucket.specs.declared.BucketDecision.{BucketDecision}
 use Rattle.shard.specs.Model as OneShard
 use Rattle.shard.proofs.ShardLaws.{SameRoom, ask-same-room, refund-same-room, remove-same-room}
-use Rattle.perkey.specs.declared.Reply.{Reply}
 use Rattle.store.specs.Memory.{shardAt, inShard}
-use Rattle.perkey.specs.Rules.{unlessTrivial, askedBy, tooMuch, atOnce, requested, policyOf, replyTo, knownReply, keyed, refundedBy}
-use Rattle.store.proofs.RefusalLaws.{keyed-not-refused}
-use Rattle.perkey.specs.Calls.{Undo, Call, request, look, undo, len, refunds, removes, refund, remove, rules, Answered, settingsOf, clockAfter, ofKey, ofUndone}
-use Rattle.perkey.specs.Calls.{accepted}
+use Rattle.rules.specs.declared.Reply.{Reply}
+use Rattle.rules.specs.Asks.{Ask, requests, looks, undoes, Undo, refunds, removes, clockAfterAsk, mannerOf, tooMuch, atOnce, replyTo, policyOf, knownReply}
+use Rattle.rules.specs.Asks.{Look, clockAfterLook, lookedIn, furtherOf, askedIn, undoneIn, inItsShard}
+use Rattle.rules.specs.Calls.{Call, keyed, whole, Terms, rules, Answered, settingsOf, clockAfter, ofKey, ofUndone, accepted}
 use Rattle.demands.specs.Demands.{clock}
 use Rattle.demands.proofs.LineBound.{LineBound, BoundOf}
 use Rattle.demands.proofs.RequestLaws.{invariant-keeps, own-request, other-request, other-refund, other-removal}
 use Rattle.demands.proofs.RefundLaws.{refundAdds, own-refund}
-use Rattle.perkey.proofs.CallLaws.{refusalOf, not-refused-is-ruled, looks, counts-keys, looks-change-nothing, accepted-not-refused, unaccepted-refused}
-use Rattle.demands.proofs.OwnBucket.{in-range-is-asked, request-not-refused}
+use Rattle.rules.proofs.KeyedLaws.{ask-not-refused, request-in-time, in-shard-unchanged}
+use Rattle.store.proofs.RefusalLaws as Store
+use Rattle.rules.proofs.CallLaws.{refusalOf, not-refused-is-ruled, keyed-not-refused, looks-at-all, looks-change-nothing}
+use Rattle.rules.proofs.CallLaws.{accepted-not-refused, unaccepted-refused}
+use Rattle.demands.proofs.OwnBucket.{ruled}
 use Rattle.demands.proofs.TryLaws.{store-grants-as-asked}
 use Rattle.demands.proofs.StampLaws.{StampsBy, ask-keeps-stamps, refund-keeps-stamps, remove-keeps-stamps}
 use Rattle.demands.proofs.StandingLaws.{moment, Bounds, Standing, standing-later, operation-stands}
-use Rattle.demands.proofs.GivenLaws.{ifOwn, toldKnown, granting, given}
+use Rattle.demands.proofs.GivenLaws.{ifOwn, toldKnown, granting, askGave, given}
 use Rattle.demands.proofs.GivenLaws.{own-call, other-hash, same-either-way, refusal-gives-nothing, reply-grants, too-much-grants-nothing, at-once-grants}
 use Rattle.demands.proofs.GivenLaws.{known-is-told}
-
--- The call as the rules answer it in some words.
-abbrev pub ruled : Call → List ℕ → Answered
-ruled c ws = record { call = c; reply = rules c ws .answer; rulesWords = ws }
-
--- Costs that never reach the store: more than the burst, or nothing at all.
-module _ (rate : Rate) (cost : ℕ) (tooMuch atOnce : Reply) (ws : List ℕ) (asked : Outcome Reply (List ℕ)) where
-  too-much : burstOf rate < cost → unlessTrivial rate cost tooMuch atOnce ws asked ≡ outcome tooMuch ws
-  unfolding unlessTrivial
-  too-much more = rw (lt-ltb (burstOf rate) cost more)
-
-  no-cost : cost ≡ 0 → unlessTrivial rate cost tooMuch atOnce ws asked ≡ outcome atOnce ws
-  unfolding unlessTrivial
-  no-cost none = rw (none, le-ltb (burstOf rate) 0 (omega arith))
 
 -- What is asked of the undoing of what the key spent: a bound may allow for refunds; none allows for removals.
 module _ {A P C : ℕ} (B : LineBound A P C) (k : Identity) where
@@ -62,17 +50,21 @@ module _ {A P C : ℕ} (B : LineBound A P C) (k : Identity) where
   allows (refunds cost) = B .Refundable
   allows removes = ⊥
 
-  abbrev pub UndoneAsAllowed : Call → Type 0
-  UndoneAsAllowed (request s at id r cost) = Unit {0}
-  UndoneAsAllowed (look s at id l) = Unit {0}
-  UndoneAsAllowed (undo s id r) = id .hash ≡ k .hash → id .key ≡ k .key → allows r
-  UndoneAsAllowed (len s) = Unit {0}
+  abbrev UndoneSo : Identity → Ask → Type 0
+  UndoneSo id (requests r at cost) = Unit {0}
+  UndoneSo id (looks l) = Unit {0}
+  UndoneSo id (undoes u) = id .hash ≡ k .hash → id .key ≡ k .key → allows u
 
-  pub never-undone-is-as-allowed : (c : Call) → ofUndone (λ id. id .hash ≡ k .hash → id .key ≡ k .key → ⊥) c → UndoneAsAllowed c
-  never-undone-is-as-allowed (request s at id r cost) never = tt
-  never-undone-is-as-allowed (look s at id l) never = tt
-  never-undone-is-as-allowed (undo s id r) never = λ hash key. absurd (never hash key)
-  never-undone-is-as-allowed (len s) never = tt
+  module _ {S N : Type 0} (terms : Terms S N) where
+    abbrev pub UndoneAsAllowed : Call S N → Type 0
+    UndoneAsAllowed (keyed s n ask) = UndoneSo (terms .identity n) ask
+    UndoneAsAllowed (whole s what) = Unit {0}
+
+    pub never-undone-is-as-allowed : (c : Call S N) → ofUndone terms (λ id. id .hash ≡ k .hash → id .key ≡ k .key → ⊥) c → UndoneAsAllowed c
+    never-undone-is-as-allowed (keyed s n (requests r at cost)) never = tt
+    never-undone-is-as-allowed (keyed s n (looks l)) never = tt
+    never-undone-is-as-allowed (keyed s n (undoes u)) never = λ hash key. absurd (never hash key)
+    never-undone-is-as-allowed (whole s what) never = tt
 
 module _ (s : Settings) (rate : Rate) (k : Identity) (B : BoundOf (configOf rate)) (a : Accepted (configOf rate))
     (never : policyOf s rate .«forget_debt» ≡ false) where
@@ -99,13 +91,16 @@ module _ (s : Settings) (rate : Rate) (k : Identity) (B : BoundOf (configOf rate
 
   -- A request of any kind, put to the store.
   module _ (r : Request) (at : Nanos) (id : Identity) (cost : ℕ) (ws : List ℕ) (g : B .History) (early : at .0 ≤ 2 ^ 62)
-      (patient : longestWait r ≤ 2 ^ 46) (sound : Shard.Sound (shardAt s (id .hash) ws)) (alone : id .hash ≡ k .hash → id .key ≡ k .key) (v : Stands (at .0) ws g) where
+      (patient : longestWait r ≤ 2 ^ 46) (accepted : Store.Accepted s (id .hash) ws) (alone : id .hash ≡ k .hash → id .key ≡ k .key) (v : Stands (at .0) ws g) where
+    sound : Shard.Sound (shardAt s (id .hash) ws)
+    sound = accepted .sound
+
     -- What the store gives in the shard of the call's key.
     abbrev answered : Outcome BucketDecision Shard.Shard
     answered = OneShard.withOrInsert (policyOf s rate) id r cost at (shardAt s (id .hash) ws)
 
     request-stands : 1 ≤ cost → cost ≤ burstOf rate
-        → Stands (at .0) (inShard s (id .hash) ws answered .after) (ifOwn k id (granting B r at cost g (replyTo r (answered .answer))) g)
+        → Stands (at .0) (inShard s (id .hash) ws answered .after) (ifOwn k id (granting B (mannerOf r) at cost g (replyTo (mannerOf r) (answered .answer))) g)
     request-stands least most =
         let shard : Shard.Shard = shardAt s (id .hash) ws in
         rw (reply-grants B r at cost g (answered .answer) (store-grants-as-asked (policyOf s rate) id r cost at shard))
@@ -130,17 +125,21 @@ module _ (s : Settings) (rate : Rate) (k : Identity) (B : BoundOf (configOf rate
         }))
         (λ differs. rw (other-hash k id (B .grant (at .0) 0 cost g) g differs) v)
 
-    -- What a request gives and leaves, whatever its cost.
+    -- What a request gives and leaves, whatever its cost. Only one from 1 to the burst reaches the bucket; any other leaves the words as they are.
     any-request-stands :
-        let o = unlessTrivial rate cost (tooMuch r) (atOnce r at) ws (requested s rate id r cost at ws (replyTo r)) in
-        Stands (at .0) (o .after) (ifOwn k id (granting B r at cost g (o .answer)) g)
+        let o = askedIn r (Open rate) s at id cost (shardAt s (id .hash) ws) in
+        Stands (at .0) (inShard s (id .hash) ws o .after) (ifOwn k id (granting B (mannerOf r) at cost g (o .answer)) g)
+    unfolding askedIn
     any-request-stands =
-        let asked = requested s rate id r cost at ws (replyTo r) in
+        let same : (reply : Reply) → inShard s (id .hash) ws (outcome reply (shardAt s (id .hash) ws)) .after ≡ ws =
+        λ reply. ap (λ (o : Outcome Reply (List ℕ)). o .after) (in-shard-unchanged s (id .hash) ws accepted reply) in
         by-le cost (burstOf rate)
         (λ most. by-eq cost 0
-        (λ zero. rw (no-cost rate cost (tooMuch r) (atOnce r at) ws asked zero, at-once-grants B r at cost g) (nothing-granted-stands zero))
-        (λ some. rw (in-range-is-asked rate cost (tooMuch r) (atOnce r at) ws asked (omega (arith, some)) most) (request-stands (omega (arith, some)) most)))
-        (λ more. rw (too-much rate cost (tooMuch r) (atOnce r at) ws asked more, too-much-grants-nothing B r at cost g, same-either-way k id g) v)
+        (λ zero.
+        rw (le-ltb (burstOf rate) cost most, eq-eqb cost 0 zero, same (atOnce (mannerOf r) at), at-once-grants B (mannerOf r) at cost g) (nothing-granted-stands zero))
+        (λ some. rw (le-ltb (burstOf rate) cost most, ne-eqb cost 0 some) (request-stands (omega (arith, some)) most)))
+        (λ more.
+        rw (lt-ltb (burstOf rate) cost more, same (tooMuch (mannerOf r)), too-much-grants-nothing B (mannerOf r) at cost g, same-either-way k id g) v)
 
   -- Refunds and removals, put to the store. The key's own refund has to be allowed for, and it is not removed.
   module _ (id : Identity) (n : ℕ) (ws : List ℕ) (g : B .History) (sound : Shard.Sound (shardAt s (id .hash) ws))
@@ -167,51 +166,60 @@ module _ (s : Settings) (rate : Rate) (k : Identity) (B : BoundOf (configOf rate
         (λ hash key b. absurd (not-own hash key))
         (λ differs. other-removal c (k .hash) (k .key) (moment n) shard sound id differs))
 
+  -- What is asked of a key, where it is not refused: the settings are those of set-up, time does not fall, the key shares no hash with the key in question, and
+  -- what that key spent is undone only as the bound allows.
+  module _ (rated : s .limit ≡ Open rate) (id : Identity) (n : ℕ) (ws : List ℕ) (g : B .History) (v : Stands n ws g) (alone : id .hash ≡ k .hash → id .key ≡ k .key)
+      (accepted : Store.Accepted s (id .hash) ws) where
+    abbrev own : Shard.Shard
+    own = shardAt s (id .hash) ws
+
+    abbrev AfterWith : Ask → Outcome Reply Shard.Shard → Type 0
+    AfterWith ask o = Stands (clockAfterAsk ask n) (inShard s (id .hash) ws o .after) (askGave B k id ask (o .answer) g)
+
+    abbrev After : Ask → Type 0
+    After ask = AfterWith ask (inItsShard s id ask own)
+
+    look-stands : (l : Look) → n ≤ clockAfterLook l n → After (looks l)
+    look-stands l later =
+        let reply = lookedIn l (s .limit) id (shardAt s (id .hash) ws) in
+        rw (ap (λ (o : Outcome Reply (List ℕ)). o .after) (in-shard-unchanged s (id .hash) ws accepted reply))
+        (standing-later s rate k B n (clockAfterLook l n) ws later v)
+
+    ask-stands : (ask : Ask) → furtherOf ask ≡ 0 → n ≤ clockAfterAsk ask n → UndoneSo B k id ask → After ask
+    ask-stands (requests r at cost) none later undone =
+        let timely = request-in-time r at none in
+        let later′ = standing-later s rate k B n (at .0) ws later v in
+        subst (λ (limit : Limit). AfterWith (requests r at cost) (askedIn r limit s at id cost own)) (sym rated)
+        (any-request-stands r at id cost ws g (timely .0) (timely .1) accepted alone later′)
+    ask-stands (looks l) none later undone = look-stands l later
+    ask-stands (undoes (refunds cost)) none later undone =
+        subst (λ (limit : Limit). AfterWith (undoes (refunds cost)) (undoneIn (refunds cost) limit id own)) (sym rated)
+        (refund-stands id n ws g (accepted .sound) alone v cost undone)
+    ask-stands (undoes removes) none later undone = removal-stands id n ws g (accepted .sound) alone v undone
+
   -- Accepted calls, with the settings of set-up.
-  module _ (rated : s .limit ≡ Open rate) where
-    -- What is asked of an accepted call: its settings are those of set-up, time does not fall, its key shares no hash with the key in question, and what
-    -- that key spent is undone only as the bound allows.
-    pub record Fair (n : ℕ) (c : Call) : Type 0 where
-      pub settings : settingsOf c ≡ s
+  module _ {S N : Type 0} (terms : Terms S N) (rated : s .limit ≡ Open rate) where
+    -- What is asked of an accepted call.
+    pub record Fair (n : ℕ) (c : Call S N) : Type 0 where
+      pub settings : settingsOf terms c ≡ s
       pub later : n ≤ clockAfter c n
-      pub alone : ofKey (λ id. id .hash ≡ k .hash → id .key ≡ k .key) c
-      pub undone : UndoneAsAllowed B k c
-
-    -- The rule of a call with the settings and the rate written in.
-    asking : (r : Request) (s′ : Settings) (at : Nanos) (id : Identity) (cost : ℕ) (ws : List ℕ) → s′ ≡ s
-        → askedBy r (s′ .limit) s′ at id cost ws
-        ≡ unlessTrivial rate cost (tooMuch r) (atOnce r at) ws (requested s rate id r cost at ws (replyTo r))
-    asking r s′ at id cost ws e = ap (λ (x : Settings). askedBy r (x .limit) x at id cost ws) e ∙ ap (λ (l : Limit). askedBy r l s at id cost ws) rated
-
-    refunding : (s′ : Settings) (id : Identity) (cost : ℕ) (ws : List ℕ) → s′ ≡ s
-        → refundedBy (s′ .limit) s′ id cost ws ≡ keyed s id ws (OneShard.refunded (configOf rate) id cost (shardAt s (id .hash) ws))
-    refunding s′ id cost ws e = ap (λ (x : Settings). refundedBy (x .limit) x id cost ws) e ∙ ap (λ (l : Limit). refundedBy l s id cost ws) rated
+      pub alone : ofKey terms (λ id. id .hash ≡ k .hash → id .key ≡ k .key) c
+      pub undone : UndoneAsAllowed B k terms c
 
     module _ (n : ℕ) (ws : List ℕ) (g : B .History) (v : Stands n ws g) where
-      abbrev After : Call → Type 0
-      After c = Stands (clockAfter c n) (rules c ws .after) (given B k c (rules c ws .answer) g)
-
-      accepted-stands : (c : Call) → refusalOf c ws ≡ 0 → Fair n c → After c
-      accepted-stands (request s′ at id r cost) none fair =
-          let open′ = request-not-refused s′ at id r cost ws none in
-          let sound = rw (fair .settings) at (open′ .0 .sound) in
-          rw (not-refused-is-ruled (request s′ at id r cost) ws none, asking r s′ at id cost ws (fair .settings))
-          (any-request-stands r at id cost ws g (open′ .1) (open′ .2) sound (fair .alone) (standing-later s rate k B n (at .0) ws (fair .later) v))
-      accepted-stands (look s′ at id l) none fair =
-          rw (looks-change-nothing (look s′ at id l) ws looks) (standing-later s rate k B n (at .0) ws (fair .later) v)
-      accepted-stands (len s′) none fair = rw (looks-change-nothing (len s′) ws counts-keys) v
-      accepted-stands (undo s′ id (refunds cost)) none fair =
-          let sound = rw (fair .settings) at (keyed-not-refused s′ (id .hash) ws none .sound) in
-          rw (not-refused-is-ruled (refund s′ id cost) ws none, refunding s′ id cost ws (fair .settings))
-          (refund-stands id n ws g sound (fair .alone) v cost (fair .undone))
-      accepted-stands (undo s′ id removes) none fair =
-          let sound = rw (fair .settings) at (keyed-not-refused s′ (id .hash) ws none .sound) in
-          rw (not-refused-is-ruled (remove s′ id) ws none, fair .settings) (removal-stands id n ws g sound (fair .alone) v (fair .undone))
+      accepted-stands : (c : Call S N) → refusalOf terms c ws ≡ 0 → Fair n c
+          → Stands (clockAfter c n) (rules terms c ws .after) (given B terms k c (rules terms c ws .answer) g)
+      accepted-stands (keyed s′ name ask) none fair =
+          let id = terms .identity name in
+          let asked = ask-not-refused (terms .settings s′) id ask ws (keyed-not-refused terms s′ name ask ws none .1) in
+          rw (not-refused-is-ruled terms (keyed s′ name ask) ws none, fair .settings)
+          (ask-stands rated id n ws g v (fair .alone) (rw (fair .settings) at (asked .0)) ask (asked .1) (fair .later) (fair .undone))
+      accepted-stands (whole s′ what) none fair = rw (looks-change-nothing terms (whole s′ what) ws looks-at-all) v
 
       -- Every call: accepted ones as above; refused ones change nothing.
-      pub call-stands : (c : Call) → (accepted (ruled c ws) ≡ true → Fair n c)
-          → Stands (clock n (ruled c ws)) (rules c ws .after) (given B k c (rules c ws .answer) g)
+      pub call-stands : (c : Call S N) → (accepted terms (ruled terms c ws) ≡ true → Fair n c)
+          → Stands (clock terms n (ruled terms c ws)) (rules terms c ws .after) (given B terms k c (rules terms c ws .answer) g)
       call-stands c fair =
-          by-test (accepted (ruled c ws))
-          (λ t. rw t (accepted-stands c (accepted-not-refused (ruled c ws) t) (fair t)))
-          (λ t. rw (t, unaccepted-refused (ruled c ws) t, refusal-gives-nothing B k c (refusalOf c ws) g) v)
+          by-test (accepted terms (ruled terms c ws))
+          (λ t. rw t (accepted-stands c (accepted-not-refused terms (ruled terms c ws) t) (fair t)))
+          (λ t. rw (t, unaccepted-refused terms (ruled terms c ws) t, refusal-gives-nothing B terms k c (refusalOf terms c ws) g) v)

@@ -1,48 +1,109 @@
--- Code that is as the contracts of its operations tell meets demand 2, and so demand 3.
+-- Code that is as the contracts of its operations tell meets demand 2, and so demand 3: in lists that mix calls by key, calls by address and looks at the length; and
+-- so in lists of calls by key alone.
 use Prim.Native.Nat.{ℕ}
-use mathlib.Core.Path.{_≡_, refl}
-use mathlib.Core.Bool.{true}
+use mathlib.Core.Path.{_≡_, refl, sym, _∙_}
+use mathlib.Core.Bool.{true, false≢true}
 use mathlib.Core.List.{List}
 use contract.Lifetimes.{Lfts}
 use Rattle.bucket.specs.declared.Request.the-variants.{Acquire, Reserve}
-use Rattle.perkey.specs.Calls.{Call, request, look, undo, len, peeks, tokens, refunds, removes, rules}
-use Rattle.demands.specs.Widths.{fits, lendable}
+use Rattle.settings.specs.declared.Settings.{Settings}
+use Rattle.shard.specs.declared.Identity.{Identity}
+use Rattle.rules.specs.Asks.{Ask, requests, looks, undoes, peeks, tokens, refunds, removes}
+use Rattle.rules.specs.Rules.{keyedRule}
+use Rattle.rules.specs.Widths.{settingsFit, lendable}
+use Rattle.rules.specs.Calls.{Call, keyed, whole, len, byKey, rules, fits}
+use Rattle.rules.proofs.CallLaws.{by-key-is-the-rule}
+use Rattle.modems.specs.Names.{Name, key, address, byName}
 use Rattle.demands.specs.Demands.{Limiter, answering, Demand2, Demand3}
-use Rattle.demands.specs.Contracts.{Contracts}
+use Rattle.demands.specs.Contracts.{KeyContracts, Contracts}
+use Rattle.demands.specs.Moments.{TellsMoments}
+use Rattle.demands.proofs.WidthLaws.{ask-is-offered, keys-fit}
+use Rattle.demands.proofs.NameLaws.{names-fit, key-is-the-rule}
 use Rattle.demands.proofs.Theorem.{demand2-gives-demand3}
+use Rattle.demands.proofs.MomentLaws.{demand2-tells-moments}
 
-module _ (κs : Lfts 1) (ptr : ℕ × ℕ) (name : ℕ) where
+-- A call that names a key, among calls that may name an address.
+named : (s : Settings) (id : Identity) (ask : Ask) (ws : List ℕ) → rules byName (keyed s (key id) ask) ws ≡ keyedRule s id ask ws
+named s id ask ws = key-is-the-rule (λ s. s) settingsFit s id ask ws
+
+module _ (κs : Lfts 1) (κs₂ : Lfts 2) (ptr bytesPtr : ℕ × ℕ) (name bytesName : ℕ) where
   -- The rules themselves are as the contracts tell, so that what follows is said of something.
-  pub rules-are-as-the-contracts-tell : Contracts κs ptr name (answering rules)
+  pub rules-are-as-the-contracts-tell : Contracts κs κs₂ ptr bytesPtr name bytesName (answering byName (rules byName))
   rules-are-as-the-contracts-tell = record {
-    sets-up = λ s ws _ _ _. refl;
-    clears = λ s ws _ _ _. refl;
-    tries = λ s at id cost ws _ _ _. refl;
-    reserves = λ s at id cost longest ws _ _ _. refl;
-    peeks = λ s at id cost ws _ _ _. refl;
-    availables = λ s at id ws _ _ _. refl;
-    lens = λ s ws _ _ _. refl;
-    refunds = λ s id cost ws _ _ _. refl;
-    removes = λ s id ws _ _ _. refl;
+    by-key = record {
+      sets-up = λ s ws _ _ _. refl;
+      clears = λ s ws _ _ _. refl;
+      tries = λ s at id cost ws _ _ _. named s id (requests Acquire at cost) ws;
+      reserves = λ s at id cost longest ws _ _ _. named s id (requests (Reserve longest) at cost) ws;
+      peeks = λ s at id cost ws _ _ _. named s id (looks (peeks at cost)) ws;
+      availables = λ s at id ws _ _ _. named s id (looks (tokens at)) ws;
+      lens = λ s ws _ _ _. refl;
+      refunds = λ s id cost ws _ _ _. named s id (undoes (refunds cost)) ws;
+      removes = λ s id ws _ _ _. named s id (undoes removes) ws;
+    };
+    by-address = record {
+      tries = λ s at bytes cost ws _ _ _. refl;
+      reserves = λ s at bytes cost longest ws _ _ _. refl;
+      peeks = λ s at bytes cost ws _ _ _. refl;
+      refunds = λ s bytes cost ws _ _ _. refl;
+      removes = λ s bytes ws _ _ _. refl;
+    };
   }
 
-  module _ (l : Limiter) (c : Contracts κs ptr name l) where
+  module _ (l : Limiter Settings Name) (c : KeyContracts κs ptr name l) where
     -- No operation asks anything of its caller: `tt` shows all that is asked.
-    pub contracts-meet-demand2 : Demand2 l
-    contracts-meet-demand2 = record {
+    asked-by-key : (s : Settings) (id : Identity) (ask : Ask) (ws : List ℕ) → fits byName (keyed s (key id) ask) ≡ true → lendable ws ≡ true
+        → l .answers (keyed s (key id) ask) ws ≡ keyedRule s id ask ws
+    asked-by-key s id (requests Acquire at cost) ws = λ fit lent. c .tries s at id cost ws fit lent tt
+    asked-by-key s id (requests (Reserve longest) at cost) ws = λ fit lent. c .reserves s at id cost longest ws fit lent tt
+    asked-by-key s id (looks (peeks at cost)) ws = λ fit lent. c .peeks s at id cost ws fit lent tt
+    asked-by-key s id (looks (tokens at)) ws = λ fit lent. c .availables s at id ws fit lent tt
+    asked-by-key s id (undoes (refunds cost)) ws = λ fit lent. c .refunds s id cost ws fit lent tt
+    asked-by-key s id (undoes removes) ws = λ fit lent. c .removes s id ws fit lent tt
+
+    -- The same limiter where every call names a key.
+    abbrev asNamed : Call Settings Identity → Call Settings Name
+    asNamed (keyed s id ask) = keyed s (key id) ask
+    asNamed (whole s what) = whole s what
+
+    abbrev pub onKeys : Limiter Settings Identity
+    onKeys = record { sets-up = l .sets-up; clears = l .clears; answers = λ call ws. l .answers (asNamed call) ws }
+
+    pub key-contracts-meet-demand2 : Demand2 byKey onKeys
+    key-contracts-meet-demand2 = record {
       sets-up = λ s ws fit lent. c .sets-up s ws fit lent tt;
       clears = λ s ws fit lent. c .clears s ws fit lent tt;
       answers = ruled;
     }
       where
-        ruled : (call : Call) (ws : List ℕ) → fits call ≡ true → lendable ws ≡ true → l .answers call ws ≡ rules call ws
-        ruled (request s at id Acquire cost) ws = λ fit lent. c .tries s at id cost ws fit lent tt
-        ruled (request s at id (Reserve longest) cost) ws = λ fit lent. c .reserves s at id cost longest ws fit lent tt
-        ruled (look s at id (peeks cost)) ws = λ fit lent. c .peeks s at id cost ws fit lent tt
-        ruled (look s at id tokens) ws = λ fit lent. c .availables s at id ws fit lent tt
-        ruled (undo s id (refunds cost)) ws = λ fit lent. c .refunds s id cost ws fit lent tt
-        ruled (undo s id removes) ws = λ fit lent. c .removes s id ws fit lent tt
-        ruled (len s) ws = λ fit lent. c .lens s ws fit lent tt
+        ruled : (call : Call Settings Identity) (ws : List ℕ) → fits byKey call ≡ true → lendable ws ≡ true → l .answers (asNamed call) ws ≡ rules byKey call ws
+        ruled (keyed s id ask) ws = λ fit lent. asked-by-key s id ask ws fit lent ∙ sym (by-key-is-the-rule s id ask ws)
+        ruled (whole s len) ws = λ fit lent. c .lens s ws fit lent tt
 
-    pub contracts-meet-demand3 : Demand3 l
-    contracts-meet-demand3 = demand2-gives-demand3 l contracts-meet-demand2
+    pub key-contracts-meet-demand3 : Demand3 byKey onKeys
+    key-contracts-meet-demand3 = demand2-gives-demand3 byKey keys-fit onKeys key-contracts-meet-demand2
+
+  module _ (l : Limiter Settings Name) (c : Contracts κs κs₂ ptr bytesPtr name bytesName l) where
+    pub contracts-meet-demand2 : Demand2 byName l
+    contracts-meet-demand2 = record {
+      sets-up = λ s ws fit lent. c .by-key .sets-up s ws fit lent tt;
+      clears = λ s ws fit lent. c .by-key .clears s ws fit lent tt;
+      answers = ruled;
+    }
+      where
+        ruled : (call : Call Settings Name) (ws : List ℕ) → fits byName call ≡ true → lendable ws ≡ true → l .answers call ws ≡ rules byName call ws
+        ruled (keyed s (key id) ask) ws = λ fit lent. asked-by-key l (c .by-key) s id ask ws fit lent ∙ sym (named s id ask ws)
+        ruled (keyed s (address bytes) (requests Acquire at cost)) ws = λ fit lent. c .by-address .tries s at bytes cost ws fit lent tt
+        ruled (keyed s (address bytes) (requests (Reserve longest) at cost)) ws = λ fit lent. c .by-address .reserves s at bytes cost longest ws fit lent tt
+        ruled (keyed s (address bytes) (looks (peeks at cost))) ws = λ fit lent. c .by-address .peeks s at bytes cost ws fit lent tt
+        ruled (keyed s (address bytes) (looks (tokens at))) ws = λ fit lent.
+            absurd (false≢true (ask-is-offered byName s (address bytes) (looks (tokens at)) fit))
+        ruled (keyed s (address bytes) (undoes (refunds cost))) ws = λ fit lent. c .by-address .refunds s bytes cost ws fit lent tt
+        ruled (keyed s (address bytes) (undoes removes)) ws = λ fit lent. c .by-address .removes s bytes ws fit lent tt
+        ruled (whole s len) ws = λ fit lent. c .by-key .lens s ws fit lent tt
+
+    pub contracts-meet-demand3 : Demand3 byName l
+    contracts-meet-demand3 = demand2-gives-demand3 byName (names-fit (λ s. s) settingsFit) l contracts-meet-demand2
+
+    pub contracts-tell-moments : TellsMoments byName l
+    contracts-tell-moments = demand2-tells-moments byName (names-fit (λ s. s) settingsFit) l contracts-meet-demand2

@@ -1,5 +1,6 @@
 -- The examples of the impostors, and that of the window without its + 1: all that is computed from the rules, in one place. A store is named by how many
 -- keys it has room for; reservations are pairs of a key and a cost.
+use Prim.Native.Nat.{ℕ}
 use mathlib.Core.Path.{_≡_, refl}
 use mathlib.Core.Bool.{true}
 use mathlib.Core.List.{[], _∷_}
@@ -24,20 +25,31 @@ use Rattle.evict.specs.Evict.{awaiting, soonestIn, noted, walkFrom, walked, evi
 use Rattle.shard.specs.Model as OneShard
 use Rattle.settings.specs.declared.decision.Decision.the-variants.{Acquired}
 use Rattle.store.specs.Refusals as Refusals
-use Rattle.perkey.specs.declared.Reply.the-variants.{Tried}
-use Rattle.perkey.specs.Rules.{dueNow}
-use Rattle.perkey.specs.Rules as Rules
-use Rattle.perkey.specs.Calls.{len, rules, replies, accepted}
+use Rattle.rules.specs.declared.Reply.the-variants.{Tried}
+use Rattle.rules.specs.Asks.{dueNow}
+use Rattle.rules.specs.Asks as Asks
+use Rattle.rules.specs.Rules as Rules
+use Rattle.rules.specs.Calls as Calls
+use Rattle.rules.specs.Calls.{length, try}
+use Rattle.hash.specs.Fnv.{mixed, hashFrom}
+use Rattle.modems.specs.Address.{keyFrom, addressRefusal}
+use Rattle.modems.specs.Names.{Name, address, byName}
 use Rattle.perkey.specs.Edges.{rateOf, twoPerSecond, keyOf, asks, asksAsSeven}
-use Rattle.demands.specs.Widths.{allFit, lendable}
-use Rattle.demands.specs.Demands.{usable, tokensUsable}
+use Rattle.rules.specs.Widths.{lendable}
+use Rattle.demands.specs.Demands as Demands
+use Rattle.demands.specs.ByKey.{rules, replies, accepted, tokensUsable, allFit}
+use Rattle.demands.specs.Demands.{usable}
 use Rattle.demands.specs.Impostors.{impossibleToAll, retryBeforeALook, alwaysAcquired, grantsWithoutStoring, firstDebtOnly, inventedLength}
-use Rattle.demands.specs.Impostors.{turnsSlotlessAway, turnsNewcomersAway, blindToKeys}
-use Rattle.demands.proofs.ExampleLaws.{roomFor, fresh, after, TellsOtherwise, Misdecides, Overgrants}
+use Rattle.demands.specs.Impostors.{turnsSlotlessAway, turnsNewcomersAway, blindToKeys, rightByKeyAlone}
+use Rattle.demands.proofs.ExampleLaws.{roomFor, fresh, start, after, TellsOtherwise, MisdecidesFrom, Misdecides, Overgrants}
 
 -- Two tokens a nanosecond, and a burst of one.
 abbrev pub fast : Rate
 fast = rateOf 2 1 1
+
+-- A modem by its address, of which the last byte varies.
+abbrev modem : ℕ → Name
+modem last = address (2 ∷ 0 ∷ 0 ∷ 0 ∷ 0 ∷ last ∷ [])
 
 -- A newcomer to a fresh store is granted its token at moment 1, and told so.
 pub record GrantedAtOne : Type 0 where
@@ -56,13 +68,16 @@ pub record Computed : Type 0 where
   pub second-debt : Overgrants 1 firstDebtOnly twoPerSecond 2 ((7, 1) ∷ (8, 1) ∷ (9, 4) ∷ (10, 1) ∷ (9, 4) ∷ []) 9 0
   pub second-debtor : Misdecides firstDebtOnly 2 (asks 0 7 1 ∷ asks 0 8 1 ∷ asks 0 9 4 ∷ asks 0 10 1 ∷ []) (keyOf 9)
   -- A fresh store has no keys.
-  pub counted : TellsOtherwise inventedLength (len (roomFor 1)) (fresh (roomFor 1))
+  pub counted : TellsOtherwise inventedLength (length (roomFor 1)) (fresh (roomFor 1))
   -- Key 7 has taken one token, and key 8 has turned it into a debt: the bucket of key 7, which has three still, grants another.
   pub slotless : Misdecides turnsSlotlessAway 1 (asks 0 7 1 ∷ asks 0 8 1 ∷ []) (keyOf 7)
   -- A newcomer to a fresh store is granted its token.
   pub newcomer : TellsOtherwise turnsNewcomersAway (asks 0 7 1 (roomFor 1)) (fresh (roomFor 1))
   -- Keys 7 and 8 share the hash 7. Key 7 has taken all, and key 8 one token: the bucket of key 8 grants another.
   pub blind : Misdecides blindToKeys 2 (asks 0 7 4 ∷ asksAsSeven 0 8 1 ∷ []) (record { hash = 7; key = 8 })
+  -- Two modems by address. The first has taken all, and the second one token: its bucket grants another.
+  pub by-address : MisdecidesFrom byName (fresh (roomFor 2)) rightByKeyAlone (roomFor 2)
+      (try (roomFor 2) start (modem 1) 4 ∷ try (roomFor 2) start (modem 2) 1 ∷ []) (modem 2)
   pub at-one : GrantedAtOne
   -- At two tokens a nanosecond, the second and the third of three reservations both become usable at moment 1.
   pub two-at-once : Overgrants 0 rules fast 1 ((7, 1) ∷ (7, 1) ∷ (7, 1) ∷ []) 7 1
@@ -76,20 +91,21 @@ unfolding ceilDiv rows unrow tableIn removed Index.onward Index.walkFrom Index.w
     Ledger.scanFrom Ledger.scan Ledger.dropChosen Ledger.makeRoom Ledger.recordedAt Ledger.recorded
     Layout.shard Layout.wordsOf Shard.placeOf Shard.removeAt Shard.insert
     awaiting soonestIn noted walkFrom walked evicted OneShard.makeRoom OneShard.withExisting OneShard.admit OneShard.withOrInsert OneShard.viewed OneShard.holds
-    Refusals.memoryRefusal Refusals.countRefusal Refusals.momentRefusal Refusals.waitRefusal Refusals.mostSlots Refusals.slotsRefusal
-    Rules.unlessRefused Rules.setUp Rules.unlessTrivial Rules.tryAcquire Rules.reserve Rules.len
-    accepted replies usable tokensUsable after
+    Refusals.memoryRefusal Refusals.countRefusal Refusals.momentRefusal Refusals.waitRefusal Refusals.mostSlots Refusals.slotsRefusalIn
+    Asks.askedIn Rules.unlessRefused Rules.setUpIn Rules.keyedRuleIn Rules.lenIn
+    mixed hashFrom keyFrom addressRefusal Calls.accepted Calls.replies usable Demands.tokensUsable after
 computed = record {
-  impossible = record { fit = refl; lent = refl; accepts = refl; holding = refl; otherwise = refl };
-  unlooked = record { fit = refl; lent = refl; accepts = refl; holding = refl; otherwise = refl };
+  impossible = record { rated = refl; fit = refl; lent = refl; accepts = refl; holding = refl; otherwise = refl };
+  unlooked = record { rated = refl; fit = refl; lent = refl; accepts = refl; holding = refl; otherwise = refl };
   acquired = record { settings = refl; lent = refl; fit = refl; set-up = refl; over = refl };
   unstored = record { settings = refl; lent = refl; fit = refl; set-up = refl; over = refl };
   second-debt = record { settings = refl; lent = refl; fit = refl; set-up = refl; over = refl };
-  second-debtor = record { fit = refl; lent = refl; accepts = refl; holding = refl; otherwise = refl };
+  second-debtor = record { rated = refl; fit = refl; lent = refl; accepts = refl; holding = refl; otherwise = refl };
   counted = record { fit = refl; lent = refl; otherwise = refl };
-  slotless = record { fit = refl; lent = refl; accepts = refl; holding = refl; otherwise = refl };
+  slotless = record { rated = refl; fit = refl; lent = refl; accepts = refl; holding = refl; otherwise = refl };
   newcomer = record { fit = refl; lent = refl; otherwise = refl };
-  blind = record { fit = refl; lent = refl; accepts = refl; holding = refl; otherwise = refl };
+  blind = record { rated = refl; fit = refl; lent = refl; accepts = refl; holding = refl; otherwise = refl };
+  by-address = record { rated = refl; fit = refl; lent = refl; accepts = refl; holding = refl; otherwise = refl };
   at-one = record { lent = refl; fit = refl; told = refl };
   two-at-once = record { settings = refl; lent = refl; fit = refl; set-up = refl; over = refl };
 }

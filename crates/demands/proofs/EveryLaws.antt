@@ -5,7 +5,7 @@ use mathlib.Core.List.{List, [], _∷_, _++_, map}
 use lib.ListN.{getD, take, drop, set, replicate}
 use Rattle.rows.specs.Segments.{segment}
 use Rattle.rows.specs.Rows.{rows, unrow}
-use Rattle.perkey.specs.Calls.{Every}
+use Rattle.rules.specs.Calls.{Every}
 
 -- What holds of both outcomes of a test holds of the one that is taken.
 pub of-either : {A : Type 0} (Q : A → Type 0) (b : Bool) (x y : A) → Q x → Q y → Q (cond b x y)

@@ -9,21 +9,27 @@ use lib.ListN.{replicate}
 use borrow.Author.Tests.{ltb-true, eq-eqb}
 use Rattle.units.specs.declared.Nanos.{Nanos}
 use Rattle.bucket.specs.declared.Request.the-variants.{Acquire}
+use Rattle.settings.specs.declared.Limit.the-variants.{Open}
 use Rattle.settings.specs.declared.Settings.{Settings}
 use Rattle.settings.specs.declared.rate.Rate.{Rate}
 use Rattle.settings.specs.Eviction.{capacityOf}
 use Rattle.settings.specs.Rate.{burstOf}
 use Rattle.shard.specs.declared.Identity.{Identity}
 use Rattle.shard.specs.Model.{holds}
-use Rattle.perkey.specs.declared.Reply.{Reply}
-use Rattle.perkey.specs.declared.Reply.the-variants.{Done}
+use Rattle.rules.specs.declared.Reply.{Reply}
+use Rattle.rules.specs.declared.Reply.the-variants.{Done}
 use Rattle.store.specs.Memory.{shardAt}
-use Rattle.perkey.specs.Rules.{setUp, codeOf, numberOf, tryReply}
-use Rattle.perkey.specs.Calls.{Call, try, reserve, Implementation, rules, Answered, replies, accepted, Every}
+use Rattle.rules.specs.Replies.{codeOf, numberOf}
+use Rattle.rules.specs.Asks.{asTry, replyTo}
+use Rattle.rules.specs.Rules.{setUp}
+use Rattle.rules.specs.Calls as Calls
+use Rattle.rules.specs.Calls.{try, reserve, Terms, byKey, Every}
 use Rattle.perkey.specs.Edges.{twoPerSecond, limited, keyOf}
-use Rattle.demands.specs.Widths.{settingsFit, fits, allFit, lendable}
-use Rattle.demands.specs.Demands.{SameSettings, TimesNeverFall, Agree, NoSharedHash, NeverRefundedOrRemoved, tokensUsable, ownReply}
-use Rattle.demands.specs.Demands.{answering, Demand2, WindowAdding, OwnBucket}
+use Rattle.rules.specs.Widths.{settingsFit, lendable}
+use Rattle.demands.specs.Demands as Demands
+use Rattle.demands.specs.ByKey.{Call, Implementation, rules, Answered, replies, accepted, SameSettings, TimesNeverFall, Agree, NoSharedHash, NeverRefundedOrRemoved, tokensUsable, answering, Demand2, WindowAdding, OwnBucket, fits, allFit}
+use Rattle.demands.specs.Demands.{ownReply}
+
 use Rattle.store.specs.Memory.{memoryWords}
 
 -- A store of one shard, by its rate and by how many keys it has room for; in most examples two tokens a second, up to four.
@@ -45,20 +51,21 @@ abbrev pub start : Nanos
 start = record { 0 = 0 }
 
 -- The words that an implementation leaves after some calls.
-unfoldable pub after : Implementation → List Call → List ℕ → List ℕ
+unfoldable pub after : {S N : Type 0} → Calls.Implementation S N → List (Calls.Call S N) → List ℕ → List ℕ
 after f [] ws = ws
 after f (c ∷ cs) ws = after f cs (f c ws .after)
 
--- A call after some others, as it is answered: the implementation starts from some words, and the rules beside it from theirs.
-abbrev pub answeredAfter : Implementation → List Call → Call → List ℕ → List ℕ → Answered
-answeredAfter f cs c ws law = record { call = c; reply = f c (after f cs ws) .answer; rulesWords = after rules cs law }
+module _ {S N : Type 0} (terms : Terms S N) where
+  -- A call after some others, as it is answered: the implementation starts from some words, and the rules beside it from theirs.
+  abbrev pub answeredAfter : Calls.Implementation S N → List (Calls.Call S N) → Calls.Call S N → List ℕ → List ℕ → Calls.Answered S N
+  answeredAfter f cs c ws law = record { call = c; reply = f c (after f cs ws) .answer; rulesWords = after (Calls.rules terms) cs law }
 
--- What holds of every call of a list, as it is answered, holds of the last one.
-last-of-every : (Q : Answered → Type 0) (f : Implementation) (c : Call) (cs : List Call) (ws law : List ℕ) → Every Q (replies f (cs ++ c ∷ []) ws law)
-    → Q (answeredAfter f cs c ws law)
-unfolding replies after
-last-of-every Q f c [] ws law every = every .0
-last-of-every Q f c (b ∷ cs) ws law every = last-of-every Q f c cs (f b ws .after) (rules b law .after) (every .1)
+  -- What holds of every call of a list, as it is answered, holds of the last one.
+  last-of-every : (Q : Calls.Answered S N → Type 0) (f : Calls.Implementation S N) (c : Calls.Call S N) (cs : List (Calls.Call S N)) (ws law : List ℕ)
+      → Every Q (Calls.replies terms f (cs ++ c ∷ []) ws law) → Q (answeredAfter f cs c ws law)
+  unfolding Calls.replies after
+  last-of-every Q f c [] ws law every = every .0
+  last-of-every Q f c (b ∷ cs) ws law every = last-of-every Q f c cs (f b ws .after) (Calls.rules terms b law .after) (every .1)
 
 -- Whether two replies have the same code and number.
 abbrev pub sameTold : Reply → Reply → Bool
@@ -81,31 +88,29 @@ abbrev pub callsOn : Settings → List (Settings → Call) → List Call
 callsOn s [] = []
 callsOn s (c ∷ cs) = c s ∷ callsOn s cs
 
--- A try for one token by a key after some calls; the words that the rules made by these; and the reply of the key's own bucket in them.
-abbrev pub tried : Implementation → ℕ → List (Settings → Call) → Identity → Answered
-tried f keys cs id = answeredAfter f (callsOn (roomFor keys) cs) (try (roomFor keys) start id 1) (fresh (roomFor keys)) (fresh (roomFor keys))
+-- A try for one token at moment 0 after some calls, from some words, at two tokens a second and up to four. An implementation misdecides it: the rules accept it,
+-- the modem holds a slot or a debt in the words that they made, and the reply is not that of its bucket.
+module _ {S N : Type 0} (terms : Terms S N) where
+  pub record MisdecidesFrom (ws : List ℕ) (f : Calls.Implementation S N) (s : S) (cs : List (Calls.Call S N)) (n : N) : Type 0 where
+    pub rated : terms .settings s .limit ≡ Open twoPerSecond
+    pub fit : Calls.allFit terms (cs ++ try s start n 1 ∷ []) ≡ true
+    pub lent : lendable ws ≡ true
+    pub accepts : Calls.accepted terms (answeredAfter terms f cs (try s start n 1) ws ws) ≡ true
+    pub holding : holds (terms .identity n) (shardAt (terms .settings s) (terms .identity n .hash) (after (Calls.rules terms) cs ws)) ≡ true
+    pub otherwise :
+        sameTold (f (try s start n 1) (after f cs ws) .answer)
+        (ownReply (terms .settings s) twoPerSecond start (terms .identity n) Acquire 1 (after (Calls.rules terms) cs ws)) ≡ false
 
-abbrev pub grown : ℕ → List (Settings → Call) → List ℕ
-grown keys cs = after rules (callsOn (roomFor keys) cs) (fresh (roomFor keys))
+  pub misdeciding-breaks-own-bucket : {ws : List ℕ} {f : Calls.Implementation S N} {s : S} {cs : List (Calls.Call S N)} {n : N} → MisdecidesFrom ws f s cs n
+      → Demands.OwnBucket terms (Demands.answering terms f) → ⊥
+  misdeciding-breaks-own-bucket {ws} {f} {s} {cs} {n} shown own-bucket =
+      let last : Calls.Call S N = try s start n 1 in
+      let decided = last-of-every terms _ f last cs ws ws (own-bucket ws (cs ++ last ∷ []) (shown .lent) (shown .fit)) in
+      same-is-told (decided (shown .accepts) twoPerSecond (shown .rated) (omega arith) (omega arith) (shown .holding)) (shown .otherwise)
 
-abbrev pub ownTried : ℕ → List (Settings → Call) → Identity → Reply
-ownTried keys cs id = ownReply (roomFor keys) twoPerSecond start id Acquire 1 (grown keys cs)
-
--- An implementation misdecides it: the rules accept it, the key holds a slot or a debt in the words that they made, and its bucket's reply is not told.
-pub record Misdecides (f : Implementation) (keys : ℕ) (cs : List (Settings → Call)) (id : Identity) : Type 0 where
-  pub fit : allFit (callsOn (roomFor keys) cs ++ tried f keys cs id .call ∷ []) ≡ true
-  pub lent : lendable (fresh (roomFor keys)) ≡ true
-  pub accepts : accepted (tried f keys cs id) ≡ true
-  pub holding : holds id (shardAt (roomFor keys) (id .hash) (grown keys cs)) ≡ true
-  pub otherwise : sameTold (tried f keys cs id .reply) (ownTried keys cs id) ≡ false
-
-pub misdeciding-breaks-own-bucket : {f : Implementation} {keys : ℕ} {cs : List (Settings → Call)} {id : Identity} → Misdecides f keys cs id → OwnBucket (answering f) → ⊥
-misdeciding-breaks-own-bucket {f} {keys} {cs} {id} shown own-bucket =
-    let ws : List ℕ = fresh (roomFor keys) in
-    let before : List Call = callsOn (roomFor keys) cs in
-    let last : Call = tried f keys cs id .call in
-    let decided = last-of-every _ f last before ws ws (own-bucket ws (before ++ last ∷ []) (shown .lent) (shown .fit)) in
-    same-is-told (decided (shown .accepts) twoPerSecond refl (omega arith) (omega arith) (shown .holding)) (shown .otherwise)
+-- By key, on a fresh store with room for some keys.
+abbrev pub Misdecides : Implementation → ℕ → List (Settings → Call) → Identity → Type 0
+Misdecides f keys cs id = MisdecidesFrom byKey (fresh (roomFor keys)) f (roomFor keys) (callsOn (roomFor keys) cs) id
 
 -- Reservations at moment 0, by key and cost; the hash of a key is its own number, and the longest wait is 10 ns.
 abbrev pub reservation : Settings → ℕ × ℕ → Call
@@ -118,7 +123,7 @@ reservations s (x ∷ xs) = reservation s x ∷ reservations s xs
 -- They meet the conditions of the window, whatever the implementation answers.
 module _ (f : Implementation) (s : Settings) where
   have-same-settings : (xs : List (ℕ × ℕ)) (ws law : List ℕ) → SameSettings s (replies f (reservations s xs) ws law)
-  unfolding replies
+  unfolding Calls.replies
   have-same-settings [] ws law = tt
   have-same-settings (x ∷ xs) ws law = (λ _. refl, have-same-settings xs _ _)
 
@@ -127,23 +132,23 @@ module _ (f : Implementation) (s : Settings) where
   zero-either-way false = refl
 
   have-rising-times : (xs : List (ℕ × ℕ)) (ws law : List ℕ) → TimesNeverFall 0 (replies f (reservations s xs) ws law)
-  unfolding replies TimesNeverFall
+  unfolding Calls.replies Demands.TimesNeverFall
   have-rising-times [] ws law = tt
   have-rising-times (x ∷ xs) ws law = (omega arith, rw zero-either-way (have-rising-times xs _ _))
 
   agree-with-others : (a : Answered) (x : ℕ × ℕ) → a .call ≡ reservation s x → (xs : List (ℕ × ℕ)) (ws law : List ℕ)
       → Every (Agree a) (replies f (reservations s xs) ws law)
-  unfolding replies
+  unfolding Calls.replies
   agree-with-others a x is [] ws law = tt
   agree-with-others a x is (y ∷ ys) ws law = (rw is (λ _ _ e. e), agree-with-others a x is ys _ _)
 
   have-no-shared-hash : (xs : List (ℕ × ℕ)) (ws law : List ℕ) → NoSharedHash (replies f (reservations s xs) ws law)
-  unfolding replies NoSharedHash
+  unfolding Calls.replies Demands.NoSharedHash
   have-no-shared-hash [] ws law = tt
   have-no-shared-hash (x ∷ xs) ws law = (agree-with-others _ x refl xs _ _, have-no-shared-hash xs _ _)
 
   never-return : (k : Identity) (xs : List (ℕ × ℕ)) (ws law : List ℕ) → NeverRefundedOrRemoved k (replies f (reservations s xs) ws law)
-  unfolding replies
+  unfolding Calls.replies
   never-return k [] ws law = tt
   never-return k (x ∷ xs) ws law = (λ _. tt, never-return k xs _ _)
 

@@ -2,7 +2,7 @@
 use Prim.Native.Nat.{ℕ, _+_, _-_, _<_}
 use native.Mathlib.Omega.{arith}
 use mathlib.Core.Path.{_≡_, refl, sym, ap, _∙_}
-use mathlib.Core.Bool.{true, false}
+use mathlib.Core.Bool.{true, false, false≢true}
 use mathlib.Core.List.{List}
 use contract.Lifetimes.{Lfts}
 use borrow.Author.Tests.{ne-eqb}
@@ -11,28 +11,39 @@ use lib.ListN.{replicate}
 use Rattle.arith.proofs.Cases.{by-eq}
 use Rattle.rows.specs.Outcome.{Outcome, outcome}
 use Rattle.units.specs.declared.Nanos.{Nanos}
+use Rattle.units.specs.Units.{nanosOf}
 use Rattle.bucket.specs.declared.Request.the-variants.{Acquire, Reserve}
 use Rattle.settings.specs.declared.Settings.{Settings}
-use Rattle.perkey.specs.declared.Reply.{Reply}
-use Rattle.perkey.specs.declared.Reply.the-variants.{Done, Refused}
-use Rattle.store.specs.Refusals.{setUpRefusal}
-use Rattle.perkey.specs.Rules.{setUp, clear}
-use Rattle.perkey.proofs.RefusedLaws.{unless-refused-accepts, unless-refused-refuses}
-use Rattle.perkey.specs.Calls.{Call, try, reserve, peek, available, len, refund, remove, rules}
-use Rattle.perkey.specs.Calls.{request, look, undo, peeks, tokens, refunds, removes, Kind, decides, reserves, counts, knows, kindOf}
-use Rattle.perkey.specs.Calls as Calls
-use Rattle.perkey.proofs.CallLaws.{OfKind, acquired, retried, impossible, reserved, not-reserved, counted, known, unknown}
-use Rattle.perkey.proofs.CallLaws.{refusalOf, ruleOf, not-refused-is-ruled, refused-is-told, rule-answers-in-kind}
-use Rattle.limiter.specs.declared.LimiterSettings.{LimiterSettings}
-use Rattle.units.specs.Units.{nanosOf}
-use Rattle.limiter.specs.Exported.{settingsOf, identityOf}
-use Rattle.perkey.specs.Rules.{toldOf, told}
-use Rattle.demands.specs.Widths.{fits, lendable}
-use Rattle.demands.specs.Demands.{Demand2, Demand3}
-use Rattle.demands.specs.Exports.{Exports, numbersFit, through, ExportDemand2, Writer, reading, readAs, called, ExportContracts}
-use Rattle.demands.proofs.WidthLaws.{settings-of-call-fit}
-use Rattle.demands.proofs.Theorem.{demand2-gives-demand3}
+use Rattle.settings.specs.Before as Before
 use Rattle.store.specs.Memory.{memoryWords}
+use Rattle.store.specs.Refusals.{setUpRefusal}
+use Rattle.shard.specs.declared.Identity.{Identity}
+use Rattle.rules.specs.declared.Reply.{Reply}
+use Rattle.rules.specs.declared.codes.Told.{Told}
+use Rattle.rules.specs.declared.Reply.the-variants.{Done, Refused}
+use Rattle.rules.specs.Replies.{toldOf, told, Kind, decides, reserves, counts, knows}
+use Rattle.rules.specs.Asks.{Ask, requests, looks, undoes, peeks, tokens, refunds, removes}
+use Rattle.rules.specs.Rules.{setUpIn, setUp, clear, keyedRule}
+use Rattle.rules.specs.Widths.{lendable}
+use Rattle.rules.specs.Calls.{Call, keyed, whole, len, Terms, kindOf, settingsOf, rules, rulesIn, fits, Every}
+use Rattle.rules.proofs.RefusedLaws.{unless-refused-accepts, unless-refused-refuses}
+use Rattle.rules.proofs.KindLaws.{OfKind, acquired, retried, impossible, reserved, not-reserved, counted, known, unknown}
+use Rattle.rules.proofs.CallLaws.{refusalOf, ruleOf, not-refused-is-ruled, refused-is-told, rule-answers-in-kind}
+use Rattle.modems.specs.Address as Address
+use Rattle.modems.specs.Names.{Name, key, address}
+use Rattle.limiter.specs.declared.LimiterSettings.{LimiterSettings}
+use Rattle.limiter.specs.Exported as Exported
+use Rattle.limiter.specs.Exported.{identityOf}
+use Rattle.demands.specs.Demands.{Limiter, Demand2, Demand3}
+use Rattle.demands.specs.Moments.{TellsMoments}
+use Rattle.demands.specs.PlaceOrder.{Turn, AllOf, SameWithoutIndexes}
+use Rattle.demands.specs.Exports.{Exports, numbersFit, exported, through, ExportDemand2, reading, readAs, called, ExportContracts}
+use Rattle.demands.proofs.WidthLaws.{ask-is-offered, NamesFit}
+use Rattle.demands.proofs.NameLaws.{names-fit, key-is-the-rule}
+use Rattle.demands.proofs.Theorem.{demand2-gives-demand3}
+use Rattle.demands.proofs.MomentLaws.{demand2-tells-moments}
+use Rattle.demands.proofs.PlaceOrderTheorem.{byLimiter, TurnFits, limiter-is-as-without-indexes}
+use Rattle.demands.proofs.SizeTheorem.{limiter-answers-as-at-the-shape-of-before}
 
 -- A reply that is told as numbers is read, by its kind, as it was.
 in-kind-comes-back : {at : Nanos} {kind : Kind} {r : Reply} → OfKind at kind r → reading kind (toldOf r) ≡ r
@@ -62,14 +73,15 @@ refusal-comes-back counts n = rw (no-other-code n 0 (omega arith)) (number-comes
 refusal-comes-back knows n = rw (no-other-code n 0 (omega arith), no-other-code n 3 (omega arith)) (number-comes-back n)
 
 -- So what the rules answer to a call comes back from its numbers, and so does what they answer to set-up.
-pub reply-comes-back : (c : Call) (ws : List ℕ) → readAs (kindOf c) (told (rules c ws)) ≡ rules c ws
-reply-comes-back c ws =
-    by-eq (refusalOf c ws) 0
-    (λ none. rw (not-refused-is-ruled c ws none) (ap (λ r. outcome r (ruleOf c ws .after)) (in-kind-comes-back (rule-answers-in-kind c ws))))
-    (λ some. rw (refused-is-told c ws some) (ap (λ r. outcome r ws) (refusal-comes-back (kindOf c) (refusalOf c ws))))
+pub reply-comes-back : {S N : Type 0} (terms : Terms S N) (c : Call S N) (ws : List ℕ) → readAs (kindOf c) (told (rules terms c ws)) ≡ rules terms c ws
+reply-comes-back terms c ws =
+    by-eq (refusalOf terms c ws) 0
+    (λ none.
+    rw (not-refused-is-ruled terms c ws none) (ap (λ r. outcome r (ruleOf terms c ws .after)) (in-kind-comes-back (rule-answers-in-kind terms c ws))))
+    (λ some. rw (refused-is-told terms c ws some) (ap (λ r. outcome r ws) (refusal-comes-back (kindOf c) (refusalOf terms c ws))))
 
 set-up-comes-back : (s : Settings) (ws : List ℕ) → readAs knows (told (setUp s ws)) ≡ setUp s ws
-unfolding setUp
+unfolding setUpIn
 set-up-comes-back s ws =
     by-eq (setUpRefusal s ws) 0
     (λ none. rw (unless-refused-accepts (setUpRefusal s ws) ws (outcome Done (replicate (memoryWords s) 0)) none)
@@ -80,59 +92,102 @@ set-up-comes-back s ws =
 -- The rules, told as numbers, are as the contracts of the exports tell, so that what follows is said of something.
 abbrev pub toldRules : Exports
 toldRules = record {
-  set-up = λ n ws. told (setUp (settingsOf n) ws);
-  clear = λ n ws. told (clear (settingsOf n) ws);
-  try = λ n at hash key cost ws. told (rules (try (settingsOf n) (nanosOf at) (identityOf hash key) cost) ws);
-  reserve = λ n at hash key cost longest ws. told (rules (reserve (settingsOf n) (nanosOf at) (identityOf hash key) cost (nanosOf longest)) ws);
-  peek = λ n at hash key cost ws. told (rules (peek (settingsOf n) (nanosOf at) (identityOf hash key) cost) ws);
-  available = λ n at hash key ws. told (rules (available (settingsOf n) (nanosOf at) (identityOf hash key)) ws);
-  length = λ n ws. told (rules (len (settingsOf n)) ws);
-  refund = λ n hash key cost ws. told (rules (refund (settingsOf n) (identityOf hash key) cost) ws);
-  remove = λ n hash key ws. told (rules (remove (settingsOf n) (identityOf hash key)) ws);
+  set-up = λ n ws. told (setUp (Exported.settingsOf n) ws);
+  clear = λ n ws. told (clear (Exported.settingsOf n) ws);
+  try = λ n at hash key cost ws. told (keyedRule (Exported.settingsOf n) (identityOf hash key) (requests Acquire (nanosOf at) cost) ws);
+  reserve = λ n at hash key cost longest ws.
+      told (keyedRule (Exported.settingsOf n) (identityOf hash key) (requests (Reserve (nanosOf longest)) (nanosOf at) cost) ws);
+  peek = λ n at hash key cost ws. told (keyedRule (Exported.settingsOf n) (identityOf hash key) (looks (peeks (nanosOf at) cost)) ws);
+  available = λ n at hash key ws. told (keyedRule (Exported.settingsOf n) (identityOf hash key) (looks (tokens (nanosOf at))) ws);
+  length = λ n ws. told (rules exported (whole n len) ws);
+  refund = λ n hash key cost ws. told (keyedRule (Exported.settingsOf n) (identityOf hash key) (undoes (refunds cost)) ws);
+  remove = λ n hash key ws. told (keyedRule (Exported.settingsOf n) (identityOf hash key) (undoes removes) ws);
+  modem-try = λ n at bytes cost ws. told (Address.tryAcquire (Exported.settingsOf n) (nanosOf at) bytes cost ws);
+  modem-reserve = λ n at bytes cost longest ws. told (Address.reserve (Exported.settingsOf n) (nanosOf at) bytes cost (nanosOf longest) ws);
+  modem-peek = λ n at bytes cost ws. told (Address.peek (Exported.settingsOf n) (nanosOf at) bytes cost ws);
+  modem-refund = λ n bytes cost ws. told (Address.refund (Exported.settingsOf n) bytes cost ws);
+  modem-remove = λ n bytes ws. told (Address.remove (Exported.settingsOf n) bytes ws);
 }
 
-pub rules-are-as-the-exports-tell : (κs : Lfts 1) (ptr : ℕ × ℕ) (name : ℕ) → ExportContracts κs ptr name toldRules
-rules-are-as-the-exports-tell κs ptr name = record {
-  sets-up = λ n ws _ _ _. refl;
-  clears = λ n ws _ _ _. refl;
-  tries = λ n at id cost ws _ _ _ _. refl;
-  reserves = λ n at id cost longest ws _ _ _ _. refl;
-  peeks = λ n at id cost ws _ _ _ _. refl;
-  availables = λ n at id ws _ _ _ _. refl;
-  lens = λ n ws _ _ _ _. refl;
-  refunds = λ n id cost ws _ _ _ _. refl;
-  removes = λ n id ws _ _ _ _. refl;
-}
-
-module _ (κs : Lfts 1) (ptr : ℕ × ℕ) (name : ℕ) (e : Exports) (c : ExportContracts κs ptr name e) where
-  -- No export asks anything of its caller: `tt` shows all that is asked.
-  pub exports-meet-demand2 : ExportDemand2 e
-  exports-meet-demand2 = record {
-    sets-up = λ n ws small lent. c .sets-up n ws small lent tt;
-    clears = λ n ws small lent. c .clears n ws small lent tt;
-    answers = ruled;
-  }
-    where
-      ruled : (n : LimiterSettings) (call : Call) (ws : List ℕ) → numbersFit n ≡ true → Calls.settingsOf call ≡ settingsOf n → fits call ≡ true
-          → lendable ws ≡ true → through e n call ws ≡ told (rules call ws)
-      ruled n (request s at id Acquire cost) ws = λ small is fit lent. rw is (c .tries n at id cost ws small (rw is at fit) lent tt)
-      ruled n (request s at id (Reserve longest) cost) ws = λ small is fit lent. rw is (c .reserves n at id cost longest ws small (rw is at fit) lent tt)
-      ruled n (look s at id (peeks cost)) ws = λ small is fit lent. rw is (c .peeks n at id cost ws small (rw is at fit) lent tt)
-      ruled n (look s at id tokens) ws = λ small is fit lent. rw is (c .availables n at id ws small (rw is at fit) lent tt)
-      ruled n (undo s id (refunds cost)) ws = λ small is fit lent. rw is (c .refunds n id cost ws small (rw is at fit) lent tt)
-      ruled n (undo s id removes) ws = λ small is fit lent. rw is (c .removes n id ws small (rw is at fit) lent tt)
-      ruled n (len s) ws = λ small is fit lent. rw is (c .lens n ws small (rw is at fit) lent tt)
-
-  -- So a caller has a limiter that meets demand 2, however the settings are written.
-  pub callers-have-demand2 : (w : Writer) → Demand2 (called w e)
-  callers-have-demand2 w = record {
-    sets-up = λ s ws fit lent. ap (readAs knows) (rw (w .back s) at (exports-meet-demand2 .sets-up (w .write s) ws (w .fit s fit) lent)) ∙ set-up-comes-back s ws;
-    clears = λ s ws fit lent. ap (readAs knows) (rw (w .back s) at (exports-meet-demand2 .clears (w .write s) ws (w .fit s fit) lent)) ∙ set-up-comes-back s ws;
-    answers = λ call ws fit lent.
-        let s = Calls.settingsOf call in
-        ap (readAs (kindOf call)) (exports-meet-demand2 .answers (w .write s) call ws (w .fit s (settings-of-call-fit call fit)) (sym (w .back s)) fit lent)
-        ∙ reply-comes-back call ws;
+module _ (κs : Lfts 1) (κs₂ : Lfts 2) (ptr bytesPtr : ℕ × ℕ) (name bytesName : ℕ) where
+  pub rules-are-as-the-exports-tell : ExportContracts κs κs₂ ptr bytesPtr name bytesName toldRules
+  rules-are-as-the-exports-tell = record {
+    by-key = record {
+      sets-up = λ n ws _ _ _. refl;
+      clears = λ n ws _ _ _. refl;
+      tries = λ n at id cost ws _ _ _. refl;
+      reserves = λ n at id cost longest ws _ _ _. refl;
+      peeks = λ n at id cost ws _ _ _. refl;
+      availables = λ n at id ws _ _ _. refl;
+      lens = λ n ws _ _ _. refl;
+      refunds = λ n id cost ws _ _ _. refl;
+      removes = λ n id ws _ _ _. refl;
+    };
+    by-address = record {
+      tries = λ n at bytes cost ws _ _ _. refl;
+      reserves = λ n at bytes cost longest ws _ _ _. refl;
+      peeks = λ n at bytes cost ws _ _ _. refl;
+      refunds = λ n bytes cost ws _ _ _. refl;
+      removes = λ n bytes ws _ _ _. refl;
+    };
   }
 
-  pub exports-meet-demand3 : (w : Writer) → Demand3 (called w e)
-  exports-meet-demand3 w = demand2-gives-demand3 (called w e) (callers-have-demand2 w)
+  module _ (e : Exports) (c : ExportContracts κs κs₂ ptr bytesPtr name bytesName e) where
+    -- No export asks anything of its caller: `tt` shows all that is asked.
+    pub exports-meet-demand2 : ExportDemand2 e
+    exports-meet-demand2 = record {
+      sets-up = λ n ws small lent. c .by-key .sets-up n ws small lent tt;
+      clears = λ n ws small lent. c .by-key .clears n ws small lent tt;
+      answers = ruled;
+    }
+      where
+        -- A call that names a key follows the rule of what it asks.
+        keyed-rule : (n : LimiterSettings) (id : Identity) (ask : Ask) (ws : List ℕ) {o : Outcome Told (List ℕ)}
+            → o ≡ told (keyedRule (Exported.settingsOf n) id ask ws) → o ≡ told (rules exported (keyed n (key id) ask) ws)
+        keyed-rule n id ask ws gave = gave ∙ ap told (sym (key-is-the-rule Exported.settingsOf numbersFit n id ask ws))
+
+        ruled : (call : Call LimiterSettings Name) (ws : List ℕ) → fits exported call ≡ true → lendable ws ≡ true
+            → through e call ws ≡ told (rules exported call ws)
+        ruled (keyed n (key id) (requests Acquire at cost)) ws = λ fit lent. keyed-rule n id _ ws (c .by-key .tries n at id cost ws fit lent tt)
+        ruled (keyed n (key id) (requests (Reserve longest) at cost)) ws = λ fit lent.
+            keyed-rule n id _ ws (c .by-key .reserves n at id cost longest ws fit lent tt)
+        ruled (keyed n (key id) (looks (peeks at cost))) ws = λ fit lent. keyed-rule n id _ ws (c .by-key .peeks n at id cost ws fit lent tt)
+        ruled (keyed n (key id) (looks (tokens at))) ws = λ fit lent. keyed-rule n id _ ws (c .by-key .availables n at id ws fit lent tt)
+        ruled (keyed n (key id) (undoes (refunds cost))) ws = λ fit lent. keyed-rule n id _ ws (c .by-key .refunds n id cost ws fit lent tt)
+        ruled (keyed n (key id) (undoes removes)) ws = λ fit lent. keyed-rule n id _ ws (c .by-key .removes n id ws fit lent tt)
+        ruled (keyed n (address bytes) (requests Acquire at cost)) ws = λ fit lent. c .by-address .tries n at bytes cost ws fit lent tt
+        ruled (keyed n (address bytes) (requests (Reserve longest) at cost)) ws = λ fit lent. c .by-address .reserves n at bytes cost longest ws fit lent tt
+        ruled (keyed n (address bytes) (looks (peeks at cost))) ws = λ fit lent. c .by-address .peeks n at bytes cost ws fit lent tt
+        ruled (keyed n (address bytes) (looks (tokens at))) ws = λ fit lent.
+            absurd (false≢true (ask-is-offered exported n (address bytes) (looks (tokens at)) fit))
+        ruled (keyed n (address bytes) (undoes (refunds cost))) ws = λ fit lent. c .by-address .refunds n bytes cost ws fit lent tt
+        ruled (keyed n (address bytes) (undoes removes)) ws = λ fit lent. c .by-address .removes n bytes ws fit lent tt
+        ruled (whole n len) ws = λ fit lent. c .by-key .lens n ws fit lent tt
+
+    -- So a caller has a limiter that meets demand 2, in whatever numbers each call writes its settings.
+    pub callers-have-demand2 : Demand2 exported (called e)
+    callers-have-demand2 = record {
+      sets-up = λ n ws fit lent. ap (readAs knows) (exports-meet-demand2 .sets-up n ws fit lent) ∙ set-up-comes-back (Exported.settingsOf n) ws;
+      clears = λ n ws fit lent. ap (readAs knows) (exports-meet-demand2 .clears n ws fit lent) ∙ set-up-comes-back (Exported.settingsOf n) ws;
+      answers = λ call ws fit lent. ap (readAs (kindOf call)) (exports-meet-demand2 .answers call ws fit lent) ∙ reply-comes-back exported call ws;
+    }
+
+    names : NamesFit exported
+    names = names-fit Exported.settingsOf numbersFit
+
+    pub exports-meet-demand3 : Demand3 exported (called e)
+    exports-meet-demand3 = demand2-gives-demand3 exported names (called e) callers-have-demand2
+
+    -- They tell moments as the rules do (request 1), answer as a store without indexes does (request 3), and as the rules do at the shape of before (request 6).
+    pub exports-tell-moments : TellsMoments exported (called e)
+    exports-tell-moments = demand2-tells-moments exported names (called e) callers-have-demand2
+
+    pub exports-are-as-without-indexes : (n : LimiterSettings) → numbersFit n ≡ true → (ws : List ℕ) → lendable ws ≡ true
+        → setUp (Exported.settingsOf n) ws .answer ≡ Done
+        → (ts : List (Turn LimiterSettings Name)) → Every (TurnFits exported) ts → AllOf exported (Exported.settingsOf n) ts
+        → SameWithoutIndexes exported (byLimiter (called e) n) (Exported.settingsOf n) ts (called e .sets-up n ws .after)
+    exports-are-as-without-indexes n fit = limiter-is-as-without-indexes exported names (called e) callers-have-demand2 n fit
+
+    pub exports-answer-as-at-the-shape-of-before : (c : Call LimiterSettings Name) (ws : List ℕ) → fits exported c ≡ true → lendable ws ≡ true
+        → Before.settingsRefusal (settingsOf exported c) ≡ 0 → called e .answers c ws ≡ rulesIn exported Before.shapeOf c ws
+    exports-answer-as-at-the-shape-of-before = limiter-answers-as-at-the-shape-of-before exported (called e) callers-have-demand2

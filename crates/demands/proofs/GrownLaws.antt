@@ -12,7 +12,6 @@ use Rattle.index.specs.Exact.{Exact}
 use Rattle.held.specs.Held.{Held, Items, hashAt, Complete, in-order-is-complete, exact-is-complete}
 use Rattle.held.specs.Layout.{indexWords}
 use Rattle.held.proofs.FindingLaws.{ordered, indexed, kindOf}
-use Rattle.bucket.specs.declared.Request.the-variants.{Acquire, Reserve}
 use Rattle.settings.specs.declared.Settings.{Settings}
 use Rattle.settings.specs.Settings.{firstRefusal, settingsRefusal, shardCount, capOf, shardOf}
 use Rattle.settings.proofs.SettingsLaws.{no-refusal-hands-on, shard-is-remainder}
@@ -21,24 +20,26 @@ use Rattle.shard_map.specs.Model.{slotItems}
 use Rattle.shard_map.proofs.PlaceOrderLaws.{FindsEach, found-is-sound, found-is-complete, empty-finds-each}
 use Rattle.shard.specs.declared.Identity.{Identity}
 use Rattle.store.specs.Memory.{memoryWords, shardAt, slotCount}
-use Rattle.store.specs.Refusals.{setUpRefusal, keyedRefusal, momentRefusal, waitRefusal, mostSlots, slotsRefusal}
+use Rattle.store.specs.Refusals.{setUpRefusal, keyedRefusal, mostSlots, slotsRefusal}
 use Rattle.store.proofs.MemoryLaws.{shard-at-cap, shard-at-sized, fresh-sound, fresh-shards-are-complete, fresh-shards-are-empty}
 use Rattle.store.proofs.RefusalLaws.{set-up-is-accepted, keyed-is-accepted, shards-are-accepted}
-use Rattle.perkey.specs.declared.Reply.{Reply}
-use Rattle.perkey.specs.declared.Reply.the-variants.{Done}
-use Rattle.perkey.specs.Rules.{setUp, clear}
-use Rattle.perkey.specs.Calls.{Call, request, look, undo, len, rules, settingsOf}
-use Rattle.perkey.proofs.RefusedLaws.{unless-refused-accepts}
-use Rattle.perkey.proofs.CallLaws.{refusalOf, counts-keys, looks-change-nothing}
+use Rattle.rules.specs.declared.Reply.{Reply}
+use Rattle.rules.specs.declared.Reply.the-variants.{Done}
+use Rattle.rules.specs.Asks.{Ask, furtherOf, inItsShard}
+use Rattle.rules.specs.Rules.{setUpIn, setUp, clear}
+use Rattle.rules.specs.Calls.{Call, keyed, whole, len, Terms, rules, settingsOf}
+use Rattle.rules.proofs.RefusedLaws.{unless-refused-accepts}
+use Rattle.rules.proofs.KeyedLaws.{ask-not-refused}
+use Rattle.rules.proofs.CallLaws.{refusalOf, not-refused-is-ruled, keyed-not-refused, taken-not-refused, looks-at-all, looks-change-nothing}
 use Rattle.demands.specs.Grown.{Grown, set-up, cleared, called, KeptByCalls}
-use Rattle.demands.specs.PlaceOrder.{KeyedAsk, requests, looks, undoes, inItsShard, refusedAs, shardNumbered, IndexesExact}
+use Rattle.demands.specs.PlaceOrder.{refusedAs, shardNumbered, IndexesExact}
 use Rattle.demands.proofs.Theorem.{set-up-done}
-use Rattle.demands.proofs.OneShardLaws.{taken-not-refused, WorksInOneShard, rules-work-in-one-shard, call-same-as-place-order}
+use Rattle.demands.proofs.OneShardLaws.{WorksInOneShard, asks-work-in-one-shard, call-same-as-place-order}
 
-pub grown-keeps : {s : Settings} {ws : List ℕ} {P : List ℕ → Type 0} → KeptByCalls s P → Grown s ws → P ws
-grown-keeps kept (set-up ws done) = kept .fresh ws done
-grown-keeps kept (cleared ws grown done) = kept .fresh ws done
-grown-keeps kept (called c ws grown same taken) = kept .call c ws same taken (grown-keeps kept grown)
+pub grown-keeps : {S N : Type 0} (terms : Terms S N) {s : Settings} {ws : List ℕ} {P : List ℕ → Type 0} → KeptByCalls terms s P → Grown terms s ws → P ws
+grown-keeps terms kept (set-up ws done) = kept .fresh ws done
+grown-keeps terms kept (cleared ws grown done) = kept .fresh ws done
+grown-keeps terms kept (called c ws grown same taken) = kept .call c ws same taken (grown-keeps terms kept grown)
 
 -- Accepted settings and a memory of the right size, in whose shards lookup finds each slot and each debt. Such shards are sound and complete.
 pub record SoundMemory (s : Settings) (ws : List ℕ) : Type 0 where
@@ -47,7 +48,7 @@ pub record SoundMemory (s : Settings) (ws : List ℕ) : Type 0 where
   pub finds-each : (hash : ℕ) → FindsEach (shardAt s hash ws)
 
 -- A call on a key leaves such a shard for the key, and the other shards as they are; a look at the length changes nothing.
-keyed-call-keeps-sound : (s : Settings) (id : Identity) (ask : KeyedAsk) (ws : List ℕ) {gives : Outcome Reply (List ℕ)}
+keyed-call-keeps-sound : (s : Settings) (id : Identity) (ask : Ask) (ws : List ℕ) {gives : Outcome Reply (List ℕ)}
     → WorksInOneShard s (id .hash) ws gives (inItsShard s id ask (shardAt s (id .hash) ws)) → SoundMemory s ws → SoundMemory s (gives .after)
 keyed-call-keeps-sound s id ask ws works memory = record {
   settings = memory .settings;
@@ -58,33 +59,36 @@ keyed-call-keeps-sound s id ask ws works memory = record {
       (λ apart. rw (works .others other apart) (memory .finds-each other));
 }
 
-call-keeps-sound : (c : Call) (ws : List ℕ) → refusalOf c ws ≡ 0 → SoundMemory (settingsOf c) ws → SoundMemory (settingsOf c) (rules c ws .after)
-call-keeps-sound (request s at id r cost) ws none memory =
-    let ask = requests r at cost in keyed-call-keeps-sound s id ask ws (rules-work-in-one-shard s id ws ask none) memory
-call-keeps-sound (look s at id l) ws none memory =
-    let ask = looks l at in keyed-call-keeps-sound s id ask ws (rules-work-in-one-shard s id ws ask none) memory
-call-keeps-sound (undo s id u) ws none memory =
-    let ask = undoes u in keyed-call-keeps-sound s id ask ws (rules-work-in-one-shard s id ws ask none) memory
-call-keeps-sound (len s) ws none memory = rw (looks-change-nothing (len s) ws counts-keys) memory
+module _ {S N : Type 0} (terms : Terms S N) where
+  call-keeps-sound : (c : Call S N) (ws : List ℕ) → refusalOf terms c ws ≡ 0 → SoundMemory (settingsOf terms c) ws
+      → SoundMemory (settingsOf terms c) (rules terms c ws .after)
+  call-keeps-sound (keyed s n ask) ws none memory =
+      let settings = terms .settings s in
+      let id = terms .identity n in
+      let accepted = ask-not-refused settings id ask ws (keyed-not-refused terms s n ask ws none .1) .0 in
+      rw (not-refused-is-ruled terms (keyed s n ask) ws none)
+      (keyed-call-keeps-sound settings id ask ws (asks-work-in-one-shard settings id ws accepted ask) memory)
+  call-keeps-sound (whole s what) ws none memory = rw (looks-change-nothing terms (whole s what) ws looks-at-all) memory
 
 fresh-shard-finds-each : (s : Settings) (hash : ℕ) → FindsEach (shardAt s hash (replicate (memoryWords s) 0))
 fresh-shard-finds-each s hash =
     let empty = fresh-shards-are-empty s hash in
     empty-finds-each _ (fresh-sound s hash) (fresh-shards-are-complete s hash) (empty .slots) (empty .debts)
 
-pub sound-kept-by-calls : (s : Settings) → KeptByCalls s (SoundMemory s)
-sound-kept-by-calls s = record {
-  fresh = λ ws done.
-      let up = set-up-done s ws done in
-      rw (up .words) (record { settings = up .settings; size = length-replicate (memoryWords s) 0; finds-each = fresh-shard-finds-each s });
-  call = λ c ws same taken memory. rw same at (call-keeps-sound c ws (taken-not-refused c ws taken) (rw same memory));
-}
+module _ {S N : Type 0} (terms : Terms S N) where
+  pub sound-kept-by-calls : (s : Settings) → KeptByCalls terms s (SoundMemory s)
+  sound-kept-by-calls s = record {
+    fresh = λ ws done.
+        let up = set-up-done s ws done in
+        rw (up .words) (record { settings = up .settings; size = length-replicate (memoryWords s) 0; finds-each = fresh-shard-finds-each s });
+    call = λ c ws same taken memory. rw same at (call-keeps-sound terms c ws (taken-not-refused terms c ws taken) (rw same memory));
+  }
 
-pub grown-memory-is-sound : {s : Settings} {ws : List ℕ} → Grown s ws → SoundMemory s ws
-grown-memory-is-sound {s} grown = grown-keeps (sound-kept-by-calls s) grown
+  pub grown-memory-is-sound : {s : Settings} {ws : List ℕ} → Grown terms s ws → SoundMemory s ws
+  grown-memory-is-sound {s} grown = grown-keeps terms (sound-kept-by-calls s) grown
 
-pub grown-finds-each : {s : Settings} {ws : List ℕ} → Grown s ws → (hash : ℕ) → FindsEach (shardAt s hash ws)
-grown-finds-each grown hash = grown-memory-is-sound grown .finds-each hash
+  pub grown-finds-each : {s : Settings} {ws : List ℕ} → Grown terms s ws → (hash : ℕ) → FindsEach (shardAt s hash ws)
+  grown-finds-each grown hash = grown-memory-is-sound grown .finds-each hash
 
 -- Lookup by an index misses no item only where the index is exact.
 complete-index-is-exact : {A : Type 0} (items : Items A) (h : Held A) (n : ℕ) → kindOf (h .finding) ≡ indexed n → Complete items h
@@ -94,11 +98,11 @@ complete-index-is-exact items h n kind (in-order-is-complete order) =
     let z : _≡_ {A = ℕ} 0 1 = cc in absurd (omega arith)
 complete-index-is-exact items h n kind (exact-is-complete ix by size exact) = rw by exact
 
--- So every item of a grown store stands in its index once, on its walk, and no other place is in use.
-pub grown-indexes-are-exact : {s : Settings} {ws : List ℕ} → Grown s ws → (hash : ℕ) → IndexesExact (shardAt s hash ws)
-grown-indexes-are-exact {s} {ws} grown hash =
-    let complete = found-is-complete (grown-finds-each grown hash) in
-    let sized = shard-at-sized s hash ws (grown-memory-is-sound grown .size) in
+-- So every item of such a store stands in its index once, on its walk, and no other place is in use.
+pub sound-indexes-are-exact : {s : Settings} {ws : List ℕ} → SoundMemory s ws → (hash : ℕ) → IndexesExact (shardAt s hash ws)
+sound-indexes-are-exact {s} {ws} memory hash =
+    let complete = found-is-complete (memory .finds-each hash) in
+    let sized = shard-at-sized s hash ws (memory .size) in
     record {
       slots = complete-index-is-exact slotItems (shardAt s hash ws .slots) _ (sized .slots-kind) (complete .slots);
       debts = complete-index-is-exact debtItems (shardAt s hash ws .ledger .debts) _ (sized .debts-kind) (complete .ledger);
@@ -111,10 +115,14 @@ every-shard-has-a-hash s i below =
     shard-is-remainder s (i * 2 ^ 40) ∙ ap (λ (n : ℕ). n % shardCount s) number ∙ mod-eq-of-lt below
 
 -- The same by the numbers of the shards.
-pub grown-indexes-are-exact-by-number : {s : Settings} {ws : List ℕ} → Grown s ws → (i : ℕ) → i < shardCount s → IndexesExact (shardNumbered s i ws)
-grown-indexes-are-exact-by-number {s} {ws} grown i below =
+pub sound-indexes-are-exact-by-number : {s : Settings} {ws : List ℕ} → SoundMemory s ws → (i : ℕ) → i < shardCount s → IndexesExact (shardNumbered s i ws)
+sound-indexes-are-exact-by-number {s} {ws} memory i below =
     let is = ap (λ (j : ℕ). shardNumbered s j ws) (every-shard-has-a-hash s i below) in
-    subst IndexesExact is (grown-indexes-are-exact grown (i * 2 ^ 40))
+    subst IndexesExact is (sound-indexes-are-exact memory (i * 2 ^ 40))
+
+pub grown-indexes-are-exact-by-number : {S N : Type 0} (terms : Terms S N) {s : Settings} {ws : List ℕ} → Grown terms s ws
+    → (i : ℕ) → i < shardCount s → IndexesExact (shardNumbered s i ws)
+grown-indexes-are-exact-by-number terms grown i below = sound-indexes-are-exact-by-number (grown-memory-is-sound terms grown) i below
 
 -- In a sound memory only what a call itself asks can be refused.
 module _ (s : Settings) (ws : List ℕ) (memory : SoundMemory s ws) where
@@ -140,25 +148,27 @@ module _ (s : Settings) (ws : List ℕ) (memory : SoundMemory s ws) where
 
   -- A clear is accepted.
   pub clear-is-accepted : clear s ws .answer ≡ Done
-  unfolding setUp
+  unfolding setUpIn
   clear-is-accepted = ap (λ (o : Outcome Reply (List ℕ)). o .answer) (unless-refused-accepts (setUpRefusal s ws) ws (outcome Done (replicate (memoryWords s) 0)) settings-and-length-are-not-refused)
 
-refusal-is-the-calls-own : (c : Call) (ws : List ℕ) → SoundMemory (settingsOf c) ws → refusalOf c ws ≡ refusedAs c
-refusal-is-the-calls-own (request s at id Acquire cost) ws memory = no-refusal-hands-on _ (momentRefusal at) (key-is-not-refused s ws memory (id .hash))
-refusal-is-the-calls-own (request s at id (Reserve longest) cost) ws memory =
-    ap (λ (n : ℕ). firstRefusal n (waitRefusal longest)) (no-refusal-hands-on _ (momentRefusal at) (key-is-not-refused s ws memory (id .hash)))
-refusal-is-the-calls-own (look s at id l) ws memory = no-refusal-hands-on _ (momentRefusal at) (key-is-not-refused s ws memory (id .hash))
-refusal-is-the-calls-own (undo s id u) ws memory = key-is-not-refused s ws memory (id .hash)
-refusal-is-the-calls-own (len s) ws memory =
-    no-refusal-hands-on _ (slotsRefusal s ws) (settings-and-length-are-not-refused s ws memory)
-    ∙ shards-are-accepted s ws (most-slots-are-within-the-cap s ws memory (shardCount s) (omega arith))
+module _ {S N : Type 0} (terms : Terms S N) where
+  refusal-is-the-calls-own : (c : Call S N) (ws : List ℕ) → SoundMemory (settingsOf terms c) ws → refusalOf terms c ws ≡ refusedAs terms c
+  refusal-is-the-calls-own (keyed s n ask) ws memory =
+      let settings = terms .settings s in
+      ap (firstRefusal (terms .refusal n)) (no-refusal-hands-on _ (furtherOf ask) (key-is-not-refused settings ws memory (terms .identity n .hash)))
+  refusal-is-the-calls-own (whole s len) ws memory =
+      let settings = terms .settings s in
+      no-refusal-hands-on _ (slotsRefusal settings ws) (settings-and-length-are-not-refused settings ws memory)
+      ∙ shards-are-accepted settings ws (most-slots-are-within-the-cap settings ws memory (shardCount settings) (omega arith))
 
-pub sound-refusal-is-the-calls-own : {s : Settings} {ws : List ℕ} → SoundMemory s ws → (c : Call) → settingsOf c ≡ s → refusalOf c ws ≡ refusedAs c
-sound-refusal-is-the-calls-own {ws = ws} memory c same = refusal-is-the-calls-own c ws (rw same memory)
+  pub sound-refusal-is-the-calls-own : {s : Settings} {ws : List ℕ} → SoundMemory s ws → (c : Call S N) → settingsOf terms c ≡ s
+      → refusalOf terms c ws ≡ refusedAs terms c
+  sound-refusal-is-the-calls-own {ws = ws} memory c same = refusal-is-the-calls-own c ws (rw same memory)
 
--- So it is with a grown store: whether a call of its settings is refused, and by which number, follows from the call alone; and a clear is accepted.
-pub grown-refusal-is-the-calls-own : {s : Settings} {ws : List ℕ} → Grown s ws → (c : Call) → settingsOf c ≡ s → refusalOf c ws ≡ refusedAs c
-grown-refusal-is-the-calls-own grown c same = sound-refusal-is-the-calls-own (grown-memory-is-sound grown) c same
+  -- So it is with a grown store: whether a call of its settings is refused, and by which number, follows from the call alone; and a clear is accepted.
+  pub grown-refusal-is-the-calls-own : {s : Settings} {ws : List ℕ} → Grown terms s ws → (c : Call S N) → settingsOf terms c ≡ s
+      → refusalOf terms c ws ≡ refusedAs terms c
+  grown-refusal-is-the-calls-own grown c same = sound-refusal-is-the-calls-own (grown-memory-is-sound terms grown) c same
 
-pub grown-clear-is-accepted : {s : Settings} {ws : List ℕ} → Grown s ws → clear s ws .answer ≡ Done
-grown-clear-is-accepted {s} {ws} grown = clear-is-accepted s ws (grown-memory-is-sound grown)
+  pub grown-clear-is-accepted : {s : Settings} {ws : List ℕ} → Grown terms s ws → clear s ws .answer ≡ Done
+  grown-clear-is-accepted {s} {ws} grown = clear-is-accepted s ws (grown-memory-is-sound terms grown)

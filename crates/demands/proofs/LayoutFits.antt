@@ -17,7 +17,7 @@ use Rattle.ledger.specs.Model.{Ledger, withOthers}
 use Rattle.ledger.specs.Layout as Debts
 use Rattle.shard_map.specs.Model.{Shard}
 use Rattle.shard_map.specs.Layout.{slotsAt, slotWidth, slotOf, slotWords, shard, wordsOf}
-use Rattle.perkey.specs.Calls.{Every}
+use Rattle.rules.specs.Calls.{Every}
 use Rattle.demands.proofs.EveryLaws.{of-item, every-taken, every-left, every-joined, every-made, every-in-part, every-in-rows, every-of-rows}
 use Rattle.demands.proofs.WordFits.{Word}
 use Rattle.demands.proofs.LedgerFits.{DebtFits, LedgerFits}

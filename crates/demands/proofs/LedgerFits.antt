@@ -20,7 +20,7 @@ use Rattle.ledger.specs.Model.{Ledger, Sound, noDebt, debtItems, capOf, debtAt,
 use Rattle.ledger.specs.Model.{sooner, scanFrom, scan, dropChosen, makeRoom, joined, recordedAt, recorded, paidDown}
 use Rattle.ledger.proofs.StepLaws.{removal-count, found-owes, taken-cases, paid-cases}
 use Rattle.ledger.proofs.RecordLaws.{chosen, scan-chooses-held, done-is-no-refusal}
-use Rattle.perkey.specs.Calls.{Every}
+use Rattle.rules.specs.Calls.{Every}
 use Rattle.demands.proofs.EveryLaws.{of-either}
 use Rattle.demands.proofs.WordFits.{Word, next-place-fits, HeldFits, item-fits, stored-fits, appended-fits, removed-fits, swept-fits}
 

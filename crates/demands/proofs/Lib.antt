@@ -1,5 +1,6 @@
 pub mod EveryLaws
 pub mod WidthLaws
+pub mod NameLaws
 pub mod WordFits
 pub mod BucketFits
 pub mod LedgerFits
@@ -28,7 +29,6 @@ pub mod OneShardLaws
 pub mod GrownLaws
 pub mod PlaceOrderTheorem
 pub mod CodeTheorem
-pub mod WriterLaws
 pub mod ExportTheorem
 pub mod ExampleLaws
 pub mod Computed

@@ -7,57 +7,51 @@ use borrow.Author.Tests.{le-ltb, ne-eqb}
 use Rattle.rows.specs.Outcome.{Outcome}
 use Rattle.units.specs.declared.Nanos.{Nanos}
 use Rattle.bucket.specs.declared.Request.{Request}
-use Rattle.bucket.specs.declared.Request.the-variants.{Acquire, Reserve}
-use Rattle.bucket.specs.Bucket.{longestWait}
 use Rattle.settings.specs.declared.Limit.{Limit}
+use Rattle.settings.specs.declared.Limit.the-variants.{Open}
 use Rattle.settings.specs.declared.Settings.{Settings}
 use Rattle.settings.specs.declared.rate.Rate.{Rate}
 use Rattle.settings.specs.Rate.{burstOf}
+use Rattle.shard_map.specs.Model.{Shard}
 use Rattle.shard.specs.declared.Identity.{Identity}
+use Rattle.shard.specs.Model.{withOrInsert}
 use Rattle.shard.proofs.OwnBucketLaws.{own-bucket-decides}
-use Rattle.perkey.specs.declared.Reply.{Reply}
 use Rattle.store.specs.Memory.{shardAt}
-use Rattle.perkey.specs.Rules.{unlessTrivial, askedBy, tooMuch, atOnce, requested, policyOf, replyTo}
-use Rattle.store.specs.Refusals.{latestMoment, longestMaxWait}
-use Rattle.store.proofs.RefusalLaws.{Accepted, timed-not-refused, reserve-not-refused}
-use Rattle.perkey.specs.Calls.{Call, request, look, undo, len, rules, Answered, replies, Every}
+use Rattle.rules.specs.declared.Reply.{Reply}
+use Rattle.rules.specs.Asks.{requests, looks, undoes, mannerOf, replyTo, toldAs, policyOf, askedIn}
+use Rattle.rules.specs.Calls.{Call, keyed, whole, Terms, rules, Answered, replies, Every}
+use Rattle.rules.proofs.KeyedLaws.{ask-not-refused}
+use Rattle.rules.proofs.CallLaws.{refusalOf, not-refused-is-ruled, keyed-not-refused, accepted-not-refused}
 use Rattle.demands.specs.Demands.{decidedBy}
-use Rattle.perkey.proofs.CallLaws.{refusalOf, ruleOf, not-refused-is-ruled, accepted-not-refused}
 
--- A cost from 1 to the burst is put to the store.
-pub in-range-is-asked : (rate : Rate) (cost : ℕ) (tooMuch atOnce : Reply) (ws : List ℕ) (asked : Outcome Reply (List ℕ)) → 1 ≤ cost → cost ≤ burstOf rate
-    → unlessTrivial rate cost tooMuch atOnce ws asked ≡ asked
-unfolding unlessTrivial
-in-range-is-asked rate cost tooMuch atOnce ws asked least most = rw (le-ltb (burstOf rate) cost most, ne-eqb cost 0 (λ none. omega arith))
-
--- The reply of a call that is not refused is that of its rule.
-reply-of-rule : (c : Call) (ws : List ℕ) → refusalOf c ws ≡ 0 → rules c ws .answer ≡ ruleOf c ws .answer
-reply-of-rule c ws none = ap (λ (o : Outcome Reply (List ℕ)). o .answer) (not-refused-is-ruled c ws none)
+-- A cost from 1 to the burst is put to the bucket.
+pub in-range-is-asked : (r : Request) (rate : Rate) (s : Settings) (at : Nanos) (id : Identity) (cost : ℕ) (own : Shard) → 1 ≤ cost → cost ≤ burstOf rate
+    → askedIn r (Open rate) s at id cost own ≡ toldAs (replyTo (mannerOf r)) (withOrInsert (policyOf s rate) id r cost at own)
+unfolding askedIn
+in-range-is-asked r rate s at id cost own least most = rw (le-ltb (burstOf rate) cost most, ne-eqb cost 0 (λ none. omega arith))
 
 -- The call as the rules answer it in some words.
-abbrev ruled : Call → List ℕ → Answered
-ruled c ws = record { call = c; reply = rules c ws .answer; rulesWords = ws }
+abbrev pub ruled : {S N : Type 0} → Terms S N → Call S N → List ℕ → Answered S N
+ruled terms c ws = record { call = c; reply = rules terms c ws .answer; rulesWords = ws }
 
--- What is known of a request that is not refused: its memory is accepted, its moment is not late, and it does not ask for a wait that is too long.
-pub request-not-refused : (s : Settings) (at : Nanos) (id : Identity) (r : Request) (cost : ℕ) (ws : List ℕ) → refusalOf (request s at id r cost) ws ≡ 0
-    → Accepted s (id .hash) ws × (at .0 ≤ latestMoment) × (longestWait r ≤ longestMaxWait)
-request-not-refused s at id Acquire cost ws none = let timed = timed-not-refused s (id .hash) ws at none in (timed .0, timed .1, omega arith)
-request-not-refused s at id (Reserve longest) cost ws none = reserve-not-refused s (id .hash) ws at longest none
+module _ {S N : Type 0} (terms : Terms S N) where
+  decided : (c : Call S N) (ws : List ℕ) → decidedBy terms (ruled terms c ws) c
+  decided (keyed s n (requests r at cost)) ws = λ taken rate rated least most holding.
+      let c : Call S N = keyed s n (requests r at cost) in
+      let settings : Settings = terms .settings s in
+      let id : Identity = terms .identity n in
+      let own : Shard = shardAt settings (id .hash) ws in
+      let none = accepted-not-refused terms (ruled terms c ws) taken in
+      let sound = ask-not-refused settings id (requests r at cost) ws (keyed-not-refused terms s n (requests r at cost) ws none .1) .0 .sound in
+      ap (λ (o : Outcome Reply (List ℕ)). o .answer) (not-refused-is-ruled terms c ws none)
+      ∙ ap (λ (limit : Limit). askedIn r limit settings at id cost own .answer) rated
+      ∙ ap (λ (o : Outcome Reply Shard). o .answer) (in-range-is-asked r rate settings at id cost own least most)
+      ∙ ap (replyTo (mannerOf r)) (own-bucket-decides (policyOf settings rate) id r cost at own sound holding)
+  decided (keyed s n (looks l)) ws = tt
+  decided (keyed s n (undoes u)) ws = tt
+  decided (whole s what) ws = tt
 
-decided : (c : Call) (ws : List ℕ) → decidedBy (ruled c ws) c
-decided (request s at id r cost) ws = λ taken rate rated least most holding.
-    let none = accepted-not-refused (ruled (request s at id r cost) ws) taken in
-    let sound = request-not-refused s at id r cost ws none .0 .sound in
-    reply-of-rule (request s at id r cost) ws none
-    ∙ ap (λ (limit : Limit). askedBy r limit s at id cost ws .answer) rated
-    ∙ ap (λ (o : Outcome Reply (List ℕ)). o .answer)
-    (in-range-is-asked rate cost (tooMuch r) (atOnce r at) ws (requested s rate id r cost at ws (replyTo r)) least most)
-    ∙ ap (replyTo r) (own-bucket-decides (policyOf s rate) id r cost at (shardAt s (id .hash) ws) sound holding)
-decided (look s at id l) ws = tt
-decided (undo s id r) ws = tt
-decided (len s) ws = tt
-
-pub rules-decide-by-own-bucket : (ws : List ℕ) (cs : List Call) → Every (λ a. decidedBy a (a .call)) (replies rules cs ws ws)
-unfolding replies
-rules-decide-by-own-bucket ws [] = tt
-rules-decide-by-own-bucket ws (c ∷ cs) = (decided c ws, rules-decide-by-own-bucket (rules c ws .after) cs)
+  pub rules-decide-by-own-bucket : (ws : List ℕ) (cs : List (Call S N)) → Every (λ a. decidedBy terms a (a .call)) (replies terms (rules terms) cs ws ws)
+  unfolding replies
+  rules-decide-by-own-bucket ws [] = tt
+  rules-decide-by-own-bucket ws (c ∷ cs) = (decided c ws, rules-decide-by-own-bucket (rules terms c ws .after) cs)

@@ -13,14 +13,15 @@ use Rattle.settings.specs.declared.rate.Rate.{Rate}
 use Rattle.settings.specs.Rate.{configOf}
 use Rattle.shard.specs.declared.Identity.{Identity}
 use Rattle.store.proofs.MemoryLaws.{fresh-shards-are-empty, fresh-shards-are-complete, fresh-sound}
-use Rattle.perkey.specs.Rules.{policyOf}
-use Rattle.perkey.specs.Calls.{Call, rules, Answered, replies, accepted, Every}
+use Rattle.rules.specs.Asks.{policyOf}
+use Rattle.rules.specs.Calls.{Call, Terms, rules, Answered, replies, accepted, Every}
 use Rattle.demands.specs.Demands.{SameSettings, clock, TimesNeverFall, NoSharedHash}
 use Rattle.demands.proofs.LineBound.{LineBound, BoundOf}
 use Rattle.demands.proofs.RequestLaws.{invariant-empty}
 use Rattle.demands.proofs.StandingLaws.{moment, Standing}
 use Rattle.demands.proofs.GivenLaws.{given, happened}
-use Rattle.demands.proofs.CallSteps.{ruled, UndoneAsAllowed, Fair, call-stands}
+use Rattle.demands.proofs.CallSteps.{UndoneAsAllowed, Fair, call-stands}
+use Rattle.demands.proofs.OwnBucket.{ruled}
 use Rattle.demands.proofs.AppearsLaws.{Alone, appears, appearing-is-alone, nothing-happens-to-the-absent}
 use Rattle.store.specs.Memory.{memoryWords}
 
@@ -30,10 +31,10 @@ pub record HoldsBySomeLine {A P C : ℕ} (B : LineBound A P C) (g : B .History) 
   pub holds : B .Holds line g
 
 -- No accepted call undoes what the key spent but as the bound allows.
-abbrev pub AlwaysAsAllowed : {A P C : ℕ} → LineBound A P C → Identity → List Answered → Type 0
-AlwaysAsAllowed B k = Every (λ a. accepted a ≡ true → UndoneAsAllowed B k (a .call))
+abbrev pub AlwaysAsAllowed : {S N : Type 0} (terms : Terms S N) → {A P C : ℕ} → LineBound A P C → Identity → List (Answered S N) → Type 0
+AlwaysAsAllowed terms B k = Every (λ a. accepted terms a ≡ true → UndoneAsAllowed B k terms (a .call))
 
-module _ (s : Settings) (rate : Rate) (k : Identity) (B : BoundOf (configOf rate)) (a : Accepted (configOf rate))
+module _ {S N : Type 0} (terms : Terms S N) (s : Settings) (rate : Rate) (k : Identity) (B : BoundOf (configOf rate)) (a : Accepted (configOf rate))
     (never : policyOf s rate .«forget_debt» ≡ false) (rated : s .limit ≡ Open rate) where
   abbrev Stands : ℕ → List ℕ → B .History → Type 0
   Stands n ws g = Standing s rate k B n ws g
@@ -51,25 +52,25 @@ module _ (s : Settings) (rate : Rate) (k : Identity) (B : BoundOf (configOf rate
       }
 
   -- The whole list, call by call.
-  run : (cs : List Call) (n : ℕ) (ws : List ℕ) (g : B .History) → SameSettings s (replies rules cs ws ws) → TimesNeverFall n (replies rules cs ws ws)
-      → Every (Alone k) (replies rules cs ws ws) → AlwaysAsAllowed B k (replies rules cs ws ws) → Stands n ws g
-      → HoldsBySomeLine B (happened B k (replies rules cs ws ws) g)
+  run : (cs : List (Call S N)) (n : ℕ) (ws : List ℕ) (g : B .History) → SameSettings terms s (replies terms (rules terms) cs ws ws) → TimesNeverFall terms n (replies terms (rules terms) cs ws ws)
+      → Every (Alone terms k) (replies terms (rules terms) cs ws ws) → AlwaysAsAllowed terms B k (replies terms (rules terms) cs ws ws) → Stands n ws g
+      → HoldsBySomeLine B (happened B terms k (replies terms (rules terms) cs ws ws) g)
   unfolding replies TimesNeverFall happened
   run [] n ws g same rising alone undone v = record { line = _; holds = v .bounds .bound }
   run (c ∷ cs) n ws g same rising alone undone v =
-      let fair : accepted (ruled c ws) ≡ true → Fair s rate k B a never rated n c = λ taken.
+      let fair : accepted terms (ruled terms c ws) ≡ true → Fair s rate k B a never terms rated n c = λ taken.
       record { settings = same .0 taken; later = rw taken at (rising .0); alone = alone .0 taken; undone = undone .0 taken } in
-      let next = call-stands s rate k B a never rated n ws g v c fair in
-      run cs (clock n (ruled c ws)) (rules c ws .after) (given B k c (rules c ws .answer) g) (same .1) (rising .1) (alone .1) (undone .1) next
+      let next = call-stands s rate k B a never terms rated n ws g v c fair in
+      run cs (clock terms n (ruled terms c ws)) (rules terms c ws .after) (given B terms k c (rules terms c ws .answer) g) (same .1) (rising .1) (alone .1) (undone .1) next
 
   -- From a fresh memory. Nothing happens to a key that no accepted call names; of any other it holds that no accepted call names another key of its hash.
-  module _ (cs : List Call) where
-    abbrev answered : List Answered
-    answered = replies rules cs (replicate (memoryWords s) 0) (replicate (memoryWords s) 0)
+  module _ (cs : List (Call S N)) where
+    abbrev answered : List (Answered S N)
+    answered = replies terms (rules terms) cs (replicate (memoryWords s) 0) (replicate (memoryWords s) 0)
 
-    pub bound-holds-from-fresh : SameSettings s answered → TimesNeverFall 0 answered → NoSharedHash answered → AlwaysAsAllowed B k answered
-        → HoldsBySomeLine B (happened B k answered (B .start))
+    pub bound-holds-from-fresh : SameSettings terms s answered → TimesNeverFall terms 0 answered → NoSharedHash terms answered → AlwaysAsAllowed terms B k answered
+        → HoldsBySomeLine B (happened B terms k answered (B .start))
     bound-holds-from-fresh same rising apart undone =
-        by-test (appears k answered)
-        (λ there. run cs 0 (replicate (memoryWords s) 0) (B .start) same rising (appearing-is-alone k answered there apart) undone fresh-stands)
-        (λ absent. rw (nothing-happens-to-the-absent B k cs (replicate (memoryWords s) 0) (B .start) absent) (record { line = 0; holds = B .at-start 0 }))
+        by-test (appears terms k answered)
+        (λ there. run cs 0 (replicate (memoryWords s) 0) (B .start) same rising (appearing-is-alone terms k answered there apart) undone fresh-stands)
+        (λ absent. rw (nothing-happens-to-the-absent terms B k cs (replicate (memoryWords s) 0) (B .start) absent) (record { line = 0; holds = B .at-start 0 }))

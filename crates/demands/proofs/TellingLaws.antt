@@ -11,19 +11,21 @@ use Rattle.units.specs.declared.Nanos.{Nanos}
 use Rattle.bucket.specs.declared.BucketDecision.the-variants.{Denied}
 use Rattle.bucket.specs.declared.Due.{Due}
 use Rattle.bucket.specs.Bucket.{dueAfter}
-use Rattle.bucket.specs.declared.Request.{Request}
-use Rattle.bucket.specs.declared.Request.the-variants.{Acquire, Reserve}
 use Rattle.evict.specs.Evict.{minRefusalWait}
 use Rattle.shard.specs.declared.Identity.{Identity}
 use Rattle.shard.specs.Model.{holds}
-use Rattle.perkey.specs.declared.Reply.{Reply}
+use Rattle.rules.specs.declared.Reply.{Reply}
 use Rattle.store.specs.Memory.{shardAt}
-use Rattle.perkey.specs.Rules.{setUp, replyTo}
-use Rattle.perkey.specs.Calls.{Call, request, look, undo, len, Implementation, rules, Answered, replies, ofGrant, accepted, Every}
-use Rattle.demands.specs.Demands.{TimesNeverFall, NoSharedHash, usable, usableFrom, tokensOf, tokensUsable, decidedBy, answering, Window, Demand3}
+use Rattle.rules.specs.Replies.{ofGrant}
+use Rattle.rules.specs.Asks.{requests, looks, undoes, Manner, asTry, asReservation, mannerOf, replyTo}
+use Rattle.rules.specs.Rules.{setUp}
+use Rattle.rules.specs.Calls as Calls
+use Rattle.rules.specs.Calls.{keyed, whole, byKey, Every}
+use Rattle.demands.specs.ByKey.{Call, Implementation, rules, Answered, replies, accepted, TimesNeverFall, NoSharedHash, tokensOf, tokensUsable, decidedBy, answering, Window, Demand3}
+use Rattle.demands.specs.Demands.{usable, usableFrom}
+use Rattle.demands.specs.Demands as Demands
 use Rattle.demands.specs.Impostors.{telling, invented, inventedLength, turnedAwayUnless, turnsNewcomersAway}
-use Rattle.demands.proofs.CallSteps.{ruled}
-use Rattle.demands.proofs.OwnBucket.{rules-decide-by-own-bucket}
+use Rattle.demands.proofs.OwnBucket.{ruled, rules-decide-by-own-bucket}
 use Rattle.demands.proofs.Theorem.{rules-stay-within-the-window}
 
 -- The conditions of the window look at the calls and at the rules' words, and not at the answers: they hold of two implementations alike.
@@ -34,18 +36,18 @@ LooksAtNoReply Q =
 module _ (f g : Implementation) where
   alike-in-every : (Q : Answered → Type 0) → LooksAtNoReply Q → (cs : List Call) (ws vs law : List ℕ)
       → Every Q (replies f cs ws law) → Every Q (replies g cs vs law)
-  unfolding replies
+  unfolding Calls.replies
   alike-in-every Q blind [] ws vs law every = tt
   alike-in-every Q blind (c ∷ cs) ws vs law every =
       (blind c (f c ws .answer) (g c vs .answer) law (every .0), alike-in-every Q blind cs (f c ws .after) (g c vs .after) (rules c law .after) (every .1))
 
   alike-in-time : (n : ℕ) (cs : List Call) (ws vs law : List ℕ) → TimesNeverFall n (replies f cs ws law) → TimesNeverFall n (replies g cs vs law)
-  unfolding replies TimesNeverFall accepted
+  unfolding Calls.replies Demands.TimesNeverFall Calls.accepted
   alike-in-time n [] ws vs law rising = tt
   alike-in-time n (c ∷ cs) ws vs law rising = (rising .0, alike-in-time _ cs (f c ws .after) (g c vs .after) (rules c law .after) (rising .1))
 
   alike-in-hashes : (cs : List Call) (ws vs law : List ℕ) → NoSharedHash (replies f cs ws law) → NoSharedHash (replies g cs vs law)
-  unfolding replies NoSharedHash accepted
+  unfolding Calls.replies Demands.NoSharedHash Calls.accepted
   alike-in-hashes [] ws vs law apart = tt
   alike-in-hashes (c ∷ cs) ws vs law apart = (
     alike-in-every _ (λ d r q words agree. agree) cs (f c ws .after) (g c vs .after) (rules c law .after) (apart .0),
@@ -55,21 +57,21 @@ module _ (f g : Implementation) where
 -- A reply is cautious: it grants no more than the rules' reply, and a key that holds something is told the rules' reply.
 record Cautious (c : Call) (ws : List ℕ) (reply : Reply) : Type 0 where
   grants-no-more : (k : Identity) (t u : ℕ) → tokensOf k t u c reply ≤ tokensOf k t u c (rules c ws .answer)
-  tells-holders : decidedBy (ruled c ws) c → decidedBy (record { call = c; reply = reply; rulesWords = ws }) c
+  tells-holders : decidedBy (ruled byKey c ws) c → decidedBy (record { call = c; reply = reply; rulesWords = ws }) c
 
 module _ (told : Call → List ℕ → Reply) (cautious : (c : Call) (ws : List ℕ) → Cautious c ws (told c ws)) where
   no-more-in-all : (k : Identity) (t u : ℕ) (cs : List Call) (ws : List ℕ)
       → tokensUsable k t u (replies (telling told) cs ws ws) ≤ tokensUsable k t u (replies rules cs ws ws)
-  unfolding replies tokensUsable
+  unfolding Calls.replies Demands.tokensUsable
   no-more-in-all k t u [] ws = omega arith
   no-more-in-all k t u (c ∷ cs) ws = omega (arith, cautious c ws .grants-no-more k t u, no-more-in-all k t u cs (rules c ws .after))
 
   telling-keeps-the-window : Window (answering (telling told))
-  unfolding accepted
+  unfolding Calls.accepted
   telling-keeps-the-window s rate ws _ _ rated refuses done′ cs _ same rising apart k not-undone t u le =
       let fresh : List ℕ = setUp s ws .after in
       le-trans (mul-le-mul-right (rate .period .0) (no-more-in-all k t u cs fresh))
-      (rules-stay-within-the-window s rate ws rated refuses done′ cs
+      (rules-stay-within-the-window byKey s rate ws rated refuses done′ cs
       (alike-in-every (telling told) rules _ (λ c r q law e. e) cs fresh fresh fresh same)
       (alike-in-time (telling told) rules 0 cs fresh fresh fresh rising)
       (alike-in-hashes (telling told) rules cs fresh fresh fresh apart)
@@ -81,43 +83,43 @@ module _ (told : Call → List ℕ → Reply) (cautious : (c : Call) (ws : List 
 
   tells-every-holder : (cs : List Call) (ws : List ℕ) → Every (λ a. decidedBy a (a .call)) (replies rules cs ws ws)
       → Every (λ a. decidedBy a (a .call)) (replies (telling told) cs ws ws)
-  unfolding replies
+  unfolding Calls.replies
   tells-every-holder [] ws every = tt
   tells-every-holder (c ∷ cs) ws every = (cautious c ws .tells-holders (every .0), tells-every-holder cs (rules c ws .after) (every .1))
 
   telling-meets-demand3 : Demand3 (answering (telling told))
-  telling-meets-demand3 = record { window = telling-keeps-the-window; own-bucket = λ ws cs _ _. tells-every-holder cs ws (rules-decide-by-own-bucket ws cs) }
+  telling-meets-demand3 = record { window = telling-keeps-the-window; own-bucket = λ ws cs _ _. tells-every-holder cs ws (rules-decide-by-own-bucket byKey ws cs) }
 
 -- The rules' reply is cautious.
 ruled-is-cautious : (c : Call) (ws : List ℕ) → Cautious c ws (rules c ws .answer)
 ruled-is-cautious c ws = record { grants-no-more = λ k t u. omega arith; tells-holders = λ d. d }
 
 -- So is turning a newcomer away: it holds nothing, and is granted nothing.
-denial-is-no-grant : (r : Request) (f : ℕ → ℕ) (due : Due) → ofGrant f 0 (replyTo r (Denied due)) ≡ 0
-denial-is-no-grant Acquire f due = refl
-denial-is-no-grant (Reserve longest) f due = refl
+denial-is-no-grant : (m : Manner) (f : ℕ → ℕ) (due : Due) → ofGrant f 0 (replyTo m (Denied due)) ≡ 0
+denial-is-no-grant asTry f due = refl
+denial-is-no-grant asReservation f due = refl
 
 newcomers-turned-away-cautiously : (c : Call) (ws : List ℕ) → Cautious c ws (turnedAwayUnless holds c ws)
-newcomers-turned-away-cautiously (request s at id r cost) ws =
+newcomers-turned-away-cautiously (keyed s id (requests r at cost)) ws =
     by-test (holds id (shardAt s (id .hash) ws))
-    (λ h. rw h (ruled-is-cautious (request s at id r cost) ws))
+    (λ h. rw h (ruled-is-cautious (keyed s id (requests r at cost)) ws))
     (λ h. rw h (record {
-      grants-no-more = λ k t u. omega (arith, denial-is-no-grant r (λ wait. usable k t u id (usableFrom r at wait) cost) (dueAfter at (record { 0 = minRefusalWait })));
+      grants-no-more = λ k t u. omega (arith, denial-is-no-grant (mannerOf r) (λ wait. usable k t u id (usableFrom (mannerOf r) at wait) cost) (dueAfter at (record { 0 = minRefusalWait })));
       tells-holders = λ d _ _ _ _ _ holding. absurd (true≢false (sym holding ∙ h));
     }))
-newcomers-turned-away-cautiously (look s at id l) ws = ruled-is-cautious (look s at id l) ws
-newcomers-turned-away-cautiously (undo s id r) ws = ruled-is-cautious (undo s id r) ws
-newcomers-turned-away-cautiously (len s) ws = ruled-is-cautious (len s) ws
+newcomers-turned-away-cautiously (keyed s id (looks l)) ws = ruled-is-cautious (keyed s id (looks l)) ws
+newcomers-turned-away-cautiously (keyed s id (undoes u)) ws = ruled-is-cautious (keyed s id (undoes u)) ws
+newcomers-turned-away-cautiously (whole s what) ws = ruled-is-cautious (whole s what) ws
 
 pub turns-newcomers-away-meets-demand3 : Demand3 (answering turnsNewcomersAway)
 turns-newcomers-away-meets-demand3 = telling-meets-demand3 (turnedAwayUnless holds) newcomers-turned-away-cautiously
 
 -- And so is an invented length: a length is no grant, and no request.
 length-invented-cautiously : (c : Call) (ws : List ℕ) → Cautious c ws (invented c ws)
-length-invented-cautiously (request s at id r cost) ws = ruled-is-cautious (request s at id r cost) ws
-length-invented-cautiously (look s at id l) ws = ruled-is-cautious (look s at id l) ws
-length-invented-cautiously (undo s id r) ws = ruled-is-cautious (undo s id r) ws
-length-invented-cautiously (len s) ws = record { grants-no-more = λ k t u. omega arith; tells-holders = λ d. tt }
+length-invented-cautiously (keyed s id (requests r at cost)) ws = ruled-is-cautious (keyed s id (requests r at cost)) ws
+length-invented-cautiously (keyed s id (looks l)) ws = ruled-is-cautious (keyed s id (looks l)) ws
+length-invented-cautiously (keyed s id (undoes u)) ws = ruled-is-cautious (keyed s id (undoes u)) ws
+length-invented-cautiously (whole s what) ws = record { grants-no-more = λ k t u. omega arith; tells-holders = λ d. tt }
 
 pub invented-length-meets-demand3 : Demand3 (answering inventedLength)
 invented-length-meets-demand3 = telling-meets-demand3 invented length-invented-cautiously

@@ -17,16 +17,17 @@ use Rattle.settings.specs.Settings.{settingsRefusal}
 use Rattle.settings.proofs.RateLaws.{accepted-rate}
 use Rattle.settings.proofs.SettingsLaws.{accepted-parts}
 use Rattle.shard.specs.declared.Identity.{Identity}
-use Rattle.perkey.specs.declared.Reply.{Reply}
-use Rattle.perkey.specs.declared.Reply.the-variants.{Done, Refused}
 use Rattle.store.specs.Refusals.{setUpRefusal}
-use Rattle.perkey.specs.Rules.{setUp, forgets, policyOf}
 use Rattle.store.proofs.RefusalLaws.{set-up-not-refused}
-use Rattle.perkey.proofs.RefusedLaws.{unless-refused-accepts, unless-refused-refuses}
-use Rattle.perkey.specs.Calls.{Call, rules, Answered, replies}
+use Rattle.rules.specs.declared.Reply.{Reply}
+use Rattle.rules.specs.declared.Reply.the-variants.{Done, Refused}
+use Rattle.rules.specs.Asks.{forgets, policyOf}
+use Rattle.rules.specs.Rules.{setUpIn, setUp}
+use Rattle.rules.specs.Widths.{lendable}
+use Rattle.rules.specs.Calls.{Call, Terms, rules, Answered, replies, fits, allFit}
+use Rattle.rules.proofs.RefusedLaws.{unless-refused-accepts, unless-refused-refuses}
 use Rattle.demands.proofs.EveryLaws.{every-implies}
-use Rattle.demands.proofs.WidthLaws.{both-true}
-use Rattle.demands.specs.Widths.{fits, allFit, lendable}
+use Rattle.demands.proofs.WidthLaws.{both-true, NamesFit}
 use Rattle.demands.specs.Demands.{SameSettings, TimesNeverFall, NoSharedHash, NeverRefundedOrRemoved, tokensUsable, WithinWindow}
 use Rattle.demands.specs.Demands.{Limiter, answering, Demand2, Window, OwnBucket, Demand3}
 use Rattle.demands.proofs.LendableTheorem.{rules-leave-words-lendable, set-up-leaves-words-lendable}
@@ -44,7 +45,7 @@ pub record SetUp (s : Settings) (ws : List ℕ) : Type 0 where
   pub words : setUp s ws .after ≡ replicate (memoryWords s) 0
 
 pub set-up-done : (s : Settings) (ws : List ℕ) → setUp s ws .answer ≡ Done → SetUp s ws
-unfolding setUp
+unfolding setUpIn
 set-up-done s ws done′ =
     by-eq (setUpRefusal s ws) 0
     (λ none. record {
@@ -57,63 +58,68 @@ set-up-done s ws done′ =
     let z : _≡_ {A = ℕ} 0 1 = cc in absurd (omega arith))
 
 -- The window over a list from a fresh memory: the bound of the window holds of the grants to the key, and their sums are the tokens that demand 3 counts.
-module _ (s : Settings) (rate : Rate) (k : Identity) (a : Accepted (configOf rate)) (never : policyOf s rate .«forget_debt» ≡ false)
-    (rated : s .limit ≡ Open rate) (cs : List Call) where
+module _ {S N : Type 0} (terms : Terms S N) (s : Settings) (rate : Rate) (k : Identity) (a : Accepted (configOf rate))
+    (never : policyOf s rate .«forget_debt» ≡ false) (rated : s .limit ≡ Open rate) (cs : List (Call S N)) where
   abbrev window : BoundOf (configOf rate)
   window = windowBound (rate .amount) (rate .period .0) (burstOf rate)
 
-  abbrev answered : List Answered
-  answered = replies rules cs (replicate (memoryWords s) 0) (replicate (memoryWords s) 0)
+  abbrev answered : List (Answered S N)
+  answered = replies terms (rules terms) cs (replicate (memoryWords s) 0) (replicate (memoryWords s) 0)
 
-  never-undone : NeverRefundedOrRemoved k answered → AlwaysAsAllowed window k answered
-  never-undone = every-implies _ _ (λ each never′ taken. never-undone-is-as-allowed window k (each .call) (never′ taken)) answered
+  never-undone : NeverRefundedOrRemoved terms k answered → AlwaysAsAllowed terms window k answered
+  never-undone = every-implies _ _ (λ each never′ taken. never-undone-is-as-allowed window k terms (each .call) (never′ taken)) answered
 
-  fresh-window : SameSettings s answered → TimesNeverFall 0 answered → NoSharedHash answered → NeverRefundedOrRemoved k answered
-      → (t u : ℕ) → t ≤ u → tokensUsable k t u answered * rate .period .0 ≤ burstOf rate * rate .period .0 + (u - t + 1) * rate .amount
+  fresh-window : SameSettings terms s answered → TimesNeverFall terms 0 answered → NoSharedHash terms answered → NeverRefundedOrRemoved terms k answered
+      → (t u : ℕ) → t ≤ u → tokensUsable terms k t u answered * rate .period .0 ≤ burstOf rate * rate .period .0 + (u - t + 1) * rate .amount
   unfolding within
   fresh-window same rising apart not-undone t u le =
-      let grants = bound-holds-from-fresh s rate k window a never rated cs same rising apart (never-undone not-undone) in
-      let counted : within t u (happened window k answered []) ≡ tokensUsable k t u answered =
-      omega (arith, happened-within (rate .amount) (rate .period .0) (burstOf rate) k t u answered []) in
-      window-from-bound (rate .amount) (rate .period .0) (burstOf rate) (tokensUsable k t u answered) t u le (rw counted at (grants .holds .window t u le))
+      let grants = bound-holds-from-fresh terms s rate k window a never rated cs same rising apart (never-undone not-undone) in
+      let counted : within t u (happened window terms k answered []) ≡ tokensUsable terms k t u answered =
+      omega (arith, happened-within terms (rate .amount) (rate .period .0) (burstOf rate) k t u answered []) in
+      window-from-bound (rate .amount) (rate .period .0) (burstOf rate) (tokensUsable terms k t u answered) t u le (rw counted at (grants .holds .window t u le))
 
--- The first part, for settings, calls and words of any numbers.
-pub rules-stay-within-the-window : (s : Settings) (rate : Rate) (ws : List ℕ) → s .limit ≡ Open rate → s .eviction .«when_full» ≡ RefuseNew → setUp s ws .answer ≡ Done
-    → (cs : List Call) → WithinWindow 1 s rate (replies rules cs (setUp s ws .after) (setUp s ws .after))
-rules-stay-within-the-window s rate ws rated refuses done′ cs same rising apart k not-undone t u le =
-    let up = set-up-done s ws done′ in
-    let a : Accepted (configOf rate) = accepted-rate rate (rw rated at (accepted-parts s (up .settings) .0)) in
-    rw (up .words)
-    (fresh-window s rate k a (ap forgets refuses) rated cs (rw (up .words) at same) (rw (up .words) at rising) (rw (up .words) at apart) (rw (up .words) at not-undone) t u le)
+module _ {S N : Type 0} (terms : Terms S N) where
+  -- The first part, for settings, calls and words of any numbers.
+  pub rules-stay-within-the-window : (s : Settings) (rate : Rate) (ws : List ℕ) → s .limit ≡ Open rate → s .eviction .«when_full» ≡ RefuseNew
+      → setUp s ws .answer ≡ Done → (cs : List (Call S N)) → WithinWindow terms 1 s rate (replies terms (rules terms) cs (setUp s ws .after) (setUp s ws .after))
+  rules-stay-within-the-window s rate ws rated refuses done′ cs same rising apart k not-undone t u le =
+      let up = set-up-done s ws done′ in
+      let a : Accepted (configOf rate) = accepted-rate rate (rw rated at (accepted-parts s (up .settings) .0)) in
+      rw (up .words)
+      (fresh-window terms s rate k a (ap forgets refuses) rated cs (rw (up .words) at same) (rw (up .words) at rising) (rw (up .words) at apart)
+      (rw (up .words) at not-undone) t u le)
 
--- Demand 3, whole.
-pub rules-meet-demand3 : Demand3 (answering rules)
-rules-meet-demand3 = record {
-  window = λ s rate ws _ _ rated refuses done′ cs _. rules-stay-within-the-window s rate ws rated refuses done′ cs;
-  own-bucket = λ ws cs _ _. rules-decide-by-own-bucket ws cs;
-}
+  -- Demand 3, whole.
+  pub rules-meet-demand3 : Demand3 terms (answering terms (rules terms))
+  rules-meet-demand3 = record {
+    window = λ s rate ws _ _ rated refuses done′ cs _. rules-stay-within-the-window (terms .settings s) rate ws rated refuses done′ cs;
+    own-bucket = λ ws cs _ _. rules-decide-by-own-bucket terms ws cs;
+  }
 
--- A limiter that meets demand 2 gets through a list as the rules do: they leave words that can be lent again.
-module _ (l : Limiter) (equal : Demand2 l) where
-  pub same-replies : (cs : List Call) (ws law : List ℕ) → allFit cs ≡ true → lendable ws ≡ true → replies (l .answers) cs ws law ≡ replies rules cs ws law
+-- A limiter that meets demand 2 gets through a list as the rules do: they leave words that can be lent again, where names mean numbers that fit.
+module _ {S N : Type 0} (terms : Terms S N) (names : NamesFit terms) (l : Limiter S N) (equal : Demand2 terms l) where
+  pub same-replies : (cs : List (Call S N)) (ws law : List ℕ) → allFit terms cs ≡ true → lendable ws ≡ true
+      → replies terms (l .answers) cs ws law ≡ replies terms (rules terms) cs ws law
   unfolding replies
   same-replies [] ws law = λ fit lent. refl
   same-replies (c ∷ cs) ws law = λ fit lent.
-      let both = both-true (fits c) (allFit cs) fit in
-      let next = rules-leave-words-lendable c ws (both .0) lent in
+      let both = both-true (fits terms c) (allFit terms cs) fit in
+      let next = rules-leave-words-lendable terms names c ws (both .0) lent in
       rw (equal .answers c ws (both .0) lent)
-      (ap {B = List Answered} (λ rest. record { call = c; reply = rules c ws .answer; rulesWords = law } ∷ rest)
-      (same-replies cs (rules c ws .after) (rules c law .after) (both .1) next))
+      (ap {B = List (Answered S N)} (λ rest. record { call = c; reply = rules terms c ws .answer; rulesWords = law } ∷ rest)
+      (same-replies cs (rules terms c ws .after) (rules terms c law .after) (both .1) next))
 
   -- So it meets demand 3 as well, from the words that its own set-up leaves.
-  keeps : Window l
+  keeps : Window terms l
   keeps s rate ws fit lent rated refuses =
-      let fresh = set-up-leaves-words-lendable s ws fit lent in
+      let fresh = set-up-leaves-words-lendable (terms .settings s) ws lent in
       rw (equal .sets-up s ws fit lent)
-      (λ done′ cs fits. rw (same-replies cs (setUp s ws .after) (setUp s ws .after) fits fresh) (rules-stay-within-the-window s rate ws rated refuses done′ cs))
+      (λ done′ cs fits.
+      rw (same-replies cs (setUp (terms .settings s) ws .after) (setUp (terms .settings s) ws .after) fits fresh)
+      (rules-stay-within-the-window terms (terms .settings s) rate ws rated refuses done′ cs))
 
-  decides : OwnBucket l
-  decides ws cs lent fits = rw (same-replies cs ws ws fits lent) (rules-decide-by-own-bucket ws cs)
+  decides : OwnBucket terms l
+  decides ws cs lent fits = rw (same-replies cs ws ws fits lent) (rules-decide-by-own-bucket terms ws cs)
 
-  pub demand2-gives-demand3 : Demand3 l
+  pub demand2-gives-demand3 : Demand3 terms l
   demand2-gives-demand3 = record { window = keeps; own-bucket = decides }

@@ -1,20 +1,28 @@
--- Of what fits, the parts fit: the calls of a list, and the settings of a call.
+-- Of what fits, the parts fit: the calls of a list, and the name that a call has.
 use mathlib.Core.Path.{_≡_, refl}
 use mathlib.Core.Bool.{Bool, true, false, _&&_}
-use Rattle.perkey.specs.Calls.{Call, request, look, undo, len, settingsOf}
-use Rattle.demands.specs.Widths.{settingsFit, fits64, fits32, keyFits, requestFits, lookFits, undoFits, fits}
+use Rattle.rules.specs.Asks.{Ask}
+use Rattle.rules.specs.Widths.{keyFits, askFits}
+use Rattle.rules.specs.Calls.{keyed, Terms, byKey, fits}
 
 pub both-true : (a b : Bool) → (a && b) ≡ true → (a ≡ true) × (b ≡ true)
 both-true true b both = (refl, both)
 both-true false b both = (both, cc)
 
-pub settings-of-call-fit : (c : Call) → fits c ≡ true → settingsFit (settingsOf c) ≡ true
-settings-of-call-fit (request s at id r cost) fit =
-    let asked = both-true (settingsFit s && fits64 (at .0) && keyFits id && requestFits r) (fits32 cost) fit .0 in
-    let named = both-true (settingsFit s && fits64 (at .0) && keyFits id) (requestFits r) asked .0 in
-    both-true (settingsFit s) (fits64 (at .0)) (both-true (settingsFit s && fits64 (at .0)) (keyFits id) named .0) .0
-settings-of-call-fit (look s at id l) fit =
-    let named = both-true (settingsFit s && fits64 (at .0) && keyFits id) (lookFits l) fit .0 in
-    both-true (settingsFit s) (fits64 (at .0)) (both-true (settingsFit s && fits64 (at .0)) (keyFits id) named .0) .0
-settings-of-call-fit (undo s id r) fit = both-true (settingsFit s) (keyFits id) (both-true (settingsFit s && keyFits id) (undoFits r) fit .0) .0
-settings-of-call-fit (len s) fit = fit
+-- Of a call on a key, what is offered of its name, and the name itself.
+module _ {S N : Type 0} (terms : Terms S N) (s : S) (n : N) (ask : Ask) (fit : fits terms (keyed s n ask) ≡ true) where
+  named : (terms .settingsFit s && terms .nameFits n && terms .offers n ask) ≡ true
+  named = both-true (terms .settingsFit s && terms .nameFits n && terms .offers n ask) (askFits ask) fit .0
+
+  pub ask-is-offered : terms .offers n ask ≡ true
+  ask-is-offered = both-true (terms .settingsFit s && terms .nameFits n) (terms .offers n ask) named .1
+
+  pub name-of-call-fits : terms .nameFits n ≡ true
+  name-of-call-fits = both-true (terms .settingsFit s) (terms .nameFits n) (both-true (terms .settingsFit s && terms .nameFits n) (terms .offers n ask) named .0) .1
+
+-- A name that code can be given, and that is not refused, means a hash and a key that fit their widths.
+abbrev pub NamesFit : {S N : Type 0} → Terms S N → Type 0
+NamesFit {S} {N} terms = (n : N) → terms .nameFits n ≡ true → terms .refusal n ≡ 0 → keyFits (terms .identity n) ≡ true
+
+pub keys-fit : NamesFit byKey
+keys-fit id fit none = fit

@@ -12,8 +12,8 @@ use Rattle.held.specs.Held.{Held, Items, wrapped, itemAt, removed, appended, st
 use Rattle.held.specs.Round.{Round, sweep}
 use Rattle.held.proofs.FindingLaws.{WordsBelow, added-below, removed-below}
 use Rattle.held.proofs.RoundLaws.{sweep-keeps, sweep-next}
-use Rattle.perkey.specs.Calls.{Every}
-use Rattle.demands.specs.Widths.{lendable}
+use Rattle.rules.specs.Calls.{Every}
+use Rattle.rules.specs.Widths.{lendable}
 use Rattle.demands.proofs.WidthLaws.{both-true}
 use Rattle.demands.proofs.EveryLaws.{of-item, every-set}
 

@@ -23,30 +23,34 @@ use Rattle.shard_map.specs.Model as Shard
 use Rattle.shard.specs.Model as OneShard
 use Rattle.store.specs.Refusals as Refusals
 use Rattle.store.specs.Refusals.{latestMoment, longestMaxWait}
-use Rattle.perkey.specs.declared.Reply.{Reply}
-use Rattle.perkey.specs.declared.Reply.the-variants.{Tried, Done, Count, Refused}
-use Rattle.perkey.specs.Rules as Rules
-use Rattle.perkey.specs.Rules.{dueNow, setUp}
-use Rattle.perkey.specs.Calls.{try, reserve, remove, len}
+use Rattle.rules.specs.declared.Reply.{Reply}
+use Rattle.rules.specs.declared.Reply.the-variants.{Tried, Done, Count, Refused}
+use Rattle.settings.specs.declared.Settings.{Settings}
+use Rattle.shard.specs.declared.Identity.{Identity}
+use Rattle.rules.specs.Asks as Asks
+use Rattle.rules.specs.Asks.{dueNow}
+use Rattle.rules.specs.Rules as Rules
+use Rattle.rules.specs.Rules.{setUp}
+use Rattle.rules.specs.Calls.{try, reserve, remove, length, byKey}
 use Rattle.perkey.specs.Edges.{keyOf}
-use Rattle.demands.specs.PlaceOrder.{askedIn, freshShards, onShards, Turn, calls, byRules, stepWithoutIndexes, run, AllOf, SameWithoutIndexes}
+use Rattle.demands.specs.PlaceOrder.{freshShards, onShards, Turn, calls, byRules, stepWithoutIndexes, run, AllOf, SameWithoutIndexes}
 use Rattle.demands.proofs.ExampleLaws.{roomFor, memory, fresh, start}
 use Rattle.demands.proofs.PlaceOrderTheorem.{grown-store-is-as-without-indexes}
 
 -- Key 7 takes one token and key 3 two, at moment 0.
-abbrev twoKeysCome : List Turn
+abbrev twoKeysCome : List (Turn Settings Identity)
 twoKeysCome = calls (try (roomFor 2) start (keyOf 7) 1) ∷ calls (try (roomFor 2) start (keyOf 3) 2) ∷ []
 
 -- Key 7 tries a nanosecond after the latest moment, and would wait a nanosecond longer than the longest wait. Then it is removed, and the keys are counted.
-abbrev oneKeyGoes : List Turn
+abbrev oneKeyGoes : List (Turn Settings Identity)
 oneKeyGoes =
     calls (try (roomFor 2) (record { 0 = latestMoment + 1 }) (keyOf 7) 1)
     ∷ calls (reserve (roomFor 2) start (keyOf 7) 1 (record { 0 = longestMaxWait + 1 }))
     ∷ calls (remove (roomFor 2) (keyOf 7))
-    ∷ calls (len (roomFor 2))
+    ∷ calls (length (roomFor 2))
     ∷ []
 
-abbrev pub workedTurns : List Turn
+abbrev pub workedTurns : List (Turn Settings Identity)
 workedTurns = twoKeysCome ++ oneKeyGoes
 
 abbrev pub workedAnswers : List Reply
@@ -55,18 +59,18 @@ workedAnswers = Tried (Acquired (dueNow start)) ∷ Tried (Acquired (dueNow star
 -- The words are as in the table of edges: slot count, hand and sweep, the slots, debt count and cursor, the debts, the index of the slots, that of the debts.
 pub record Worked : Type 0 where
   pub accepted : setUp (roomFor 2) (memory (roomFor 2)) .answer ≡ Done
-  pub of-store : AllOf (roomFor 2) workedTurns
+  pub of-store : AllOf byKey (roomFor 2) workedTurns
   -- Key 7 is item 0, at its home; key 3 is item 1, at the next place, which is the first.
-  pub two-keys : run (byRules (roomFor 2)) twoKeysCome (fresh (roomFor 2)) .after
+  pub two-keys : run (byRules byKey (roomFor 2)) twoKeysCome (fresh (roomFor 2)) .after
       ≡ 2 ∷ 0 ∷ 0 ∷ 7 ∷ 7 ∷ 1000000000 ∷ 0 ∷ 0 ∷ 0 ∷ 3 ∷ 3 ∷ 2000000000 ∷ 0 ∷ 0 ∷ 0 ∷ 0 ∷ 0 ∷ 0 ∷ 0 ∷ 0 ∷ 0
       ∷ 2 ∷ 0 ∷ 0 ∷ 1 ∷ replicate 4 0
   -- Key 3 has moved to its home, and is item 0.
-  pub one-key : run (byRules (roomFor 2)) workedTurns (fresh (roomFor 2)) .after
+  pub one-key : run (byRules byKey (roomFor 2)) workedTurns (fresh (roomFor 2)) .after
       ≡ 1 ∷ 0 ∷ 0 ∷ 3 ∷ 3 ∷ 2000000000 ∷ 0 ∷ 0 ∷ 0 ∷ 0 ∷ 0 ∷ 0 ∷ 0 ∷ 0 ∷ 0 ∷ 0 ∷ 0 ∷ 0 ∷ 0 ∷ 0 ∷ 0
       ∷ 0 ∷ 0 ∷ 0 ∷ 1 ∷ replicate 4 0
   -- The answers, and those without indexes.
-  pub answers : run (byRules (roomFor 2)) workedTurns (fresh (roomFor 2)) .answer ≡ workedAnswers
-  pub answers-without : run (stepWithoutIndexes (roomFor 2)) workedTurns (freshShards (roomFor 2)) .answer ≡ workedAnswers
+  pub answers : run (byRules byKey (roomFor 2)) workedTurns (fresh (roomFor 2)) .answer ≡ workedAnswers
+  pub answers-without : run (stepWithoutIndexes byKey (roomFor 2)) workedTurns (freshShards (roomFor 2)) .answer ≡ workedAnswers
 
 pub worked : Worked
 unfolding ceilDiv lowestFrom rows unrow tableIn removed Index.onward Index.walkFrom Index.walk Index.findFrom Index.find Index.seek Index.add
@@ -76,9 +80,8 @@ unfolding ceilDiv lowestFrom rows unrow tableIn removed Index.onward Index.walkF
     Debts.ledger Debts.wordsOf Ledger.placeOf Ledger.taken Ledger.sweep
     Layout.shard Layout.wordsOf Shard.placeOf Shard.removeAt Shard.insert
     OneShard.makeRoom OneShard.admit OneShard.withOrInsert OneShard.removed
-    Refusals.memoryRefusal Refusals.countRefusal Refusals.momentRefusal Refusals.waitRefusal Refusals.mostSlots Refusals.slotsRefusal
-    Rules.unlessRefused Rules.setUp Rules.unlessTrivial Rules.tryAcquire Rules.reserve Rules.remove Rules.len
-    askedIn onShards run
+    Refusals.memoryRefusal Refusals.countRefusal Refusals.momentRefusal Refusals.waitRefusal Refusals.mostSlots Refusals.slotsRefusalIn
+    Asks.askedIn Rules.unlessRefused Rules.setUpIn Rules.keyedRuleIn Rules.lenIn onShards run
 worked = record {
   accepted = refl;
   of-store = (refl, (refl, (refl, (refl, (refl, (refl, tt))))));
@@ -89,5 +92,5 @@ worked = record {
 }
 
 -- The theorem is of this run.
-pub worked-is-as-without-indexes : SameWithoutIndexes (roomFor 2) workedTurns (fresh (roomFor 2))
-worked-is-as-without-indexes = grown-store-is-as-without-indexes (roomFor 2) (memory (roomFor 2)) (worked .accepted) workedTurns (worked .of-store)
+pub worked-is-as-without-indexes : SameWithoutIndexes byKey (byRules byKey (roomFor 2)) (roomFor 2) workedTurns (fresh (roomFor 2))
+worked-is-as-without-indexes = grown-store-is-as-without-indexes byKey (roomFor 2) (memory (roomFor 2)) (worked .accepted) workedTurns (worked .of-store)

@@ -1,6 +1,7 @@
--- Code as its caller knows it: what the contracts of the nine operations of `perkey` tell.
--- `Asked` and `Learnt` are an operation's `requires` and `ensures` (crates/perkey/src/lib.rt) as the check gives them to its callers: `Asked` of the
--- arguments, `Learnt` of the arguments at entry, the result, and the arguments at exit.
+-- Code as its caller knows it: what the contracts of the nine operations of `perkey` and of the five of `modems` tell. Both answer calls of one list, in which
+-- each call names a modem by key or by address (`byName`).
+-- `Asked` and `Learnt` are an operation's `requires` and `ensures` (crates/perkey/src/lib.rt, crates/modems/src/lib.rt) as the check gives them to its callers:
+-- `Asked` of the arguments, `Learnt` of the arguments at entry, the result, and the arguments at exit.
 use Prim.Native.Nat.{ℕ}
 use mathlib.Core.Path.{_≡_}
 use mathlib.Core.Bool.{true}
@@ -10,7 +11,9 @@ use denote.Ref.{RefT}
 use Rattle.units.specs.declared.Nanos.{Nanos}
 use Rattle.settings.specs.declared.Settings.{Settings}
 use Rattle.shard.specs.declared.Identity.{Identity}
-use Rattle.perkey.specs.Calls.{Call, try, reserve, peek, available, len, refund, remove}
+use Rattle.rules.specs.Widths.{settingsFit, lendable}
+use Rattle.rules.specs.Calls.{try, reserve, peek, available, length, refund, remove, fits}
+use Rattle.modems.specs.Names.{Name, key, address, byName}
 use Rattle.perkey.proofs.set_up.Reads as SetUp
 use Rattle.perkey.proofs.clear.Reads as Clear
 use Rattle.perkey.proofs.try_acquire_with_cost.Reads as Try
@@ -20,10 +23,14 @@ use Rattle.perkey.proofs.available.Reads as Available
 use Rattle.perkey.proofs.len.Reads as Len
 use Rattle.perkey.proofs.refund.Reads as Refund
 use Rattle.perkey.proofs.remove.Reads as Remove
-use Rattle.demands.specs.Widths.{settingsFit, fits, lendable}
+use Rattle.modems.proofs.try_acquire_with_cost.Reads as ModemTry
+use Rattle.modems.proofs.reserve.Reads as ModemReserve
+use Rattle.modems.proofs.peek.Reads as ModemPeek
+use Rattle.modems.proofs.refund.Reads as ModemRefund
+use Rattle.modems.proofs.remove.Reads as ModemRemove
 use Rattle.demands.specs.Demands.{Limiter}
 
--- Words that are lent, at some place.
+-- Words or bytes that are lent, at some place.
 abbrev pub lentAt : ℕ × ℕ → ℕ → List ℕ → RefT (List ℕ)
 lentAt ptr name ws = record { ptr = ptr; name = name; now = ws }
 
@@ -32,8 +39,8 @@ module _ (κs : Lfts 1) (ptr : ℕ × ℕ) (name : ℕ) where
   abbrev lent : List ℕ → RefT (List ℕ)
   lent ws = lentAt ptr name ws
 
-  -- Of each operation: where its numbers fit and what it asks is shown, its contract holds of what the code gives.
-  pub record Contracts (l : Limiter) : Type 0 where
+  -- Of each operation of `perkey`: where its numbers fit and what it asks is shown, its contract holds of what the code gives.
+  pub record KeyContracts (l : Limiter Settings Name) : Type 0 where
     pub sets-up : (s : Settings) (ws : List ℕ) → settingsFit s ≡ true → lendable ws ≡ true →
         let o = l .sets-up s ws in
         SetUp.Asked κs (s, (lent ws, tt)) →
@@ -42,32 +49,70 @@ module _ (κs : Lfts 1) (ptr : ℕ × ℕ) (name : ℕ) where
         let o = l .clears s ws in
         Clear.Asked κs (s, (lent ws, tt)) →
         Clear.Learnt κs (s, (lent ws, tt)) (o .answer) (s, (lent (o .after), tt))
-    pub tries : (s : Settings) (at : Nanos) (id : Identity) (cost : ℕ) (ws : List ℕ) → fits (try s at id cost) ≡ true → lendable ws ≡ true →
-        let o = l .answers (try s at id cost) ws in
+    pub tries : (s : Settings) (at : Nanos) (id : Identity) (cost : ℕ) (ws : List ℕ) → fits byName (try s at (key id) cost) ≡ true → lendable ws ≡ true →
+        let o = l .answers (try s at (key id) cost) ws in
         Try.Asked κs (s, (lent ws, (at, (id, (cost, tt))))) →
         Try.Learnt κs (s, (lent ws, (at, (id, (cost, tt))))) (o .answer) (s, (lent (o .after), (at, (id, (cost, tt)))))
     pub reserves : (s : Settings) (at : Nanos) (id : Identity) (cost : ℕ) (longest : Nanos) (ws : List ℕ) →
-        fits (reserve s at id cost longest) ≡ true → lendable ws ≡ true →
-        let o = l .answers (reserve s at id cost longest) ws in
+        fits byName (reserve s at (key id) cost longest) ≡ true → lendable ws ≡ true →
+        let o = l .answers (reserve s at (key id) cost longest) ws in
         Reserve.Asked κs (s, (lent ws, (at, (id, (cost, (longest, tt)))))) →
         Reserve.Learnt κs (s, (lent ws, (at, (id, (cost, (longest, tt)))))) (o .answer) (s, (lent (o .after), (at, (id, (cost, (longest, tt))))))
-    pub peeks : (s : Settings) (at : Nanos) (id : Identity) (cost : ℕ) (ws : List ℕ) → fits (peek s at id cost) ≡ true → lendable ws ≡ true →
-        let o = l .answers (peek s at id cost) ws in
+    pub peeks : (s : Settings) (at : Nanos) (id : Identity) (cost : ℕ) (ws : List ℕ) → fits byName (peek s at (key id) cost) ≡ true → lendable ws ≡ true →
+        let o = l .answers (peek s at (key id) cost) ws in
         Peek.Asked κs (s, (lent ws, (at, (id, (cost, tt))))) →
         Peek.Learnt κs (s, (lent ws, (at, (id, (cost, tt))))) (o .answer) (s, (lent (o .after), (at, (id, (cost, tt)))))
-    pub availables : (s : Settings) (at : Nanos) (id : Identity) (ws : List ℕ) → fits (available s at id) ≡ true → lendable ws ≡ true →
-        let o = l .answers (available s at id) ws in
+    pub availables : (s : Settings) (at : Nanos) (id : Identity) (ws : List ℕ) → fits byName (available s at (key id)) ≡ true → lendable ws ≡ true →
+        let o = l .answers (available s at (key id)) ws in
         Available.Asked κs (s, (lent ws, (at, (id, tt)))) →
         Available.Learnt κs (s, (lent ws, (at, (id, tt)))) (o .answer) (s, (lent (o .after), (at, (id, tt))))
-    pub lens : (s : Settings) (ws : List ℕ) → fits (len s) ≡ true → lendable ws ≡ true →
-        let o = l .answers (len s) ws in
+    pub lens : (s : Settings) (ws : List ℕ) → fits byName (length s) ≡ true → lendable ws ≡ true →
+        let o = l .answers (length s) ws in
         Len.Asked κs (s, (lent ws, tt)) →
         Len.Learnt κs (s, (lent ws, tt)) (o .answer) (s, (lent (o .after), tt))
-    pub refunds : (s : Settings) (id : Identity) (cost : ℕ) (ws : List ℕ) → fits (refund s id cost) ≡ true → lendable ws ≡ true →
-        let o = l .answers (refund s id cost) ws in
+    pub refunds : (s : Settings) (id : Identity) (cost : ℕ) (ws : List ℕ) → fits byName (refund s (key id) cost) ≡ true → lendable ws ≡ true →
+        let o = l .answers (refund s (key id) cost) ws in
         Refund.Asked κs (s, (lent ws, (id, (cost, tt)))) →
         Refund.Learnt κs (s, (lent ws, (id, (cost, tt)))) (o .answer) (s, (lent (o .after), (id, (cost, tt))))
-    pub removes : (s : Settings) (id : Identity) (ws : List ℕ) → fits (remove s id) ≡ true → lendable ws ≡ true →
-        let o = l .answers (remove s id) ws in
+    pub removes : (s : Settings) (id : Identity) (ws : List ℕ) → fits byName (remove s (key id)) ≡ true → lendable ws ≡ true →
+        let o = l .answers (remove s (key id)) ws in
         Remove.Asked κs (s, (lent ws, (id, tt))) →
         Remove.Learnt κs (s, (lent ws, (id, tt))) (o .answer) (s, (lent (o .after), (id, tt)))
+
+-- The operations of `modems` are lent the bytes of the address, too.
+module _ (κs : Lfts 2) (ptr bytesPtr : ℕ × ℕ) (name bytesName : ℕ) where
+  -- The arguments of an operation as its contract has them: the settings, the words, the moment if there is one, the bytes, and what else is asked.
+  abbrev onAddress : {A : Type 0} → Settings → List ℕ → List ℕ → A → Settings × (RefT (List ℕ) × (RefT (List ℕ) × A))
+  onAddress s ws bytes more = (s, (lentAt ptr name ws, (lentAt bytesPtr bytesName bytes, more)))
+
+  abbrev atMoment : {A : Type 0} → Settings → List ℕ → Nanos → List ℕ → A → Settings × (RefT (List ℕ) × (Nanos × (RefT (List ℕ) × A)))
+  atMoment s ws at bytes more = (s, (lentAt ptr name ws, (at, (lentAt bytesPtr bytesName bytes, more))))
+
+  pub record AddressContracts (l : Limiter Settings Name) : Type 0 where
+    pub tries : (s : Settings) (at : Nanos) (bytes : List ℕ) (cost : ℕ) (ws : List ℕ) → fits byName (try s at (address bytes) cost) ≡ true → lendable ws ≡ true →
+        let o = l .answers (try s at (address bytes) cost) ws in
+        ModemTry.Asked κs (atMoment s ws at bytes (cost, tt)) →
+        ModemTry.Learnt κs (atMoment s ws at bytes (cost, tt)) (o .answer) (atMoment s (o .after) at bytes (cost, tt))
+    pub reserves : (s : Settings) (at : Nanos) (bytes : List ℕ) (cost : ℕ) (longest : Nanos) (ws : List ℕ) →
+        fits byName (reserve s at (address bytes) cost longest) ≡ true → lendable ws ≡ true →
+        let o = l .answers (reserve s at (address bytes) cost longest) ws in
+        ModemReserve.Asked κs (atMoment s ws at bytes (cost, (longest, tt))) →
+        ModemReserve.Learnt κs (atMoment s ws at bytes (cost, (longest, tt))) (o .answer) (atMoment s (o .after) at bytes (cost, (longest, tt)))
+    pub peeks : (s : Settings) (at : Nanos) (bytes : List ℕ) (cost : ℕ) (ws : List ℕ) → fits byName (peek s at (address bytes) cost) ≡ true → lendable ws ≡ true →
+        let o = l .answers (peek s at (address bytes) cost) ws in
+        ModemPeek.Asked κs (atMoment s ws at bytes (cost, tt)) →
+        ModemPeek.Learnt κs (atMoment s ws at bytes (cost, tt)) (o .answer) (atMoment s (o .after) at bytes (cost, tt))
+    pub refunds : (s : Settings) (bytes : List ℕ) (cost : ℕ) (ws : List ℕ) → fits byName (refund s (address bytes) cost) ≡ true → lendable ws ≡ true →
+        let o = l .answers (refund s (address bytes) cost) ws in
+        ModemRefund.Asked κs (onAddress s ws bytes (cost, tt)) →
+        ModemRefund.Learnt κs (onAddress s ws bytes (cost, tt)) (o .answer) (onAddress s (o .after) bytes (cost, tt))
+    pub removes : (s : Settings) (bytes : List ℕ) (ws : List ℕ) → fits byName (remove s (address bytes)) ≡ true → lendable ws ≡ true →
+        let o = l .answers (remove s (address bytes)) ws in
+        ModemRemove.Asked κs (onAddress s ws bytes tt) →
+        ModemRemove.Learnt κs (onAddress s ws bytes tt) (o .answer) (onAddress s (o .after) bytes tt)
+
+-- Of both crates.
+module _ (κs : Lfts 1) (κs₂ : Lfts 2) (ptr bytesPtr : ℕ × ℕ) (name bytesName : ℕ) where
+  pub record Contracts (l : Limiter Settings Name) : Type 0 where
+    pub by-key : KeyContracts κs ptr name l
+    pub by-address : AddressContracts κs₂ ptr bytesPtr name bytesName l

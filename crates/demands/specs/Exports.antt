@@ -1,5 +1,6 @@
--- The limiter as C and Rust call it: the nine operations that `limiter` exports on plain numbers, demand 2 of them, and the limiter that a caller has in them,
--- who writes settings as numbers and reads replies from their numbers.
+-- The limiter as C and Rust call it: the nine operations that `limiter` exports on plain numbers, the five that `limiter_modems` exports on numbers and the bytes
+-- of an address, demand 2 of them, and the limiter that a caller has in them, who reads replies from their numbers. Each call of a list writes its settings as
+-- numbers of its own.
 use Prim.Native.Nat.{ℕ, _-_}
 use mathlib.Core.Path.{_≡_}
 use mathlib.Core.Bool.{Bool, true, cond, _&&_}
@@ -11,20 +12,19 @@ use Rattle.rows.specs.Outcome.{Outcome, outcome}
 use Rattle.units.specs.declared.Nanos.{Nanos}
 use Rattle.bucket.specs.declared.Request.the-variants.{Acquire, Reserve}
 use Rattle.bucket.specs.declared.Due.{Due}
-use Rattle.settings.specs.declared.Settings.{Settings}
 use Rattle.settings.specs.declared.decision.Decision.the-variants.{Acquired, Retry, Impossible}
-use Rattle.perkey.specs.declared.Reply.{Reply}
-use Rattle.perkey.specs.declared.Reply.the-variants.{Tried, Reserved, Nothing, Done, Count, Refused}
 use Rattle.shard.specs.declared.Identity.{Identity}
-use Rattle.perkey.specs.Rules.{setUp, clear}
-use Rattle.perkey.specs.Calls.{Call, try, reserve, peek, available, len, refund, remove}
-use Rattle.perkey.specs.Calls.{request, look, undo, peeks, tokens, refunds, removes, rules}
-use Rattle.perkey.specs.Calls as Calls
-use Rattle.perkey.specs.Calls.{Kind, decides, reserves, counts, knows, kindOf}
+use Rattle.rules.specs.declared.Reply.{Reply}
+use Rattle.rules.specs.declared.Reply.the-variants.{Tried, Reserved, Nothing, Done, Count, Refused}
+use Rattle.rules.specs.declared.codes.Told.{Told}
+use Rattle.rules.specs.Replies.{toldOf, told, Kind, decides, reserves, counts, knows}
+use Rattle.rules.specs.Asks.{requests, looks, undoes, peeks, tokens, refunds, removes}
+use Rattle.rules.specs.Rules.{setUp, clear}
+use Rattle.rules.specs.Widths.{fits64, fits32, lendable}
+use Rattle.rules.specs.Calls.{Call, keyed, whole, len, Terms, try, reserve, peek, available, length, refund, remove, kindOf, rules, fits}
+use Rattle.modems.specs.Names.{Name, key, address, namedIn}
 use Rattle.limiter.specs.declared.LimiterSettings.{LimiterSettings}
-use Rattle.perkey.specs.declared.codes.Told.{Told}
 use Rattle.limiter.specs.Exported.{settingsOf}
-use Rattle.perkey.specs.Rules.{told}
 use Rattle.limiter.proofs.limiter_set_up.Reads as SetUp
 use Rattle.limiter.proofs.limiter_clear.Reads as Clear
 use Rattle.limiter.proofs.limiter_try.Reads as Try
@@ -34,11 +34,15 @@ use Rattle.limiter.proofs.limiter_available.Reads as Available
 use Rattle.limiter.proofs.limiter_length.Reads as Length
 use Rattle.limiter.proofs.limiter_refund.Reads as Refund
 use Rattle.limiter.proofs.limiter_remove.Reads as Remove
-use Rattle.demands.specs.Widths.{fits64, fits32, settingsFit, fits, lendable}
+use Rattle.limiter_modems.proofs.limiter_modem_try.Reads as ModemTry
+use Rattle.limiter_modems.proofs.limiter_modem_reserve.Reads as ModemReserve
+use Rattle.limiter_modems.proofs.limiter_modem_peek.Reads as ModemPeek
+use Rattle.limiter_modems.proofs.limiter_modem_refund.Reads as ModemRefund
+use Rattle.limiter_modems.proofs.limiter_modem_remove.Reads as ModemRemove
 use Rattle.demands.specs.Demands.{Limiter}
 use Rattle.demands.specs.Contracts.{lentAt}
 
--- What each export gives for its numbers and words: three numbers, and words.
+-- What each export gives for its numbers, bytes and words: three numbers, and words.
 abbrev Gives : Type 0
 Gives = List ℕ → Outcome Told (List ℕ)
 
@@ -52,6 +56,11 @@ pub record Exports : Type 0 where
   pub length : LimiterSettings → Gives
   pub refund : LimiterSettings → (hash key cost : ℕ) → Gives
   pub remove : LimiterSettings → (hash key : ℕ) → Gives
+  pub modem-try : LimiterSettings → (at : ℕ) → List ℕ → (cost : ℕ) → Gives
+  pub modem-reserve : LimiterSettings → (at : ℕ) → List ℕ → (cost longest : ℕ) → Gives
+  pub modem-peek : LimiterSettings → (at : ℕ) → List ℕ → (cost : ℕ) → Gives
+  pub modem-refund : LimiterSettings → List ℕ → (cost : ℕ) → Gives
+  pub modem-remove : LimiterSettings → List ℕ → Gives
 
 -- The numbers of a settings struct fit their widths.
 abbrev pub numbersFit : LimiterSettings → Bool
@@ -59,28 +68,34 @@ numbersFit n =
     fits64 (n .period) && fits64 (n .«max_keys») && fits64 (n .shards) && fits64 (n .idle) && fits32 (n .closed) && fits32 (n .amount)
     && fits32 (n .«has_burst») && fits32 (n .burst) && fits32 (n .«has_initial») && fits32 (n .initial) && fits32 (n .«has_idle») && fits32 (n .«forget_debt»)
 
--- The export by which a call is made, with a settings struct and the call's numbers.
-abbrev pub through : Exports → LimiterSettings → Call → Gives
-through e n (request s at id Acquire cost) = e .try n (at .0) (id .hash) (id .key) cost
-through e n (request s at id (Reserve longest) cost) = e .reserve n (at .0) (id .hash) (id .key) cost (longest .0)
-through e n (look s at id (peeks cost)) = e .peek n (at .0) (id .hash) (id .key) cost
-through e n (look s at id tokens) = e .available n (at .0) (id .hash) (id .key)
-through e n (undo s id (refunds cost)) = e .refund n (id .hash) (id .key) cost
-through e n (undo s id removes) = e .remove n (id .hash) (id .key)
-through e n (len s) = e .length n
+-- Settings as such a struct, whatever numbers mean them, and modems by key or by address.
+abbrev pub exported : Terms LimiterSettings Name
+exported = namedIn settingsOf numbersFit
+
+-- The export by which a call is made, with the call's own numbers. There is none for the tokens of an address, and no list has such a call (`offers`).
+abbrev noExport : Gives
+noExport ws = outcome (toldOf Nothing) ws
+
+abbrev pub through : Exports → Call LimiterSettings Name → Gives
+through e (keyed n (key id) (requests Acquire at cost)) = e .try n (at .0) (id .hash) (id .key) cost
+through e (keyed n (key id) (requests (Reserve longest) at cost)) = e .reserve n (at .0) (id .hash) (id .key) cost (longest .0)
+through e (keyed n (key id) (looks (peeks at cost))) = e .peek n (at .0) (id .hash) (id .key) cost
+through e (keyed n (key id) (looks (tokens at))) = e .available n (at .0) (id .hash) (id .key)
+through e (keyed n (key id) (undoes (refunds cost))) = e .refund n (id .hash) (id .key) cost
+through e (keyed n (key id) (undoes removes)) = e .remove n (id .hash) (id .key)
+through e (keyed n (address bytes) (requests Acquire at cost)) = e .modem-try n (at .0) bytes cost
+through e (keyed n (address bytes) (requests (Reserve longest) at cost)) = e .modem-reserve n (at .0) bytes cost (longest .0)
+through e (keyed n (address bytes) (looks (peeks at cost))) = e .modem-peek n (at .0) bytes cost
+through e (keyed n (address bytes) (looks (tokens at))) = noExport
+through e (keyed n (address bytes) (undoes (refunds cost))) = e .modem-refund n bytes cost
+through e (keyed n (address bytes) (undoes removes)) = e .modem-remove n bytes
+through e (whole n len) = e .length n
 
 -- Demand 2 of the exports: whatever numbers the settings are written in, all numbers of a reply are those of the rules' reply, and all words are theirs.
 pub record ExportDemand2 (e : Exports) : Type 0 where
   pub sets-up : (n : LimiterSettings) (ws : List ℕ) → numbersFit n ≡ true → lendable ws ≡ true → e .set-up n ws ≡ told (setUp (settingsOf n) ws)
   pub clears : (n : LimiterSettings) (ws : List ℕ) → numbersFit n ≡ true → lendable ws ≡ true → e .clear n ws ≡ told (clear (settingsOf n) ws)
-  pub answers : (n : LimiterSettings) (c : Call) (ws : List ℕ) → numbersFit n ≡ true → Calls.settingsOf c ≡ settingsOf n → fits c ≡ true → lendable ws ≡ true
-      → through e n c ws ≡ told (rules c ws)
-
--- A way of writing settings as numbers from which `settingsOf` gives them back.
-pub record Writer : Type 0 where
-  pub write : Settings → LimiterSettings
-  pub fit : (s : Settings) → settingsFit s ≡ true → numbersFit (write s) ≡ true
-  pub back : (s : Settings) → settingsOf (write s) ≡ s
+  pub answers : (c : Call LimiterSettings Name) (ws : List ℕ) → fits exported c ≡ true → lendable ws ≡ true → through e c ws ≡ told (rules exported c ws)
 
 -- How a caller reads a reply, by the kind of the call: the code tells which reply of that kind it is. Any other code is read as a refusal.
 abbrev refusedBy : Told → Reply
@@ -101,19 +116,19 @@ reading knows r = cond (eqb (r .code) 0) Done (cond (eqb (r .code) 3) Nothing (r
 abbrev pub readAs : Kind → Outcome Told (List ℕ) → Outcome Reply (List ℕ)
 readAs kind o = outcome (reading kind (o .answer)) (o .after)
 
--- The limiter that a caller has who writes and reads so.
-abbrev pub called : Writer → Exports → Limiter
-called w e = record {
-  sets-up = λ s ws. readAs knows (e .set-up (w .write s) ws);
-  clears = λ s ws. readAs knows (e .clear (w .write s) ws);
-  answers = λ c ws. readAs (kindOf c) (through e (w .write (Calls.settingsOf c)) c ws);
+-- The limiter that a caller has who reads so.
+abbrev pub called : Exports → Limiter LimiterSettings Name
+called e = record {
+  sets-up = λ n ws. readAs knows (e .set-up n ws);
+  clears = λ n ws. readAs knows (e .clear n ws);
+  answers = λ c ws. readAs (kindOf c) (through e c ws);
 }
 
 -- For any lifetimes and any place of the lent words: no answer depends on them.
 module _ (κs : Lfts 1) (ptr : ℕ × ℕ) (name : ℕ) where
   -- The arguments of an export as its contract has them: the settings, the words, and the numbers of a moment and a key.
-  abbrev whole : LimiterSettings → List ℕ → LimiterSettings × (RefT (List ℕ) × Unit {0})
-  whole n ws = (n, (lentAt ptr name ws, tt))
+  abbrev onWhole : LimiterSettings → List ℕ → LimiterSettings × (RefT (List ℕ) × Unit {0})
+  onWhole n ws = (n, (lentAt ptr name ws, tt))
 
   abbrev onKey : {A : Type 0} → LimiterSettings → List ℕ → Identity → A → LimiterSettings × (RefT (List ℕ) × (ℕ × (ℕ × A)))
   onKey n ws id more = (n, (lentAt ptr name ws, (id .hash, (id .key, more))))
@@ -122,45 +137,87 @@ module _ (κs : Lfts 1) (ptr : ℕ × ℕ) (name : ℕ) where
   atMoment n ws at id more = (n, (lentAt ptr name ws, (at .0, (id .hash, (id .key, more)))))
 
   -- Of each export: where its numbers fit and what it asks is shown, its contract holds of what it gives. (`Asked` and `Learnt`: Contracts.)
-  pub record ExportContracts (e : Exports) : Type 0 where
+  pub record KeyExportContracts (e : Exports) : Type 0 where
     pub sets-up : (n : LimiterSettings) (ws : List ℕ) → numbersFit n ≡ true → lendable ws ≡ true →
         let o = e .set-up n ws in
-        SetUp.Asked κs (whole n ws) → SetUp.Learnt κs (whole n ws) (o .answer) (whole n (o .after))
+        SetUp.Asked κs (onWhole n ws) → SetUp.Learnt κs (onWhole n ws) (o .answer) (onWhole n (o .after))
     pub clears : (n : LimiterSettings) (ws : List ℕ) → numbersFit n ≡ true → lendable ws ≡ true →
         let o = e .clear n ws in
-        Clear.Asked κs (whole n ws) → Clear.Learnt κs (whole n ws) (o .answer) (whole n (o .after))
-    pub tries : (n : LimiterSettings) (at : Nanos) (id : Identity) (cost : ℕ) (ws : List ℕ) → numbersFit n ≡ true →
-        fits (try (settingsOf n) at id cost) ≡ true → lendable ws ≡ true →
-        let o = through e n (try (settingsOf n) at id cost) ws in
+        Clear.Asked κs (onWhole n ws) → Clear.Learnt κs (onWhole n ws) (o .answer) (onWhole n (o .after))
+    pub tries : (n : LimiterSettings) (at : Nanos) (id : Identity) (cost : ℕ) (ws : List ℕ) →
+        fits exported (try n at (key id) cost) ≡ true → lendable ws ≡ true →
+        let o = e .try n (at .0) (id .hash) (id .key) cost ws in
         Try.Asked κs (atMoment n ws at id (cost, tt)) →
         Try.Learnt κs (atMoment n ws at id (cost, tt)) (o .answer) (atMoment n (o .after) at id (cost, tt))
-    pub reserves : (n : LimiterSettings) (at : Nanos) (id : Identity) (cost : ℕ) (longest : Nanos) (ws : List ℕ) → numbersFit n ≡ true →
-        fits (reserve (settingsOf n) at id cost longest) ≡ true → lendable ws ≡ true →
-        let o = through e n (reserve (settingsOf n) at id cost longest) ws in
+    pub reserves : (n : LimiterSettings) (at : Nanos) (id : Identity) (cost : ℕ) (longest : Nanos) (ws : List ℕ) →
+        fits exported (reserve n at (key id) cost longest) ≡ true → lendable ws ≡ true →
+        let o = e .reserve n (at .0) (id .hash) (id .key) cost (longest .0) ws in
         Reserve.Asked κs (atMoment n ws at id (cost, (longest .0, tt))) →
         Reserve.Learnt κs (atMoment n ws at id (cost, (longest .0, tt))) (o .answer) (atMoment n (o .after) at id (cost, (longest .0, tt)))
-    pub peeks : (n : LimiterSettings) (at : Nanos) (id : Identity) (cost : ℕ) (ws : List ℕ) → numbersFit n ≡ true →
-        fits (peek (settingsOf n) at id cost) ≡ true → lendable ws ≡ true →
-        let o = through e n (peek (settingsOf n) at id cost) ws in
+    pub peeks : (n : LimiterSettings) (at : Nanos) (id : Identity) (cost : ℕ) (ws : List ℕ) →
+        fits exported (peek n at (key id) cost) ≡ true → lendable ws ≡ true →
+        let o = e .peek n (at .0) (id .hash) (id .key) cost ws in
         Peek.Asked κs (atMoment n ws at id (cost, tt)) →
         Peek.Learnt κs (atMoment n ws at id (cost, tt)) (o .answer) (atMoment n (o .after) at id (cost, tt))
-    pub availables : (n : LimiterSettings) (at : Nanos) (id : Identity) (ws : List ℕ) → numbersFit n ≡ true →
-        fits (available (settingsOf n) at id) ≡ true → lendable ws ≡ true →
-        let o = through e n (available (settingsOf n) at id) ws in
+    pub availables : (n : LimiterSettings) (at : Nanos) (id : Identity) (ws : List ℕ) →
+        fits exported (available n at (key id)) ≡ true → lendable ws ≡ true →
+        let o = e .available n (at .0) (id .hash) (id .key) ws in
         Available.Asked κs (atMoment n ws at id tt) →
         Available.Learnt κs (atMoment n ws at id tt) (o .answer) (atMoment n (o .after) at id tt)
-    pub lens : (n : LimiterSettings) (ws : List ℕ) → numbersFit n ≡ true →
-        fits (len (settingsOf n)) ≡ true → lendable ws ≡ true →
-        let o = through e n (len (settingsOf n)) ws in
-        Length.Asked κs (whole n ws) →
-        Length.Learnt κs (whole n ws) (o .answer) (whole n (o .after))
-    pub refunds : (n : LimiterSettings) (id : Identity) (cost : ℕ) (ws : List ℕ) → numbersFit n ≡ true →
-        fits (refund (settingsOf n) id cost) ≡ true → lendable ws ≡ true →
-        let o = through e n (refund (settingsOf n) id cost) ws in
+    pub lens : (n : LimiterSettings) (ws : List ℕ) →
+        fits exported (length n) ≡ true → lendable ws ≡ true →
+        let o = e .length n ws in
+        Length.Asked κs (onWhole n ws) →
+        Length.Learnt κs (onWhole n ws) (o .answer) (onWhole n (o .after))
+    pub refunds : (n : LimiterSettings) (id : Identity) (cost : ℕ) (ws : List ℕ) →
+        fits exported (refund n (key id) cost) ≡ true → lendable ws ≡ true →
+        let o = e .refund n (id .hash) (id .key) cost ws in
         Refund.Asked κs (onKey n ws id (cost, tt)) →
         Refund.Learnt κs (onKey n ws id (cost, tt)) (o .answer) (onKey n (o .after) id (cost, tt))
-    pub removes : (n : LimiterSettings) (id : Identity) (ws : List ℕ) → numbersFit n ≡ true →
-        fits (remove (settingsOf n) id) ≡ true → lendable ws ≡ true →
-        let o = through e n (remove (settingsOf n) id) ws in
+    pub removes : (n : LimiterSettings) (id : Identity) (ws : List ℕ) →
+        fits exported (remove n (key id)) ≡ true → lendable ws ≡ true →
+        let o = e .remove n (id .hash) (id .key) ws in
         Remove.Asked κs (onKey n ws id tt) →
         Remove.Learnt κs (onKey n ws id tt) (o .answer) (onKey n (o .after) id tt)
+
+-- The exports of `limiter_modems` are lent the bytes of the address, too.
+module _ (κs : Lfts 2) (ptr bytesPtr : ℕ × ℕ) (name bytesName : ℕ) where
+  -- The arguments of an export as its contract has them: the settings, the words, the moment if there is one, the bytes, and what else is asked.
+  abbrev onAddress : {A : Type 0} → LimiterSettings → List ℕ → List ℕ → A → LimiterSettings × (RefT (List ℕ) × (RefT (List ℕ) × A))
+  onAddress n ws bytes more = (n, (lentAt ptr name ws, (lentAt bytesPtr bytesName bytes, more)))
+
+  abbrev atMomentOnAddress : {A : Type 0} → LimiterSettings → List ℕ → Nanos → List ℕ → A → LimiterSettings × (RefT (List ℕ) × (ℕ × (RefT (List ℕ) × A)))
+  atMomentOnAddress n ws at bytes more = (n, (lentAt ptr name ws, (at .0, (lentAt bytesPtr bytesName bytes, more))))
+
+  pub record AddressExportContracts (e : Exports) : Type 0 where
+    pub tries : (n : LimiterSettings) (at : Nanos) (bytes : List ℕ) (cost : ℕ) (ws : List ℕ) →
+        fits exported (try n at (address bytes) cost) ≡ true → lendable ws ≡ true →
+        let o = e .modem-try n (at .0) bytes cost ws in
+        ModemTry.Asked κs (atMomentOnAddress n ws at bytes (cost, tt)) →
+        ModemTry.Learnt κs (atMomentOnAddress n ws at bytes (cost, tt)) (o .answer) (atMomentOnAddress n (o .after) at bytes (cost, tt))
+    pub reserves : (n : LimiterSettings) (at : Nanos) (bytes : List ℕ) (cost : ℕ) (longest : Nanos) (ws : List ℕ) →
+        fits exported (reserve n at (address bytes) cost longest) ≡ true → lendable ws ≡ true →
+        let o = e .modem-reserve n (at .0) bytes cost (longest .0) ws in
+        ModemReserve.Asked κs (atMomentOnAddress n ws at bytes (cost, (longest .0, tt))) →
+        ModemReserve.Learnt κs (atMomentOnAddress n ws at bytes (cost, (longest .0, tt))) (o .answer) (atMomentOnAddress n (o .after) at bytes (cost, (longest .0, tt)))
+    pub peeks : (n : LimiterSettings) (at : Nanos) (bytes : List ℕ) (cost : ℕ) (ws : List ℕ) →
+        fits exported (peek n at (address bytes) cost) ≡ true → lendable ws ≡ true →
+        let o = e .modem-peek n (at .0) bytes cost ws in
+        ModemPeek.Asked κs (atMomentOnAddress n ws at bytes (cost, tt)) →
+        ModemPeek.Learnt κs (atMomentOnAddress n ws at bytes (cost, tt)) (o .answer) (atMomentOnAddress n (o .after) at bytes (cost, tt))
+    pub refunds : (n : LimiterSettings) (bytes : List ℕ) (cost : ℕ) (ws : List ℕ) →
+        fits exported (refund n (address bytes) cost) ≡ true → lendable ws ≡ true →
+        let o = e .modem-refund n bytes cost ws in
+        ModemRefund.Asked κs (onAddress n ws bytes (cost, tt)) →
+        ModemRefund.Learnt κs (onAddress n ws bytes (cost, tt)) (o .answer) (onAddress n (o .after) bytes (cost, tt))
+    pub removes : (n : LimiterSettings) (bytes : List ℕ) (ws : List ℕ) →
+        fits exported (remove n (address bytes)) ≡ true → lendable ws ≡ true →
+        let o = e .modem-remove n bytes ws in
+        ModemRemove.Asked κs (onAddress n ws bytes tt) →
+        ModemRemove.Learnt κs (onAddress n ws bytes tt) (o .answer) (onAddress n (o .after) bytes tt)
+
+-- Of both objects of the archive.
+module _ (κs : Lfts 1) (κs₂ : Lfts 2) (ptr bytesPtr : ℕ × ℕ) (name bytesName : ℕ) where
+  pub record ExportContracts (e : Exports) : Type 0 where
+    pub by-key : KeyExportContracts κs ptr name e
+    pub by-address : AddressExportContracts κs₂ ptr bytesPtr name bytesName e

@@ -1,9 +1,9 @@
--- Implementations of the calls that look as if they kept the promises: the six of document 01, and four more. Each of them fails demand 2
--- (proofs/ImpostorLaws.antt). The one that counts a key too many and the one that turns newcomers away meet demand 3 (proofs/TellingLaws.antt); all but these
--- two and the last are shown to fail it. The last tells no moments, and fails those of request 1.
+-- Implementations of the calls that look as if they kept the promises: the six of document 01, and five more. Each of them fails demand 2
+-- (proofs/ImpostorLaws.antt). The one that counts a key too many and the one that turns newcomers away meet demand 3 (proofs/TellingLaws.antt). The one that
+-- tells no moments fails those of request 1. All others are shown to fail demand 3.
 use Prim.Native.Nat.{ℕ, _+_, min}
 use mathlib.Core.Bool.{Bool, cond}
-use mathlib.Core.List.{List}
+use mathlib.Core.List.{List, [], _∷_}
 use Rattle.rows.specs.Outcome.{outcome}
 use Rattle.bucket.specs.declared.Due.{Due}
 use Rattle.bucket.specs.declared.BucketDecision.{BucketDecision}
@@ -14,32 +14,40 @@ use Rattle.shard_map.specs.Model.{Shard, withLedger, placeOf}
 use Rattle.evict.specs.Evict.{minRefusalWait}
 use Rattle.shard.specs.declared.Identity.{Identity}
 use Rattle.shard.specs.Model.{hasSlot, holds}
-use Rattle.perkey.specs.declared.Reply.{Reply}
+use Rattle.rules.specs.declared.Reply.{Reply}
 use Rattle.settings.specs.declared.decision.Decision.the-variants.{Acquired, Retry, Impossible}
-use Rattle.perkey.specs.declared.Reply.the-variants.{Tried, Reserved, Nothing, Done, Count, Refused}
+use Rattle.rules.specs.declared.Reply.the-variants.{Tried, Reserved, Nothing, Done, Count, Refused}
 use Rattle.store.specs.Memory.{shardAt, inShard}
-use Rattle.perkey.specs.Rules.{numberOf, dueNow, replyTo}
-use Rattle.perkey.specs.Calls.{Call, request, look, undo, len, Implementation, rules, settingsOf, momentIn, numbered}
+use Rattle.units.specs.declared.Nanos.{Nanos}
+use Rattle.settings.specs.declared.Settings.{Settings}
+use Rattle.rules.specs.Replies.{numberOf, numbered}
+use Rattle.rules.specs.Asks.{Ask, requests, looks, undoes, mannerOf, dueNow, replyTo}
+use Rattle.rules.specs.Calls.{keyed, whole, clockAfter, writtenOf}
+use Rattle.rules.specs.Calls as Calls
+use Rattle.modems.specs.Names.{Name, key, address, byName}
+use Rattle.demands.specs.ByKey.{Call, Implementation, rules}
 
 -- By the kind of a call: a value for a request, given how its answer is told; for a length; and for any other call.
 abbrev byKind : {A : Type 0} → ((BucketDecision → Reply) → A) → A → A → Call → A
-byKind requested length other (request s at id r cost) = requested (replyTo r)
-byKind requested length other (look s at id l) = other
-byKind requested length other (undo s id r) = other
-byKind requested length other (len s) = length
+byKind requested length other (keyed s id (requests r at cost)) = requested (replyTo (mannerOf r))
+byKind requested length other (keyed s id (looks l)) = other
+byKind requested length other (keyed s id (undoes u)) = other
+byKind requested length other (whole s what) = length
 
 -- The key that a call names. A length names none, and has the hash 0 here, whose shard is the first.
 abbrev identityOf : Call → Identity
-identityOf (request s at id r cost) = id
-identityOf (look s at id l) = id
-identityOf (undo s id r) = id
-identityOf (len s) = record { hash = 0; key = 0 }
+identityOf (keyed s id ask) = id
+identityOf (whole s what) = record { hash = 0; key = 0 }
+
+-- Its moment; 0 for a call that names none.
+abbrev momentIn : Call → Nanos
+momentIn c = record { 0 = clockAfter c 0 }
 
 -- The shard of that key.
 abbrev ownShard : Call → List ℕ → Shard
-ownShard c ws = shardAt (settingsOf c) (identityOf c .hash) ws
+ownShard c ws = shardAt (writtenOf c) (identityOf c .hash) ws
 
--- The answer to a request that is turned away for want of space, and to one that is granted at once.
+-- The answer to a request that is turned away for lack of space, and to one that is granted at once.
 abbrev noSpace : Call → BucketDecision
 noSpace c = Denied (dueAfter (momentIn c) (record { 0 = minRefusalWait }))
 
@@ -54,7 +62,7 @@ impossibleToAll c ws = outcome (Tried Impossible) ws
 abbrev withRequests : ((BucketDecision → Reply) → Call → List ℕ → Reply) → Implementation
 withRequests reply c ws = byKind (λ told. outcome (reply told c ws) ws) (rules c ws) (rules c ws) c
 
--- The second: a request is turned away for want of space, without a look whether there is any.
+-- The second: a request is turned away for lack of space, without a look whether there is any.
 abbrev pub retryBeforeALook : Implementation
 retryBeforeALook = withRequests (λ told c ws. told (noSpace c))
 
@@ -71,7 +79,7 @@ abbrev withFirstDebt : Shard → Shard
 withFirstDebt s = withLedger s (Ledger.withCount (s .ledger) (min 1 (s .ledger .debts .count)))
 
 abbrev pub firstDebtOnly : Implementation
-firstDebtOnly c ws = rules c (inShard (settingsOf c) (identityOf c .hash) ws (outcome (tt {0}) (withFirstDebt (ownShard c ws))) .after)
+firstDebtOnly c ws = rules c (inShard (writtenOf c) (identityOf c .hash) ws (outcome (tt {0}) (withFirstDebt (ownShard c ws))) .after)
 
 -- Those made by `telling` leave the words that the rules leave, and tell something else.
 abbrev pub telling : (Call → List ℕ → Reply) → Implementation
@@ -87,7 +95,7 @@ invented c ws = byKind (λ told. rules c ws .answer) (oneMore (rules c ws .answe
 abbrev pub inventedLength : Implementation
 inventedLength = telling invented
 
--- A request is turned away for want of space, unless its key is found in its shard.
+-- A request is turned away for lack of space, unless its key is found in its shard.
 abbrev pub turnedAwayUnless : (Identity → Shard → Bool) → Call → List ℕ → Reply
 turnedAwayUnless found c ws =
     byKind (λ told. cond (found (identityOf c) (ownShard c ws)) (rules c ws .answer) (told (noSpace c))) (rules c ws .answer) (rules c ws .answer) c
@@ -105,10 +113,8 @@ abbrev blind : Identity → Identity
 blind id = record { hash = id .hash; key = id .hash }
 
 abbrev blindly : Call → Call
-blindly (request s at id r cost) = request s at (blind id) r cost
-blindly (look s at id l) = look s at (blind id) l
-blindly (undo s id r) = undo s (blind id) r
-blindly (len s) = len s
+blindly (keyed s id ask) = keyed s (blind id) ask
+blindly (whole s what) = whole s what
 
 abbrev pub blindToKeys : Implementation
 blindToKeys c ws = rules (blindly c) ws
@@ -129,3 +135,20 @@ withoutMoment (Refused n) = Refused n
 
 abbrev pub tellsNoMoment : Implementation
 tellsNoMoment = telling (λ c ws. withoutMoment (rules c ws .answer))
+
+-- The rules by key, and by address the rules with the last byte taken for 0: modems whose addresses differ in it alone share a bucket.
+abbrev lastByteForgotten : List ℕ → List ℕ
+lastByteForgotten [] = []
+lastByteForgotten (byte ∷ []) = 0 ∷ []
+lastByteForgotten (byte ∷ next ∷ bytes) = byte ∷ lastByteForgotten (next ∷ bytes)
+
+abbrev shortened : Name → Name
+shortened (key id) = key id
+shortened (address bytes) = address (lastByteForgotten bytes)
+
+abbrev shortenedIn : Calls.Call Settings Name → Calls.Call Settings Name
+shortenedIn (keyed s n ask) = keyed s (shortened n) ask
+shortenedIn (whole s what) = whole s what
+
+abbrev pub rightByKeyAlone : Calls.Implementation Settings Name
+rightByKeyAlone c ws = Calls.rules byName (shortenedIn c) ws

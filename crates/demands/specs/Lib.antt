@@ -1,5 +1,5 @@
-pub mod Widths
 pub mod Demands
+pub mod ByKey
 pub mod Impostors
 pub mod Grown
 pub mod PlaceOrder
