@@ -29,7 +29,6 @@ use Rattle.rules.specs.Widths.{settingsFit, lendable}
 use Rattle.demands.specs.Demands as Demands
 use Rattle.demands.specs.ByKey.{Call, Implementation, rules, Answered, replies, accepted, SameSettings, TimesNeverFall, Agree, NoSharedHash, NeverRefundedOrRemoved, tokensUsable, answering, Demand2, WindowAdding, OwnBucket, fits, allFit}
 use Rattle.demands.specs.Demands.{ownReply}
-
 use Rattle.store.specs.Memory.{memoryWords}
 
 -- A store of one shard, by its rate and by how many keys it has room for; in most examples two tokens a second, up to four.

@@ -14,7 +14,6 @@ use Rattle.rules.specs.Widths.{settingsFit}
 use Rattle.rules.specs.Calls.{keyed, whole, byKey}
 use Rattle.modems.specs.Names.{key, byName}
 use Rattle.perkey.specs.Edges.{asks}
-
 use Rattle.demands.specs.Demands as Demands
 use Rattle.demands.specs.ByKey.{Call, rules, replies, Limiter, answering, Demand2, tokensOf, tokensUsable, WindowAdding, Window, OwnBucket, Demand3}
 use Rattle.demands.specs.Moments.{TellsMoments}

@@ -17,7 +17,7 @@ use Rattle.rules.specs.Widths.{fits64, keyFits}
 use Rattle.rules.specs.Calls.{keyed, rules}
 use Rattle.rules.proofs.RefusedLaws.{unless-refused-accepts}
 use Rattle.modems.specs.Address.{areBytes, hashOf, keyOf, identityOf, addressRefusal}
-use Rattle.modems.specs.Names.{bytesLendable, byAddress, Name, key, address, namedIn}
+use Rattle.modems.specs.Names.{bytesLendable, addressedIn, Name, key, address, namedIn}
 use Rattle.modems.proofs.AddressLaws.{not-refused-is-six-bytes}
 use Rattle.modems.proofs.KeyLaws.{keys-fit-48-bits}
 use Rattle.demands.proofs.WidthLaws.{both-true, NamesFit}
@@ -32,15 +32,15 @@ pub bytes-of-lendable : (bytes : List ℕ) → bytesLendable bytes ≡ true → 
 bytes-of-lendable bytes lent = both-true (fits64 (length bytes)) (areBytes bytes) lent .1
 
 -- The identity of an address fits.
-pub addresses-fit : NamesFit byAddress
-addresses-fit bytes lent none =
+pub addresses-fit : {S : Type 0} (means : S → Settings) (fit : S → Bool) → NamesFit (addressedIn means fit)
+addresses-fit means fit bytes lent none =
     let number : keyOf bytes < 2 ^ 64 = omega (arith, keys-fit-48-bits bytes (bytes-of-lendable bytes lent) (not-refused-is-six-bytes bytes none)) in
     rw (lt-ltb (hashOf bytes) (2 ^ 64) (hash-fits _ bytes (omega arith)), lt-ltb (keyOf bytes) (2 ^ 64) number)
 
 -- So does that of a key, and that of either.
 pub names-fit : {S : Type 0} (means : S → Settings) (fit : S → Bool) → NamesFit (namedIn means fit)
 names-fit means fit (key id) fits none = fits
-names-fit means fit (address bytes) lent none = addresses-fit bytes lent none
+names-fit means fit (address bytes) lent none = addresses-fit means fit bytes lent none
 
 -- A call that names a key follows the rule of what it asks.
 pub key-is-the-rule : {S : Type 0} (means : S → Settings) (fit : S → Bool) (s : S) (id : Identity) (ask : Ask) (ws : List ℕ)

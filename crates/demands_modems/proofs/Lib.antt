@@ -1,6 +1,2 @@
-pub mod WidthLaws
-pub mod Translation
-pub mod TokenLaws
+pub mod AddressLaws
 pub mod Theorem
-pub mod CodeTheorem
-pub mod ExportTheorem

@@ -1,4 +1,1 @@
-pub mod AddressCalls
 pub mod AddressDemands
-pub mod AddressContracts
-pub mod AddressExports

@@ -22,16 +22,19 @@ offeredByAddress (looks (peeks at cost)) = true
 offeredByAddress (looks (tokens at)) = false
 offeredByAddress (undoes u) = true
 
--- The bytes that are lent as an address, whether or not they are one.
-abbrev pub byAddress : Terms Settings (List ℕ)
-byAddress = record {
-  settings = λ s. s;
+-- Settings as they are written in some way, and the bytes that are lent as an address, whether or not they are one.
+abbrev pub addressedIn : {S : Type 0} → (S → Settings) → (S → Bool) → Terms S (List ℕ)
+addressedIn means fit = record {
+  settings = means;
   identity = identityOf;
   refusal = addressRefusal;
   offers = λ address ask. offeredByAddress ask;
-  settingsFit = settingsFit;
+  settingsFit = fit;
   nameFits = bytesLendable;
 }
+
+abbrev pub byAddress : Terms Settings (List ℕ)
+byAddress = addressedIn (λ s. s) settingsFit
 
 -- A key by its identity, or such bytes.
 pub data Name : Type 0 where
