@@ -60,8 +60,8 @@ pub fn identity(address: &[u8]) -> LimiterIdentity {
     unsafe { limiter_modem_identity(address.as_ptr(), address.len()) }
 }
 
-/// A safe function for each C function that is lent words. The pointers and lengths are those of slices that are borrowed for the call, the words for writing where the
-/// C function writes; it reads and writes nothing else.
+/// A safe function for each C function that is lent words. The pointers and lengths are those of slices that are borrowed for the call, the words for
+/// writing where the C function writes; it reads and writes nothing else.
 macro_rules! by_address {
     ($($(#[$doc:meta])* $name:ident = $c:ident($words:ty, $as:ident $(, $before:ident: $b:ty)*; address $(, $after:ident: $a:ty)*);)+) => {$(
         $(#[$doc])*
