@@ -1,5 +1,6 @@
-/* What limiter.h says of any caller's arguments: no words at all, every refusal with its text, the hash's vectors, each field of the settings read
- * as the field that it is, and the moment in every answer. Compiles as C99, C11 and C++. Run with bindings/c/run-example. */
+/* What limiter.h says of any caller's arguments: no words at all, every code with its text, the version, the hash's vectors, each field of the settings
+ * read as the field that it is and written by its function, and the moment in every answer. Compiles as C99, C11 and C++. Run with
+ * bindings/c/run-example. */
 #include <stdio.h>
 #include <stdlib.h>
 #include <string.h>
@@ -34,11 +35,7 @@ static int tells(limiter_reply reply, uint64_t code, uint64_t number, uint64_t m
 /* 2 tokens a second, one key, one shard. */
 static limiter_settings small(void)
 {
-    limiter_settings s = { 0, 0, 0, 0, 0, 0, 0, 0, 0, 0, 0, 0 };
-    s.period = SECOND;
-    s.max_keys = 1;
-    s.amount = 2;
-    return s;
+    return limiter_settings_of(2, SECOND, 1);
 }
 
 static uint64_t set_up_code(limiter_settings s, size_t len)
@@ -58,7 +55,7 @@ static size_t set_up(limiter_settings s)
 /* NULL with length 0 is refused as 5, and a bad rate before that. */
 static void no_words(void)
 {
-    const uint64_t refused = LIMITER_REFUSED + LIMITER_BAD_MEMORY;
+    const uint64_t refused = LIMITER_BAD_MEMORY;
     limiter_settings s = small(), bad = small();
     CHECK(tells(limiter_set_up(s, NULL, 0), refused, 0, 0));
     CHECK(tells(limiter_try(s, NULL, 0, SECOND, 7, 7, 1), refused, 0, 0));
@@ -70,7 +67,7 @@ static void no_words(void)
     CHECK(tells(limiter_clear(s, NULL, 0), refused, 0, 0));
     CHECK(tells(limiter_length(s, NULL, 0), refused, 0, 0));
     bad.amount = 0;
-    CHECK(limiter_length(bad, NULL, 0).code == LIMITER_REFUSED + LIMITER_BAD_AMOUNT);
+    CHECK(limiter_length(bad, NULL, 0).code == LIMITER_BAD_AMOUNT);
 }
 
 static void words_to_lend(void)
@@ -80,12 +77,12 @@ static void words_to_lend(void)
     s.max_keys = 4096;
     CHECK(set_up(s) == 49157);
     s.shards = 64;
-    CHECK(set_up_code(s, set_up(s) + 1) == LIMITER_REFUSED + LIMITER_BAD_MEMORY);
+    CHECK(set_up_code(s, set_up(s) + 1) == LIMITER_BAD_MEMORY);
     s.max_keys = 65537;
-    CHECK(limiter_words(s) == 0 && set_up_code(s, 1) == LIMITER_REFUSED + LIMITER_BAD_SIZES);
+    CHECK(limiter_words(s) == 0 && set_up_code(s, 1) == LIMITER_BAD_SIZES);
     s = small();
     s.shards = 65;
-    CHECK(limiter_words(s) == 0 && set_up_code(s, 1) == LIMITER_REFUSED + LIMITER_BAD_SIZES);
+    CHECK(limiter_words(s) == 0 && set_up_code(s, 1) == LIMITER_BAD_SIZES);
     /* The rate is not looked at. */
     s = small();
     s.amount = 0;
@@ -108,7 +105,7 @@ static void raised_shards(void)
             s.max_keys = rows[row][0];
             s.shards = asked[i];
             CHECK(set_up(s) == shards * (5 + 12 * places));
-            CHECK(set_up_code(s, (size_t)limiter_words(s) - 1) == LIMITER_REFUSED + LIMITER_BAD_MEMORY);
+            CHECK(set_up_code(s, (size_t)limiter_words(s) - 1) == LIMITER_BAD_MEMORY);
         }
     }
 }
@@ -127,15 +124,15 @@ static void rate_fields(void)
 {
     limiter_settings s = small();
     s.amount = 65536;
-    CHECK(set_up_code(s, ONE) == LIMITER_REFUSED + LIMITER_BAD_AMOUNT);
+    CHECK(set_up_code(s, ONE) == LIMITER_BAD_AMOUNT);
     s = small();
     s.period = (UINT64_C(1) << 46) + 1;
-    CHECK(set_up_code(s, ONE) == LIMITER_REFUSED + LIMITER_BAD_PERIOD);
+    CHECK(set_up_code(s, ONE) == LIMITER_BAD_PERIOD);
     s = small();
     s.burst = 65536;
     CHECK(set_up_code(s, ONE) == LIMITER_DONE);
     s.has_burst = 1;
-    CHECK(set_up_code(s, ONE) == LIMITER_REFUSED + LIMITER_BAD_BURST);
+    CHECK(set_up_code(s, ONE) == LIMITER_BAD_BURST);
     s.closed = 1;
     CHECK(set_up_code(s, ONE) == LIMITER_DONE);
     CHECK(limiter_try(s, words, ONE, 0, 7, 7, 1).code == LIMITER_IMPOSSIBLE);
@@ -175,8 +172,8 @@ static void moments_and_waits(void)
     uint64_t last = UINT64_C(1) << 62, longest = UINT64_C(1) << 46;
     set_up(s);
     CHECK(tells(limiter_peek(s, words, ONE, last, 7, 7, 1), LIMITER_DONE, 0, last));
-    CHECK(tells(limiter_peek(s, words, ONE, last + 1, 7, 7, 1), LIMITER_REFUSED + LIMITER_BAD_MOMENT, 0, 0));
-    CHECK(tells(limiter_reserve(s, words, ONE, 1, 7, 7, 1, longest + 1), LIMITER_REFUSED + LIMITER_BAD_MAX_WAIT, 0, 0));
+    CHECK(tells(limiter_peek(s, words, ONE, last + 1, 7, 7, 1), LIMITER_BAD_MOMENT, 0, 0));
+    CHECK(tells(limiter_reserve(s, words, ONE, 1, 7, 7, 1, longest + 1), LIMITER_BAD_MAX_WAIT, 0, 0));
     CHECK(tells(limiter_reserve(s, words, ONE, 1, 7, 7, 1, longest), LIMITER_DONE, 0, 1));
     /* A wait that begins at the last moment is over after it. */
     CHECK(limiter_try(s, words, ONE, last, 7, 7, 2).code == LIMITER_DONE);
@@ -238,14 +235,74 @@ static void no_moments(void)
     CHECK(tells(limiter_clear(s, words, ONE), LIMITER_DONE, 0, 0));
 }
 
-/* Every refusal has a text of its own, and so has any other code. */
+/* Every code has a text of its own, and all other codes share one. The names are the codes, and those of refusals are above 10. */
 static void texts(void)
 {
-    uint64_t one, other;
-    for (one = 10; one <= 18; one++)
-        for (other = 10; other < one; other++)
-            CHECK(limiter_refusal_text(one) != limiter_refusal_text(other));
-    CHECK(limiter_refusal_text(LIMITER_DONE)[0] == 'n' && limiter_refusal_text(UINT64_MAX)[0] == 'r');
+    static const uint64_t codes[] = { LIMITER_DONE, LIMITER_RETRY, LIMITER_IMPOSSIBLE, LIMITER_NONE, LIMITER_BAD_AMOUNT, LIMITER_BAD_PERIOD,
+        LIMITER_BAD_BURST, LIMITER_BAD_SIZES, LIMITER_BAD_MEMORY, LIMITER_BAD_MOMENT, LIMITER_BAD_MAX_WAIT, LIMITER_BAD_ADDRESS,
+        LIMITER_GROUP_ADDRESS, LIMITER_BAD_BUFFER };
+    static const uint64_t others[] = { 4, 10, 18, 20, 24, UINT64_MAX };
+    const char *unknown = limiter_code_text(9);
+    size_t one, other;
+    for (one = 0; one < sizeof codes / sizeof *codes; one++) {
+        for (other = 0; other < one; other++)
+            CHECK(strcmp(limiter_code_text(codes[one]), limiter_code_text(codes[other])) != 0);
+        CHECK(strcmp(limiter_code_text(codes[one]), unknown) != 0);
+        CHECK(limiter_is_refused(codes[one]) == (codes[one] > LIMITER_NONE));
+    }
+    for (one = 0; one < sizeof others / sizeof *others; one++)
+        CHECK(strcmp(limiter_code_text(others[one]), unknown) == 0);
+    CHECK(limiter_is_refused(UINT64_MAX) && !limiter_is_refused(10));
+}
+
+/* The library is of this header's version, patch and all. */
+static void versions(void)
+{
+    char text[16];
+    CHECK(limiter_version() == LIMITER_VERSION_NUMBER);
+    CHECK(LIMITER_VERSION_NUMBER == 65536 * LIMITER_VERSION_MAJOR + 256 * LIMITER_VERSION_MINOR + LIMITER_VERSION_PATCH);
+    sprintf(text, "%d.%d.%d", LIMITER_VERSION_MAJOR, LIMITER_VERSION_MINOR, LIMITER_VERSION_PATCH);
+    CHECK(strcmp(text, LIMITER_VERSION) == 0);
+}
+
+/* Whether settings are these twelve numbers, in the order of the struct. */
+static int are(limiter_settings s, const uint64_t *numbers)
+{
+    return s.period == numbers[0] && s.max_keys == numbers[1] && s.shards == numbers[2] && s.idle == numbers[3] && s.closed == numbers[4]
+        && s.amount == numbers[5] && s.has_burst == numbers[6] && s.burst == numbers[7] && s.has_initial == numbers[8] && s.initial == numbers[9]
+        && s.has_idle == numbers[10] && s.forget_debt == numbers[11];
+}
+
+/* Each function that writes settings writes its value with its flag, and no other field. */
+static void written_settings(void)
+{
+    static const uint64_t plain[12] = { 9, 8, 1, 0, 0, 7, 0, 0, 0, 0, 0, 0 }, burst[12] = { 9, 8, 1, 0, 0, 7, 1, 4, 0, 0, 0, 0 },
+                          initial[12] = { 9, 8, 1, 0, 0, 7, 0, 0, 1, 3, 0, 0 }, idle[12] = { 9, 8, 1, 6, 0, 7, 0, 0, 0, 0, 1, 0 },
+                          shards[12] = { 9, 8, 5, 0, 0, 7, 0, 0, 0, 0, 0, 0 }, forgetting[12] = { 9, 8, 1, 0, 0, 7, 0, 0, 0, 0, 0, 1 },
+                          closed[12] = { 0, 8, 1, 0, 1, 0, 0, 0, 0, 0, 0, 0 };
+    limiter_settings s = limiter_settings_of(7, 9, 8);
+    CHECK(are(s, plain));
+    CHECK(are(limiter_with_burst(s, 4), burst));
+    CHECK(are(limiter_with_initial(s, 3), initial));
+    CHECK(are(limiter_with_idle(s, 6), idle));
+    CHECK(are(limiter_with_shards(s, 5), shards));
+    CHECK(are(limiter_forgetting_debts(s), forgetting));
+    CHECK(are(limiter_closed_settings(8), closed));
+    CHECK(set_up(limiter_closed_settings(1)) == ONE);
+}
+
+/* A hash whose bits 40 to 45 are 0 fills one shard of 64, and the length stays at the places of that shard. */
+static void narrow_hash(void)
+{
+    limiter_settings s = limiter_with_shards(limiter_settings_of(2, SECOND, 2000), 64);
+    size_t len = set_up(s);
+    uint64_t modem;
+    for (modem = 1; modem <= 1000; modem++)
+        CHECK(!limiter_is_refused(limiter_try(s, words, len, 0, modem, modem, 1).code));
+    CHECK(limiter_length(s, words, len).number == 32);
+    for (modem = 1; modem <= 1000; modem++)
+        CHECK(limiter_try(s, words, len, SECOND, limiter_key_hash(modem), modem, 1).code == LIMITER_DONE);
+    CHECK(limiter_length(s, words, len).number > 900);
 }
 
 /* Desk lines: of every kind, in buffers one byte short, just fitting and longer. */
@@ -259,7 +316,7 @@ static int holds(const char *line)
 
 static void lines(void)
 {
-    const uint64_t refused = LIMITER_REFUSED + LIMITER_BAD_BUFFER;
+    const uint64_t refused = LIMITER_BAD_BUFFER;
     const uint8_t *past = buffer + 4;
     memset(buffer, 0xee, sizeof buffer);
     CHECK(tells(limiter_line_remove(NULL, 0, 7), refused, 0, 0));
@@ -272,7 +329,6 @@ static void lines(void)
     CHECK(holds("p 1000000000 7 1\n"));
     CHECK(tells(limiter_line_reserve(buffer, LIMITER_LONGEST_LINE, UINT64_MAX, UINT64_MAX, UINT32_MAX, UINT64_MAX), LIMITER_DONE, 76, 0));
     CHECK(holds("r 18446744073709551615 18446744073709551615 4294967295 18446744073709551615\n"));
-    CHECK(limiter_refusal_text(refused)[4] == 'b');
 }
 
 int main(void)
@@ -288,6 +344,9 @@ int main(void)
     moments_for_space();
     no_moments();
     texts();
+    versions();
+    written_settings();
+    narrow_hash();
     lines();
     printf("%d checks hold\n", checks);
     return 0;

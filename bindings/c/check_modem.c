@@ -1,5 +1,5 @@
-/* What limiter.h says of the calls by hardware address: 11 before 12, both before every other refusal, and otherwise the call on the modem's key. Compiles as
- * C99, C11 and C++. Run with bindings/c/run-example. */
+/* What limiter.h says of the calls by hardware address: 11 before 12, both before every other refusal, and otherwise the call on the modem's key; and
+ * which text is an address. Compiles as C99, C11 and C++. Run with bindings/c/run-example. */
 #include <stdio.h>
 #include <stdlib.h>
 #include <string.h>
@@ -29,30 +29,31 @@ static int alike(limiter_reply one, limiter_reply other)
     return one.code == other.code && one.number == other.number && one.moment == other.moment;
 }
 
-static int refused(limiter_reply reply, uint64_t number)
+static int refused(limiter_reply reply, uint64_t code)
 {
-    return reply.code == LIMITER_REFUSED + number && reply.number == 0 && reply.moment == 0;
+    return reply.code == code && reply.number == 0 && reply.moment == 0;
+}
+
+static int named(limiter_identity identity, uint64_t code, uint64_t hash_of_it, uint64_t key_of_it)
+{
+    return identity.code == code && identity.hash == hash_of_it && identity.key == key_of_it;
 }
 
 /* 2 tokens a second, one key, one shard. */
 static limiter_settings small(void)
 {
-    limiter_settings s;
-    memset(&s, 0, sizeof s);
-    s.period = SECOND;
-    s.max_keys = 1;
-    s.amount = 2;
-    return s;
+    return limiter_settings_of(2, SECOND, 1);
 }
 
-/* All five calls refuse these bytes as `number`, whatever the settings, the words and the other arguments are. */
-static void all_refuse(limiter_settings s, size_t len, const uint8_t *bytes, size_t count, uint64_t number)
+/* All six calls refuse these bytes with `code`, whatever the settings, the words and the other arguments are. */
+static void all_refuse(limiter_settings s, size_t len, const uint8_t *bytes, size_t count, uint64_t code)
 {
-    CHECK(refused(limiter_modem_try(s, words, len, UINT64_MAX, bytes, count, 1), number));
-    CHECK(refused(limiter_modem_reserve(s, words, len, UINT64_MAX, bytes, count, 1, UINT64_MAX), number));
-    CHECK(refused(limiter_modem_peek(s, words, len, UINT64_MAX, bytes, count, 1), number));
-    CHECK(refused(limiter_modem_refund(s, words, len, bytes, count, 1), number));
-    CHECK(refused(limiter_modem_remove(s, words, len, bytes, count), number));
+    CHECK(refused(limiter_modem_try(s, words, len, UINT64_MAX, bytes, count, 1), code));
+    CHECK(refused(limiter_modem_reserve(s, words, len, UINT64_MAX, bytes, count, 1, UINT64_MAX), code));
+    CHECK(refused(limiter_modem_peek(s, words, len, UINT64_MAX, bytes, count, 1), code));
+    CHECK(refused(limiter_modem_refund(s, words, len, bytes, count, 1), code));
+    CHECK(refused(limiter_modem_remove(s, words, len, bytes, count), code));
+    CHECK(named(limiter_modem_identity(bytes, count), code, 0, 0));
 }
 
 static void refusals(void)
@@ -75,8 +76,36 @@ static void refusals(void)
     bytes[0] = 0x80;
     CHECK(refused(limiter_modem_try(bad, words, len, 0, bytes, 6, 1), LIMITER_BAD_AMOUNT));
     CHECK(refused(limiter_modem_try(small(), words, 0, 0, modem, 6, 1), LIMITER_BAD_MEMORY));
-    CHECK(limiter_refusal_text(LIMITER_REFUSED + LIMITER_BAD_ADDRESS) != limiter_refusal_text(LIMITER_REFUSED + LIMITER_GROUP_ADDRESS));
-    CHECK(limiter_refusal_text(LIMITER_REFUSED + LIMITER_BAD_ADDRESS)[0] == 't');
+}
+
+/* The identity is the hash and the key, first byte first in both. */
+static void identities(void)
+{
+    static const uint8_t turned[6] = { 0x5e, 0x4d, 0x3c, 0x2b, 0x1a, 0x00 };
+    CHECK(named(limiter_modem_identity(modem, 6), LIMITER_DONE, hash, key));
+    CHECK(limiter_modem_identity(turned, 6).key == UINT64_C(0x5e4d3c2b1a00));
+    CHECK(limiter_modem_identity(turned, 6).hash != hash);
+}
+
+/* Text that is an address, and text that is none: 17 characters, six pairs of digits, five equal signs between them. */
+static void text_of_addresses(void)
+{
+    static const char *const read[] = { "00:1a:2b:3c:4d:5e", "00:1A:2B:3c:4D:5e", "00-1a-2b-3c-4d-5e" };
+    static const char *const unread[] = { "", "00", "00:1a:2b:3c:4d", "00:1a:2b:3c:4d:5", "00:1a:2b:3c:4d:5e:", "00:1a:2b:3c:4d:5e:6f", "001a2b3c4d5e",
+        "00-1a:2b:3c:4d:5e", "00:1a:2b:3c:4d-5e", "00.1a.2b.3c.4d.5e", "0g:1a:2b:3c:4d:5e", "00:1a:2b:3c:4d:5G", "+0:1a:2b:3c:4d:5e",
+        " 00:1a:2b:3c:4d:5", "00:1a:2b:3c:4d:5 ", "00:1a:2b:3c:4d:/0", "00:1a:2b:3c:4d::0", "00:1a:2b:3c:4d:@0", "00:1a:2b:3c:4d:`0" };
+    uint8_t address[6];
+    size_t i;
+    for (i = 0; i < sizeof read / sizeof *read; i++) {
+        memset(address, 0xee, sizeof address);
+        CHECK(limiter_read_address(read[i], strlen(read[i]), address) == 1 && memcmp(address, modem, 6) == 0);
+    }
+    memset(address, 0xee, sizeof address);
+    for (i = 0; i < sizeof unread / sizeof *unread; i++)
+        CHECK(limiter_read_address(unread[i], strlen(unread[i]), address) == 0 && address[0] == 0xee && address[5] == 0xee);
+    CHECK(limiter_read_address(NULL, 0, address) == 0);
+    CHECK(limiter_read_address("ff:fe:09:90:aF:Fa", 17, address) == 1 && address[0] == 0xff && address[1] == 0xfe && address[2] == 0x09
+        && address[3] == 0x90 && address[4] == 0xaf && address[5] == 0xfa);
 }
 
 /* A call by address is the call on the modem's key, in every word. */
@@ -100,6 +129,8 @@ static void as_the_key(void)
 int main(void)
 {
     refusals();
+    identities();
+    text_of_addresses();
     as_the_key();
     return 0;
 }

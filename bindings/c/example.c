@@ -1,6 +1,6 @@
-/* A support desk's view of one modem: it asks until it is told to wait, reserves, and is looked at, paid back and forgotten. The technician is told
- * at which moment to try again. Every function on keys is called, with every setting set (modem.c asks by address). Compiles as C99 and as C++. Run with
- * bindings/c/run-example. */
+/* A support desk's view of one modem: it asks until it has to wait, reserves, and is looked at, paid back and forgotten. The technician learns
+ * at which moment to try again. Calls every function on keys, and every function that writes settings but the closed one. modem.c asks by address,
+ * save.c saves and resumes, check.c and check_modem.c try every function. Compiles as C99 and as C++. Run with bindings/c/run-example. */
 #include <inttypes.h>
 #include <stdio.h>
 #include <stdlib.h>
@@ -14,29 +14,22 @@
 /* Says why a call was refused, and ends. */
 static void stop_if_refused(limiter_reply reply)
 {
-    if (reply.code > LIMITER_REFUSED) {
-        printf("refused as %d: %s\n", (int)(reply.code - LIMITER_REFUSED), limiter_refusal_text(reply.code));
+    if (limiter_is_refused(reply.code)) {
+        printf("refused, code %d: %s\n", (int)reply.code, limiter_code_text(reply.code));
         exit(1);
     }
 }
 
-/* 2 tokens a second, at most 4, 3 in a new bucket; room for 100 modems in 4 shards; forgotten after a minute without a request. */
+/* 2 tokens a second, at most 4, 3 in a new bucket; room for 100 modems in 4 shards; forgotten after a minute without a request. A full shard
+ * forgets a debt rather than turn a new modem away. */
 static limiter_settings village(void)
 {
-    limiter_settings settings;
-    settings.period = SECOND;
-    settings.max_keys = 100;
-    settings.shards = 4;
-    settings.idle = MINUTE;
-    settings.closed = 0;
-    settings.amount = 2;
-    settings.has_burst = 1;
-    settings.burst = 4;
-    settings.has_initial = 1;
-    settings.initial = 3;
-    settings.has_idle = 1;
-    settings.forget_debt = 0;
-    return settings;
+    limiter_settings settings = limiter_settings_of(2, SECOND, 100);
+    settings = limiter_with_burst(settings, 4);
+    settings = limiter_with_initial(settings, 3);
+    settings = limiter_with_shards(settings, 4);
+    settings = limiter_with_idle(settings, MINUTE);
+    return limiter_forgetting_debts(settings);
 }
 
 /* A store, and the modem that asks it. */
@@ -47,7 +40,7 @@ typedef struct desk {
     uint64_t modem, hash;
 } desk;
 
-/* The modem asks until there are no tokens left, and reserves two more, if they come within two seconds. Gives the moment from which on these may
+/* The modem asks until there are no tokens left, and reserves two more, if they come within two seconds. Returns the moment from which these may
  * be used. */
 static uint64_t spend(const desk *d, uint64_t now)
 {
@@ -104,7 +97,7 @@ int main(void)
     d.words = (uint64_t *)malloc(d.len * sizeof *d.words);
     if (d.words == NULL)
         return 1;
-    printf("interface %s, %" PRIu64 " words\n", LIMITER_VERSION, (uint64_t)d.len);
+    printf("interface %s, library %06" PRIx32 ", %" PRIu64 " words\n", LIMITER_VERSION, limiter_version(), (uint64_t)d.len);
     stop_if_refused(limiter_set_up(d.settings, d.words, d.len));
 
     look_and_refund(&d, spend(&d, 5 * SECOND));
@@ -112,7 +105,7 @@ int main(void)
 
     /* A moment that is too late is refused, and nothing happens. */
     reply = limiter_try(d.settings, d.words, d.len, UINT64_MAX, d.hash, d.modem, 1);
-    printf("refused as %d: %s\n", (int)(reply.code - LIMITER_REFUSED), limiter_refusal_text(reply.code));
+    printf("refused, code %d: %s\n", (int)reply.code, limiter_code_text(reply.code));
     free(d.words);
     return 0;
 }

@@ -1,5 +1,5 @@
-/* A provisioning server asks for modems by hardware address: it answers a modem, or tells it when to come back; a group's address is no modem's. Compiles
- * as C99 and as C++. Run with bindings/c/run-example. */
+/* A provisioning server asks for modems by hardware address, which its requests have as text: it answers a modem, tells it when to come back, or refuses
+ * it; a group's address is no modem's. Compiles as C99 and as C++. Run with bindings/c/run-example. */
 #include <inttypes.h>
 #include <stdio.h>
 #include <stdlib.h>
@@ -15,44 +15,52 @@ static uint64_t words[MOST_WORDS];
 /* One configuration file a second for each modem, at most two at once; room for 100 modems. */
 static limiter_settings server(void)
 {
-    limiter_settings settings;
-    memset(&settings, 0, sizeof settings);
-    settings.period = SECOND;
-    settings.amount = 1;
-    settings.has_burst = 1;
-    settings.burst = 2;
-    settings.max_keys = 100;
-    settings.shards = 4;
-    return settings;
+    return limiter_with_burst(limiter_settings_of(1, SECOND, 100), 2);
 }
 
-/* A request for a configuration file, as it comes in: the bytes are what the message had, be they an address or not. */
+/* A request for some configuration files, as it comes in: the text may be an address or not. */
 typedef struct request {
     uint64_t now;
-    size_t len;
-    uint8_t bytes[8];
+    uint32_t files;
+    const char *text;
 } request;
 
 static void answer(limiter_settings settings, size_t len, const request *r)
 {
-    limiter_reply reply = limiter_modem_try(settings, words, len, r->now, r->bytes, r->len, 1);
-    size_t i;
-    for (i = 0; i < r->len; i++)
-        printf(i == 0 ? "%02x" : ":%02x", r->bytes[i]);
-    if (reply.code == LIMITER_DONE)
-        printf(" gets its file\n");
-    else if (reply.code == LIMITER_RETRY)
-        printf(" comes back at %" PRIu64 " ns\n", reply.moment);
-    else
-        printf(" is refused: %s\n", limiter_refusal_text(reply.code));
+    uint8_t address[6];
+    limiter_reply reply;
+    if (!limiter_read_address(r->text, strlen(r->text), address)) {
+        printf("%s is no address\n", r->text);
+        return;
+    }
+    reply = limiter_modem_try(settings, words, len, r->now, address, sizeof address, r->files);
+    switch (reply.code) {
+    case LIMITER_DONE: printf("%s gets %d\n", r->text, (int)r->files); break;
+    case LIMITER_RETRY: printf("%s comes back at %" PRIu64 " ns\n", r->text, reply.moment); break;
+    case LIMITER_IMPOSSIBLE: printf("%s never gets %d at once\n", r->text, (int)r->files); break;
+    case LIMITER_GROUP_ADDRESS: printf("%s is no modem: %s\n", r->text, limiter_code_text(reply.code)); break;
+    default: printf("%s: a mistake of ours, code %d: %s\n", r->text, (int)reply.code, limiter_code_text(reply.code));
+    }
+}
+
+/* What a modem has left: a look that takes a hash and a key. */
+static void left(limiter_settings settings, size_t len, uint64_t now, const char *text)
+{
+    uint8_t address[6];
+    limiter_identity modem;
+    if (!limiter_read_address(text, strlen(text), address))
+        return;
+    modem = limiter_modem_identity(address, sizeof address);
+    if (modem.code == LIMITER_DONE)
+        printf("%s has %" PRIu64 " left\n", text, limiter_available(settings, words, len, now, modem.hash, modem.key).number);
 }
 
 int main(void)
 {
     static const request requests[] = {
-        { 5 * SECOND, 6, { 0x00, 0x1a, 0x2b, 0x3c, 0x4d, 0x5e } }, { 5 * SECOND, 6, { 0x00, 0x1a, 0x2b, 0x3c, 0x4d, 0x5e } },
-        { 5 * SECOND, 6, { 0x00, 0x1a, 0x2b, 0x3c, 0x4d, 0x5e } }, { 5 * SECOND, 6, { 0x00, 0x1a, 0x2b, 0x3c, 0x4d, 0x5f } },
-        { 5 * SECOND, 6, { 0x01, 0x00, 0x5e, 0x00, 0x00, 0x01 } }, { 5 * SECOND, 5, { 0x00, 0x1a, 0x2b, 0x3c, 0x4d } },
+        { 5 * SECOND, 1, "00:1a:2b:3c:4d:5e" }, { 5 * SECOND, 1, "00-1A-2B-3C-4D-5E" }, { 5 * SECOND, 1, "00:1a:2b:3c:4d:5e" },
+        { 5 * SECOND, 1, "00:1a:2b:3c:4d:5f" }, { 5 * SECOND, 3, "00:1a:2b:3c:4d:5f" }, { 5 * SECOND, 1, "01:00:5e:00:00:01" },
+        { 5 * SECOND, 1, "00:1a:2b:3c:4d" },
     };
     limiter_settings settings = server();
     size_t len = (size_t)limiter_words(settings), i;
@@ -60,5 +68,7 @@ int main(void)
         return 1;
     for (i = 0; i < sizeof requests / sizeof *requests; i++)
         answer(settings, len, &requests[i]);
+    left(settings, len, 5 * SECOND, "00:1a:2b:3c:4d:5e");
+    left(settings, len, 5 * SECOND, "00:1a:2b:3c:4d:5f");
     return 0;
 }

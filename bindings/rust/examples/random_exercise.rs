@@ -8,7 +8,7 @@ use std::error::Error;
 use std::io::{self, BufWriter, Write};
 use std::time::Duration;
 
-use limiter::{Decision, DeskLine, Key, OwnedStore, Rate, Refusal, Settings};
+use limiter::{Decision, DeskLine, Key, OwnedStore, Rate, Settings};
 
 /// 2 tokens a second, at most 4, for 40 modems in 4 shards.
 const SETTINGS: &str = "s 2 1000000000 4 4 40 4 - 0";
@@ -24,9 +24,9 @@ fn main() -> Result<(), Box<dyn Error>> {
     let mut store = OwnedStore::new(settings)?;
     writeln!(lines, "{SETTINGS}")?;
     writeln!(answers, "1 0 0")?;
-    let mut now = 0;
+    let mut now = Duration::ZERO;
     for number in 2..count + 2 {
-        now += random.below(40) * random.below(40) * 1_000_000;
+        now += Duration::from_millis(random.below(40) * random.below(40));
         let line = random.line(now);
         let (code, wait) = answer(&mut store, line)?;
         writeln!(lines, "{line}")?;
@@ -36,8 +36,7 @@ fn main() -> Result<(), Box<dyn Error>> {
 }
 
 /// The code and the wait that the desk prints for a call.
-fn answer(store: &mut OwnedStore, line: DeskLine) -> Result<(u64, Duration), Refusal> {
-    let nanos = Duration::from_nanos;
+fn answer(store: &mut OwnedStore, line: DeskLine) -> Result<(u64, Duration), Box<dyn Error>> {
     let told = |decision| match decision {
         Decision::Retry { after, .. } => (1, after),
         Decision::Impossible => (2, Duration::ZERO),
@@ -45,20 +44,19 @@ fn answer(store: &mut OwnedStore, line: DeskLine) -> Result<(u64, Duration), Ref
     };
     let known = |known| (if known { 0 } else { 3 }, Duration::ZERO);
     Ok(match line {
-        DeskLine::Try { now, key, cost } => {
-            told(store.try_acquire(nanos(now), Key::fnv1a(key), cost)?)
-        }
-        DeskLine::Peek { now, key, cost } => told(store.peek(nanos(now), Key::fnv1a(key), cost)?),
+        DeskLine::Try { now, key, cost } => told(store.try_acquire(now, Key::fnv1a(key), cost)?),
+        DeskLine::Peek { now, key, cost } => told(store.peek(now, Key::fnv1a(key), cost)?),
         DeskLine::Reserve {
             now,
             key,
             cost,
             max_wait,
         } => store
-            .reserve(nanos(now), Key::fnv1a(key), cost, nanos(max_wait))?
+            .reserve(now, Key::fnv1a(key), cost, max_wait)?
             .map_or((3, Duration::ZERO), |reserved| (0, reserved.wait)),
         DeskLine::Refund { key, cost } => known(store.refund(Key::fnv1a(key), cost)?),
         DeskLine::Remove { key } => known(store.remove(Key::fnv1a(key))?),
+        other => return Err(format!("no answer for {other:?}").into()),
     })
 }
 
@@ -79,7 +77,7 @@ impl Random {
     }
 
     /// A call of every kind, most of them for one of 60 modems, some for any key.
-    fn line(&mut self, now: u64) -> DeskLine {
+    fn line(&mut self, now: Duration) -> DeskLine {
         let key = match self.below(8) {
             0 => self.word() << self.below(9) >> self.below(50),
             _ => self.below(60),
@@ -95,7 +93,7 @@ impl Random {
                 now,
                 key,
                 cost,
-                max_wait: self.word() >> 10 >> self.below(40),
+                max_wait: Duration::from_nanos(self.word() >> 10 >> self.below(40)),
             },
             8 => DeskLine::Refund { key, cost },
             _ => DeskLine::Remove { key },

@@ -6,13 +6,13 @@ use core::time::Duration;
 
 use limiter_sys::modem;
 
-use crate::Store;
 use crate::answer::{self, Decision, Refusal, Reservation};
 use crate::settings::nanos;
+use crate::{Key, Store};
 
 /// The hardware address of a network interface: six bytes, in the order in which it is written.
 ///
-/// It is read from and written as text of six pairs of hexadecimal digits:
+/// It is read from text of six pairs of hexadecimal digits, with `:` or `-` between them, and written with `:`:
 ///
 /// ```
 /// use limiter::HardwareAddress;
@@ -42,6 +42,26 @@ impl HardwareAddress {
     #[must_use]
     pub const fn is_group(self) -> bool {
         self.0[0] & 1 == 1
+    }
+
+    /// The key that a store gives the modem of this address: for [`Store::available`], and to choose one of several stores by the hash. The library makes
+    /// both, the hash by FNV-1a over the six bytes, first byte first, and the key as the number with the first byte highest.
+    ///
+    /// ```
+    /// # use core::time::Duration;
+    /// # use limiter::{HardwareAddress, OwnedStore, Rate, Settings};
+    /// let mut store = OwnedStore::new(Settings::new(Rate::per_second(2), 100))?;
+    /// let (now, modem) = (Duration::from_secs(5), HardwareAddress::new([0, 0x1a, 0x2b, 0x3c, 0x4d, 0x5e]));
+    /// store.try_acquire_modem(now, modem, 1)?;
+    /// assert_eq!(store.available(now, modem.key()?)?, 1);
+    /// # Ok::<(), limiter::Refusal>(())
+    /// ```
+    ///
+    /// # Errors
+    ///
+    /// [`Refusal::GroupAddress`]: no modem has the address of a group.
+    pub fn key(self) -> Result<Key, Refusal> {
+        answer::key(modem::identity(&self.0))
     }
 }
 
@@ -75,10 +95,10 @@ impl AsRef<[u8]> for HardwareAddress {
 impl FromStr for HardwareAddress {
     type Err = AddressError;
 
-    /// Six pairs of hexadecimal digits, of either case, with a colon between each two pairs.
+    /// Six pairs of hexadecimal digits, of either case, with `:` between each two pairs, or with `-` between each two.
     fn from_str(text: &str) -> Result<Self, AddressError> {
         let mut octets = [0; 6];
-        let mut pairs = text.split(':');
+        let mut pairs = text.split(if text.contains('-') { '-' } else { ':' });
         for octet in &mut octets {
             *octet = pairs.next().and_then(byte).ok_or(AddressError::Text)?;
         }
@@ -120,7 +140,7 @@ pub enum AddressError {
         /// How many they are.
         bytes: usize,
     },
-    /// The text is not six pairs of hexadecimal digits with colons between them.
+    /// The text is not six pairs of hexadecimal digits with `:` between them, or with `-`.
     Text,
 }
 

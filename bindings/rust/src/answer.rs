@@ -4,11 +4,13 @@ use core::fmt;
 use core::time::Duration;
 
 use limiter_sys::{
-    LIMITER_BAD_ADDRESS, LIMITER_BAD_AMOUNT, LIMITER_BAD_BURST, LIMITER_BAD_MAX_WAIT,
-    LIMITER_BAD_MEMORY, LIMITER_BAD_MOMENT, LIMITER_BAD_PERIOD, LIMITER_BAD_SIZES, LIMITER_DONE,
-    LIMITER_GROUP_ADDRESS, LIMITER_IMPOSSIBLE, LIMITER_NONE, LIMITER_REFUSED, LIMITER_RETRY,
-    LimiterReply,
+    LIMITER_BAD_ADDRESS, LIMITER_BAD_AMOUNT, LIMITER_BAD_BUFFER, LIMITER_BAD_BURST,
+    LIMITER_BAD_MAX_WAIT, LIMITER_BAD_MEMORY, LIMITER_BAD_MOMENT, LIMITER_BAD_PERIOD,
+    LIMITER_BAD_SIZES, LIMITER_DONE, LIMITER_GROUP_ADDRESS, LIMITER_IMPOSSIBLE, LIMITER_NONE,
+    LIMITER_RETRY, LimiterIdentity, LimiterReply,
 };
+
+use crate::Key;
 
 /// The answer to a try or a peek.
 ///
@@ -77,7 +79,7 @@ pub struct Reservation {
     pub moment: Duration,
 }
 
-/// Why a call was refused. A refused call changes nothing. The first that applies is given.
+/// Why a call was refused. A refused call changes nothing.
 #[non_exhaustive]
 #[derive(Debug, Clone, Copy, PartialEq, Eq, Hash)]
 pub enum Refusal {
@@ -99,6 +101,8 @@ pub enum Refusal {
     AddressLength,
     /// The address is that of a group, and not of a modem ([`HardwareAddress::is_group`](crate::HardwareAddress::is_group)).
     GroupAddress,
+    /// The buffer is shorter than the desk line.
+    Buffer,
     /// The library answered as this crate does not know: the two are of different versions. Here the call may have done something.
     Unknown {
         /// The code that the library gave.
@@ -108,7 +112,7 @@ pub enum Refusal {
 
 impl Refusal {
     /// Those that have a number.
-    const NUMBERED: [Self; 9] = [
+    const NUMBERED: [Self; 10] = [
         Self::Amount,
         Self::Period,
         Self::Burst,
@@ -118,33 +122,34 @@ impl Refusal {
         Self::MaxWait,
         Self::AddressLength,
         Self::GroupAddress,
+        Self::Buffer,
     ];
 
     /// The code that the library answered with: 10 and the number of the refusal.
     #[must_use]
     pub const fn code(self) -> u64 {
-        LIMITER_REFUSED
-            + match self {
-                Self::Amount => LIMITER_BAD_AMOUNT,
-                Self::Period => LIMITER_BAD_PERIOD,
-                Self::Burst => LIMITER_BAD_BURST,
-                Self::Sizes => LIMITER_BAD_SIZES,
-                Self::Memory => LIMITER_BAD_MEMORY,
-                Self::Moment => LIMITER_BAD_MOMENT,
-                Self::MaxWait => LIMITER_BAD_MAX_WAIT,
-                Self::AddressLength => LIMITER_BAD_ADDRESS,
-                Self::GroupAddress => LIMITER_GROUP_ADDRESS,
-                Self::Unknown { code } => return code,
-            }
+        match self {
+            Self::Amount => LIMITER_BAD_AMOUNT,
+            Self::Period => LIMITER_BAD_PERIOD,
+            Self::Burst => LIMITER_BAD_BURST,
+            Self::Sizes => LIMITER_BAD_SIZES,
+            Self::Memory => LIMITER_BAD_MEMORY,
+            Self::Moment => LIMITER_BAD_MOMENT,
+            Self::MaxWait => LIMITER_BAD_MAX_WAIT,
+            Self::AddressLength => LIMITER_BAD_ADDRESS,
+            Self::GroupAddress => LIMITER_GROUP_ADDRESS,
+            Self::Buffer => LIMITER_BAD_BUFFER,
+            Self::Unknown { code } => code,
+        }
     }
 
-    /// What a reply says that is none of those which its call is known to give.
+    /// What a code says that is none of those which its call is known to give.
     #[cold]
-    fn told(reply: LimiterReply) -> Self {
+    fn of(code: u64) -> Self {
         Self::NUMBERED
             .into_iter()
-            .find(|refusal| refusal.code() == reply.code)
-            .unwrap_or(Self::Unknown { code: reply.code })
+            .find(|refusal| refusal.code() == code)
+            .unwrap_or(Self::Unknown { code })
     }
 }
 
@@ -160,6 +165,7 @@ impl fmt::Display for Refusal {
             Self::MaxWait => "the longest wait is over 2^46 ns",
             Self::AddressLength => "the address is not six bytes",
             Self::GroupAddress => "the address is that of a group",
+            Self::Buffer => "the buffer is shorter than the line",
             Self::Unknown { code } => {
                 return write!(f, "the library answered with the unknown code {code}");
             }
@@ -180,7 +186,7 @@ pub(crate) fn decision(reply: LimiterReply) -> Result<Decision, Refusal> {
             moment: Duration::from_nanos(reply.moment),
         }),
         LIMITER_IMPOSSIBLE => Ok(Decision::Impossible),
-        _ => Err(Refusal::told(reply)),
+        _ => Err(Refusal::of(reply.code)),
     }
 }
 
@@ -192,7 +198,7 @@ pub(crate) fn reservation(reply: LimiterReply) -> Result<Option<Reservation>, Re
             moment: Duration::from_nanos(reply.moment),
         })),
         LIMITER_NONE => Ok(None),
-        _ => Err(Refusal::told(reply)),
+        _ => Err(Refusal::of(reply.code)),
     }
 }
 
@@ -201,7 +207,7 @@ pub(crate) fn known(reply: LimiterReply) -> Result<bool, Refusal> {
     match reply.code {
         LIMITER_DONE => Ok(true),
         LIMITER_NONE => Ok(false),
-        _ => Err(Refusal::told(reply)),
+        _ => Err(Refusal::of(reply.code)),
     }
 }
 
@@ -209,7 +215,21 @@ pub(crate) fn known(reply: LimiterReply) -> Result<bool, Refusal> {
 pub(crate) fn count(reply: LimiterReply) -> Result<u64, Refusal> {
     match reply.code {
         LIMITER_DONE => Ok(reply.number),
-        _ => Err(Refusal::told(reply)),
+        _ => Err(Refusal::of(reply.code)),
+    }
+}
+
+/// The bytes of a line.
+pub(crate) fn size(reply: LimiterReply) -> Result<usize, Refusal> {
+    let bytes = count(reply)?;
+    usize::try_from(bytes).map_err(|_| Refusal::of(reply.code))
+}
+
+/// The key of a modem.
+pub(crate) fn key(identity: LimiterIdentity) -> Result<Key, Refusal> {
+    match identity.code {
+        LIMITER_DONE => Ok(Key::new(identity.hash, identity.key)),
+        code => Err(Refusal::of(code)),
     }
 }
 
@@ -272,7 +292,7 @@ mod tests {
 
     #[test]
     fn a_refusal_has_the_code_that_it_was_told_by() {
-        for (code, refusal) in (11..=17).chain(21..=22).zip(Refusal::NUMBERED) {
+        for (code, refusal) in (11..=17).chain(21..=23).zip(Refusal::NUMBERED) {
             assert_eq!(refusal.code(), code);
             assert_eq!(known(reply(code)), Err(refusal));
         }

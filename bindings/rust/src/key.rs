@@ -3,8 +3,11 @@
 /// The identity of a key: the key and its hash, which is the caller's.
 #[derive(Debug, Clone, Copy, PartialEq, Eq, PartialOrd, Ord, Hash)]
 pub struct Key {
-    /// Any 64-bit hash that is the same at every call. Its bits 40 to 45 choose the shard. Keys with one hash share a remembered debt, so use
-    /// a hash with a secret where strangers choose the keys.
+    /// The caller's hash of the key, the same at every call. Its bits 40 to 45 choose the shard, and its lowest bits the place in the shard's index, so
+    /// all of these have to vary from key to key. A hash of 32 bits, or the key itself, has 0 in bits 40 to 45: then one shard gets all keys, no call is
+    /// refused for it, and modems are turned away while the other shards are empty. You notice it by [`Store::len`](crate::Store::len): with 64 shards it
+    /// stays at `max_keys` / 64 however many modems ask. Where you have only such a number, take [`Key::fnv1a`] of it. Keys with one hash share a
+    /// remembered debt, so use a hash with a secret where strangers choose the keys.
     pub hash: u64,
     /// The key.
     pub key: u64,

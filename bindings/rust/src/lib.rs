@@ -1,7 +1,8 @@
 //! A per-key limiter store in memory of a fixed size: a safe interface of the verified library `liblimiter.a`.
 //!
-//! Every key has a token bucket. The store says whether a request of so many tokens is answered now, later, or never. It has no lock, clock or
-//! hash of its own, and takes no memory after set-up: each call is given the moment and the key.
+//! Every key has a token bucket. The store answers whether a request for some tokens is granted now, later, or never. It has no lock and no clock of its
+//! own, and takes no memory after set-up: each call gets the moment and the key with its hash. [`Key::fnv1a`] hashes for callers who have no hash of their
+//! own, and the library hashes hardware addresses.
 //!
 //! ```
 //! use core::time::Duration;
@@ -23,7 +24,7 @@
 //!
 //! Five calls take a [`HardwareAddress`] in place of a [`Key`]: [`try_acquire_modem`](Store::try_acquire_modem),
 //! [`reserve_modem`](Store::reserve_modem), [`peek_modem`](Store::peek_modem), [`refund_modem`](Store::refund_modem) and
-//! [`remove_modem`](Store::remove_modem). The library hashes the address, and makes its key.
+//! [`remove_modem`](Store::remove_modem). The library hashes the address, and makes its key. [`HardwareAddress::key`] gives both, for the other calls.
 //!
 //! ```
 //! # use core::time::Duration;
@@ -63,9 +64,8 @@
 //!
 //! # Room
 //!
-//! Keys fall on the shards by their hash, and not evenly: a shard can be full while the store as a whole is not. So ask for more
-//! [`max_keys`](Settings::max_keys) than there are modems. With 2,000 for 1,000 modems on 64 shards, or 3,400 for 2,000, a shard is seldom full.
-//! A modem that finds its shard full is not lost: another is forgotten for it, whose debt is kept, or it is told when to ask again.
+//! bindings/README.md ("Shards") says how many shards to ask for, and how many [`max_keys`](Settings::max_keys). A modem that finds its shard full is not
+//! lost: another is forgotten for it, whose debt is kept, or it has to ask again later.
 //!
 //! # Features
 //!

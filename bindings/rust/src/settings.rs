@@ -12,10 +12,10 @@ use crate::Refusal;
 pub struct Settings {
     /// The rate that every key has. `None` is a closed limiter, which grants a cost of 0 alone.
     pub rate: Option<Rate>,
-    /// The keys to make room for, 0 to 65,536; each shard has room for an equal share, rounded up, at least 1. Keys fall on the shards unevenly, so
-    /// a shard can be full while the store as a whole is not: ask for more keys than there are modems.
+    /// The keys to make room for, 0 to 65,536; each shard has room for an equal share, rounded up, at least 1.
     pub max_keys: u64,
     /// The shards asked for: 0 to 64. The number is first raised to `max_keys` / 16,384, rounded up, and at least 1, and then rounded up to a power of two.
+    /// bindings/README.md ("Shards") says how many to ask for, and how many keys.
     pub shards: u64,
     /// A key whose bucket is full and that was idle for this long may be forgotten; `None`: never for that.
     pub idle: Option<Duration>,
@@ -82,8 +82,8 @@ impl Rate {
 }
 
 impl Settings {
-    /// A store of one shard for up to `max_keys` keys with this rate. A call looks through the keys of one shard, so a large store is faster with
-    /// 64 [`shards`](Settings::shards()).
+    /// A store of one shard for up to `max_keys` keys with this rate. bindings/README.md ("Shards") says when to ask for more
+    /// [`shards`](Settings::shards()).
     #[must_use]
     pub const fn new(rate: Rate, max_keys: u64) -> Self {
         Self {
@@ -104,7 +104,7 @@ impl Settings {
         }
     }
 
-    /// With so many shards.
+    /// With this number of shards.
     #[must_use]
     pub const fn shards(mut self, shards: u64) -> Self {
         self.shards = shards;

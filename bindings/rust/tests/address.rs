@@ -26,6 +26,7 @@ fn text_and_bytes() {
     assert_eq!(address.to_string(), text);
     assert_eq!(format!("{address:?}"), format!("HardwareAddress({text})"));
     assert_eq!(text.to_uppercase().parse(), Ok(address));
+    assert_eq!(text.replace(':', "-").parse(), Ok(address));
     assert_eq!(HardwareAddress::from(<[u8; 6]>::from(address)), address);
     assert_eq!(HardwareAddress::try_from(address.as_ref()), Ok(address));
     assert!(GROUP.is_group() && !address.is_group() && !MODEM.is_group());
@@ -41,7 +42,10 @@ fn what_is_no_address() {
         "00:1a:2b:3c:4d:5e:6f",
         "00:1a:2b:3c:4d:5e:",
         ":00:1a:2b:3c:4d:5e",
-        "00-1a-2b-3c-4d-5e",
+        "00-1a:2b-3c-4d-5e",
+        "00:1a:2b:3c:4d-5e",
+        "00-1a-2b-3c-4d-5e-",
+        "00.1a.2b.3c.4d.5e",
         "001a2b3c4d5e",
         "0:1a:2b:3c:4d:5e",
         "000:1a:2b:3c:4d:5e",
@@ -89,6 +93,19 @@ fn a_call_by_address_is_the_call_on_its_key() {
     assert_eq!(theirs.remove(AS_KEY), Ok(true));
     assert_eq!(ours.words(), theirs.words());
     assert_eq!(ours.remove_modem(MODEM), Ok(false));
+}
+
+#[test]
+fn an_address_has_the_key_that_its_calls_are_on() {
+    assert_eq!(MODEM.key(), Ok(AS_KEY));
+    assert_eq!(GROUP.key(), Err(Refusal::GroupAddress));
+    let turned = HardwareAddress::new([0x5e, 0x4d, 0x3c, 0x2b, 0x1a, 0x00]);
+    let key = turned.key().expect("no group");
+    assert_eq!(key.key, 0x5e4d_3c2b_1a00);
+    assert_ne!(key.hash, AS_KEY.hash);
+    let (mut store, now) = (store(), 5 * SECOND);
+    assert!(store.try_acquire_modem(now, MODEM, 3).is_ok());
+    assert_eq!(store.available(now, AS_KEY), Ok(1));
 }
 
 #[test]

@@ -1,12 +1,15 @@
 //! Desk lines of every kind, with the smallest and the largest numbers, in buffers of every length; and random ones, read back here.
 
-use limiter::DeskLine;
+use core::time::Duration;
+
+use limiter::{DeskLine, Refusal};
 
 const MOST: u64 = u64::MAX;
+const LAST: Duration = Duration::from_nanos(MOST);
 
 fn recorded() -> [(DeskLine, &'static str); 11] {
-    let (now, key, cost, max_wait) = (0, 0, 0, 0);
-    let largest = (MOST, MOST, u32::MAX);
+    let (now, key, cost, max_wait) = (Duration::ZERO, 0, 0, Duration::ZERO);
+    let largest = (LAST, MOST, u32::MAX);
     [
         (DeskLine::Try { now, key, cost }, "a 0 0 0"),
         (
@@ -37,10 +40,10 @@ fn recorded() -> [(DeskLine, &'static str); 11] {
         ),
         (
             DeskLine::Reserve {
-                now: 500_000_000,
+                now: Duration::from_millis(500),
                 key: 7,
                 cost: 3,
-                max_wait: 1_000_000_000,
+                max_wait: Duration::from_secs(1),
             },
             "r 500000000 7 3 1000000000",
         ),
@@ -49,7 +52,7 @@ fn recorded() -> [(DeskLine, &'static str); 11] {
                 now: largest.0,
                 key: largest.1,
                 cost: largest.2,
-                max_wait: MOST,
+                max_wait: LAST,
             },
             "r 18446744073709551615 18446744073709551615 4294967295 18446744073709551615",
         ),
@@ -74,10 +77,10 @@ fn recorded_lines_in_buffers_of_every_length() {
         for length in 0..size + 3 {
             let mut buffer = vec![0xee; length];
             if length < size {
-                assert_eq!(line.write(&mut buffer), None);
+                assert_eq!(line.write(&mut buffer), Err(Refusal::Buffer));
                 assert!(buffer.iter().all(|&byte| byte == 0xee));
             } else {
-                assert_eq!(line.write(&mut buffer), Some(size));
+                assert_eq!(line.write(&mut buffer), Ok(size));
                 assert_eq!(&buffer[..size - 1], text.as_bytes());
                 assert_eq!(buffer[size - 1], b'\n');
                 assert!(buffer[size..].iter().all(|&byte| byte == 0xee));
@@ -88,6 +91,21 @@ fn recorded_lines_in_buffers_of_every_length() {
     assert_eq!(longest.into_iter().max(), Some(DeskLine::LONGEST));
 }
 
+/// A time that 64 bits of nanoseconds cannot hold is written as the largest that they can: the desk and a store refuse both.
+#[test]
+fn a_time_past_64_bits_is_the_largest() {
+    let (key, cost) = (7, 3);
+    for now in [LAST, LAST + Duration::from_nanos(1), Duration::MAX] {
+        let line = DeskLine::Reserve {
+            now,
+            key,
+            cost,
+            max_wait: now,
+        };
+        assert_eq!(line.to_string(), format!("r {MOST} 7 3 {MOST}"));
+    }
+}
+
 /// A line as another program would read it.
 fn read(line: &str) -> Option<DeskLine> {
     let mut fields = line.split(' ');
@@ -96,22 +114,23 @@ fn read(line: &str) -> Option<DeskLine> {
         .map(|field| field.parse().ok())
         .collect::<Option<_>>()?;
     let small = |n: u64| u32::try_from(n).ok();
+    let time = Duration::from_nanos;
     Some(match (letter, &numbers[..]) {
         ("a", &[now, key, cost]) => DeskLine::Try {
-            now,
+            now: time(now),
             key,
             cost: small(cost)?,
         },
         ("p", &[now, key, cost]) => DeskLine::Peek {
-            now,
+            now: time(now),
             key,
             cost: small(cost)?,
         },
         ("r", &[now, key, cost, max_wait]) => DeskLine::Reserve {
-            now,
+            now: time(now),
             key,
             cost: small(cost)?,
-            max_wait,
+            max_wait: time(max_wait),
         },
         ("f", &[key, cost]) => DeskLine::Refund {
             key,
@@ -139,14 +158,18 @@ impl Random {
         self.word() >> bits
     }
 
+    fn time(&mut self) -> Duration {
+        Duration::from_nanos(self.number())
+    }
+
     fn small(&mut self) -> u32 {
         let bits = self.word() >> 59;
         (self.word() >> 32 >> bits) as u32
     }
 
     fn line(&mut self) -> DeskLine {
-        let (now, key, cost, max_wait) =
-            (self.number(), self.number(), self.small(), self.number());
+        let (now, max_wait) = (self.time(), self.time());
+        let (key, cost) = (self.number(), self.small());
         match (self.word() >> 32) % 5 {
             0 => DeskLine::Try { now, key, cost },
             1 => DeskLine::Peek { now, key, cost },

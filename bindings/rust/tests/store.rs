@@ -299,11 +299,16 @@ fn refusals_read_as_in_the_header() {
         Refusal::Memory,
         Refusal::Moment,
         Refusal::MaxWait,
+        Refusal::AddressLength,
+        Refusal::GroupAddress,
+        Refusal::Buffer,
     ];
     for refusal in refusals {
         let line = format!("return \"{refusal}\";");
         assert!(header.contains(&line), "{line}");
     }
+    // The four other codes, and the one for all that the header does not know.
+    assert_eq!(header.matches(": return \"").count(), refusals.len() + 5);
 }
 
 #[test]
@@ -321,6 +326,37 @@ fn a_store_is_resumed() {
     words.fill(u64::MAX);
     assert_eq!(refused(&words), Refusal::Memory);
     assert!(words.iter().all(|&word| word == u64::MAX));
+}
+
+/// What a resume does not look at: other settings of the same size, and any word that is no count of slots. A count of debts is refused when a key of its
+/// shard asks.
+#[test]
+fn a_resume_looks_at_the_slot_counts_alone() {
+    let settings = Settings::new(R, 1);
+    let mut first = store(settings);
+    let [modem] = modems([7]);
+    assert!(granted(first.try_acquire(SECOND, modem, 4)));
+    let words = first.into_words();
+    let refused: Vec<usize> = (0..words.len())
+        .filter(|&place| {
+            let mut damaged = words.clone();
+            damaged[place] = u64::MAX;
+            Look::resume(settings, &damaged[..]).is_err()
+        })
+        .collect();
+    assert_eq!(refused.len(), 1);
+    let other = Settings::new(R.burst(5), 1);
+    assert!(Look::resume(other, &words[..]).is_ok());
+    let asked: Vec<usize> = (0..words.len())
+        .filter(|&place| {
+            let mut damaged = words.clone();
+            damaged[place] = u64::MAX;
+            let peeked =
+                Look::resume(settings, &damaged[..]).map(|look| look.peek(SECOND, modem, 1));
+            matches!(peeked, Ok(Err(Refusal::Memory)))
+        })
+        .collect();
+    assert_eq!(asked.len(), 1);
 }
 
 #[test]

@@ -1,6 +1,6 @@
--- The limiter on plain numbers, as C and Rust call it: which settings the numbers of a settings struct are, the words to lend, and
--- the hash of a key.
-use Prim.Native.Nat.{ℕ}
+-- The limiter on plain numbers, as C and Rust call it: which settings the numbers of a settings struct are, the words to lend, the
+-- hash of a key, and the version of the interface.
+use Prim.Native.Nat.{ℕ, _+_, _*_}
 use mathlib.Core.Bool.{cond}
 use lib.Dec.{eqb}
 use Rattle.units.specs.declared.OptionNanos.{OptionNanos}
@@ -60,3 +60,7 @@ wordsToLend s = cond (eqb (sizeRefusal s) 0) (memoryWords s) 0
 -- The hash of a key that is offered to callers: FNV-1a over its eight bytes, lowest first.
 abbrev pub hashOf : ℕ → ℕ
 hashOf key = fnv1a (lowestFirst 8 key)
+
+-- The version 0.5.0 as one number: 65,536 times the major number, 256 times the minor one, and the patch.
+abbrev pub versionNumber : ℕ
+versionNumber = 65536 * 0 + 256 * 5 + 0

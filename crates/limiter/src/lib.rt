@@ -6,7 +6,7 @@ ghost use Rattle.units.specs.Units.{nanosOf};
 ghost use Rattle.rules.specs.Replies as Replies;
 ghost use Rattle.rules.specs.Rules as Rules;
 ghost use Rattle.requests.specs.code.Attempts.{LeftFor, ruleTo};
-ghost use Rattle.limiter.specs.Exported.{identityOf, wordsToLend, hashOf};
+ghost use Rattle.limiter.specs.Exported.{identityOf, wordsToLend, hashOf, versionNumber};
 ghost use Rattle.limiter.specs.Exported.{settingsOf, limitOf, rateOf, tokensOf, boundsOf, evictionOf};
 use bucket::Request;
 use requests::Attempt;
@@ -23,6 +23,13 @@ use shard::Identity;
 use units::Nanos;
 
 mod lines;
+
+// The version of the interface: bindings/c/limiter.h and bindings/rust have the same.
+const MAJOR: u32 = 0;
+
+const MINOR: u32 = 5;
+
+const PATCH: u32 = 0;
 
 // The settings as numbers. A flag is off at 0 and on at any other number.
 #[repr(C)]
@@ -210,6 +217,15 @@ pub extern "C" fn limiter_key_hash(key: u64) -> u64
     ensures { λ r. ⌜ r ≡ hashOf key ⌝ }
 {
     hash::key_hash(key)
+}
+
+// The version of this interface. The name holds the numbers that have to be equal in a caller's header and in the library: a caller's objects refer to it, so a
+// library of another version does not link.
+#[no_mangle]
+pub extern "C" fn limiter_version_0_5() -> u32
+    ensures { λ r. ⌜ r ≡ versionNumber ⌝ }
+{
+    65_536 * MAJOR + 256 * MINOR + PATCH
 }
 
 // The rest of a request that an attempt left. It takes the settings as numbers, so that a known key's call need not keep the converted settings in registers.

@@ -7,10 +7,20 @@ ghost use Rattle.units.specs.Units.{nanosOf};
 ghost use Rattle.rules.specs.Replies as Replies;
 ghost use Rattle.modems.specs.Address as Address;
 ghost use Rattle.limiter.specs.Exported.{settingsOf};
+ghost use Rattle.limiter_modems.specs.IdentityTold.{identityTold};
 use limiter::LimiterSettings;
 use limiter::settings_of;
 use rules::codes::Told;
+use modems::Identified;
 use units::Nanos;
+
+// The identity of a modem as numbers: the code 0, and the hash and the key of its address; or the code of a refusal, 0 and 0.
+#[repr(C)]
+pub struct LimiterIdentity {
+    pub code: u64,
+    pub hash: u64,
+    pub key: u64,
+}
 
 // Takes `cost` tokens for a modem at the moment `at`, if its bucket has them: granted, to be tried again after a wait, or impossible.
 #[no_mangle]
@@ -88,4 +98,23 @@ pub extern "C" fn limiter_modem_remove(
     ensures { λ r. ⌜ outcome r (now (ws .exit)) ≡ Replies.told (Address.remove (settingsOf settings) (now (address .entry)) (now (ws .entry))) ⌝ }
 {
     modems::remove(settings_of(settings), ws, address).told()
+}
+
+// The hash and the key that the calls above give a modem of this address, for the calls that take a hash and a key.
+#[no_mangle]
+pub extern "C" fn limiter_modem_identity(address: &[u8]) -> LimiterIdentity
+    ensures { λ r. ⌜ r ≡ identityTold (now (address .entry)) ⌝ }
+{
+    match modems::identify(address) {
+        Identified::Refused(refusal) => LimiterIdentity {
+            code: 10 + (refusal as u64),
+            hash: 0,
+            key: 0,
+        },
+        Identified::Modem(identity) => LimiterIdentity {
+            code: 0,
+            hash: identity.hash,
+            key: identity.key,
+        },
+    }
 }

@@ -14,7 +14,8 @@ use Rattle.rows.specs.Outcome.{Outcome, outcome}
 use Rattle.rules.specs.declared.Reply.{Reply}
 use Rattle.rules.specs.declared.Reply.the-variants.{Refused}
 use Rattle.rules.specs.Rules.{unlessRefused}
-use Rattle.modems.specs.Address.{addressBytes, keyFrom, groupBit, addressRefusal}
+use Rattle.modems.specs.Address.{addressBytes, keyFrom, groupBit, addressRefusal, identityOf, identified}
+use Rattle.modems.specs.declared.Identified.the-variants as names
 
 module _ (address : List ℕ) where
   -- A slice of another length is refused as 11, whatever its bytes.
@@ -52,6 +53,16 @@ module _ (address ws : List ℕ) {told : ℕ} (is : told ≡ addressRefusal addr
       → made ≡ accepted → made ≡ unlessRefused (addressRefusal address) ws accepted
   unfolding unlessRefused
   limiters-call-is-made none gave = rw (sym is, eq-eqb _ _ none) gave
+
+-- What a slice names, as the code comes to it: the number that it is refused as, or its identity.
+module _ (address : List ℕ) {told : ℕ} (is : told ≡ addressRefusal address) where
+  pub refused-names-no-modem : (told ≡ 0 → ⊥) → names.Refused told ≡ identified address
+  unfolding identified
+  refused-names-no-modem some = rw (sym is, ne-eqb _ _ some)
+
+  pub not-refused-names-a-modem : told ≡ 0 → names.Modem (identityOf address) ≡ identified address
+  unfolding identified
+  not-refused-names-a-modem none = rw (sym is, eq-eqb _ _ none)
 
 -- Making the key from place i on takes the byte there, and goes on from the next place; past the last byte it is the number reached.
 pub key-takes-next-byte : (high : ℕ) (bytes : List ℕ) (i : ℕ) → i < length bytes

@@ -1,4 +1,5 @@
--- Keys of addresses: equal addresses have equal keys, and different ones different keys; and a key fits 48 bits.
+-- Keys and identities of addresses: equal addresses have equal ones, and different addresses different ones; and a key fits 48 bits. A modem's key in the
+-- limiter is its identity, hash and key number together. The key number alone tells addresses apart, and so does the identity.
 use Prim.Native.Nat.{ℕ, _+_, _*_, _^_, _<_, _≤_}
 use mathlib.Core.Path.{_≡_, refl, ap}
 use mathlib.Core.Bool.{Bool, true, false, _&&_}
@@ -8,7 +9,7 @@ use lib.ListN.{length}
 use native.Mathlib.Nat.{pow-suc, mul-le-mul-right}
 use native.Mathlib.Omega.{arith}
 use borrow.Author.Tests.{ltb-true}
-use Rattle.modems.specs.Address.{addressBytes, areBytes, keyFrom, keyOf}
+use Rattle.modems.specs.Address.{addressBytes, areBytes, keyFrom, keyOf, identityOf}
 
 -- The first of some bytes is a byte, and so are the others.
 pub byte-and-bytes : (byte : ℕ) (bytes : List ℕ) → areBytes (byte ∷ bytes) ≡ true → (byte < 256) × (areBytes bytes ≡ true)
@@ -21,6 +22,10 @@ byte-and-bytes byte bytes all = both (ltb byte 256) (ltb-true byte 256) all
 -- Equal addresses have equal keys.
 pub equal-addresses-have-equal-keys : (a b : List ℕ) → a ≡ b → keyOf a ≡ keyOf b
 equal-addresses-have-equal-keys a b same = ap keyOf same
+
+-- Equal addresses have equal identities.
+pub equal-addresses-have-equal-identities : (a b : List ℕ) → a ≡ b → identityOf a ≡ identityOf b
+equal-addresses-have-equal-identities a b same = ap identityOf same
 
 -- From two numbers on, as many bytes lead to one key only from equal numbers by equal bytes.
 one-key-one-way : (h k : ℕ) (a b : List ℕ) → areBytes a ≡ true → areBytes b ≡ true → length a ≡ length b → keyFrom h a ≡ keyFrom k b → (h ≡ k) × (a ≡ b)
@@ -45,6 +50,17 @@ equal-keys-have-equal-addresses a b all every six as-many same = one-key-one-way
 pub different-addresses-have-different-keys : (a b : List ℕ) → areBytes a ≡ true → areBytes b ≡ true → length a ≡ addressBytes → length b ≡ addressBytes
     → (a ≡ b → ⊥) → keyOf a ≡ keyOf b → ⊥
 different-addresses-have-different-keys a b all every six as-many different same = different (equal-keys-have-equal-addresses a b all every six as-many same)
+
+-- Equal identities are those of equal addresses: different addresses have different identities, whatever their hashes.
+pub equal-identities-have-equal-addresses : (a b : List ℕ) → areBytes a ≡ true → areBytes b ≡ true → length a ≡ addressBytes → length b ≡ addressBytes
+    → identityOf a ≡ identityOf b → a ≡ b
+equal-identities-have-equal-addresses a b all every six as-many same = equal-keys-have-equal-addresses a b all every six as-many (ap (λ i. i .key) same)
+
+-- Different addresses have different identities.
+pub different-addresses-have-different-identities : (a b : List ℕ) → areBytes a ≡ true → areBytes b ≡ true → length a ≡ addressBytes
+    → length b ≡ addressBytes → (a ≡ b → ⊥) → identityOf a ≡ identityOf b → ⊥
+different-addresses-have-different-identities a b all every six as-many different same =
+    different (equal-identities-have-equal-addresses a b all every six as-many same)
 
 -- So many bytes, from a number on, stay below the next number with as many zero bytes behind it.
 below-next : (high : ℕ) (bytes : List ℕ) → areBytes bytes ≡ true → keyFrom high bytes < (high + 1) * 256 ^ length bytes

@@ -4,7 +4,8 @@ use mathlib.Core.List.{List, [], _∷_}
 use Prim.Native.Nat.{ℕ}
 use lib.ListN.{replicate}
 use Rattle.hash.specs.Fnv.{mixed, hashFrom}
-use Rattle.modems.specs.Address.{keyFrom, keyOf, hashOf, addressRefusal}
+use Rattle.modems.specs.Address.{keyFrom, keyOf, hashOf, addressRefusal, identified}
+use Rattle.modems.specs.declared.Identified.the-variants.{Refused, Modem}
 
 abbrev modem : List ℕ
 modem = 0x00 ∷ 0x1a ∷ 0x2b ∷ 0x3c ∷ 0x4d ∷ 0x5e ∷ []
@@ -32,6 +33,15 @@ highest-bit-is-no-group = refl
 pub group-is-refused-12 : addressRefusal (0x01 ∷ 0x00 ∷ 0x5e ∷ 0x00 ∷ 0x00 ∷ 0x01 ∷ []) ≡ 12
 unfolding addressRefusal
 group-is-refused-12 = refl
+
+-- The modem is named by this hash and key; the group by no modem's.
+pub modem-is-identified : identified modem ≡ Modem (record { hash = 0xa6a11141cd935a8b; key = 0x001a2b3c4d5e })
+unfolding identified addressRefusal keyFrom hashFrom mixed
+modem-is-identified = refl
+
+pub group-is-not-identified : identified (0x01 ∷ 0x00 ∷ 0x5e ∷ 0x00 ∷ 0x00 ∷ 0x01 ∷ []) ≡ Refused 12
+unfolding identified addressRefusal
+group-is-not-identified = refl
 
 -- No bytes; and seven whose first has the group bit set: the length comes first.
 pub no-bytes-are-refused-11 : addressRefusal [] ≡ 11

@@ -13,6 +13,8 @@ use Rattle.shard.specs.declared.Identity.{Identity}
 use Rattle.rules.specs.declared.Reply.{Reply}
 use Rattle.rules.specs.Rules.{unlessRefused}
 use Rattle.rules.specs.Rules as Rules
+use Rattle.modems.specs.declared.Identified.{Identified}
+use Rattle.modems.specs.declared.Identified.the-variants.{Refused, Modem}
 
 -- An address has six bytes, and a byte is a number below 256.
 abbrev pub addressBytes : ℕ
@@ -44,6 +46,10 @@ groupBit address = getD address 0 0 % 2
 -- A slice that is not six bytes is refused as 11. The group bit is looked at in six bytes only: where it is set, the address is refused as 12.
 unfoldable pub addressRefusal : List ℕ → ℕ
 addressRefusal address = cond (eqb (length address) addressBytes) (cond (eqb (groupBit address) 0) 0 12) 11
+
+-- What a slice names: a modem by its identity, or no modem, by the number that the slice is refused as.
+unfoldable pub identified : List ℕ → Identified
+identified address = cond (eqb (addressRefusal address) 0) (Modem (identityOf address)) (Refused (addressRefusal address))
 
 -- A call by address is refused for its address before anything else is looked at, the settings too, and changes no word then. Any other is the limiter's call
 -- with the identity of the address: a try,

@@ -1,5 +1,5 @@
 // The limiter for modems that are known by hardware address: five of its operations, on the six bytes of an address as a lent slice, and on settings,
-// arguments and lent words of any kind. A call that is refused by number changes no word.
+// arguments and lent words of any kind. A call that is refused by number changes no word. `identify` gives an address's hash and key.
 ghost use mathlib.Core.Path.{_≡_};
 ghost use lib.ListN.{length};
 ghost use Rattle.rows.specs.Outcome.{outcome};
@@ -10,7 +10,13 @@ use shard::Identity;
 use units::Nanos;
 
 // The bytes of an address.
-pub const ADDRESS_BYTES: usize = 6;
+const ADDRESS_BYTES: usize = 6;
+
+// What a slice names: no modem, by the number that it is refused as, or the modem of this identity.
+pub enum Identified {
+    Refused(u32),
+    Modem(Identity),
+}
 
 // Takes tokens for a modem without waiting: granted, to be tried again after a wait, or impossible.
 pub fn try_acquire_with_cost(
@@ -80,8 +86,19 @@ pub fn remove(settings: Settings, ws: &mut [u64], address: &[u8]) -> Reply
     perkey::remove(settings, ws, identity(address))
 }
 
+// The identity that the five operations give a modem. A caller needs it for what is asked by hash and key alone, and to choose among several stores.
+pub fn identify(address: &[u8]) -> Identified
+    ensures { λ r. ⌜ r ≡ Address.identified (now (address .entry)) ⌝ }
+{
+    let refusal = address_refusal(address);
+    if refusal != 0 {
+        return Identified::Refused(refusal);
+    }
+    Identified::Modem(identity(address))
+}
+
 // The number for a slice that is no address of a modem: 11 if it is not six bytes, else 12 if the group bit is set; 0 for an address.
-pub fn address_refusal(address: &[u8]) -> u32
+fn address_refusal(address: &[u8]) -> u32
     ensures { λ r. ⌜ r ≡ Address.addressRefusal (now (address .entry)) ⌝ }
 {
     if address.len() != ADDRESS_BYTES {
@@ -94,7 +111,7 @@ pub fn address_refusal(address: &[u8]) -> u32
 }
 
 // The identity in the limiter of an address that is not refused: its hash and its key.
-pub fn identity(address: &[u8]) -> Identity
+fn identity(address: &[u8]) -> Identity
     requires { ⌜ Address.addressRefusal (now address) ≡ 0 ⌝ }
     ensures { λ r. ⌜ r ≡ Address.identityOf (now (address .entry)) ⌝ }
 {

@@ -43,15 +43,27 @@ pub struct LimiterSettings {
 #[repr(C)]
 #[derive(Debug, Clone, Copy, PartialEq, Eq, Hash)]
 pub struct LimiterReply {
-    /// One of the codes below, or [`LIMITER_REFUSED`] and the number of a refusal.
+    /// One of the codes below.
     pub code: u64,
     /// A wait in nanoseconds, tokens, or a count of keys, as the call says; else 0.
     pub number: u64,
-    /// `now` and the wait: from when on granted tokens may be used, or when to try again; else 0.
+    /// `now` and the wait: when granted tokens may be used, or when to try again; else 0.
     pub moment: u64,
 }
 
-// The layout that crates/limiter/src/lib.rt declares and the header asserts.
+/// The identity of a modem: `limiter_identity` of the header.
+#[repr(C)]
+#[derive(Debug, Clone, Copy, PartialEq, Eq, Hash)]
+pub struct LimiterIdentity {
+    /// [`LIMITER_DONE`], or [`LIMITER_BAD_ADDRESS`] or [`LIMITER_GROUP_ADDRESS`].
+    pub code: u64,
+    /// The hash of the address; 0 where it is refused.
+    pub hash: u64,
+    /// Its key; 0 where it is refused.
+    pub key: u64,
+}
+
+// The layout that crates/limiter/src/lib.rt and crates/limiter_modems/src/lib.rt declare and the header asserts.
 const _: () = {
     use core::mem::offset_of;
     assert!(size_of::<usize>() == 8, "the library is for 64 bits");
@@ -72,6 +84,10 @@ const _: () = {
     assert!(offset_of!(LimiterReply, code) == 0);
     assert!(offset_of!(LimiterReply, number) == 8);
     assert!(offset_of!(LimiterReply, moment) == 16);
+    assert!(size_of::<LimiterIdentity>() == 24 && align_of::<LimiterIdentity>() == 8);
+    assert!(offset_of!(LimiterIdentity, code) == 0);
+    assert!(offset_of!(LimiterIdentity, hash) == 8);
+    assert!(offset_of!(LimiterIdentity, key) == 16);
 };
 
 /// Granted, from the moment on; or accepted, known, counted.
@@ -82,39 +98,43 @@ pub const LIMITER_RETRY: u64 = 1;
 pub const LIMITER_IMPOSSIBLE: u64 = 2;
 /// No reservation; or the key is unknown.
 pub const LIMITER_NONE: u64 = 3;
-/// This and the number of a refusal.
-pub const LIMITER_REFUSED: u64 = 10;
 
-/// Refused: the amount is not 1 to 65,535.
-pub const LIMITER_BAD_AMOUNT: u64 = 1;
-/// Refused: the period is not 1 to 2^46 ns.
-pub const LIMITER_BAD_PERIOD: u64 = 2;
-/// Refused: the burst is not 1 to 65,535.
-pub const LIMITER_BAD_BURST: u64 = 3;
-/// Refused: more than 65,536 keys or 64 shards.
-pub const LIMITER_BAD_SIZES: u64 = 4;
-/// Refused: another number of words than [`limiter_words`], or a count in them is more than a shard holds.
-pub const LIMITER_BAD_MEMORY: u64 = 5;
-/// Refused: the moment is after 2^62 ns.
-pub const LIMITER_BAD_MOMENT: u64 = 6;
-/// Refused: the longest wait is over 2^46 ns.
-pub const LIMITER_BAD_MAX_WAIT: u64 = 7;
-/// Refused: the address is not six bytes.
-pub const LIMITER_BAD_ADDRESS: u64 = 11;
-/// Refused: the address is that of a group.
-pub const LIMITER_GROUP_ADDRESS: u64 = 12;
-/// Refused: the buffer is shorter than the line.
-pub const LIMITER_BAD_BUFFER: u64 = 13;
+/// Refused as 1: the amount is not 1 to 65,535.
+pub const LIMITER_BAD_AMOUNT: u64 = 11;
+/// Refused as 2: the period is not 1 to 2^46 ns.
+pub const LIMITER_BAD_PERIOD: u64 = 12;
+/// Refused as 3: the burst is not 1 to 65,535.
+pub const LIMITER_BAD_BURST: u64 = 13;
+/// Refused as 4: more than 65,536 keys or 64 shards.
+pub const LIMITER_BAD_SIZES: u64 = 14;
+/// Refused as 5: another number of words than [`limiter_words`], or a count in them is more than a shard holds.
+pub const LIMITER_BAD_MEMORY: u64 = 15;
+/// Refused as 6: the moment is after 2^62 ns.
+pub const LIMITER_BAD_MOMENT: u64 = 16;
+/// Refused as 7: the longest wait is over 2^46 ns.
+pub const LIMITER_BAD_MAX_WAIT: u64 = 17;
+/// Refused as 11: the address is not six bytes.
+pub const LIMITER_BAD_ADDRESS: u64 = 21;
+/// Refused as 12: the address is that of a group.
+pub const LIMITER_GROUP_ADDRESS: u64 = 22;
+/// Refused as 13: the buffer is shorter than the line.
+pub const LIMITER_BAD_BUFFER: u64 = 23;
 
 /// The bytes of the longest desk line that is written, LF counted.
 pub const LIMITER_LONGEST_LINE: usize = 76;
 
-// The two functions that are lent no words are safe with any arguments. The others ask of a caller that `words` and `len` are words that it may
-// read, and write unless they are `const`, for the length of the call, or that `len` is 0; `words` may be null then.
+/// Every program that has this crate in it refers to the version by its name, so a library of another minor version does not link.
+#[used]
+static VERSION_NEEDED: extern "C" fn() -> u32 = limiter_version_0_5;
+
+// The three functions that are lent nothing are safe with any arguments. What the others ask of a caller: those with `words` and `len`, that these are
+// words that it may read, and write unless they are `const`, for the length of the call; those with `buffer` and `len`, that these are bytes that it may
+// write for the length of the call. Where `len` is 0 the pointer may be null.
 #[allow(missing_docs, reason = "bindings/c/limiter.h has a comment on each")]
 unsafe extern "C" {
     pub safe fn limiter_words(settings: LimiterSettings) -> u64;
     pub safe fn limiter_key_hash(key: u64) -> u64;
+    pub safe fn limiter_version_0_5() -> u32;
 
     pub fn limiter_set_up(settings: LimiterSettings, words: *mut u64, len: usize) -> LimiterReply;
     pub fn limiter_try(

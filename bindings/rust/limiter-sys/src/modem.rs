@@ -1,9 +1,9 @@
 //! The calls by hardware address: as C has them, and on slices, safe with any bytes, arguments and words.
 
-use crate::{LimiterReply, LimiterSettings};
+use crate::{LimiterIdentity, LimiterReply, LimiterSettings};
 
-// As the calls on keys, and `address` and `address_len` are bytes that may be read for the length of the call, or `address_len` is 0; `address` may be
-// null then.
+// As the calls on keys, and `address` and `address_len` are bytes that may be read for the length of the call. Where `address_len` is 0 `address` may be
+// null.
 #[allow(missing_docs, reason = "bindings/c/limiter.h has a comment on each")]
 unsafe extern "C" {
     pub fn limiter_modem_try(
@@ -49,10 +49,19 @@ unsafe extern "C" {
         address: *const u8,
         address_len: usize,
     ) -> LimiterReply;
+    pub fn limiter_modem_identity(address: *const u8, address_len: usize) -> LimiterIdentity;
 }
 
-/// A safe function for each C function. The pointers and lengths are those of slices that are borrowed for the call, the words for writing where the
-/// C function writes; it reads and writes nothing else.
+/// `limiter_modem_identity`: the hash and the key of an address.
+#[inline]
+#[must_use]
+pub fn identity(address: &[u8]) -> LimiterIdentity {
+    // SAFETY: the pointer and the length are those of a slice that is borrowed for the call; it reads nothing else and writes nothing.
+    unsafe { limiter_modem_identity(address.as_ptr(), address.len()) }
+}
+
+/// A safe function for each C function that is lent words. The pointers and lengths are those of slices that are borrowed for the call, the words for
+/// writing where the C function writes; it reads and writes nothing else.
 macro_rules! by_address {
     ($($(#[$doc:meta])* $name:ident = $c:ident($words:ty, $as:ident $(, $before:ident: $b:ty)*; address $(, $after:ident: $a:ty)*);)+) => {$(
         $(#[$doc])*

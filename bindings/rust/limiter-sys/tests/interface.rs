@@ -51,7 +51,7 @@ fn no_words_may_be_null() {
             limiter_length(SMALL, null(), 0),
         ]
     };
-    let refused = reply(LIMITER_REFUSED + LIMITER_BAD_MEMORY, 0, 0);
+    let refused = reply(LIMITER_BAD_MEMORY, 0, 0);
     assert_eq!(replies, [refused; 9]);
 }
 
@@ -107,7 +107,6 @@ fn the_header_has_the_same_codes() {
         ("RETRY", LIMITER_RETRY),
         ("IMPOSSIBLE", LIMITER_IMPOSSIBLE),
         ("NONE", LIMITER_NONE),
-        ("REFUSED", LIMITER_REFUSED),
         ("BAD_AMOUNT", LIMITER_BAD_AMOUNT),
         ("BAD_PERIOD", LIMITER_BAD_PERIOD),
         ("BAD_BURST", LIMITER_BAD_BURST),
@@ -134,23 +133,63 @@ fn the_header_has_the_same_codes() {
     );
 }
 
-#[test]
-fn the_header_has_the_same_fields_and_version() {
-    let fields: Vec<&str> = HEADER
-        .lines()
-        .filter_map(|line| line.strip_prefix("    uint"))
-        .filter_map(|line| line.split_once("_t ")?.1.split_once(';'))
-        .map(|(name, _)| name)
-        .collect();
-    let ours = format!("{SMALL:?} {:?}", reply(0, 0, 0));
-    let ours: Vec<&str> = ours
+/// The names of a record's fields, from what `Debug` makes of it.
+fn fields(record: &dyn core::fmt::Debug) -> Vec<String> {
+    format!("{record:?}")
         .split(['{', ',', '}'])
         .filter_map(|part| part.split_once(": "))
-        .map(|(name, _)| name.trim())
+        .map(|(name, _)| name.trim().to_string())
+        .collect()
+}
+
+/// The names of the fields of a struct of the header, in order.
+fn header_fields(name: &str) -> Vec<String> {
+    let (_, body) = HEADER
+        .split_once(&format!("typedef struct {name} {{"))
+        .expect("a struct");
+    let (body, _) = body.split_once(&format!("}} {name};")).expect("its end");
+    body.lines()
+        .filter_map(|line| line.strip_prefix("    uint"))
+        .filter_map(|line| line.split_once("_t ")?.1.split_once(';'))
+        .map(|(name, _)| name.to_string())
+        .collect()
+}
+
+#[test]
+fn the_header_has_the_same_fields() {
+    let identity = modem::identity(&[]);
+    let ours: [(&str, &dyn core::fmt::Debug, usize); 3] = [
+        ("settings", &SMALL, size_of::<LimiterSettings>()),
+        ("reply", &reply(0, 0, 0), size_of::<LimiterReply>()),
+        ("identity", &identity, size_of::<LimiterIdentity>()),
+    ];
+    for (name, record, bytes) in ours {
+        assert_eq!(header_fields(&format!("limiter_{name}")), fields(record));
+        let size = format!("sizeof(limiter_{name}) == {bytes})");
+        assert!(HEADER.contains(&size), "{size}");
+    }
+    assert_eq!(HEADER.matches("typedef struct ").count(), ours.len());
+}
+
+/// The version of the crates is that of the header and of the library; the name that is linked by has the first two numbers of it.
+#[test]
+fn one_version() {
+    let version = env!("CARGO_PKG_VERSION");
+    let numbers: Vec<u32> = version
+        .split('.')
+        .map(|number| number.parse().expect("a number"))
         .collect();
-    assert_eq!(fields, ours);
-    let size = format!("sizeof(limiter_reply) == {})", size_of::<LimiterReply>());
-    assert!(HEADER.contains(&size), "{size}");
-    let version = format!("#define LIMITER_VERSION \"{}\"", env!("CARGO_PKG_VERSION"));
-    assert!(HEADER.contains(&version), "{version}");
+    let number = 65_536 * numbers[0] + 256 * numbers[1] + numbers[2];
+    assert_eq!(limiter_version_0_5(), number);
+    let lines = [
+        format!("#define LIMITER_VERSION \"{version}\""),
+        format!("#define LIMITER_VERSION_NUMBER {number:#08x}"),
+        format!(
+            "uint32_t limiter_version_{}_{}(void);",
+            numbers[0], numbers[1]
+        ),
+    ];
+    for line in lines {
+        assert!(HEADER.contains(&line), "{line}");
+    }
 }
