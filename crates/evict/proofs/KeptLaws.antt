@@ -24,11 +24,10 @@ use Rattle.shard_map.specs.Model.{Shard, Sound, slotAt, withLedger, removeAt}
 use Rattle.shard_map.proofs.StepLaws.{removal-ledger}
 use Rattle.shard_map.proofs.KeptLaws.{weight, short, unpaid, overAll, Keeps, keeps-trans, weight-of-hash, short-own, short-other, count-removed, shortage-removed}
 use Rattle.shard_map.proofs.KeptLaws.{unpaid-settled, full-slot-loses-nothing}
-use Rattle.evict.specs.declared.Awaited.{Awaited}
 use Rattle.evict.specs.declared.Room.{Room}
 use Rattle.evict.specs.Evict.{walked, debtLeft, evictAt, evicted}
-use Rattle.evict.proofs.WalkLaws.{Remarked, remarked-slots, remarked-sound, walk-kept, debtRecorded, debt-recorded-sound, Evicting, full-goes}
-use Rattle.evict.proofs.WalkLaws.{owing-goes, none-goes, evict-cases}
+use Rattle.evict.proofs.WalkLaws.{Remarked, remarked-slots, remarked-sound, walk-kept}
+use Rattle.evict.proofs.CaseLaws.{debtRecorded, debt-recorded-sound, Evicting, full-goes, owing-goes, none-goes, evict-cases}
 
 -- What does not look at marks is the same after a walk.
 all-remarked : (h : ℕ) (slotValue : Slot → ℕ) (debtValue : ℕ → ℕ) → ((slot : Slot) (mark : ℕ) → slotValue (withMark slot mark) ≡ slotValue slot) → (s t : Shard)
@@ -110,7 +109,7 @@ module _ (c : BucketConfig) (h k : ℕ) where
       walk : Remarked s (walked c at s .after)
       walk = walk-kept c at s u some .same
 
-      go : {awaited : Awaited} {t : Shard} {o : Outcome Room Shard} → Sound t → Evicting c at forget awaited t o → Keeps c h k at t (o .after)
+      go : {soonest : ℕ} {t : Shard} {o : Outcome Room Shard} → Sound t → Evicting c at forget soonest t o → Keeps c h k at t (o .after)
       go {t = t} v (full-goes p f) =
           let kept : Keeps c h k at t (removeAt t p) = full-slot-loses-nothing c h k at t p v (f .below) (f .full) in
           record { fewer = kept .fewer; more = kept .more }

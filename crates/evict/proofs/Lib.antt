@@ -1,5 +1,8 @@
 pub mod AwaitedLaws
 pub mod WalkLaws
+pub mod CaseLaws
+pub mod StepLaws
+pub mod RefusalLaws
 pub mod ModelLaws
 pub mod KeptLaws
 pub mod PlaceOrderLaws
