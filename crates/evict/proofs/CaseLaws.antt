@@ -25,11 +25,12 @@ use Rattle.evict.proofs.WalkLaws.{FullSlot, victimIs, walk-chooses}
 abbrev pub debtRecorded : BucketConfig → Nanos → Bool → Shard → ℕ → Outcome Recorded Ledger.Ledger
 debtRecorded c at forget s p = Ledger.recorded (s .ledger) (debtLeft c at (slotAt s p)) at forget
 
-pub debt-recorded-sound : (c : BucketConfig) (at : Nanos) (forget : Bool) (s : Shard) (p : ℕ) → Sound s → Sound (withLedger s (debtRecorded c at forget s p .after))
+pub debt-recorded-sound : (c : BucketConfig) (at : Nanos) (forget : Bool) (s : Shard) (p : ℕ) → Sound s
+    → Sound (withLedger s (debtRecorded c at forget s p .after))
 debt-recorded-sound c at forget s p u = ledger-sound s _ u (recorded-sound (s .ledger) (debtLeft c at (slotAt s p)) at forget (u .ledger))
 
--- How an eviction ends, by the shard that the walk left and the soonest recovery that it noted: a full slot goes; a slot goes once its debt is in the ledger; or
--- none goes, since the ledger had no room.
+-- How an eviction ends, by the shard that the walk left and the soonest recovery that it noted: a full slot goes; a slot goes once its debt is in the ledger;
+-- or none goes, since the ledger had no room.
 pub data Evicting (c : BucketConfig) (at : Nanos) (forget : Bool) (soonest : ℕ) (s : Shard) : Outcome Room Shard → Type 0 where
   full-goes : (p : ℕ) → FullSlot c at s p → Evicting c at forget soonest s (outcome Made (evictAt s p))
   owing-goes : (p : ℕ) → p < s .slots .count → debtRecorded c at forget s p .answer ≡ Done

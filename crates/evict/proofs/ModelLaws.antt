@@ -34,7 +34,8 @@ use Rattle.evict.specs.declared.Victim.{Victim}
 use Rattle.evict.specs.declared.Victim.the-variants.{Free, Owing}
 use Rattle.evict.specs.declared.Room.{Room}
 use Rattle.evict.specs.declared.Room.the-variants.{Made, Refused}
-use Rattle.evict.specs.Evict.{orElse, Notes, noted, looked, goesAtOnce, walkFrom, walked, victimOf, placeOfVictim, evictAt, refusalWait, evictVictim, evicted}
+use Rattle.evict.specs.Evict.{orElse, Notes, noted, looked, goesAtOnce, walkFrom, walked, victimOf, placeOfVictim}
+use Rattle.evict.specs.Evict.{evictAt, refusalWait, evictVictim, evicted}
 use Rattle.evict.specs.code.Awaited.{awaiting, notesOf, newWalk, walkNoted}
 use Rattle.evict.proofs.AwaitedLaws.{new-walk-notes-nothing, awaited-recovers-soonest}
 use Rattle.evict.proofs.WalkLaws.{victimIs, walk-kept, walk-chooses, remarked-sound}
@@ -60,7 +61,8 @@ pub walk-start : (c : BucketConfig) (at : Nanos) (s : Shard) → walkFrom c at (
 unfolding walked
 walk-start c at s = rw (new-walk-notes-nothing c)
 
-pub walk-end : (c : BucketConfig) (at : Nanos) (left : ℕ) (s : Shard) (n : Notes) → left ≡ 0 → walkFrom c at left s n ≡ record { ended = Nowhere; notes = n; after = s }
+pub walk-end : (c : BucketConfig) (at : Nanos) (left : ℕ) (s : Shard) (n : Notes) → left ≡ 0
+    → walkFrom c at left s n ≡ record { ended = Nowhere; notes = n; after = s }
 unfolding walkFrom
 walk-end c at left s n none = rw none
 
@@ -117,13 +119,14 @@ after-walk c at {cap} {ws} {ws′} {ended} {n} intact some same is =
     let kept = rw is at (walk-kept c at (shard cap ws) (intact .sound) some) in
     record {
       intact = intact-after intact same refl (remarked-sound (shard cap ws) (shard cap ws′) (kept .same) (intact .sound));
-      held = victim-held c at (shard cap ws′) (victimOf ended (n .full) (n .unmarked) (handOf (shard cap ws))) (rw is at (walk-chooses c at (shard cap ws) (intact .sound) some));
+      held = victim-held c at (shard cap ws′) (victimOf ended (n .full) (n .unmarked) (handOf (shard cap ws)))
+          (rw is at (walk-chooses c at (shard cap ws) (intact .sound) some));
     }
 
 -- An eviction is the walk, the choice of the victim, and what happens to the victim.
 pub evicted-in-steps : (c : BucketConfig) (at : Nanos) (forget : Bool) (s : Shard) {ended : Place} {n : Notes} {t : Shard} {first : ℕ} {v : Victim}
-    {o : Outcome Room Shard} → walked c at s ≡ record { ended = ended; notes = n; after = t } → first ≡ handOf s → v ≡ victimOf ended (n .full) (n .unmarked) first
-    → o ≡ evictVictim c at forget t (n .soonest) v → o ≡ evicted c at forget s
+    {o : Outcome Room Shard} → walked c at s ≡ record { ended = ended; notes = n; after = t } → first ≡ handOf s
+    → v ≡ victimOf ended (n .full) (n .unmarked) first → o ≡ evictVictim c at forget t (n .soonest) v → o ≡ evicted c at forget s
 unfolding evicted
 evicted-in-steps c at forget s is hand chosen gave = rw (is, ← hand, ← chosen) gave
 
@@ -140,5 +143,6 @@ module _ (c : BucketConfig) (at : Nanos) (forget : Bool) (p soonest : ℕ) (s : 
   pub owing-goes-out : r ≡ Done → outcome Made (evictAt t p) ≡ evictVictim c at forget s soonest (Owing p)
   owing-goes-out is = rw (after-is gave, sym (answer-is gave) ∙ is)
 
-  pub owing-stays : {wait : Nanos} → r ≡ NoRoom wait → outcome (Refused (dueAfter at (refusalWait soonest wait))) t ≡ evictVictim c at forget s soonest (Owing p)
+  pub owing-stays : {wait : Nanos} → r ≡ NoRoom wait
+      → outcome (Refused (dueAfter at (refusalWait soonest wait))) t ≡ evictVictim c at forget s soonest (Owing p)
   owing-stays is = rw (after-is gave, sym (answer-is gave) ∙ is)

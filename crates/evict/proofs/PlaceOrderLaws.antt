@@ -20,7 +20,8 @@ use Rattle.shard_map.proofs.StepLaws.{slots-sound}
 use Rattle.evict.specs.declared.Victim.{Victim}
 use Rattle.evict.specs.declared.Victim.the-variants.{Free, Owing}
 use Rattle.evict.specs.declared.Room.the-variants.{Made}
-use Rattle.evict.specs.Evict.{Notes, nothingNoted, noted, looked, goesAtOnce, Walked, walkFrom, walked, victimOf, evictAt, debtLeft, afterRecording, evictVictim, evicted}
+use Rattle.evict.specs.Evict.{Notes, nothingNoted, noted, looked, goesAtOnce, Walked, walkFrom, walked, victimOf}
+use Rattle.evict.specs.Evict.{evictAt, debtLeft, afterRecording, evictVictim, evicted}
 use Rattle.evict.proofs.WalkLaws.{Remarked, remarked-slots}
 use Rattle.evict.proofs.CaseLaws.{debtRecorded}
 use Rattle.evict.proofs.StepLaws.{evict-keeps-slots, evict-keeps-ledger, evict-sound, evict-complete}
@@ -79,8 +80,9 @@ module _ (c : BucketConfig) (at : Nanos) (forget : Bool) where
   unfolding evicted
   evict-in-place-order s each =
       let w : Walked = walked c at s in
+      let n : Notes = w .notes in
       rw (walk-in-place-order c at s)
-      (victim-in-place-order (w .after) (rw (walk-ledger c at s) (each .ledger)) (w .notes .soonest) (victimOf (w .ended) (w .notes .full) (w .notes .unmarked) (handOf s)))
+      (victim-in-place-order (w .after) (rw (walk-ledger c at s) (each .ledger)) (n .soonest) (victimOf (w .ended) (n .full) (n .unmarked) (handOf s)))
 
   -- The slots that it leaves come from those before, and lookup finds each slot and each debt.
   pub evict-slots-from : (s : Shard) → Sound s → 0 < s .slots .count → SlotsFrom s (evicted c at forget s .after)

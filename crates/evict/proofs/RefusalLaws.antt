@@ -55,8 +55,8 @@ pub record EvictRefusal (forget : Bool) (s : Shard) (wait : Nanos) (after : Shar
   pub same : Remarked s (withLedger after (s .ledger))
   pub debts : after .ledger .debts ≡ s .ledger .debts
 
--- A refusal's wait, by what the ledger told of the debt that it had no room for: the smaller of the soonest recovery of the slots looked at and the ledger's wait, but
--- at least a millisecond.
+-- A refusal's wait, by what the ledger told of the debt that it had no room for: the smaller of the soonest recovery of the slots looked at and the ledger's
+-- wait, but at least a millisecond.
 pub record RefusalWait (c : BucketConfig) (at : Nanos) (forget : Bool) (s : Shard) (wait : Nanos) : Type 0 where
   pub place : ℕ
   pub ledger-wait : Nanos

@@ -91,7 +91,8 @@ module _ (c : BucketConfig) (at : Nanos) (forget : Bool) (s : Shard) (u : Sound 
   pub evict-made-count : evicted c at forget s .answer ≡ Made → evicted c at forget s .after .slots .count + 1 ≡ s .slots .count
   evict-made-count made = omega (arith, go (evict-cases c at forget s u some) made, walk-remarks .count)
     where
-      go : {soonest : ℕ} {t : Shard} {o : Outcome Room Shard} → Evicting c at forget soonest t o → o .answer ≡ Made → o .after .slots .count + 1 ≡ t .slots .count
+      go : {soonest : ℕ} {t : Shard} {o : Outcome Room Shard} → Evicting c at forget soonest t o → o .answer ≡ Made
+          → o .after .slots .count + 1 ≡ t .slots .count
       go {t = t} (full-goes p f) e = omega (arith, removal-count t p, f .below)
       go {t = t} (owing-goes p below done) e = omega (arith, removal-count (withLedger t (debtRecorded c at forget t p .after)) p)
       go {t = t} (none-goes p wait below told) e = made-is-no-refusal (sym e)

@@ -1,4 +1,5 @@
--- The walk of the hand. It only clears marks and moves the hand, the places that it notes hold slots, and the victim that it chooses is held.
+-- The walk of the hand. It only clears marks and moves the hand, the places that it notes hold slots, and the victim that it chooses is held. The worked
+-- examples are checked before the laws, which quote the definitions: a definition that says something else is refused there first.
 use Prim.Native.Nat.{ℕ, zero, suc, _<_}
 use mathlib.Core.Path.{_≡_, refl, _∙_, ap}
 use mathlib.Core.Bool.{true}
@@ -21,6 +22,7 @@ use Rattle.evict.specs.declared.Victim.{Victim}
 use Rattle.evict.specs.declared.Victim.the-variants.{Free, Owing}
 use Rattle.shard_map.specs.Model.{Shard, Sound, slotItems, capOf, slotAt, handOf}
 use Rattle.shard_map.proofs.StepLaws.{hand-below}
+use Rattle.evict.proofs.Worked as Worked
 use Rattle.evict.specs.Evict.{orElse, placeOr, Notes, nothingNoted, noted, looked, goesAtOnce, Walked, walkFrom, walked, freeOr, victimOf}
 
 -- A shard that is another but for the hand and the marks.
@@ -112,7 +114,8 @@ module _ (c : BucketConfig) (at : Nanos) (s : Shard) where
   at-once-is-full : (slot : Slot) → goesAtOnce c at slot ≡ true → lossless c slot at ≡ true
   at-once-is-full slot = by-test (lossless c slot at) (λ t. rw t (λ e. refl)) (λ t. rw t (λ e. e))
 
-  walkFrom-kept : (left : ℕ) (t : Shard) (n : Notes) → Sound s → 0 < s .slots .count → Remarked s t → NotedKept c at s n → WalkKept c at s (walkFrom c at left t n)
+  walkFrom-kept : (left : ℕ) (t : Shard) (n : Notes) → Sound s → 0 < s .slots .count → Remarked s t → NotedKept c at s n
+      → WalkKept c at s (walkFrom c at left t n)
   unfolding walkFrom
   walkFrom-kept zero t n u some r kept = record { same = r; ended = tt; full = kept .full; unmarked = kept .unmarked }
   walkFrom-kept (suc left) t n u some r kept =
@@ -120,7 +123,9 @@ module _ (c : BucketConfig) (at : Nanos) (s : Shard) where
       let held : p < s .slots .count = omega (arith, r .count, hand-below t (omega (arith, r .count))) in
       let next : Remarked s (looked t p) = look-remarks s t p r (omega (arith, r .count, r .cap, u .count-fits)) in
       by-test (goesAtOnce c at (slotAt t p))
-      (λ goes. rw (goes, walkFrom) (record { same = next; ended = seen-full t p r held (at-once-is-full (slotAt t p) goes); full = kept .full; unmarked = kept .unmarked }))
+      (λ goes.
+      let full = seen-full t p r held (at-once-is-full (slotAt t p) goes) in
+      rw (goes, walkFrom) (record { same = next; ended = full; full = kept .full; unmarked = kept .unmarked }))
       (λ stays. rw (stays, walkFrom) (walkFrom-kept left (looked t p) (noted c at n p (slotAt t p)) u some next (noted-kept t n p r held kept)))
 
   pub walk-kept : Sound s → 0 < s .slots .count → WalkKept c at s (walked c at s)

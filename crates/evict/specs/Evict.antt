@@ -34,8 +34,8 @@ abbrev pub placeOr : Place → ℕ → ℕ
 placeOr (At p) other = p
 placeOr Nowhere other = other
 
--- What the walk has noted of the slots that it looked at: the place of the first full one, the place of the first that is neither full nor marked, and the soonest
--- recovery of those that are not full.
+-- What the walk has noted of the slots that it looked at: the place of the first full one, the place of the first that is neither full nor marked, and the
+-- soonest recovery of those that are not full.
 pub record Notes : Type 0 where
   pub full : Place
   pub unmarked : Place
@@ -49,8 +49,8 @@ lastWord = 2 ^ 64 - 1
 abbrev pub nothingNoted : Notes
 nothingNoted = record { full = Nowhere; unmarked = Nowhere; soonest = lastWord }
 
--- A look at a full slot notes its place, if it is the first full one. A look at any other notes its place, if it is the first unmarked one, and its recovery, if
--- that is the soonest so far.
+-- A look at a full slot notes its place, if it is the first full one. A look at any other notes its place, if it is the first unmarked one, and its recovery,
+-- if that is the soonest so far.
 unfoldable pub noted : BucketConfig → Nanos → Notes → ℕ → Slot → Notes
 noted c at n p slot =
     cond (lossless c slot at)

@@ -227,7 +227,8 @@ fn evict_victim(
     awaited: Awaited,
 ) -> Room
     requires { ⌜ Intact cap (now ws) × Accepted config × (Evict.placeOfVictim victim < shard cap (now ws) .slots .count) ⌝ }
-    ensures { λ r. ⌜ outcome r (shard cap (now (ws .exit))) ≡ Evict.evictVictim config at forget (shard cap (now (ws .entry))) (soonestIn config awaited) victim ⌝ }
+    ensures { λ r. ⌜ outcome r (shard cap (now (ws .exit))) ≡
+        Evict.evictVictim config at forget (shard cap (now (ws .entry))) (soonestIn config awaited) victim ⌝ }
 {
     match victim {
         Victim::Free(pos) => {
@@ -258,7 +259,8 @@ fn evict_owing(
     awaited: Awaited,
 ) -> Room
     requires { ⌜ Intact cap (now ws) × Accepted config × (pos < shard cap (now ws) .slots .count) ⌝ }
-    ensures { λ r. ⌜ outcome r (shard cap (now (ws .exit))) ≡ Evict.evictVictim config at forget (shard cap (now (ws .entry))) (soonestIn config awaited) (Owing pos) ⌝ }
+    ensures { λ r. ⌜ outcome r (shard cap (now (ws .exit))) ≡
+        Evict.evictVictim config at forget (shard cap (now (ws .entry))) (soonestIn config awaited) (Owing pos) ⌝ }
 {
     let slot = shard_map::get(ws, cap, pos);
     let full = Due::after(at, slot.recovers_in(config, at));

@@ -84,11 +84,13 @@ module _ {index : Index} {n : ℕ} {ws : List ℕ} {q word : ℕ} {pass : Pass} 
 
   -- The places that the code picks.
   pub picked-below : (to : ℕ) → to ≡ cond (leb back (pass .run)) q (pass .gap) → to < index .size
-  picked-below to picked = rw picked (by-le back (pass .run) (λ near. rw (le-leb back (pass .run) near) below) (λ far. rw (lt-leb back (pass .run) far) (trail .inside)))
+  picked-below to picked =
+      rw picked (by-le back (pass .run) (λ near. rw (le-leb back (pass .run) near) below) (λ far. rw (lt-leb back (pass .run) far) (trail .inside)))
 
   pub pass-moves : back ≤ pass .known → {ws₁ : List ℕ} (to gap run : ℕ) → to ≡ cond (leb back (pass .run)) q (pass .gap)
-      → ws₁ ≡ withPlaces index ws (set (set ix q 0) to word) → gap ≡ cond (leb back (pass .run)) (pass .gap) q → run ≡ cond (leb back (pass .run)) (pass .run + 1) 0
-      → (ws₁ ≡ withPlaces index ws again) × Trail (index .size) (placesOf index ws₁) (onward (index .size) q) (record { gap = gap; run = run; known = min (pass .known + 1) (index .size) })
+      → ws₁ ≡ withPlaces index ws (set (set ix q 0) to word) → gap ≡ cond (leb back (pass .run)) (pass .gap) q
+      → run ≡ cond (leb back (pass .run)) (pass .run + 1) 0 → (ws₁ ≡ withPlaces index ws again)
+      × Trail (index .size) (placesOf index ws₁) (onward (index .size) q) (record { gap = gap; run = run; known = min (pass .known + 1) (index .size) })
   pass-moves known {ws₁} to gap run picked stored gap-is run-is = by-le back (pass .run)
       (λ near.
       let test = le-leb back (pass .run) near in
@@ -102,7 +104,8 @@ module _ {index : Index} {n : ℕ} {ws : List ℕ} {q word : ℕ} {pass : Pass} 
       let there : to ≡ pass .gap = (rw test at picked) in
       rw (gap-is, run-is, test) (pass-fills far known (rw there at stored)))
 
-  pub pass-walks : pass .run < back → {ws₁ : List ℕ} → ws₁ ≡ withPlaces index ws again → (known : ℕ) → known ≡ knownAfter (at (placesOf index ws₁) (pass .gap)) back (pass .run)
+  pub pass-walks : pass .run < back → {ws₁ : List ℕ} → ws₁ ≡ withPlaces index ws again → (known : ℕ)
+      → known ≡ knownAfter (at (placesOf index ws₁) (pass .gap)) back (pass .run)
       → Trail (index .size) (placesOf index ws₁) (onward (index .size) q) (record { gap = q; run = 0; known = known + 1 })
   pass-walks far after known e =
       let long : length again ≡ index .size = add-again-length hash n (set ix q 0) word ∙ simp length-set len in

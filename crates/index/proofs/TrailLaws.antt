@@ -50,10 +50,6 @@ seek-first ix h z inside free used =
     (λ later. absurd (let u = passed-used isEmpty (at ix z) (stop .passed z inside later) in omega arith)))
     (which-first (h % length ix) z w)
 
-seek-walks : (ix : List ℕ) (h : ℕ) → seek ix h 0 ≡ walk ix isEmpty h
-unfolding seek
-seek-walks ix h = refl
-
 -- The pass has done with place q: the gap is `run` steps behind, and the places less than `known` steps behind are in use, but for the gap.
 record Passed (size : ℕ) (ix : List ℕ) (q : ℕ) (pass : Pass) : Type 0 where
   inside : pass .gap < size
@@ -72,8 +68,9 @@ trail-on {size} {ix} {q} {pass} below done = record {
   further = done .further;
   bounded = done .bounded;
   used = λ y inside some few other.
-      let elsewhere : y ≡ onward size q → ⊥ = λ same.
-      (let here : steps size (onward size q) (onward size q) ≡ 0 = no-steps (rw same at inside) in omega (arith, ap (λ (j : ℕ). steps size j (onward size q)) same)) in
+      let p : ℕ = onward size q in
+      let here : y ≡ p → steps size y p ≡ 0 = λ same. ap (λ (j : ℕ). steps size j p) same ∙ no-steps (rw same at inside) in
+      let elsewhere : y ≡ p → ⊥ = λ same. omega (arith, here same) in
       done .used y inside (omega (arith, one-step-more below y inside elsewhere)) other;
 }
 
@@ -85,7 +82,8 @@ left-empty known below free some few used =
 
 -- After the first place is emptied.
 pub trail-start : (size : ℕ) (ix : List ℕ) (z : ℕ) → z < size → at ix z ≡ 0 → Trail size ix (onward size z) (record { gap = z; run = 0; known = 1 })
-trail-start size ix z below free = left-empty 1 below free (omega arith) (omega arith) (λ y inside near other. absurd (omega (arith, some-steps below y inside other)))
+trail-start size ix z below free =
+    left-empty 1 below free (omega arith) (omega arith) (λ y inside near other. absurd (omega (arith, some-steps below y inside other)))
 
 -- The pass is at a place q in use.
 module _ (hash : ℕ → ℕ) (n : ℕ) {size : ℕ} {ix : List ℕ} {q gap run known : ℕ} (len : length ix ≡ size) (below : q < size) (filled : 0 < at ix q)
@@ -201,7 +199,8 @@ module _ (hash : ℕ → ℕ) (n : ℕ) {size : ℕ} {ix : List ℕ} {q gap run 
     -- The gap is empty and comes before q on the walk.
     z-not-q : q ≡ z → ⊥
     z-not-q same =
-        let before : Before home q gap = between-passed below home q gap home-below below (trail .inside) (omega (arith, no-steps below, behind)) (omega (arith, behind, from)) in
+        let nearer : steps size q q < steps size gap q = omega (arith, no-steps below, behind) in
+        let before : Before home q gap = between-passed below home q gap home-below below (trail .inside) nearer (omega (arith, behind, from)) in
         omega (arith, passed gap (trail .inside) (rw (← same) before), gap-empty)
 
     q-free : at added q ≡ 0
@@ -230,14 +229,16 @@ module _ (hash : ℕ → ℕ) (n : ℕ) {size : ℕ} {ix : List ℕ} {q gap run 
         rw (← known-left (at added gap) back run none) (left-trail added q-free kept))
 
   -- The item is added again by a walk: what the pass knows then.
-  pub walks-trail : run < back
-      → Trail size (addAgain hash n emptied word) (onward size q) (record { gap = q; run = 0; known = knownAfter (at (addAgain hash n emptied word) gap) back run + 1 })
+  pub walks-trail : run < back → let added = addAgain hash n emptied word in
+      Trail size added (onward size q) (record { gap = q; run = 0; known = knownAfter (at added gap) back run + 1 })
+  unfolding seek
   walks-trail far =
       by-le word n
       (λ item.
       let z : ℕ = walk emptied isEmpty (hash (word - 1)) in
-      let stop : StopsAt emptied isEmpty home z = rw len′ at (walk-stops emptied isEmpty (hash (word - 1)) q (rw len′ below) (empty-stops isEmpty (at emptied q) q-empty)) in
-      rw (named z item (seek-walks emptied (hash (word - 1)))) (added-trail z item far stop))
+      let empty-here = empty-stops isEmpty (at emptied q) q-empty in
+      let stop : StopsAt emptied isEmpty home z = rw len′ at (walk-stops emptied isEmpty (hash (word - 1)) q (rw len′ below) empty-here) in
+      rw (named z item refl) (added-trail z item far stop))
       (λ over. rw (add-again-nothing hash n emptied word over, ← known-left (at emptied gap) back run gap-empty) (left-trail emptied q-empty (λ y used. used)))
 
   -- However the pass adds, the steps fit.

@@ -130,7 +130,8 @@ walk-ended c =
 
 -- So the words are still lent there, and the victim is held.
 walk-left : (c : tie.Joined1 Inv-loop μ-loop) → let a = start (began c) .args in
-    AfterWalk (a .cap) (c .if1 .ws) (victimOf (c .if1 .ended) (c .before .loop .walk .full) (c .before .loop .walk .unmarked) (handOf (shard (a .cap) (a .ws .now))))
+    let walk = c .before .loop .walk in
+    AfterWalk (a .cap) (c .if1 .ws) (victimOf (c .if1 .ended) (walk .full) (walk .unmarked) (handOf (shard (a .cap) (a .ws .now))))
 walk-left c =
     let pre′ = start (began c) .pre in
     after-walk _ _ (pre′ .0) (pre′ .2) (walk-ended c .long) (walk-ended c .same)

@@ -20,7 +20,9 @@ steps-requires c κs =
     (rw (c .home .ensures) (mod-lt _ (start′ .pre .0 .room)), start′ .pre .1)
 
 returns : tie.Need-returns
-returns c = rw (c .steps .ensures, c .before .home .ensures, c .before .before .item-word .ensures) (from-home _ _ _ _ _ (c .before .before .before .if1 .taken))
+returns c =
+    let read = c .before .before in
+    rw (c .steps .ensures, c .before .home .ensures, read .item-word .ensures) (from-home _ _ _ _ _ (read .before .if1 .taken))
 
 add-result : tie.Need-add-result
 add-result c = search needs

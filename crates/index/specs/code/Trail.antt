@@ -16,8 +16,8 @@ steps size a z = cond (leb a z) (z - a) (size - a + z)
 unfoldable pub fromHome : (ℕ → ℕ) → ℕ → ℕ → ℕ → ℕ → ℕ
 fromHome hash n size q word = cond (leb word n) (steps size (hash (word - 1) % size) q) (size + 1)
 
--- The pass is at place q. The gap is the last place that it left empty, and `run` places lie between the gap and q. Of the `known` places before q all are in use but
--- the gap.
+-- The pass is at place q. The gap is the last place that it left empty, and `run` places lie between the gap and q. Of the `known` places before q all are in
+-- use but the gap.
 pub record Trail (size : ℕ) (ix : List ℕ) (q : ℕ) (pass : Pass) : Type 0 where
   pub inside : pass .gap < size
   pub free : at ix (pass .gap) ≡ 0

@@ -1,5 +1,4 @@
 -- `places::steps` counts the steps straight on, or past the last place.
-use native.Mathlib.Omega.{arith}
 use Rattle.index.proofs.WayLaws.{steps-on, steps-round}
 use borrow.Author.Needs.{needs}
 use Rattle.index.proofs.places.steps.Statement.{statement}
