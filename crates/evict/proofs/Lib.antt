@@ -1,7 +1,6 @@
 pub mod AwaitedLaws
 pub mod WalkLaws
 pub mod CaseLaws
-pub mod StepLaws
 pub mod RefusalLaws
 pub mod ModelLaws
 pub mod KeptLaws

@@ -1,5 +1,5 @@
 -- Laws of the eviction that its functions go by: one look is one step of the definition that counts the looks left; what a definition is in each case that
--- the code goes through; and that words which are lent stay so. What an eviction keeps is in StepLaws.
+-- the code goes through; and that words which are lent stay so. What an eviction keeps is in CaseLaws.
 use Prim.Native.Nat.{ℕ, suc, _-_, _<_, min}
 use native.Mathlib.Omega.{arith}
 use mathlib.Core.Path.{_≡_, refl, ap, sym, _∙_}

@@ -23,8 +23,7 @@ use Rattle.evict.specs.declared.Room.the-variants.{Made}
 use Rattle.evict.specs.Evict.{Notes, nothingNoted, noted, looked, goesAtOnce, Walked, walkFrom, walked, victimOf}
 use Rattle.evict.specs.Evict.{evictAt, debtLeft, afterRecording, evictVictim, evicted}
 use Rattle.evict.proofs.WalkLaws.{Remarked, remarked-slots}
-use Rattle.evict.proofs.CaseLaws.{debtRecorded}
-use Rattle.evict.proofs.StepLaws.{evict-keeps-slots, evict-keeps-ledger, evict-sound, evict-complete}
+use Rattle.evict.proofs.CaseLaws.{debtRecorded, evict-keeps-slots, evict-keeps-ledger, evict-sound, evict-complete}
 
 -- The walk's end, with the slots and the debts found in the order of their places.
 abbrev pub walkedInPlaceOrder : Walked → Walked

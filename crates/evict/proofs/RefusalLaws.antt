@@ -7,19 +7,18 @@ use Rattle.units.specs.declared.Nanos.{Nanos}
 use Rattle.bucket.specs.declared.BucketConfig.{BucketConfig}
 use Rattle.bucket.specs.declared.Due.{Due}
 use Rattle.bucket.specs.Bucket.{dueAfter}
-use Rattle.rows.specs.Outcome.{Outcome}
 use Rattle.ledger.specs.declared.Recorded.{Recorded}
 use Rattle.ledger.specs.declared.Recorded.the-variants.{Done, NoRoom}
 use Rattle.ledger.specs.Model as Ledger
-use Rattle.ledger.proofs.RecordLaws.{Refusal, refusal}
+use Rattle.ledger.proofs.RecordLaws.{refusal}
 use Rattle.evict.specs.declared.Victim.{Victim}
 use Rattle.evict.specs.declared.Victim.the-variants.{Free, Owing}
 use Rattle.evict.specs.declared.Room.{Room}
 use Rattle.evict.specs.declared.Room.the-variants.{Made, Refused}
 use Rattle.shard_map.specs.Model.{Shard, Sound, withLedger, handOf}
 use Rattle.evict.specs.Evict.{minRefusalWait, Walked, walked, victimOf, refusalWait, afterRecording, evictVictim, evicted}
-use Rattle.evict.proofs.WalkLaws.{Remarked, remarked-sound, walk-kept}
-use Rattle.evict.proofs.CaseLaws.{debtRecorded, Evicting, full-goes, owing-goes, none-goes, evict-cases, made-is-no-refusal, never-refused-is-made}
+use Rattle.evict.proofs.WalkLaws.{Remarked}
+use Rattle.evict.proofs.CaseLaws.{debtRecorded, made-is-no-refusal, never-refused-is-made, evict-cases, walk-remarks, walk-sound}
 
 -- Whether room was made or not; where it was not, it is due after a wait, and told so.
 pub data TellsRoom (at : Nanos) : Room → Type 0 where
@@ -65,34 +64,28 @@ pub record RefusalWait (c : BucketConfig) (at : Nanos) (forget : Bool) (s : Shar
 
 module _ (c : BucketConfig) (at : Nanos) (forget : Bool) (s : Shard) (u : Sound s) (some : 0 < s .slots .count) where
   pub evict-refusal : (due : Due) → evicted c at forget s .answer ≡ Refused due → EvictRefusal forget s (due .wait) (evicted c at forget s .after)
-  evict-refusal due = go walk (remarked-sound s (walked c at s .after) walk u) (evict-cases c at forget s u some)
-    where
-      walk : Remarked s (walked c at s .after)
-      walk = walk-kept c at s u some .same
-
-      go : {soonest : ℕ} {t : Shard} {o : Outcome Room Shard} → Remarked s t → Sound t → Evicting c at forget soonest t o → o .answer ≡ Refused due
-          → EvictRefusal forget s (due .wait) (o .after)
-      go r v (full-goes p f) e = made-is-no-refusal e
-      go r v (owing-goes p below done) e = made-is-no-refusal e
-      go {soonest} {t} r v (none-goes p w below told) e =
-          let q : Refusal (t .ledger) forget w (debtRecorded c at forget t p .after) = refusal (t .ledger) _ at forget w (v .ledger) told in
-          let same : refusalWait soonest w .0 ≡ due .wait .0 = ap waitForRoom e in
-          record {
-            full = rw (← r .ledger) (q .full);
-            never = q .never;
-            least = omega arith;
-            same = record { count = r .count; cap = r .cap; sweep = r .sweep; ledger = refl; finding = r .finding; slots = r .slots };
-            debts = q .debts ∙ ap (λ (l : Ledger.Ledger). l .debts) (r .ledger);
-          }
+  evict-refusal due =
+      let marks : Remarked s (walked c at s .after) = walk-remarks c at forget s u some in
+      evict-cases c at forget s u some (λ o. o .answer ≡ Refused due → EvictRefusal forget s (due .wait) (o .after))
+      (λ p full e. made-is-no-refusal e)
+      (λ p below done e. made-is-no-refusal e)
+      (λ p wait below told e.
+      let q = refusal (walked c at s .after .ledger) _ at forget wait (walk-sound c at forget s u some .ledger) told in
+      let same : refusalWait (walked c at s .notes .soonest) wait .0 ≡ due .wait .0 = ap waitForRoom e in
+      record {
+        full = rw (← marks .ledger) (q .full);
+        never = q .never;
+        least = omega arith;
+        same = record { count = marks .count; cap = marks .cap; sweep = marks .sweep; ledger = refl; finding = marks .finding; slots = marks .slots };
+        debts = q .debts ∙ ap (λ (l : Ledger.Ledger). l .debts) (marks .ledger);
+      })
 
   pub refusal-waits-for-the-soonest : (due : Due) → evicted c at forget s .answer ≡ Refused due → RefusalWait c at forget s (due .wait)
-  refusal-waits-for-the-soonest due = go (evict-cases c at forget s u some)
-    where
-      go : {o : Outcome Room Shard} → Evicting c at forget (walked c at s .notes .soonest) (walked c at s .after) o → o .answer ≡ Refused due
-          → RefusalWait c at forget s (due .wait)
-      go (full-goes p f) e = made-is-no-refusal e
-      go (owing-goes p below done) e = made-is-no-refusal e
-      go (none-goes p w below told) e = record { place = p; ledger-wait = w; told = told; shorter = sym (ap waitForRoom e) }
+  refusal-waits-for-the-soonest due =
+      evict-cases c at forget s u some (λ o. o .answer ≡ Refused due → RefusalWait c at forget s (due .wait))
+      (λ p full e. made-is-no-refusal e)
+      (λ p below done e. made-is-no-refusal e)
+      (λ p wait below told e. record { place = p; ledger-wait = wait; told = told; shorter = sym (ap waitForRoom e) })
 
   -- So it is never refused while the ledger is below its cap, nor where debts may be forgotten.
   pub evict-below-ledger-cap-never-refuses : s .ledger .debts .count < Ledger.capOf (s .ledger) → evicted c at forget s .answer ≡ Made
