@@ -82,22 +82,20 @@ last-digit-first l place i rest more =
     let after : place + length front ≤ i - 1 = omega arith in
     rw (one-more, lastDigits, sets-snoc l place front d, there, set-sets l place (i - 1) d front after)
 
--- At the end no digit is left to store; at the start all are.
-pub all-stored : (l : List ℕ) (place i rest : ℕ) → i ≤ place → sets l place (lastDigits (i - place) rest) ≡ l
-unfolding lastDigits
-all-stored l place i rest none = let e : i - place ≡ 0 = omega arith in rw e
-
+-- At the start all digits are left to store.
 pub all-to-store : (l : List ℕ) (place n w : ℕ) → w ≡ length (digitsOf n) → sets l place (lastDigits (place + w - place) n) ≡ sets l place (digitsOf n)
 all-to-store l place n w as-many =
     let e : place + w - place ≡ length (digitsOf n) = omega arith in
     rw (e, ← digits-are-last 20 n)
 
--- What the loop leaves is what is to be written.
+-- At the end none is, and what the loop leaves is what is to be written.
 pub all-is-written : (out₀ out : List ℕ) (place n w i rest : ℕ) → w ≡ length (digitsOf n) → i ≤ place
     → sets out place (lastDigits (i - place) rest) ≡ sets out₀ place (digitsOf n) → outcome (place + w) out ≡ written place n out₀
+unfolding lastDigits
 all-is-written out₀ out place n w i rest as-many none keeps =
-    let e : out ≡ sets out₀ place (digitsOf n) = sym (all-stored out place i rest none) ∙ keeps in
-    rw (as-many, e)
+    let over : i - place ≡ 0 = omega arith in
+    let stored : out ≡ sets out₀ place (digitsOf n) = rw over at keeps in
+    rw (as-many, stored)
 
 -- A tenth of a number fits one digit less.
 pub tenth-fits : (left n : ℕ) → n < 10 ^ suc left → n / 10 < 10 ^ left
