@@ -9,9 +9,9 @@ use Rattle.units.specs.declared.Nanos.{Nanos}
 use Rattle.bucket.specs.declared.BucketConfig.{BucketConfig}
 use Rattle.bucket.specs.declared.BucketCore.{BucketCore}
 use Rattle.bucket.specs.Bucket.{Accepted, shortfallAt, recoveryOf, recoveryAt}
-use Rattle.bucket.proofs.BucketLaws.{most-shortfall-fits, shortfall-most, wait-fits, recovery-from-the-stamp-on}
+use Rattle.bucket.proofs.BucketLaws.{most-shortfall-fits, shortfall-most, recovery-from-the-stamp-on}
 use Rattle.slot.specs.declared.Slot.{Slot}
-use Rattle.slot.specs.Slot.{lossless, recovery}
+use Rattle.slot.specs.Slot.{lossless}
 use Rattle.evict.specs.declared.Awaited.{Awaited}
 use Rattle.evict.specs.declared.Walk.{Walk}
 use Rattle.evict.specs.Evict.{lastWord, nothingNoted, noted}
@@ -63,10 +63,6 @@ module _ {c : BucketConfig} (a : Accepted c) (at : Nanos) (w : Awaited) (b : Buc
 
   pub one-more-is-awaited : soonestIn c (awaiting c at w b) ≡ min (soonestIn c w) (recoveryAt c b at)
   one-more-is-awaited = by-le (b .stamp .0) (at .0) shortfall-brings-its-recovery recovery-comes-in
-
--- No recovery is longer than the number with which the soonest starts.
-pub no-recovery-is-longer : (c : BucketConfig) (at : Nanos) (slot : Slot) → recovery c slot at ≤ lastWord
-no-recovery-is-longer c at slot = omega (arith, wait-fits c (slot .bucket) (c .capacity) at)
 
 -- The code's walk stands for the definition's notes, before the first look and after each.
 pub new-walk-notes-nothing : (c : BucketConfig) → notesOf c newWalk ≡ nothingNoted

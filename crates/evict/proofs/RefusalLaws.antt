@@ -7,6 +7,9 @@ use Rattle.units.specs.declared.Nanos.{Nanos}
 use Rattle.bucket.specs.declared.BucketConfig.{BucketConfig}
 use Rattle.bucket.specs.declared.Due.{Due}
 use Rattle.bucket.specs.Bucket.{dueAfter}
+use Rattle.bucket.proofs.BucketLaws.{wait-fits}
+use Rattle.slot.specs.declared.Slot.{Slot}
+use Rattle.slot.specs.Slot.{recovery}
 use Rattle.ledger.specs.declared.Recorded.{Recorded}
 use Rattle.ledger.specs.declared.Recorded.the-variants.{Done, NoRoom}
 use Rattle.ledger.specs.Model as Ledger
@@ -16,7 +19,7 @@ use Rattle.evict.specs.declared.Victim.the-variants.{Free, Owing}
 use Rattle.evict.specs.declared.Room.{Room}
 use Rattle.evict.specs.declared.Room.the-variants.{Made, Refused}
 use Rattle.shard_map.specs.Model.{Shard, Sound, withLedger, handOf}
-use Rattle.evict.specs.Evict.{minRefusalWait, Walked, walked, victimOf, refusalWait, afterRecording, evictVictim, evicted}
+use Rattle.evict.specs.Evict.{minRefusalWait, lastWord, Walked, walked, victimOf, refusalWait, afterRecording, evictVictim, evicted}
 use Rattle.evict.proofs.WalkLaws.{Remarked}
 use Rattle.evict.proofs.CaseLaws.{debtRecorded, made-is-no-refusal, never-refused-is-made, evict-cases, walk-remarks, walk-sound}
 
@@ -53,6 +56,10 @@ pub record EvictRefusal (forget : Bool) (s : Shard) (wait : Nanos) (after : Shar
   pub least : minRefusalWait ≤ wait .0
   pub same : Remarked s (withLedger after (s .ledger))
   pub debts : after .ledger .debts ≡ s .ledger .debts
+
+-- No recovery is longer than the number with which the soonest recovery starts.
+pub no-recovery-is-longer : (c : BucketConfig) (at : Nanos) (slot : Slot) → recovery c slot at ≤ lastWord
+no-recovery-is-longer c at slot = omega (arith, wait-fits c (slot .bucket) (c .capacity) at)
 
 -- A refusal's wait, by what the ledger told of the debt that it had no room for: the smaller of the soonest recovery of the slots looked at and the ledger's
 -- wait, but at least a millisecond.
