@@ -1,2 +1,4 @@
-pub mod DecimalLaws
+pub mod ReadLaws
+pub mod WriteLaws
+pub mod ReadBackLaws
 pub mod Worked

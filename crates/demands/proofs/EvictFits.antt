@@ -4,15 +4,11 @@ use mathlib.Core.Bool.{Bool}
 use native.Mathlib.Omega.{arith}
 use Rattle.units.specs.declared.Nanos.{Nanos}
 use Rattle.bucket.specs.declared.BucketConfig.{BucketConfig}
-use Rattle.rows.specs.Outcome.{Outcome}
 use Rattle.slot.specs.declared.Slot.{Slot}
 use Rattle.slot.specs.Slot.{withMark}
 use Rattle.shard_map.specs.Model.{Shard, Sound, slotAt, withLedger, handOf}
-use Rattle.evict.specs.declared.Room.{Room}
-use Rattle.evict.specs.declared.Awaited.{Awaited}
-use Rattle.evict.specs.declared.Walk.{Walk}
-use Rattle.evict.specs.Evict.{nothingNoted, noted, looked, goesAtOnce, Walked, walkFrom, walked, evictAt, debtLeft, evicted}
-use Rattle.evict.proofs.WalkLaws.{remarked-sound, walk-kept, debtRecorded, Evicting, full-goes, owing-goes, none-goes, evict-cases}
+use Rattle.evict.specs.Evict.{Notes, nothingNoted, noted, looked, goesAtOnce, Walked, walkFrom, walked, evictAt, debtLeft, evicted}
+use Rattle.evict.proofs.CaseLaws.{debtRecorded, evict-cases, walk-sound}
 use Rattle.demands.proofs.EveryLaws.{of-either}
 use Rattle.demands.proofs.WordFits.{next-place-fits}
 use Rattle.demands.proofs.LedgerFits.{DebtFits, recorded-fits}
@@ -26,12 +22,12 @@ looked-fits s f =
     record { hash = old .hash; key = old .key; bucket = old .bucket; mark = omega arith; seen = old .seen } in
     moved-hand-fits _ (changed-slot-fits s f (handOf s) _ unmarked) _ (next-place-fits (s .hand) (s .slots .count) (f .slots .count))
 
-walk-from-fits : (c : BucketConfig) (at : Nanos) (left : ℕ) (s : Shard) (w : Walk) → ShardFits s → ShardFits (walkFrom c at left s w .after)
+walk-from-fits : (c : BucketConfig) (at : Nanos) (left : ℕ) (s : Shard) (n : Notes) → ShardFits s → ShardFits (walkFrom c at left s n .after)
 unfolding walkFrom
-walk-from-fits c at zero s w f = f
-walk-from-fits c at (suc left) s w f =
+walk-from-fits c at zero s n f = f
+walk-from-fits c at (suc left) s n f =
     of-either (λ (o : Walked). ShardFits (o .after)) (goesAtOnce c at (slotAt s (handOf s))) _
-    (walkFrom c at left (looked s (handOf s)) (noted c at w (handOf s) (slotAt s (handOf s))))
+    (walkFrom c at left (looked s (handOf s)) (noted c at n (handOf s) (slotAt s (handOf s))))
     (looked-fits s f) (walk-from-fits c at left _ _ (looked-fits s f))
 
 walked-fits : (c : BucketConfig) (at : Nanos) (s : Shard) → ShardFits s → ShardFits (walked c at s .after)
@@ -50,12 +46,12 @@ module _ (c : BucketConfig) (at : Nanos) (forget : Bool) where
   debt-recorded-fits : (s : Shard) (p : ℕ) → Sound s → ShardFits s → ShardFits (withLedger s (debtRecorded c at forget s p .after))
   debt-recorded-fits s p u f = changed-ledger-fits s f _ (recorded-fits (s .ledger) _ at forget (u .ledger) (debt-left-fits _ (slot-at-fits s f p)) (f .ledger))
 
-  ended-fits : {awaited : Awaited} {s : Shard} {o : Outcome Room Shard} → Sound s → ShardFits s → Evicting c at forget awaited s o → ShardFits (o .after)
-  ended-fits {s = s} u f (full-goes p full) = evicted-at-fits s p (full .below) f
-  ended-fits {s = s} u f (owing-goes p below done) = evicted-at-fits _ p below (debt-recorded-fits s p u f)
-  ended-fits {s = s} u f (none-goes p wait below told) = debt-recorded-fits s p u f
-
   pub evicted-fits : (s : Shard) → Sound s → 0 < s .slots .count → ShardFits s → ShardFits (evicted c at forget s .after)
   evicted-fits s u some f =
-      let kept : Sound (walked c at s .after) = remarked-sound s (walked c at s .after) (walk-kept c at s u some .same) u in
-      ended-fits kept (walked-fits c at s f) (evict-cases c at forget s u some)
+      let left : Shard = walked c at s .after in
+      let sound : Sound left = walk-sound c at forget s u some in
+      let fits : ShardFits left = walked-fits c at s f in
+      evict-cases c at forget s u some (λ o. ShardFits (o .after))
+      (λ p full. evicted-at-fits left p (full .below) fits)
+      (λ p below done. evicted-at-fits (withLedger left (debtRecorded c at forget left p .after)) p below (debt-recorded-fits left p sound fits))
+      (λ p wait below told. debt-recorded-fits left p sound fits)

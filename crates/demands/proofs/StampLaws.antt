@@ -28,7 +28,8 @@ use Rattle.ledger.specs.Model as Ledger
 use Rattle.shard_map.specs.Model.{Shard, Sound, slotItems, capOf, slotAt, withSlot, removeAt, insert, reclaimable, roundOf, sweepIdle}
 use Rattle.shard_map.proofs.StepLaws.{slots-sound}
 use Rattle.evict.specs.Evict.{evicted}
-use Rattle.evict.proofs.WalkLaws.{remarked-bucket, evict-keeps-slots}
+use Rattle.evict.proofs.WalkLaws.{remarked-bucket}
+use Rattle.evict.proofs.CaseLaws.{evict-keeps-slots}
 use Rattle.shard.specs.declared.Identity.{Identity}
 use Rattle.shard.specs.declared.Policy.{Policy}
 use Rattle.shard.specs.Model.{returning, makeRoom, withOrInsert, refunded, removed}

@@ -11,7 +11,7 @@ use Rattle.arith.proofs.Cases.{by-test, by-le}
 use Rattle.bytes.specs.Bytes.{indexAfter, indexOf, slice}
 use Rattle.decimal.specs.declared.Digits.{Digits}
 use Rattle.decimal.specs.Decimal.{isDigit, digitsAhead, frontOf, atMost, numberOf}
-use Rattle.decimal.proofs.DecimalLaws.{ahead-within, ahead-are-digits, digits-are-a-number}
+use Rattle.decimal.proofs.ReadLaws.{ahead-within, ahead-are-digits, digits-are-a-number}
 use Rattle.desk_lines.specs.Fields.{space, fields, fieldEnd, fieldAt, fieldsFrom}
 use borrow.Author.Tests.{le-leb, lt-leb, eq-eqb, ne-eqb}
 

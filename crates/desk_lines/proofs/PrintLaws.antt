@@ -9,7 +9,7 @@ use lib.Seq.{sets}
 use Rattle.rows.specs.Outcome.{Outcome, outcome}
 use Rattle.rows.proofs.OutcomeLaws.{answer-is, after-is}
 use Rattle.decimal.specs.Decimal.{digitsOf}
-use Rattle.decimal.proofs.DecimalLaws.{digits-count}
+use Rattle.decimal.proofs.WriteLaws.{digits-count}
 use Rattle.desk_lines.specs.Printed.{printedField, writtenOver}
 
 sets-append : (bytes : List ℕ) (i : ℕ) (xs ys : List ℕ) → sets (sets bytes i xs) (i + length xs) ys ≡ sets bytes i (xs ++ ys)

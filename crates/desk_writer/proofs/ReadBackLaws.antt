@@ -11,7 +11,7 @@ use Rattle.arith.proofs.Cases.{by-test}
 use Rattle.units.specs.Units.{nanosOf}
 use Rattle.decimal.specs.declared.OptionNumber.the-variants as number
 use Rattle.decimal.specs.Decimal.{isDigit, allDigits, numberOf, digitsOf}
-use Rattle.decimal.proofs.DecimalLaws.{digits-are-digits, digits-read-back}
+use Rattle.decimal.proofs.ReadBackLaws.{digits-are-digits, digits-read-back}
 use Rattle.rows.specs.Outcome.{outcome}
 use Rattle.bytes.specs.Bytes.{indexAfter, indexOf}
 use Rattle.desk_lines.specs.declared.Request.{Request}

@@ -11,7 +11,8 @@ use Rattle.arith.proofs.Cases.{by-test, by-le}
 use Rattle.decimal.specs.declared.OptionNumber.{OptionNumber}
 use Rattle.decimal.specs.declared.OptionNumber.the-variants as number
 use Rattle.decimal.specs.Decimal.{isDigit, allDigits, decimalFrom, numberOf, digitsFrom, digitsOf}
-use Rattle.decimal.proofs.DecimalLaws.{one-digit, more-digits, one-digit-more-fits, some-left}
+use Rattle.decimal.proofs.ReadLaws.{one-digit-more-fits}
+use Rattle.decimal.proofs.WriteLaws.{one-digit, more-digits, some-left}
 use Rattle.desk_lines.specs.declared.Request.{Request}
 use Rattle.desk_lines.specs.declared.Line.{Line}
 use Rattle.desk_lines.specs.declared.Line.the-variants as line

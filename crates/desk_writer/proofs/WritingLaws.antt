@@ -9,7 +9,7 @@ use lib.Seq.{sets, length-sets, sets-eq}
 use Rattle.rows.specs.Outcome.{Outcome, outcome}
 use Rattle.rows.proofs.OutcomeLaws.{answer-is, after-is}
 use Rattle.decimal.specs.Decimal.{digitsOf}
-use Rattle.decimal.proofs.DecimalLaws.{digits-count}
+use Rattle.decimal.proofs.WriteLaws.{digits-count}
 use Rattle.desk_lines.specs.Printed.{lineFeed, writtenOver}
 use Rattle.desk_lines.proofs.PrintLaws.{written-after}
 use Rattle.units.specs.declared.Nanos.{Nanos}

@@ -12,7 +12,6 @@ use Rattle.bucket.specs.declared.BucketConfig.{BucketConfig}
 use Rattle.bucket.specs.declared.BucketCore.{BucketCore}
 use Rattle.bucket.specs.Bucket.{Accepted, shortfallAt, recoveryOf, recoveryAt, dueAfter}
 use Rattle.bucket.proofs.BucketLaws.{shortfall-most, recovery-of-shortfall, recovery-in-time, grown-no-shorter}
-use Rattle.rows.specs.Outcome.{Outcome}
 use Rattle.rows.proofs.SumLaws.{sum-same}
 use Rattle.slot.specs.declared.Slot.{Slot}
 use Rattle.slot.specs.Slot.{withMark}
@@ -20,15 +19,13 @@ use Rattle.ledger.specs.declared.Debt.{Debt}
 use Rattle.ledger.specs.declared.Recorded.the-variants.{Done, NoRoom}
 use Rattle.ledger.specs.Model as Ledger
 use Rattle.ledger.proofs.KeptLaws.{weigh, owed, one, weigh-own, weigh-other, record-adds-at-most, record-keeps-unsettled, refusal-keeps}
-use Rattle.shard_map.specs.Model.{Shard, Sound, slotAt, withLedger, removeAt}
+use Rattle.shard_map.specs.Model.{Shard, Sound, slotAt, withLedger}
 use Rattle.shard_map.proofs.StepLaws.{removal-ledger}
 use Rattle.shard_map.proofs.KeptLaws.{weight, short, unpaid, overAll, Keeps, keeps-trans, weight-of-hash, short-own, short-other, count-removed, shortage-removed}
 use Rattle.shard_map.proofs.KeptLaws.{unpaid-settled, full-slot-loses-nothing}
-use Rattle.evict.specs.declared.Awaited.{Awaited}
-use Rattle.evict.specs.declared.Room.{Room}
 use Rattle.evict.specs.Evict.{walked, debtLeft, evictAt, evicted}
-use Rattle.evict.proofs.WalkLaws.{Remarked, remarked-slots, remarked-sound, walk-kept, debtRecorded, debt-recorded-sound, Evicting, full-goes}
-use Rattle.evict.proofs.WalkLaws.{owing-goes, none-goes, evict-cases}
+use Rattle.evict.proofs.WalkLaws.{Remarked, remarked-slots}
+use Rattle.evict.proofs.CaseLaws.{debtRecorded, debt-recorded-sound, evict-cases, walk-remarks, walk-sound}
 
 -- What does not look at marks is the same after a walk.
 all-remarked : (h : ℕ) (slotValue : Slot → ℕ) (debtValue : ℕ → ℕ) → ((slot : Slot) (mark : ℕ) → slotValue (withMark slot mark) ≡ slotValue slot) → (s t : Shard)
@@ -104,15 +101,10 @@ module _ (c : BucketConfig) (h k : ℕ) where
   pub evict-keeps-shortage : (at : Nanos) (forget : Bool) (s : Shard) → Accepted c → at .0 ≤ 2 ^ 62 → Sound s → 0 < s .slots .count → forget ≡ false
       → Keeps c h k at s (evicted c at forget s .after)
   evict-keeps-shortage at forget s a early u some never =
-      keeps-trans c h k at s (walked c at s .after) (evicted c at forget s .after) (walk-keeps-shortage at s (walked c at s .after) walk)
-      (go (remarked-sound s (walked c at s .after) walk u) (evict-cases c at forget s u some))
-    where
-      walk : Remarked s (walked c at s .after)
-      walk = walk-kept c at s u some .same
-
-      go : {awaited : Awaited} {t : Shard} {o : Outcome Room Shard} → Sound t → Evicting c at forget awaited t o → Keeps c h k at t (o .after)
-      go {t = t} v (full-goes p f) =
-          let kept : Keeps c h k at t (removeAt t p) = full-slot-loses-nothing c h k at t p v (f .below) (f .full) in
-          record { fewer = kept .fewer; more = kept .more }
-      go {t = t} v (owing-goes p below done) = owing-slot-loses-nothing at forget t p a early v never below done
-      go {t = t} v (none-goes p wait below told) = refusal-loses-nothing at forget t p wait v told
+      let left : Shard = walked c at s .after in
+      let sound : Sound left = walk-sound c at forget s u some in
+      keeps-trans c h k at s left (evicted c at forget s .after) (walk-keeps-shortage at s left (walk-remarks c at forget s u some))
+      (evict-cases c at forget s u some (λ o. Keeps c h k at left (o .after))
+      (λ p full. let kept = full-slot-loses-nothing c h k at left p sound (full .below) (full .full) in record { fewer = kept .fewer; more = kept .more })
+      (λ p below done. owing-slot-loses-nothing at forget left p a early sound never below done)
+      (λ p wait below told. refusal-loses-nothing at forget left p wait sound told))

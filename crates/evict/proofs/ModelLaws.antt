@@ -1,5 +1,5 @@
 -- Laws of the eviction that its functions go by: one look is one step of the definition that counts the looks left; what a definition is in each case that
--- the code goes through; and that words which are lent stay so. What an eviction keeps is in WalkLaws.
+-- the code goes through; and that words which are lent stay so. What an eviction keeps is in CaseLaws.
 use Prim.Native.Nat.{ℕ, suc, _-_, _<_, min}
 use native.Mathlib.Omega.{arith}
 use mathlib.Core.Path.{_≡_, refl, ap, sym, _∙_}
@@ -11,7 +11,7 @@ use Rattle.units.specs.declared.Nanos.{Nanos}
 use Rattle.settings.specs.Eviction.{clockScan}
 use Rattle.bucket.specs.declared.BucketConfig.{BucketConfig}
 use Rattle.bucket.specs.declared.Due.{Due}
-use Rattle.bucket.specs.Bucket.{shortfallAt, dueAfter}
+use Rattle.bucket.specs.Bucket.{Accepted, shortfallAt, dueAfter}
 use Rattle.bucket.proofs.BucketLaws.{due-by-number}
 use Rattle.rows.specs.declared.Place.{Place}
 use Rattle.rows.specs.declared.Place.the-variants.{At, Nowhere}
@@ -34,50 +34,57 @@ use Rattle.evict.specs.declared.Victim.{Victim}
 use Rattle.evict.specs.declared.Victim.the-variants.{Free, Owing}
 use Rattle.evict.specs.declared.Room.{Room}
 use Rattle.evict.specs.declared.Room.the-variants.{Made, Refused}
-use Rattle.evict.specs.Evict.{orElse, awaiting, nothingNoted, noted, looked, goesAtOnce, walkFrom, walked, victimOf, placeOfVictim, evictAt, refusalWait, evictVictim, evicted}
-use Rattle.evict.proofs.WalkLaws.{victimIs, debtRecorded, walk-kept, walk-chooses, remarked-sound}
+use Rattle.evict.specs.Evict.{orElse, Notes, noted, looked, goesAtOnce, walkFrom, walked, victimOf, placeOfVictim}
+use Rattle.evict.specs.Evict.{evictAt, refusalWait, evictVictim, evicted}
+use Rattle.evict.specs.code.Awaited.{awaiting, notesOf, newWalk, walkNoted}
+use Rattle.evict.proofs.AwaitedLaws.{new-walk-notes-nothing, awaited-recovers-soonest}
+use Rattle.evict.proofs.WalkLaws.{victimIs, walk-kept, walk-chooses, remarked-sound}
+use Rattle.evict.proofs.CaseLaws.{debtRecorded}
 
 -- What a look of the walk notes: of a full slot, and of one that is not full, by its mark. The code has worked out the shortfall n, and what is awaited then.
 module _ (c : BucketConfig) (at : Nanos) (w : Walk) (p : ℕ) (slot : Slot) {n : ℕ} (is : n ≡ shortfallAt c (slot .bucket) at) where
-  pub noted-full : n ≡ 0 → record { full = orElse (w .full) (At p); unmarked = w .unmarked; awaited = w .awaited } ≡ noted c at w p slot
+  pub noted-full : n ≡ 0 → record { full = orElse (w .full) (At p); unmarked = w .unmarked; awaited = w .awaited } ≡ walkNoted c at w p slot
   unfolding noted
   noted-full full = rw (eq-eqb _ _ (sym is ∙ full))
 
   module _ (owing : n ≡ 0 → ⊥) {awaited : Awaited} (awaits : awaited ≡ awaiting c at (w .awaited) (slot .bucket)) where
-    pub noted-unmarked : slot .mark ≡ 0 → record { full = w .full; unmarked = orElse (w .unmarked) (At p); awaited = awaited } ≡ noted c at w p slot
+    pub noted-unmarked : slot .mark ≡ 0 → record { full = w .full; unmarked = orElse (w .unmarked) (At p); awaited = awaited } ≡ walkNoted c at w p slot
     unfolding noted
     noted-unmarked clear = rw (ne-eqb _ _ (rw is at owing), eq-eqb _ _ clear, awaits)
 
-    pub noted-marked : (slot .mark ≡ 0 → ⊥) → record { full = w .full; unmarked = w .unmarked; awaited = awaited } ≡ noted c at w p slot
+    pub noted-marked : (slot .mark ≡ 0 → ⊥) → record { full = w .full; unmarked = w .unmarked; awaited = awaited } ≡ walkNoted c at w p slot
     unfolding noted
     noted-marked set = rw (ne-eqb _ _ (rw is at owing), ne-eqb _ _ set, awaits)
 
 -- The walk: its start, and its end where no look is left.
-pub walk-start : (c : BucketConfig) (at : Nanos) (s : Shard) → walkFrom c at (min clockScan (s .slots .count)) s nothingNoted ≡ walked c at s
+pub walk-start : (c : BucketConfig) (at : Nanos) (s : Shard) → walkFrom c at (min clockScan (s .slots .count)) s (notesOf c newWalk) ≡ walked c at s
 unfolding walked
-walk-start c at s = refl
+walk-start c at s = rw (new-walk-notes-nothing c)
 
-pub walk-end : (c : BucketConfig) (at : Nanos) (left : ℕ) (s : Shard) (w : Walk) → left ≡ 0
-    → walkFrom c at left s w ≡ record { ended = Nowhere; walk = w; after = s }
+pub walk-end : (c : BucketConfig) (at : Nanos) (left : ℕ) (s : Shard) (n : Notes) → left ≡ 0
+    → walkFrom c at left s n ≡ record { ended = Nowhere; notes = n; after = s }
 unfolding walkFrom
-walk-end c at left s w none = rw none
+walk-end c at left s n none = rw none
 
 -- A look at the place of the hand, as the code makes it: it gives the slot and leaves the shard t. The slot goes at once, or the walk goes on.
 module _ (c : BucketConfig) (at : Nanos) (left : ℕ) (s : Shard) (w : Walk) {t : Shard} {pos : ℕ} {slot : Slot} {goes : Bool} (more : 0 < left)
     (there : pos ≡ handOf s) (saw : outcome slot t ≡ outcome (slotAt s pos) (looked s pos)) (told : goes ≡ goesAtOnce c at slot) where
-  pub walk-ends-at-once : goes ≡ true → walkFrom c at left s w ≡ record { ended = At pos; walk = w; after = t }
+  abbrev n : Notes
+  n = notesOf c w
+
+  pub walk-ends-at-once : goes ≡ true → walkFrom c at left s n ≡ record { ended = At pos; notes = n; after = t }
   unfolding walkFrom
   walk-ends-at-once so =
       let e : left ≡ suc (left - 1) = omega arith in
       let test : goesAtOnce c at (slotAt s (handOf s)) ≡ true = rw (answer-is saw, there) at (sym told ∙ so) in
-      rw (after-is saw, there) (ap (λ (n : ℕ). walkFrom c at n s w) e ∙ rw (walkFrom, test))
+      rw (after-is saw, there) (ap (λ (k : ℕ). walkFrom c at k s n) e ∙ rw (walkFrom, test))
 
-  pub walk-turn : goes ≡ false → {v : Walk} → v ≡ noted c at w pos slot → walkFrom c at left s w ≡ walkFrom c at (left - 1) t v
+  pub walk-turn : Accepted c → goes ≡ false → {v : Walk} → v ≡ walkNoted c at w pos slot → walkFrom c at left s n ≡ walkFrom c at (left - 1) t (notesOf c v)
   unfolding walkFrom
-  walk-turn not noting =
+  walk-turn a not noting =
       let e : left ≡ suc (left - 1) = omega arith in
       let test : goesAtOnce c at (slotAt s (handOf s)) ≡ false = rw (answer-is saw, there) at (sym told ∙ not) in
-      rw (noting, after-is saw, answer-is saw, there) (ap (λ (n : ℕ). walkFrom c at n s w) e ∙ rw (walkFrom, test))
+      rw (noting, awaited-recovers-soonest a at w pos slot, after-is saw, answer-is saw, there) (ap (λ (k : ℕ). walkFrom c at k s n) e ∙ rw (walkFrom, test))
 
 -- After a look of the walk, and after a debt is recorded, the words are still lent, and hold as many slots as before.
 module _ {cap : ℕ} {ws ws′ : List ℕ} (intact : Intact cap ws) (same : length ws′ ≡ length ws) where
@@ -105,20 +112,21 @@ victim-held : (c : BucketConfig) (at : Nanos) (s : Shard) (v : Victim) → victi
 victim-held c at s (Free p) full = full .below
 victim-held c at s (Owing p) below = below
 
-pub after-walk : (c : BucketConfig) (at : Nanos) {cap : ℕ} {ws ws′ : List ℕ} {ended : Place} {w : Walk} → Intact cap ws → 0 < shard cap ws .slots .count
-    → length ws′ ≡ length ws → walked c at (shard cap ws) ≡ record { ended = ended; walk = w; after = shard cap ws′ }
-    → AfterWalk cap ws′ (victimOf ended w (handOf (shard cap ws)))
-after-walk c at {cap} {ws} {ws′} {ended} {w} intact some same is =
+pub after-walk : (c : BucketConfig) (at : Nanos) {cap : ℕ} {ws ws′ : List ℕ} {ended : Place} {n : Notes} → Intact cap ws → 0 < shard cap ws .slots .count
+    → length ws′ ≡ length ws → walked c at (shard cap ws) ≡ record { ended = ended; notes = n; after = shard cap ws′ }
+    → AfterWalk cap ws′ (victimOf ended (n .full) (n .unmarked) (handOf (shard cap ws)))
+after-walk c at {cap} {ws} {ws′} {ended} {n} intact some same is =
     let kept = rw is at (walk-kept c at (shard cap ws) (intact .sound) some) in
     record {
       intact = intact-after intact same refl (remarked-sound (shard cap ws) (shard cap ws′) (kept .same) (intact .sound));
-      held = victim-held c at (shard cap ws′) (victimOf ended w (handOf (shard cap ws))) (rw is at (walk-chooses c at (shard cap ws) (intact .sound) some));
+      held = victim-held c at (shard cap ws′) (victimOf ended (n .full) (n .unmarked) (handOf (shard cap ws)))
+          (rw is at (walk-chooses c at (shard cap ws) (intact .sound) some));
     }
 
 -- An eviction is the walk, the choice of the victim, and what happens to the victim.
-pub evicted-in-steps : (c : BucketConfig) (at : Nanos) (forget : Bool) (s : Shard) {ended : Place} {w : Walk} {t : Shard} {first : ℕ} {v : Victim}
-    {o : Outcome Room Shard} → walked c at s ≡ record { ended = ended; walk = w; after = t } → first ≡ handOf s → v ≡ victimOf ended w first
-    → o ≡ evictVictim c at forget t (w .awaited) v → o ≡ evicted c at forget s
+pub evicted-in-steps : (c : BucketConfig) (at : Nanos) (forget : Bool) (s : Shard) {ended : Place} {n : Notes} {t : Shard} {first : ℕ} {v : Victim}
+    {o : Outcome Room Shard} → walked c at s ≡ record { ended = ended; notes = n; after = t } → first ≡ handOf s
+    → v ≡ victimOf ended (n .full) (n .unmarked) first → o ≡ evictVictim c at forget t (n .soonest) v → o ≡ evicted c at forget s
 unfolding evicted
 evicted-in-steps c at forget s is hand chosen gave = rw (is, ← hand, ← chosen) gave
 
@@ -130,10 +138,11 @@ pub debt-recorded : (c : BucketConfig) (at : Nanos) (forget : Bool) (p : ℕ) (s
 debt-recorded c at forget p s read takes due gave = rw (due ∙ due-by-number at _ takes, read) at gave
 
 -- The eviction of a slot that owes, once its debt is recorded, or is not.
-module _ (c : BucketConfig) (at : Nanos) (forget : Bool) (p : ℕ) (awaited : Awaited) (s : Shard) {r : Recorded} {t : Shard}
+module _ (c : BucketConfig) (at : Nanos) (forget : Bool) (p soonest : ℕ) (s : Shard) {r : Recorded} {t : Shard}
     (gave : outcome r t ≡ inLedger s (debtRecorded c at forget s p)) where
-  pub owing-goes-out : r ≡ Done → outcome Made (evictAt t p) ≡ evictVictim c at forget s awaited (Owing p)
+  pub owing-goes-out : r ≡ Done → outcome Made (evictAt t p) ≡ evictVictim c at forget s soonest (Owing p)
   owing-goes-out is = rw (after-is gave, sym (answer-is gave) ∙ is)
 
-  pub owing-stays : {wait : Nanos} → r ≡ NoRoom wait → outcome (Refused (dueAfter at (refusalWait c awaited wait))) t ≡ evictVictim c at forget s awaited (Owing p)
+  pub owing-stays : {wait : Nanos} → r ≡ NoRoom wait
+      → outcome (Refused (dueAfter at (refusalWait soonest wait))) t ≡ evictVictim c at forget s soonest (Owing p)
   owing-stays is = rw (after-is gave, sym (answer-is gave) ∙ is)

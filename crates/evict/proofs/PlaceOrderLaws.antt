@@ -17,39 +17,39 @@ use Rattle.shard_map.specs.Model.{inPlaceOrder, Shard, Sound, slotItems, slotAt
 use Rattle.shard_map.proofs.PlaceOrderLaws.{leftInPlaceOrder, identityOf, FindsEach, found-is-sound, found-is-complete, SlotsFrom}
 use Rattle.shard_map.proofs.PlaceOrderLaws.{removal-in-place-order, removal-slots-from}
 use Rattle.shard_map.proofs.StepLaws.{slots-sound}
-use Rattle.evict.specs.declared.Awaited.{Awaited}
-use Rattle.evict.specs.declared.Walk.{Walk}
 use Rattle.evict.specs.declared.Victim.{Victim}
 use Rattle.evict.specs.declared.Victim.the-variants.{Free, Owing}
 use Rattle.evict.specs.declared.Room.the-variants.{Made}
-use Rattle.evict.specs.Evict.{nothingNoted, noted, looked, goesAtOnce, Walked, walkFrom, walked, victimOf, evictAt, debtLeft, afterRecording, evictVictim, evicted}
-use Rattle.evict.proofs.WalkLaws.{debtRecorded, Remarked, remarked-slots, evict-keeps-slots, evict-keeps-ledger, evict-sound, evict-complete}
+use Rattle.evict.specs.Evict.{Notes, nothingNoted, noted, looked, goesAtOnce, Walked, walkFrom, walked, victimOf}
+use Rattle.evict.specs.Evict.{evictAt, debtLeft, afterRecording, evictVictim, evicted}
+use Rattle.evict.proofs.WalkLaws.{Remarked, remarked-slots}
+use Rattle.evict.proofs.CaseLaws.{debtRecorded, evict-keeps-slots, evict-keeps-ledger, evict-sound, evict-complete}
 
 -- The walk's end, with the slots and the debts found in the order of their places.
 abbrev pub walkedInPlaceOrder : Walked → Walked
-walkedInPlaceOrder w = record { ended = w .ended; walk = w .walk; after = inPlaceOrder (w .after) }
+walkedInPlaceOrder w = record { ended = w .ended; notes = w .notes; after = inPlaceOrder (w .after) }
 
 -- The walk looks up nothing, and leaves the ledger as it is, on any shard.
 module _ (c : BucketConfig) (at : Nanos) where
-  walkFrom-in-place-order : (left : ℕ) (s : Shard) (w : Walk) → walkFrom c at left (inPlaceOrder s) w ≡ walkedInPlaceOrder (walkFrom c at left s w)
+  walkFrom-in-place-order : (left : ℕ) (s : Shard) (n : Notes) → walkFrom c at left (inPlaceOrder s) n ≡ walkedInPlaceOrder (walkFrom c at left s n)
   unfolding walkFrom
-  walkFrom-in-place-order zero s w = refl
-  walkFrom-in-place-order (suc left) s w =
+  walkFrom-in-place-order zero s n = refl
+  walkFrom-in-place-order (suc left) s n =
       by-test (goesAtOnce c at (slotAt s (handOf s)))
       (λ goes. rw (goes, walkFrom))
-      (λ stays. rw (stays, walkFrom) (walkFrom-in-place-order left (looked s (handOf s)) (noted c at w (handOf s) (slotAt s (handOf s)))))
+      (λ stays. rw (stays, walkFrom) (walkFrom-in-place-order left (looked s (handOf s)) (noted c at n (handOf s) (slotAt s (handOf s)))))
 
   pub walk-in-place-order : (s : Shard) → walked c at (inPlaceOrder s) ≡ walkedInPlaceOrder (walked c at s)
   unfolding walked
   walk-in-place-order s = walkFrom-in-place-order _ s nothingNoted
 
-  walkFrom-ledger : (left : ℕ) (s : Shard) (w : Walk) → walkFrom c at left s w .after .ledger ≡ s .ledger
+  walkFrom-ledger : (left : ℕ) (s : Shard) (n : Notes) → walkFrom c at left s n .after .ledger ≡ s .ledger
   unfolding walkFrom
-  walkFrom-ledger zero s w = refl
-  walkFrom-ledger (suc left) s w =
+  walkFrom-ledger zero s n = refl
+  walkFrom-ledger (suc left) s n =
       by-test (goesAtOnce c at (slotAt s (handOf s)))
       (λ goes. rw (goes, walkFrom))
-      (λ stays. rw (stays, walkFrom) (walkFrom-ledger left (looked s (handOf s)) (noted c at w (handOf s) (slotAt s (handOf s)))))
+      (λ stays. rw (stays, walkFrom) (walkFrom-ledger left (looked s (handOf s)) (noted c at n (handOf s) (slotAt s (handOf s)))))
 
   walk-ledger : (s : Shard) → walked c at s .after .ledger ≡ s .ledger
   unfolding walked
@@ -60,27 +60,28 @@ pub evict-at-in-place-order : (s : Shard) (p : ℕ) → evictAt (inPlaceOrder s)
 evict-at-in-place-order s p = ap (λ (t : Shard). withHand t (p + 1)) (removal-in-place-order s p)
 
 module _ (c : BucketConfig) (at : Nanos) (forget : Bool) where
-  after-recording-in-place-order : (s : Shard) (p : ℕ) (awaited : Awaited) (l : Ledger.Ledger) (r : Recorded)
-      → afterRecording c at (inPlaceOrder s) p awaited (Ledger.inPlaceOrder l) r ≡ leftInPlaceOrder (afterRecording c at s p awaited l r)
-  after-recording-in-place-order s p awaited l Done = ap (outcome Made) (evict-at-in-place-order (withLedger s l) p)
-  after-recording-in-place-order s p awaited l (NoRoom wait) = refl
+  after-recording-in-place-order : (s : Shard) (p soonest : ℕ) (l : Ledger.Ledger) (r : Recorded)
+      → afterRecording at (inPlaceOrder s) p soonest (Ledger.inPlaceOrder l) r ≡ leftInPlaceOrder (afterRecording at s p soonest l r)
+  after-recording-in-place-order s p soonest l Done = ap (outcome Made) (evict-at-in-place-order (withLedger s l) p)
+  after-recording-in-place-order s p soonest l (NoRoom wait) = refl
 
   -- What happens to the victim, where lookup finds each debt.
-  pub victim-in-place-order : (s : Shard) → LedgerOrder.FindsEach (s .ledger) → (awaited : Awaited) (v : Victim)
-      → evictVictim c at forget (inPlaceOrder s) awaited v ≡ leftInPlaceOrder (evictVictim c at forget s awaited v)
-  victim-in-place-order s debts awaited (Free p) = ap (outcome Made) (evict-at-in-place-order s p)
-  victim-in-place-order s debts awaited (Owing p) =
+  pub victim-in-place-order : (s : Shard) → LedgerOrder.FindsEach (s .ledger) → (soonest : ℕ) (v : Victim)
+      → evictVictim c at forget (inPlaceOrder s) soonest v ≡ leftInPlaceOrder (evictVictim c at forget s soonest v)
+  victim-in-place-order s debts soonest (Free p) = ap (outcome Made) (evict-at-in-place-order s p)
+  victim-in-place-order s debts soonest (Owing p) =
       let recording = debtRecorded c at forget s p in
       rw (recorded-in-place-order (s .ledger) debts (debtLeft c at (slotAt s p)) at forget)
-      (after-recording-in-place-order s p awaited (recording .after) (recording .answer))
+      (after-recording-in-place-order s p soonest (recording .after) (recording .answer))
 
   -- The eviction.
   pub evict-in-place-order : (s : Shard) → FindsEach s → evicted c at forget (inPlaceOrder s) ≡ leftInPlaceOrder (evicted c at forget s)
   unfolding evicted
   evict-in-place-order s each =
       let w : Walked = walked c at s in
+      let n : Notes = w .notes in
       rw (walk-in-place-order c at s)
-      (victim-in-place-order (w .after) (rw (walk-ledger c at s) (each .ledger)) (w .walk .awaited) (victimOf (w .ended) (w .walk) (handOf s)))
+      (victim-in-place-order (w .after) (rw (walk-ledger c at s) (each .ledger)) (n .soonest) (victimOf (w .ended) (n .full) (n .unmarked) (handOf s)))
 
   -- The slots that it leaves come from those before, and lookup finds each slot and each debt.
   pub evict-slots-from : (s : Shard) → Sound s → 0 < s .slots .count → SlotsFrom s (evicted c at forget s .after)

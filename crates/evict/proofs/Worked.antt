@@ -16,7 +16,7 @@ use Rattle.ledger.specs.Model as Ledger
 use Rattle.shard_map.specs.Model.{Shard, noSlot, removeAt}
 use Rattle.shard_map.proofs.Worked.{rate, moment, slot, ledger, shard, noDebts}
 use Rattle.evict.specs.declared.Room.the-variants.{Made, Refused}
-use Rattle.evict.specs.Evict.{awaiting, soonestIn, noted, walkFrom, walked, evicted}
+use Rattle.evict.specs.Evict.{noted, walkFrom, walked, evicted}
 
 -- A debt by its hash and the moment at which it settles.
 abbrev owing : ℕ → ℕ → Debt
@@ -34,14 +34,14 @@ full-and-unmarked-goes-at-once = refl
 first-full-goes :
     evicted rate (moment 0) false (shard 3 0 0 (slot 1 8 0 0 ∷ slot 2 0 7 0 ∷ slot 3 0 1 0 ∷ []) noDebts)
     ≡ outcome Made (shard 2 2 0 (slot 1 8 0 0 ∷ slot 3 0 0 0 ∷ noSlot ∷ []) noDebts)
-unfolding evicted walked walkFrom noted awaiting soonestIn shortfallAt grown waitAt ceilDiv removeAt removed
+unfolding evicted walked walkFrom noted shortfallAt grown waitAt ceilDiv removeAt removed
 first-full-goes = refl
 
 -- Else the first unmarked one goes, and leaves its debt; the recovery is rounded up.
 first-unmarked-leaves-its-debt :
     evicted rate (moment 0) false (shard 3 0 0 (slot 1 4 1 0 ∷ slot 2 7 0 0 ∷ slot 3 2 0 0 ∷ []) noDebts)
     ≡ outcome Made (shard 2 2 0 (slot 1 4 0 0 ∷ slot 3 2 0 0 ∷ noSlot ∷ []) (ledger 1 0 (owing 2 4 ∷ [])))
-unfolding evicted walked walkFrom noted awaiting soonestIn shortfallAt grown waitAt ceilDiv removeAt removed Ledger.recorded Ledger.recordedAt
+unfolding evicted walked walkFrom noted shortfallAt grown waitAt ceilDiv removeAt removed Ledger.recorded Ledger.recordedAt
     Ledger.placeOf Ledger.append lowestFrom
 first-unmarked-leaves-its-debt = refl
 
@@ -49,7 +49,7 @@ first-unmarked-leaves-its-debt = refl
 first-looked-at-leaves-its-debt :
     evicted rate (moment 0) false (shard 3 2 0 (slot 1 4 1 0 ∷ slot 2 2 1 0 ∷ slot 3 8 1 0 ∷ []) noDebts)
     ≡ outcome Made (shard 2 3 0 (slot 1 4 0 0 ∷ slot 2 2 0 0 ∷ noSlot ∷ []) (ledger 1 0 (owing 3 4 ∷ [])))
-unfolding evicted walked walkFrom noted awaiting soonestIn shortfallAt grown waitAt ceilDiv removeAt removed Ledger.recorded Ledger.recordedAt
+unfolding evicted walked walkFrom noted shortfallAt grown waitAt ceilDiv removeAt removed Ledger.recorded Ledger.recordedAt
     Ledger.placeOf Ledger.append lowestFrom
 first-looked-at-leaves-its-debt = refl
 
@@ -63,7 +63,7 @@ hand-past-the-slots-reads-as-the-first = refl
 an-eviction-takes-its-looks :
     evicted rate (moment 0) false (shard (clockScan + 1) 0 0 (replicate clockScan (slot 1 8 1 0) ++ slot 2 0 0 0 ∷ []) noDebts)
     ≡ outcome Made (shard clockScan 1 0 (slot 2 0 0 0 ∷ replicate (clockScan - 1) (slot 1 8 0 0) ++ noSlot ∷ []) (ledger 1 0 (owing 1 4 ∷ [])))
-unfolding evicted walked walkFrom noted awaiting soonestIn shortfallAt grown waitAt ceilDiv removeAt removed Ledger.recorded Ledger.recordedAt
+unfolding evicted walked walkFrom noted shortfallAt grown waitAt ceilDiv removeAt removed Ledger.recorded Ledger.recordedAt
     Ledger.placeOf Ledger.append lowestFrom
 an-eviction-takes-its-looks = refl
 
@@ -73,34 +73,34 @@ twoSlots one two mark hand cursor settles = shard 2 hand 0 (slot 1 one mark 0 �
 
 -- Both waits are a few nanoseconds; a millisecond is told.
 refusal-waits-a-millisecond : evicted rate (moment 0) false (twoSlots 8 4 1 0 0 3) ≡ outcome (Refused (dueAfter (moment 0) (moment 1000000))) (twoSlots 8 4 0 2 1 3)
-unfolding evicted walked walkFrom noted awaiting soonestIn shortfallAt grown waitAt ceilDiv Ledger.recorded Ledger.recordedAt
+unfolding evicted walked walkFrom noted shortfallAt grown waitAt ceilDiv Ledger.recorded Ledger.recordedAt
     Ledger.placeOf Ledger.makeRoom Ledger.scan Ledger.scanFrom Ledger.dropChosen lowestFrom
 refusal-waits-a-millisecond = refl
 
 -- The moment told is that of the call plus the wait told, after the floor of a millisecond.
 refusal-tells-the-moment-of-the-wait-told :
     evicted rate (moment 2) false (twoSlots 12 8 1 0 0 5) ≡ outcome (Refused (record { wait = moment 1000000; moment = moment 1000002 })) (twoSlots 12 8 0 2 1 5)
-unfolding evicted walked walkFrom noted awaiting soonestIn shortfallAt grown waitAt ceilDiv Ledger.recorded Ledger.recordedAt
+unfolding evicted walked walkFrom noted shortfallAt grown waitAt ceilDiv Ledger.recorded Ledger.recordedAt
     Ledger.placeOf Ledger.makeRoom Ledger.scan Ledger.scanFrom Ledger.dropChosen lowestFrom
 refusal-tells-the-moment-of-the-wait-told = refl
 
 -- The soonest recovery is 2 ms, that of the second slot, and the ledger's wait 3 ms; then the recovery is 3 ms and the ledger's wait 1.5 ms.
 refusal-waits-for-the-soonest-recovery :
     evicted rate (moment 0) false (twoSlots 8000000 4000000 1 0 0 3000000) ≡ outcome (Refused (dueAfter (moment 0) (moment 2000000))) (twoSlots 8000000 4000000 0 2 1 3000000)
-unfolding evicted walked walkFrom noted awaiting soonestIn shortfallAt grown waitAt ceilDiv Ledger.recorded Ledger.recordedAt
+unfolding evicted walked walkFrom noted shortfallAt grown waitAt ceilDiv Ledger.recorded Ledger.recordedAt
     Ledger.placeOf Ledger.makeRoom Ledger.scan Ledger.scanFrom Ledger.dropChosen lowestFrom
 refusal-waits-for-the-soonest-recovery = refl
 
 refusal-waits-for-the-ledger :
     evicted rate (moment 0) false (twoSlots 8000000 6000000 1 0 0 1500000) ≡ outcome (Refused (dueAfter (moment 0) (moment 1500000))) (twoSlots 8000000 6000000 0 2 1 1500000)
-unfolding evicted walked walkFrom noted awaiting soonestIn shortfallAt grown waitAt ceilDiv Ledger.recorded Ledger.recordedAt
+unfolding evicted walked walkFrom noted shortfallAt grown waitAt ceilDiv Ledger.recorded Ledger.recordedAt
     Ledger.placeOf Ledger.makeRoom Ledger.scan Ledger.scanFrom Ledger.dropChosen lowestFrom
 refusal-waits-for-the-ledger = refl
 
 -- Where debts may be forgotten the ledger's debt gives way, and the first looked at goes.
 forgetting-makes-room :
     evicted rate (moment 0) true (twoSlots 8 4 1 0 0 3) ≡ outcome Made (shard 1 1 0 (slot 2 4 0 0 ∷ noSlot ∷ []) (ledger 1 1 (owing 1 4 ∷ [])))
-unfolding evicted walked walkFrom noted awaiting soonestIn shortfallAt grown waitAt ceilDiv removeAt removed Ledger.recorded Ledger.recordedAt
+unfolding evicted walked walkFrom noted shortfallAt grown waitAt ceilDiv removeAt removed Ledger.recorded Ledger.recordedAt
     Ledger.placeOf Ledger.makeRoom Ledger.scan Ledger.scanFrom Ledger.dropChosen Ledger.removeAt Ledger.append lowestFrom
 forgetting-makes-room = refl
 
@@ -116,7 +116,7 @@ ahead number shortfall stamp mark = record {
 
 debt-settles-after-the-stamp :
     evicted rate (moment 0) false (shard 1 0 0 (ahead 1 8 3 0 ∷ []) noDebts) ≡ outcome Made (shard 0 1 0 (noSlot ∷ []) (ledger 1 0 (owing 1 7 ∷ [])))
-unfolding evicted walked walkFrom noted awaiting soonestIn shortfallAt grown waitAt ceilDiv removeAt removed Ledger.recorded Ledger.recordedAt
+unfolding evicted walked walkFrom noted shortfallAt grown waitAt ceilDiv removeAt removed Ledger.recorded Ledger.recordedAt
     Ledger.placeOf Ledger.append lowestFrom
 debt-settles-after-the-stamp = refl
 
@@ -124,7 +124,7 @@ debt-settles-after-the-stamp = refl
 debt-settles-at-the-last-moment :
     evicted rate (moment 2) false (shard 1 0 0 (ahead 1 8 (2 ^ 64 - 3) 0 ∷ []) noDebts)
     ≡ outcome Made (shard 0 1 0 (noSlot ∷ []) (ledger 1 0 (owing 1 (2 ^ 64 - 1) ∷ [])))
-unfolding evicted walked walkFrom noted awaiting soonestIn shortfallAt grown waitAt ceilDiv removeAt removed Ledger.recorded Ledger.recordedAt
+unfolding evicted walked walkFrom noted shortfallAt grown waitAt ceilDiv removeAt removed Ledger.recorded Ledger.recordedAt
     Ledger.placeOf Ledger.append lowestFrom
 debt-settles-at-the-last-moment = refl
 
@@ -135,13 +135,13 @@ oneAhead stamp mark hand cursor = shard 2 hand 0 (slot 1 8000000 mark 0 ∷ ahea
 
 refusal-waits-for-a-stamp :
     evicted rate (moment 0) false (oneAhead 1000000 1 0 0) ≡ outcome (Refused (dueAfter (moment 0) (moment 3000000))) (oneAhead 1000000 0 2 1)
-unfolding evicted walked walkFrom noted awaiting soonestIn shortfallAt grown waitAt ceilDiv Ledger.recorded Ledger.recordedAt
+unfolding evicted walked walkFrom noted shortfallAt grown waitAt ceilDiv Ledger.recorded Ledger.recordedAt
     Ledger.placeOf Ledger.makeRoom Ledger.scan Ledger.scanFrom Ledger.dropChosen lowestFrom
 refusal-waits-for-a-stamp = refl
 
 refusal-waits-for-the-larger-shortfall :
     evicted rate (moment 0) false (oneAhead 3000000 1 0 0) ≡ outcome (Refused (dueAfter (moment 0) (moment 4000000))) (oneAhead 3000000 0 2 1)
-unfolding evicted walked walkFrom noted awaiting soonestIn shortfallAt grown waitAt ceilDiv Ledger.recorded Ledger.recordedAt
+unfolding evicted walked walkFrom noted shortfallAt grown waitAt ceilDiv Ledger.recorded Ledger.recordedAt
     Ledger.placeOf Ledger.makeRoom Ledger.scan Ledger.scanFrom Ledger.dropChosen lowestFrom
 refusal-waits-for-the-larger-shortfall = refl
 
@@ -151,6 +151,6 @@ allAhead mark hand cursor = shard 2 hand 0 (ahead 1 8000000 2000000 mark ∷ ahe
 
 refusal-waits-where-all-are-ahead :
     evicted rate (moment 0) false (allAhead 1 0 0) ≡ outcome (Refused (dueAfter (moment 0) (moment 6000000))) (allAhead 0 2 1)
-unfolding evicted walked walkFrom noted awaiting soonestIn shortfallAt grown waitAt ceilDiv Ledger.recorded Ledger.recordedAt
+unfolding evicted walked walkFrom noted shortfallAt grown waitAt ceilDiv Ledger.recorded Ledger.recordedAt
     Ledger.placeOf Ledger.makeRoom Ledger.scan Ledger.scanFrom Ledger.dropChosen lowestFrom
 refusal-waits-where-all-are-ahead = refl

@@ -1,1 +1,2 @@
 pub mod Evict
+pub mod code

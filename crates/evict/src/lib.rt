@@ -7,6 +7,7 @@ ghost use Rattle.shard_map.specs.Model as Model;
 ghost use Rattle.shard_map.specs.Layout.{shard, Intact};
 ghost use Rattle.evict.specs.declared.Victim.the-variants.{Owing};
 ghost use Rattle.evict.specs.Evict as Evict;
+ghost use Rattle.evict.specs.code.Awaited.{awaiting, soonestIn, newWalk, walkNoted};
 use bucket::BucketConfig;
 use bucket::BucketCore;
 use bucket::Due;
@@ -53,7 +54,7 @@ impl Awaited {
     // With the bucket of one more slot that is not full.
     fn with(self, bucket: BucketCore, shortfall: u64, config: BucketConfig, at: Nanos) -> Awaited
         requires { ⌜ Accepted config × (shortfall ≡ shortfallAt config bucket at) ⌝ }
-        ensures { λ r. ⌜ r ≡ Evict.awaiting config at self bucket ⌝ }
+        ensures { λ r. ⌜ r ≡ awaiting config at self bucket ⌝ }
     {
         if bucket.stamp.0 <= at.0 {
             return Awaited {
@@ -71,7 +72,7 @@ impl Awaited {
     // How long until the first of the slots has recovered.
     fn soonest(self, config: BucketConfig) -> Nanos
         requires { ⌜ Accepted config ⌝ }
-        ensures { λ r. ⌜ r .0 ≡ Evict.soonestIn config self ⌝ }
+        ensures { λ r. ⌜ r .0 ≡ soonestIn config self ⌝ }
     {
         if self.least == u64::MAX {
             return Nanos(self.later);
@@ -84,7 +85,7 @@ impl Awaited {
 impl Walk {
     // Before the first look.
     pub fn new() -> Walk
-        ensures { λ r. ⌜ r ≡ Evict.nothingNoted ⌝ }
+        ensures { λ r. ⌜ r ≡ newWalk ⌝ }
     {
         Walk {
             full: Place::Nowhere,
@@ -99,7 +100,7 @@ impl Walk {
     // After a look at a slot that does not go at once.
     pub fn noted(self, pos: usize, slot: Slot, config: BucketConfig, at: Nanos) -> Walk
         requires { ⌜ Accepted config ⌝ }
-        ensures { λ r. ⌜ r ≡ Evict.noted config at self pos slot ⌝ }
+        ensures { λ r. ⌜ r ≡ walkNoted config at self pos slot ⌝ }
     {
         let full = self.full;
         let unmarked = self.unmarked;
@@ -130,7 +131,7 @@ impl Walk {
 
     // Who goes: the slot at which the walk ended; else the first full one; else the first unmarked one, or the first looked at, which owes.
     fn choose(self, ended: Place, first: usize) -> Victim
-        ensures { λ r. ⌜ r ≡ Evict.victimOf ended self first ⌝ }
+        ensures { λ r. ⌜ r ≡ Evict.victimOf ended (self .full) (self .unmarked) first ⌝ }
     {
         let full = self.full;
         let unmarked = self.unmarked;
@@ -226,7 +227,8 @@ fn evict_victim(
     awaited: Awaited,
 ) -> Room
     requires { ⌜ Intact cap (now ws) × Accepted config × (Evict.placeOfVictim victim < shard cap (now ws) .slots .count) ⌝ }
-    ensures { λ r. ⌜ outcome r (shard cap (now (ws .exit))) ≡ Evict.evictVictim config at forget (shard cap (now (ws .entry))) awaited victim ⌝ }
+    ensures { λ r. ⌜ outcome r (shard cap (now (ws .exit))) ≡
+        Evict.evictVictim config at forget (shard cap (now (ws .entry))) (soonestIn config awaited) victim ⌝ }
 {
     match victim {
         Victim::Free(pos) => {
@@ -257,7 +259,8 @@ fn evict_owing(
     awaited: Awaited,
 ) -> Room
     requires { ⌜ Intact cap (now ws) × Accepted config × (pos < shard cap (now ws) .slots .count) ⌝ }
-    ensures { λ r. ⌜ outcome r (shard cap (now (ws .exit))) ≡ Evict.evictVictim config at forget (shard cap (now (ws .entry))) awaited (Owing pos) ⌝ }
+    ensures { λ r. ⌜ outcome r (shard cap (now (ws .exit))) ≡
+        Evict.evictVictim config at forget (shard cap (now (ws .entry))) (soonestIn config awaited) (Owing pos) ⌝ }
 {
     let slot = shard_map::get(ws, cap, pos);
     let full = Due::after(at, slot.recovers_in(config, at));

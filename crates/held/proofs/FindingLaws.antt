@@ -1,6 +1,6 @@
 -- What a lookup says. On any value, what it finds is below the count and passes. On a complete value it misses no item of the hash. So layers above know
 -- lookup by two laws. Then what each step keeps: that the value is complete, the kind of its finding, and a bound over the words of its index.
-use Prim.Native.Nat.{ℕ, _+_, _-_, _*_, _<_}
+use Prim.Native.Nat.{ℕ, _+_, _-_, _<_}
 use native.Mathlib.Omega.{arith}
 use mathlib.Core.Path.{_≡_, refl, ap, _∙_}
 use mathlib.Core.List.{List}
@@ -12,6 +12,7 @@ use Rattle.rows.proofs.LowestLaws as LowestLaws
 use Rattle.rows.proofs.LowestLaws.{Found}
 use Rattle.index.specs.Walk as Index
 use Rattle.index.specs.Exact.{Exact}
+use Rattle.index.specs.Layout.{placesFor}
 use Rattle.index.proofs.StepLaws.{add-length, remove-length}
 use Rattle.index.proofs.ExactLaws.{exact-hash, add-exact, fresh-exact}
 use Rattle.index.proofs.RemoveLaws.{remove-exact}
@@ -110,10 +111,10 @@ module _ {A : Type 0} (items : Items A) (h : Held A) where
   stored-in-place-order i x = refl
 
   -- No item is held, and all places of the index are empty: that is complete.
-  pub fresh-is-complete : 0 < length (h .places) → h .count ≡ 0 → h .finding ≡ byIndex (replicate (2 * length (h .places)) 0) → Complete items h
+  pub fresh-is-complete : 0 < length (h .places) → h .count ≡ 0 → h .finding ≡ byIndex (replicate (placesFor (length (h .places))) 0) → Complete items h
   fresh-is-complete room none fresh =
-      exact-is-complete (replicate (2 * length (h .places)) 0) fresh (length-replicate {A = ℕ} (2 * length (h .places)) 0)
-      (rw none (fresh-exact (hashAt items h) (2 * length (h .places)) (omega arith)))
+      exact-is-complete (replicate (placesFor (length (h .places))) 0) fresh (length-replicate {A = ℕ} (placesFor (length (h .places))) 0)
+      (rw none (fresh-exact (hashAt items h) (placesFor (length (h .places))) (omega arith)))
 
   -- Other items of the same hashes, as many, in as many places, found in the same way.
   pub same-hashes-complete : Complete items h → (g : Held A) → g .finding ≡ h .finding → g .count ≡ h .count → length (g .places) ≡ length (h .places)

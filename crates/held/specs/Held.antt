@@ -1,8 +1,8 @@
 -- Items held in the first places of a fixed number of places. What stands in the places past the count is part of the value, so that a definition
 -- over `Held` fixes every word. Three definitions change the held items: `appended` adds an item, `removed` takes one out, and `stored` puts one in the place of
--- another. Only set-up and clear do otherwise: all words become 0. `position` finds an item and changes nothing. Only these four read or change an index.
--- Definitions in higher crates are the same with an index and without.
-use Prim.Native.Nat.{ℕ, _+_, _-_, _*_, _≤_, _<_}
+-- another. Only set-up and clear do otherwise: all words become 0. `position` finds an item and changes nothing. Only `position`, `appended`
+-- and `removed` read or change an index. Definitions in higher crates are the same with an index and without.
+use Prim.Native.Nat.{ℕ, _+_, _-_, _≤_, _<_}
 use mathlib.Core.Path.{_≡_}
 use mathlib.Core.Bool.{Bool, cond}
 use mathlib.Core.List.{List}
@@ -12,6 +12,7 @@ use Rattle.rows.specs.declared.Place.{Place}
 use Rattle.rows.specs.Places.{lowest, sum}
 use Rattle.index.specs.Walk as Index
 use Rattle.index.specs.Exact.{Exact}
+use Rattle.index.specs.Layout.{placesFor}
 
 -- How items are found: in the order of their places, or by an index, whose places are given.
 pub data Finding : Type 0 where
@@ -100,7 +101,8 @@ stored h i x = record { count = h .count; places = set (h .places) i x; finding 
 abbrev pub inPlaceOrder : {A : Type 0} → Held A → Held A
 inPlaceOrder h = foundOtherwise h inOrder
 
--- Lookup misses no item: it goes by the order of the places, or by an index that is exact for the items and has two places for each of theirs.
+-- Lookup misses no item: it goes by the order of the places, or by an index that is exact for the items and has as many places as there have to be for them.
 pub data Complete {A : Type 0} (items : Items A) (h : Held A) : Type 0 where
   in-order-is-complete : h .finding ≡ inOrder → Complete items h
-  exact-is-complete : (ix : List ℕ) → h .finding ≡ byIndex ix → length ix ≡ 2 * length (h .places) → Exact (hashAt items h) (h .count) ix → Complete items h
+  exact-is-complete : (ix : List ℕ) → h .finding ≡ byIndex ix → length ix ≡ placesFor (length (h .places)) → Exact (hashAt items h) (h .count) ix
+      → Complete items h

@@ -10,7 +10,7 @@ use borrow.Author.Tests.{eqb-true, eq-eqb}
 use Rattle.arith.proofs.Cases.{by-eq, by-le}
 use Rattle.index.specs.Walk.{at, walk, seek, add}
 use Rattle.index.specs.Exact.{copies, Before, OnWalk, Exact}
-use Rattle.index.proofs.CopyLaws.{copies-at, copies-set, Stands, copies-stands, absent, copies-fresh, copies-fresh-other, only-copy}
+use Rattle.index.proofs.CopyLaws.{copies-at, copies-set, Stands, copies-stands, absent, copies-fresh, copies-fresh-other}
 use Rattle.index.proofs.CopyLaws.{at-stored, at-kept, used-kept, one, one-same, one-not}
 use Rattle.index.proofs.WalkLaws.{StopsAt, walk-stops, empty-stops, passing-stops, stops-passing, isEmpty, stops-empty, passed-used, stops-used}
 
@@ -111,10 +111,3 @@ place-none ix h i s none =
     let S = walk-stops ix test h (s .place) (s .below) (empty-stops test _ (s .is)) in
     by-eq (at ix (walk ix test h)) 0 (λ k. k)
     (λ k. absurd (absent (i + 1) ix (walk ix test h) (S .below) none (eqb-true _ _ (stops-passing test _ (S .here) (omega arith)))))
-
--- Each item has one place: the one that its walk gives.
-pub one-place : {hash : ℕ → ℕ} {n : ℕ} {ix : List ℕ} → Exact hash n ix → (i : ℕ) → i < n → (x : ℕ) → x < length ix → at ix x ≡ i + 1
-    → x ≡ seek ix (hash i) (i + 1)
-one-place {hash} {n} {ix} E i h x hx e =
-    let place = place-found hash ix i (E .onWalk) (item-stands E i h) in
-    only-copy (i + 1) ix x (seek ix (hash i) (i + 1)) (omega arith) (E .once i h) hx (place .below) e (place .is)

@@ -81,11 +81,6 @@ pub found-without-a-place : (n : ℕ) (test : ℕ → Bool) (ix : List ℕ) (h i
 unfolding add
 found-without-a-place n test ix h i none e = found-named n test ix h i (rw (set-out ix (seek ix h 0) (i + 1) none) at e)
 
--- On words with an empty place an added item gets one.
-pub empty-gives-a-place : (ix : List ℕ) (h e : ℕ) → e < length ix → at ix e ≡ 0 → seek ix h 0 < length ix
-unfolding seek
-empty-gives-a-place ix h e inside free = walk-stops ix (λ v. eqb v 0) h e inside (empty-stops (λ v. eqb v 0) (at ix e) free) .below
-
 module _ {hash : ℕ → ℕ} {n : ℕ} {ix : List ℕ} (E : Exact hash n ix) (test : ℕ → Bool) (h : ℕ) where
   -- A walk that stopped at an empty place went past no item that passes.
   empty-misses : at ix (walk ix (hits n test) h) ≡ 0 → (j : ℕ) → j < n → hash j ≡ h → test j ≡ true → ⊥

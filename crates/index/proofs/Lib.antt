@@ -5,6 +5,7 @@ pub mod CopyLaws
 pub mod WalkLaws
 pub mod StepLaws
 pub mod RunLaws
+pub mod WayLaws
 pub mod TrailLaws
 pub mod ExactLaws
 pub mod RemoveLaws

@@ -13,7 +13,7 @@ use Rattle.index.specs.declared.Index.{Index}
 use Rattle.index.specs.declared.Pass.{Pass}
 use Rattle.index.specs.Walk.{at, onward, addAgain}
 use Rattle.index.specs.Layout.{Fits, placesOf, withPlaces, hashOf}
-use Rattle.index.specs.Trail.{FromHome, Trail, knownAfter}
+use Rattle.index.specs.code.Trail.{fromHome, Trail, knownAfter}
 use Rattle.index.proofs.CopyLaws.{at-stored}
 use Rattle.index.proofs.StepLaws.{add-again-length}
 use Rattle.index.proofs.LayoutLaws.{places-length, same-places, set-length, then-places}
@@ -30,24 +30,27 @@ abbrev pub Given : Index → ℕ → List ℕ → ℕ → ℕ → Pass → Type 
 Given index n ws q word pass = Fits index n ws × (q < index .size) × (word ≡ at (placesOf index ws) q) × (0 < word) × Trail (index .size) (placesOf index ws) q pass
 
 module _ {index : Index} {n : ℕ} {ws : List ℕ} {q word : ℕ} {pass : Pass} (given : Given index n ws q word pass)
-    {b : ℕ} (B : FromHome (hashOf index ws) n (index .size) q word b) where
+    {back : ℕ} (from : back ≡ fromHome (hashOf index ws) n (index .size) q word) where
   fits : Fits index n ws
   fits = given .0
 
-  hq : q < index .size
-  hq = given .1
+  below : q < index .size
+  below = given .1
 
   is : word ≡ at (placesOf index ws) q
   is = given .2
 
-  T : Trail (index .size) (placesOf index ws) q pass
-  T = given .4
+  trail : Trail (index .size) (placesOf index ws) q pass
+  trail = given .4
+
+  abbrev hash : ℕ → ℕ
+  hash = hashOf index ws
 
   abbrev ix : List ℕ
   ix = placesOf index ws
 
   abbrev again : List ℕ
-  again = addAgain (hashOf index ws) n (set ix q 0) word
+  again = addAgain hash n (set ix q 0) word
 
   len : length ix ≡ index .size
   len = places-length index ws (fits .inside)
@@ -55,54 +58,55 @@ module _ {index : Index} {n : ℕ} {ws : List ℕ} {q word : ℕ} {pass : Pass} 
   filled : 0 < at ix q
   filled = rw is at (given .3)
 
-  B′ : FromHome (hashOf index ws) n (index .size) q (at ix q) b
-  B′ = rw is at B
+  from′ : back ≡ fromHome hash n (index .size) q (at ix q)
+  from′ = rw is at from
 
   pub run-fits : pass .run + 1 < index .size
-  run-fits = run-below (hashOf index ws) n len hq filled T
+  run-fits = run-below hash n len below filled trail
 
-  pub known-after-fits : (w k : ℕ) → k ≡ knownAfter w b (pass .run) → k ≤ index .size + 1
-  known-after-fits w k e = rw e (known-fits (hashOf index ws) n len hq filled T w b B′)
+  pub known-after-fits : (w known : ℕ) → known ≡ knownAfter w back (pass .run) → known ≤ index .size + 1
+  known-after-fits w known e = rw (e, from′) (known-fits hash n len below filled trail w)
 
-  pass-stays : b ≤ pass .run
+  pass-stays : back ≤ pass .run
       → (ws ≡ withPlaces index ws again) × Trail (index .size) ix (onward (index .size) q) (record { gap = pass .gap; run = pass .run + 1; known = min (pass .known + 1) (index .size) })
-  pass-stays l =
-      let put = stays (hashOf index ws) n len hq filled T b B′ l in
-      (sym (same-places index ws) ∙ ap (withPlaces index ws) (sym (rw is put)), stays-trail (hashOf index ws) n len hq filled T)
+  pass-stays near =
+      let put = stays hash n len below filled trail (rw from′ at near) in
+      (sym (same-places index ws) ∙ ap (withPlaces index ws) (sym (rw is put)), stays-trail hash n len below filled trail)
 
-  pass-fills : pass .run < b → b ≤ pass .known → {ws₁ : List ℕ} → ws₁ ≡ withPlaces index ws (set (set ix q 0) (pass .gap) word)
+  pass-fills : pass .run < back → back ≤ pass .known → {ws₁ : List ℕ} → ws₁ ≡ withPlaces index ws (set (set ix q 0) (pass .gap) word)
       → (ws₁ ≡ withPlaces index ws again) × Trail (index .size) (placesOf index ws₁) (onward (index .size) q) (record { gap = q; run = 0; known = min (pass .known + 1) (index .size) })
-  pass-fills m l e =
-      let put = fills (hashOf index ws) n len hq filled T b B′ m l in
-      let there = then-places (set (set ix q 0) (pass .gap) word) fits (simp length-set len) e in (
-        e ∙ ap (withPlaces index ws) (sym (rw is put)),
-        rw (there, is) (fills-trail (hashOf index ws) n len hq filled T),
+  pass-fills far near stored =
+      let put = fills hash n len below filled trail (rw from′ at far) (rw from′ at near) in
+      let there = then-places (set (set ix q 0) (pass .gap) word) fits (simp length-set len) stored in (
+        stored ∙ ap (withPlaces index ws) (sym (rw is put)),
+        rw (there, is) (fills-trail hash n len below filled trail),
       )
 
   -- The places that the code picks.
-  pub picked-below : (to : ℕ) → to ≡ cond (leb b (pass .run)) q (pass .gap) → to < index .size
-  picked-below to picked = rw picked (by-le b (pass .run) (λ l. rw (le-leb b (pass .run) l) hq) (λ l. rw (lt-leb b (pass .run) l) (T .inside)))
+  pub picked-below : (to : ℕ) → to ≡ cond (leb back (pass .run)) q (pass .gap) → to < index .size
+  picked-below to picked =
+      rw picked (by-le back (pass .run) (λ near. rw (le-leb back (pass .run) near) below) (λ far. rw (lt-leb back (pass .run) far) (trail .inside)))
 
-  pub pass-moves : b ≤ pass .known → {ws₁ : List ℕ} (to g r : ℕ) → to ≡ cond (leb b (pass .run)) q (pass .gap) → ws₁ ≡ withPlaces index ws (set (set ix q 0) to word)
-      → g ≡ cond (leb b (pass .run)) (pass .gap) q → r ≡ cond (leb b (pass .run)) (pass .run + 1) 0
-      → (ws₁ ≡ withPlaces index ws again) × Trail (index .size) (placesOf index ws₁) (onward (index .size) q) (record { gap = g; run = r; known = min (pass .known + 1) (index .size) })
-  pass-moves known {ws₁} to g r picked stored gap-is run-is = by-le b (pass .run)
-      (λ l.
-      let here : to ≡ q = (rw (le-leb b (pass .run) l) at picked) in
-      let g-is : g ≡ pass .gap = (rw (le-leb b (pass .run) l) at gap-is) in
-      let r-is : r ≡ pass .run + 1 = (rw (le-leb b (pass .run) l) at run-is) in
+  pub pass-moves : back ≤ pass .known → {ws₁ : List ℕ} (to gap run : ℕ) → to ≡ cond (leb back (pass .run)) q (pass .gap)
+      → ws₁ ≡ withPlaces index ws (set (set ix q 0) to word) → gap ≡ cond (leb back (pass .run)) (pass .gap) q
+      → run ≡ cond (leb back (pass .run)) (pass .run + 1) 0 → (ws₁ ≡ withPlaces index ws again)
+      × Trail (index .size) (placesOf index ws₁) (onward (index .size) q) (record { gap = gap; run = run; known = min (pass .known + 1) (index .size) })
+  pass-moves known {ws₁} to gap run picked stored gap-is run-is = by-le back (pass .run)
+      (λ near.
+      let test = le-leb back (pass .run) near in
+      let here : to ≡ q = (rw test at picked) in
       let put-back : set (set ix q 0) to word ≡ ix = (rw (here, is) (set-set ix q 0 (at ix q) ∙ set-getD ix q 0)) in
       let same : ws₁ ≡ ws = stored ∙ ap (withPlaces index ws) put-back ∙ same-places index ws in
-      let turn = pass-stays l in
-      (same ∙ turn .0, rw (same, g-is, r-is) (turn .1)))
-      (λ l.
-      let there : to ≡ pass .gap = (rw (lt-leb b (pass .run) l) at picked) in
-      let g-is : g ≡ q = (rw (lt-leb b (pass .run) l) at gap-is) in
-      let r-is : r ≡ 0 = (rw (lt-leb b (pass .run) l) at run-is) in
-      rw (g-is, r-is) (pass-fills l known (rw there at stored)))
+      let turn = pass-stays near in
+      (same ∙ turn .0, rw (same, gap-is, run-is, test) (turn .1)))
+      (λ far.
+      let test = lt-leb back (pass .run) far in
+      let there : to ≡ pass .gap = (rw test at picked) in
+      rw (gap-is, run-is, test) (pass-fills far known (rw there at stored)))
 
-  pub pass-walks : pass .run < b → {ws₁ : List ℕ} → ws₁ ≡ withPlaces index ws again → (k : ℕ) → k ≡ knownAfter (at (placesOf index ws₁) (pass .gap)) b (pass .run)
-      → Trail (index .size) (placesOf index ws₁) (onward (index .size) q) (record { gap = q; run = 0; known = k + 1 })
-  pass-walks m e k f =
-      let long : length again ≡ index .size = add-again-length (hashOf index ws) n (set ix q 0) word ∙ simp length-set len in
-      rw (f, then-places again fits long e, is) (walks-trail (hashOf index ws) n len hq filled T b B′ m)
+  pub pass-walks : pass .run < back → {ws₁ : List ℕ} → ws₁ ≡ withPlaces index ws again → (known : ℕ)
+      → known ≡ knownAfter (at (placesOf index ws₁) (pass .gap)) back (pass .run)
+      → Trail (index .size) (placesOf index ws₁) (onward (index .size) q) (record { gap = q; run = 0; known = known + 1 })
+  pass-walks far after known e =
+      let long : length again ≡ index .size = add-again-length hash n (set ix q 0) word ∙ simp length-set len in
+      rw (e, then-places again fits long after, is, from′) (walks-trail hash n len below filled trail (rw from′ at far))

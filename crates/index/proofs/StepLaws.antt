@@ -1,4 +1,5 @@
 -- What each definition makes of one place. Those that count the places left have a law for each turn of the loop that computes them.
+-- The worked examples are checked before these laws, which quote the definitions: a definition that says something else is refused there first.
 use Prim.Native.Nat.{ℕ, zero, suc, _+_, _-_, _%_, _^_, _≤_, _<_}
 use native.Mathlib.Omega.{arith}
 use mathlib.Core.Path.{_≡_, refl, sym, _∙_}
@@ -14,6 +15,7 @@ use Rattle.rows.specs.declared.Place.the-variants.{At, Nowhere}
 use Rattle.index.specs.declared.Probed.{Probed}
 use Rattle.index.specs.declared.Probed.the-variants.{Hit, Empty, Other}
 use Rattle.index.specs.Walk.{at, onward, walkFrom, walk, hits, findFrom, find, probed, seek, add, addAgain, rehome, vacate, renumber, remove}
+use Rattle.index.proofs.Worked as Worked
 use Rattle.index.proofs.CycleLaws.{onward-follows, follows-below}
 
 -- The place one step on, by the test of the code.

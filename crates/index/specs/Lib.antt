@@ -1,4 +1,4 @@
 pub mod Walk
 pub mod Exact
 pub mod Layout
-pub mod Trail
+pub mod code

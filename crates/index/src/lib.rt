@@ -7,7 +7,7 @@ ghost use lib.ListN.{length, set};
 ghost use lib.Dec.{leb};
 ghost use mathlib.Core.Bool.{cond};
 ghost use Rattle.index.specs.Walk as Walk;
-ghost use Rattle.index.specs.Trail.{Trail, FromHome, knownAfter};
+ghost use Rattle.index.specs.code.Trail.{Trail, fromHome, knownAfter};
 ghost use Rattle.index.specs.Layout.{Fits, placesOf, withPlaces, itemWord, hashOf, keyed};
 use rows::Place;
 
@@ -175,7 +175,7 @@ fn rehome_one(ws: &mut [u64], index: Index, n: usize, q: usize, word: u64)
 // How many steps a walk takes to place q from the home of the item that a word names. For a word that names no item, more than there can be.
 fn from_home(ws: &[u64], index: Index, n: usize, q: usize, word: u64) -> usize
     requires { ⌜ Fits index n (now ws) × (q < index .size) × (0 < word) ⌝ }
-    ensures { λ r. ⌜ FromHome (hashOf index (now (ws .entry))) n (index .size) q word r ⌝ }
+    ensures { λ r. ⌜ r ≡ fromHome (hashOf index (now (ws .entry))) n (index .size) q word ⌝ }
 {
     if word <= n as u64 {
         let i = (word - 1) as usize;

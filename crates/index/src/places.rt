@@ -3,7 +3,7 @@ ghost use mathlib.Core.Path.{_≡_};
 ghost use Prim.Native.Nat.{_+_, _%_, _^_, _<_};
 ghost use lib.ListN.{length};
 ghost use Rattle.index.specs.Walk as Walk;
-ghost use Rattle.index.specs.Trail.{Steps};
+ghost use Rattle.index.specs.code.Trail as Trail;
 
 // The place one step on: after the last place comes the first.
 pub(crate) fn onward(size: usize, q: usize) -> usize
@@ -19,7 +19,7 @@ pub(crate) fn onward(size: usize, q: usize) -> usize
 // How many steps a walk takes from one place to another.
 pub(crate) fn steps(size: usize, from: usize, to: usize) -> usize
     requires { ⌜ (from < size) × (to < size) ⌝ }
-    ensures { λ r. ⌜ Steps size from to r ⌝ }
+    ensures { λ r. ⌜ r ≡ Trail.steps size from to ⌝ }
 {
     if from <= to {
         return to - from;

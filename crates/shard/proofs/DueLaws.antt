@@ -16,7 +16,7 @@ use Rattle.rows.specs.declared.Place.the-variants.{At, Nowhere}
 use Rattle.shard_map.specs.Model.{Shard, capOf, placeOf, withLedger}
 use Rattle.ledger.specs.Model as Ledger
 use Rattle.evict.specs.declared.Room.{Room}
-use Rattle.evict.proofs.WalkLaws.{TellsRoom, room-made, room-refused, eviction-tells-its-moment}
+use Rattle.evict.proofs.RefusalLaws.{TellsRoom, room-made, room-refused, eviction-tells-its-moment}
 use Rattle.units.specs.declared.OptionNanos.{OptionNanos}
 use Rattle.shard.specs.declared.Identity.{Identity}
 use Rattle.shard.specs.declared.Policy.{Policy}

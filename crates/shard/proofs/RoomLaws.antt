@@ -26,7 +26,9 @@ use Rattle.shard_map.proofs.KeptLaws.{Keeps, keeps-refl, keeps-trans, sweep-idl
 use Rattle.evict.specs.declared.Room.{Room}
 use Rattle.evict.specs.declared.Room.the-variants.{Made, Refused}
 use Rattle.evict.specs.Evict.{minRefusalWait, evicted}
-use Rattle.evict.proofs.WalkLaws.{made-is-no-refusal, never-refused-is-made, evict-cap, evict-kind, evict-ledger-room, evict-sound, evict-complete, evict-made-leaves-room, evict-refusal}
+use Rattle.evict.proofs.CaseLaws.{made-is-no-refusal, never-refused-is-made, evict-cap, evict-kind, evict-ledger-room, evict-sound, evict-complete}
+use Rattle.evict.proofs.CaseLaws.{evict-made-leaves-room}
+use Rattle.evict.proofs.RefusalLaws.{evict-refusal}
 use Rattle.evict.proofs.KeptLaws.{evict-keeps-shortage}
 use Rattle.shard.specs.declared.Policy.{Policy}
 use Rattle.shard.specs.Model.{idleLimitIn, sweptIdle, swept, makeRoom}

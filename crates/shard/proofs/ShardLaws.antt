@@ -27,7 +27,7 @@ use Rattle.shard_map.proofs.StepLaws.{Holding, found-holds, removal-cap, remova
 use Rattle.shard_map.proofs.StepLaws.{change-sound, ledger-sound, removal-complete, removal-kind, insert-complete, insert-kind, change-complete, ledger-complete}
 use Rattle.evict.specs.declared.Room.{Room}
 use Rattle.evict.specs.declared.Room.the-variants.{Made, Refused}
-use Rattle.evict.proofs.WalkLaws.{made-is-no-refusal}
+use Rattle.evict.proofs.CaseLaws.{made-is-no-refusal}
 use Rattle.shard.specs.declared.Identity.{Identity}
 use Rattle.shard.specs.declared.Policy.{Policy}
 use Rattle.shard.specs.Model.{withExisting, makeRoom, joined, admitted, admit, askedFrom, withOrInsert, hasDebt, refundedFrom, refunded, removedFrom, removed}

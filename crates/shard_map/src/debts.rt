@@ -1,4 +1,5 @@
-// The ledger of a shard: the ledger's functions, lent the segment of the shard's words that is its own.
+// The ledger of a shard: the ledger's functions, lent the shard's words from the ledger's first one on. Among them is the index of the slots, which they leave
+// as it is.
 ghost use mathlib.Core.Path.{_≡_};
 ghost use lib.ListN.{length};
 ghost use Rattle.rows.specs.Outcome.{outcome};

@@ -1,4 +1,4 @@
-// What a call on a key is lent. Within a call the shape of the store serves the refusals, and the part that is found in it serves the operation.
+// What a call on a key is lent. The shape of its store serves the refusals, and the part that is found in it serves the operation.
 ghost use mathlib.Core.Path.{_≡_};
 ghost use Rattle.settings.specs.Settings.{ShapeOfAccepted, firstRefusal};
 ghost use Rattle.store.specs.Memory.{partIn, partOf};

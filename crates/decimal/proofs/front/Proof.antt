@@ -6,8 +6,8 @@ use mathlib.Core.Path.{_≡_, refl, sym, _∙_}
 use lib.ListN.{length, drop, getD}
 use Rattle.arith.proofs.Cases.{by-le}
 use Rattle.decimal.specs.Decimal.{frontFrom, frontOf}
-use Rattle.decimal.proofs.DecimalLaws.{digit, below-is-no-digit, above-is-no-digit, front-full, front-of-all, front-ends, front-goes-on}
-use Rattle.decimal.proofs.DecimalLaws.{one-digit-more-fits, fewer-digits-fit}
+use Rattle.decimal.proofs.ReadLaws.{digit, below-is-no-digit, above-is-no-digit, front-full, front-of-all, front-ends, front-goes-on}
+use Rattle.decimal.proofs.ReadLaws.{one-digit-more-fits, fewer-digits-fit}
 use borrow.Author.Needs.{needs}
 use Rattle.decimal.proofs.front.Statement.{statement}
 use Rattle.decimal.proofs.front.Tie as tie

@@ -5,8 +5,8 @@ use mathlib.Core.Bool.{true}
 use mathlib.Core.Path.{_≡_, _∙_}
 use lib.ListN.{length, getD}
 use Rattle.decimal.specs.Decimal.{isDigit}
-use Rattle.decimal.proofs.DecimalLaws.{empty-is-no-number, long-is-no-number, digit, below-is-no-digit, above-is-no-digit}
-use Rattle.decimal.proofs.DecimalLaws.{front-inside, front-is-the-field, no-digit-follows, too-much-follows, last-digit-follows}
+use Rattle.decimal.proofs.ReadLaws.{empty-is-no-number, long-is-no-number, digit, below-is-no-digit, above-is-no-digit}
+use Rattle.decimal.proofs.ReadLaws.{front-inside, front-is-the-field, no-digit-follows, too-much-follows, last-digit-follows}
 use borrow.Author.Needs.{needs}
 use Rattle.decimal.proofs.number.Statement.{statement}
 use Rattle.decimal.proofs.number.Tie as tie

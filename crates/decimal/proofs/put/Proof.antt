@@ -6,7 +6,7 @@ use mathlib.Core.Path.{_≡_, refl, _∙_}
 use lib.ListN.{length, length-set}
 use lib.Seq.{sets}
 use Rattle.decimal.specs.Decimal.{digitsOf}
-use Rattle.decimal.proofs.DecimalLaws.{lastDigits, some-digits, one-digit-is-written, all-to-store, last-digit-first, all-is-written}
+use Rattle.decimal.proofs.WriteLaws.{lastDigits, some-digits, one-digit-is-written, all-to-store, last-digit-first, all-is-written}
 use borrow.Author.Needs.{needs}
 use Rattle.decimal.proofs.put.Statement.{statement}
 use Rattle.decimal.proofs.put.Tie as tie

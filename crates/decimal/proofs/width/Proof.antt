@@ -4,7 +4,7 @@ use native.Mathlib.Omega.{arith}
 use mathlib.Core.Path.{_≡_, sym, _∙_}
 use lib.ListN.{length}
 use Rattle.decimal.specs.Decimal.{digitsFrom, digitsOf}
-use Rattle.decimal.proofs.DecimalLaws.{some-left, hundredth-fits, two-more-counted, last-counted, last-two-counted}
+use Rattle.decimal.proofs.WriteLaws.{some-left, hundredth-fits, two-more-counted, last-counted, last-two-counted}
 use borrow.Author.Needs.{needs}
 use Rattle.decimal.proofs.width.Statement.{statement}
 use Rattle.decimal.proofs.width.Tie as tie

@@ -1,6 +1,6 @@
 -- `field_size` adds the space.
 use native.Mathlib.Omega.{arith}
-use Rattle.decimal.proofs.DecimalLaws.{digits-count}
+use Rattle.decimal.proofs.WriteLaws.{digits-count}
 use borrow.Author.Needs.{needs}
 use Rattle.desk_writer.proofs.field_size.Statement.{statement}
 use Rattle.desk_writer.proofs.field_size.Tie as tie

@@ -14,6 +14,7 @@ use Rattle.shard_map.specs.Model.{handOf}
 use Rattle.shard_map.proofs.ModelLaws.{intact-hand}
 use Rattle.evict.specs.declared.Walk.{Walk}
 use Rattle.evict.specs.Evict.{walkFrom, walked, victimOf}
+use Rattle.evict.specs.code.Awaited.{notesOf}
 use Rattle.evict.proofs.ModelLaws.{walk-start, walk-end, walk-turn, walk-ends-at-once}
 use Rattle.evict.proofs.ModelLaws.{AfterWalk, after-look, after-walk, evicted-in-steps}
 use borrow.Author.Needs.{needs}
@@ -25,7 +26,7 @@ record Walking (ws₀ : List ℕ) (cap : ℕ) (c : BucketConfig) (at : Nanos) (w
   intact : Intact cap ws
   some : 0 < shard cap ws .slots .count
   long : length ws ≡ length ws₀
-  same : walkFrom c at left (shard cap ws) walk ≡ walked c at (shard cap ws₀)
+  same : walkFrom c at left (shard cap ws) (notesOf c walk) ≡ walked c at (shard cap ws₀)
 
 abbrev Inv-loop : tie.InvT-loop
 Inv-loop ws₀ cap config at forget first left₀ walk₀ ws left walk = Walking ws₀ cap config at ws left walk
@@ -96,8 +97,9 @@ loop-again c =
     let saw = looked .hand-look .ensures in
     let inv = turn looked .loop .inv in
     let after = after-look (inv .intact) (looked .hand-look .kept .0) _ saw in
+    let accepted = start (opening (turn looked)) .pre .1 in
     let more : 0 < turn looked .loop .left = omega (arith, looked .before .before .before .before .if1 .left) in
-    let goes-on = walk-turn _ _ _ _ _ more (looked .before .before .hand2 .ensures) saw once (c .before .if2 .left) (c .noted .ensures) in
+    let goes-on = walk-turn _ _ _ _ _ more (looked .before .before .hand2 .ensures) saw once accepted (c .before .if2 .left) (c .noted .ensures) in
     record {
       intact = after .intact;
       some = rw (after .count) (inv .some);
@@ -108,7 +110,7 @@ loop-again c =
 -- Where the two ways out of the loop meet: what it yields, what was noted and the shard are those of the walk.
 record Ended (ws₀ : List ℕ) (cap : ℕ) (c : BucketConfig) (at : Nanos) (ws : List ℕ) (ended : Place) (walk : Walk) : Type 0 where
   long : length ws ≡ length ws₀
-  same : walked c at (shard cap ws₀) ≡ record { ended = ended; walk = walk; after = shard cap ws }
+  same : walked c at (shard cap ws₀) ≡ record { ended = ended; notes = notesOf c walk; after = shard cap ws }
 
 -- `began` is where the hand was first read, as seen from there.
 abbrev began : tie.Joined1 Inv-loop μ-loop → tie.After-hand Inv-loop μ-loop
@@ -128,7 +130,8 @@ walk-ended c =
 
 -- So the words are still lent there, and the victim is held.
 walk-left : (c : tie.Joined1 Inv-loop μ-loop) → let a = start (began c) .args in
-    AfterWalk (a .cap) (c .if1 .ws) (victimOf (c .if1 .ended) (c .before .loop .walk) (handOf (shard (a .cap) (a .ws .now))))
+    let walk = c .before .loop .walk in
+    AfterWalk (a .cap) (c .if1 .ws) (victimOf (c .if1 .ended) (walk .full) (walk .unmarked) (handOf (shard (a .cap) (a .ws .now))))
 walk-left c =
     let pre′ = start (began c) .pre in
     after-walk _ _ (pre′ .0) (pre′ .2) (walk-ended c .long) (walk-ended c .same)

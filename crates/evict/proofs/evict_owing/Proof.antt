@@ -4,7 +4,8 @@ use Rattle.rows.specs.Outcome.{outcome}
 use Rattle.shard_map.specs.Model.{inLedger}
 use Rattle.shard_map.specs.Layout.{shard}
 use Rattle.shard_map.proofs.ModelLaws.{intact-below}
-use Rattle.evict.proofs.WalkLaws.{debtRecorded}
+use Rattle.evict.specs.code.Awaited.{soonestIn}
+use Rattle.evict.proofs.CaseLaws.{debtRecorded}
 use Rattle.evict.proofs.ModelLaws.{after-record, debt-recorded, owing-goes-out, owing-stays}
 use borrow.Author.Needs.{needs}
 use Rattle.evict.proofs.evict_owing.Statement.{statement}
@@ -81,7 +82,7 @@ returns c =
     let told = c .before .before .before .before .before .before .before .before in
     let a = start (full told) .args in
     let done = c .before .before .before .before .enum-told .given .1 in
-    rw (c .before .before .evict-at .ensures) (owing-goes-out (a .config) (a .at) (a .forget) (a .pos) (a .awaited) _ (gave told) done)
+    rw (c .before .before .evict-at .ensures) (owing-goes-out _ _ _ _ (soonestIn (a .config) (a .awaited)) _ (gave told) done)
 
 same-length-2 : tie.Need-same-length-2
 same-length-2 c = search needs
@@ -90,7 +91,8 @@ returns-2 : tie.Need-returns-2
 returns-2 c =
     let told = c .before in
     let a = start (full (recording told)) .args in
-    let stays = owing-stays (a .config) (a .at) (a .forget) (a .pos) (a .awaited) _ (gave (recording told)) (ledger-wait told .wait .given .1) in
+    let soonest-of = soonestIn (a .config) (a .awaited) in
+    let stays = owing-stays (a .config) (a .at) (a .forget) (a .pos) soonest-of _ (gave (recording told)) (ledger-wait told .wait .given .1) in
     rw (c .after2 .ensures, told .larger .ensures, told .before .smaller .ensures, soonest told .soonest .ensures) stays
 
 pub evict-owing-spec : {M : Type 1} → statement M

@@ -1,7 +1,6 @@
 -- `from_home` counts the steps from the home of the item that the word names, if it names one.
-use mathlib.Core.Path.{refl}
 use native.Mathlib.Nat.{mod-lt}
-use Rattle.index.specs.Trail.{item, noItem}
+use Rattle.index.proofs.TrailLaws.{from-home, from-no-home}
 use borrow.Author.Needs.{needs}
 use Rattle.index.proofs.from_home.Statement.{statement}
 use Rattle.index.proofs.from_home.Tie as tie
@@ -21,13 +20,15 @@ steps-requires c κs =
     (rw (c .home .ensures) (mod-lt _ (start′ .pre .0 .room)), start′ .pre .1)
 
 returns : tie.Need-returns
-returns c = item (c .before .before .before .if1 .taken) (rw (c .before .home .ensures, c .before .before .item-word .ensures) at (c .steps .ensures))
+returns c =
+    let read = c .before .before in
+    rw (c .steps .ensures, c .before .home .ensures, read .item-word .ensures) (from-home _ _ _ _ _ (read .before .if1 .taken))
 
 add-result : tie.Need-add-result
 add-result c = search needs
 
 returns-2 : tie.Need-returns-2
-returns-2 c = noItem (c .before .if1 .left) refl
+returns-2 c = from-no-home _ _ _ _ _ (c .before .if1 .left)
 
 pub from-home-spec : {M : Type 1} → statement M
 from-home-spec =

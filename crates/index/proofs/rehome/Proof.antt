@@ -4,7 +4,7 @@ use native.Mathlib.Omega.{arith}
 use mathlib.Core.Path.{_≡_, refl, sym, _∙_}
 use Rattle.index.specs.Walk.{onward}
 use Rattle.index.specs.Layout.{placesOf}
-use Rattle.index.specs.Trail.{Trail}
+use Rattle.index.specs.code.Trail.{Trail}
 use Rattle.index.proofs.StepLaws.{onward-below}
 use Rattle.index.proofs.LayoutLaws.{Rehoming, rehoming-start, rehoming-empty, rehoming-over, rehoming-on}
 use Rattle.index.proofs.TrailLaws.{trail-start}

@@ -3,7 +3,7 @@ use Prim.Native.Nat.{_≤_, _<_}
 use native.Mathlib.Omega.{arith}
 use mathlib.Core.Path.{_≡_, sym, _∙_}
 use lib.ListN.{length}
-use Rattle.decimal.proofs.DecimalLaws.{front-inside}
+use Rattle.decimal.proofs.ReadLaws.{front-inside}
 use Rattle.desk_lines.specs.Fields.{fieldEnd}
 use Rattle.desk_lines.proofs.FieldLaws.{field-ends-inside, ends-with-front, front-is-the-field}
 use borrow.Author.Needs.{needs}

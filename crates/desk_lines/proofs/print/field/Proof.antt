@@ -5,7 +5,7 @@ use lib.ListN.{length}
 use mathlib.Core.List.{[], _∷_}
 use mathlib.Core.Path.{refl}
 use Rattle.desk_lines.proofs.PrintLaws.{written-after}
-use Rattle.decimal.proofs.DecimalLaws.{digits-count}
+use Rattle.decimal.proofs.WriteLaws.{digits-count}
 use Rattle.decimal.specs.Decimal.{digitsOf}
 use Rattle.rows.proofs.OutcomeLaws.{answer-is}
 use borrow.Author.Needs.{needs}

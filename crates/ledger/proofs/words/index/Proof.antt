@@ -10,7 +10,7 @@ use Rattle.ledger.proofs.words.index.Statement.{statement}
 use Rattle.ledger.proofs.words.index.Tie as tie
 
 -- The words that each debt adds before the index, added up.
-starts-at : (cap : ℕ) → debtsAt + 4 * cap ≡ indexAt cap
+starts-at : (cap : ℕ) → debtsAt + (debtWidth + placesFor 1) * cap ≡ indexAt cap
 starts-at cap = omega arith
 
 mul-t2 : tie.Need-mul-t2

@@ -4,13 +4,14 @@ use native.Mathlib.Omega.{arith}
 use mathlib.Core.Path.{_≡_, ap}
 use Rattle.index.specs.declared.Index.{Index}
 use Rattle.index.specs.Layout.{placesFor}
+use Rattle.ledger.specs.Layout.{debtsAt, debtWidth}
 use Rattle.shard_map.specs.Layout.{slotsAt, slotWidth, keyIn, slotIndex}
 use borrow.Author.Needs.{needs}
 use Rattle.shard_map.proofs.words.index.Statement.{statement}
 use Rattle.shard_map.proofs.words.index.Tie as tie
 
--- The words that each place adds before the index, added up.
-starts-at : (cap : ℕ) → 5 + 8 * cap ≡ slotIndex cap .base
+-- The words before the index: the first words of the shard and of the ledger, and those that each place adds.
+starts-at : (cap : ℕ) → slotsAt + debtsAt + (slotWidth + debtWidth) * cap ≡ slotIndex cap .base
 starts-at cap = omega arith
 
 mul-t2 : tie.Need-mul-t2
