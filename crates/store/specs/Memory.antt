@@ -26,9 +26,12 @@ shardStart cap i = shardsAt + i * shardWords cap
 abbrev pub shardEnd : ℕ → ℕ → ℕ
 shardEnd cap i = shardStart cap i + shardWords cap
 
--- The words of a memory of a shape: the last shard ends where they end. The words that settings ask for.
+-- The word after the last shard, where words for classes would begin. There are none, so the memory ends there. The words that settings ask for.
+abbrev pub classesAt : Shape → ℕ
+classesAt shape = shardStart (shape .cap) (shape .shards)
+
 abbrev pub wordsIn : Shape → ℕ
-wordsIn shape = shardStart (shape .cap) (shape .shards)
+wordsIn shape = classesAt shape
 
 abbrev pub memoryWords : Settings → ℕ
 memoryWords s = wordsIn (shapeOf s)
