@@ -134,7 +134,8 @@ module _ (s : Settings) (hash : ℕ) (ws : List ℕ) (none : settingsRefusal s �
 
   pub keyed-lending : further ≡ 0 → lending ≡ lentUnless (keyedRefusal s hash ws) (partOf s hash)
   keyed-lending nothing =
-      lent-by-settings ∙ ap (λ (n : ℕ). lentUnless n (partOf s hash)) (ap (firstRefusal (keyedRefusal s hash ws)) nothing ∙ no-further-refusal (keyedRefusal s hash ws))
+      lent-by-settings
+      ∙ ap (λ (n : ℕ). lentUnless n (partOf s hash)) (ap (firstRefusal (keyedRefusal s hash ws)) nothing ∙ no-further-refusal (keyedRefusal s hash ws))
 
   pub timed-lending : (at : Nanos) → further ≡ momentRefusal at → lending ≡ lentUnless (timedRefusal s hash at ws) (partOf s hash)
   timed-lending at late = rw late at lent-by-settings
@@ -142,7 +143,8 @@ module _ (s : Settings) (hash : ℕ) (ws : List ℕ) (none : settingsRefusal s �
   pub reserve-lending : (at longest : Nanos) {late long : ℕ} → late ≡ momentRefusal at → long ≡ waitRefusal longest → further ≡ firstRefusal late long
       → lending ≡ lentUnless (reserveRefusal s hash at longest ws) (partOf s hash)
   reserve-lending at longest late long both =
-      (rw (both, late, long) at lent-by-settings) ∙ ap (λ (n : ℕ). lentUnless n (partOf s hash)) (sym (refusals-in-a-row (keyedRefusal s hash ws) (momentRefusal at) (waitRefusal longest)))
+      (rw (both, late, long) at lent-by-settings)
+      ∙ ap (λ (n : ℕ). lentUnless n (partOf s hash)) (sym (refusals-in-a-row (keyedRefusal s hash ws) (momentRefusal at) (waitRefusal longest)))
 
 -- The part of an accepted call lies in the memory, and its shard is sound.
 pub accepted-part : (s : Settings) (hash : ℕ) (ws : List ℕ) {p : Part} → Accepted s hash ws → p ≡ partOf s hash → Placed p ws × Shard.Sound (shardIn p ws)
