@@ -24,7 +24,8 @@ missing-split {c} remaining a =
     ∙ ceilDiv-split (remaining / c .period .0) (remaining % c .period .0) (c .amount) (c .period .0) (a .period-least)
 
 pub missing-saturated : {c : BucketConfig} (remaining : ℕ) → Accepted c →
-    saturated (saturated (remaining / c .period .0 * c .amount) + ceilDiv (remaining % c .period .0 * c .amount) (c .period .0)) ≡ saturated (missingTokens c remaining)
+    saturated (saturated (remaining / c .period .0 * c .amount) + ceilDiv (remaining % c .period .0 * c .amount) (c .period .0))
+    ≡ saturated (missingTokens c remaining)
 missing-saturated remaining a = omega (arith, missing-split remaining a)
 
 -- The rest is below the period, at most 2^46, so its product with the amount fits.
@@ -68,7 +69,8 @@ taken-out-saturated {c} b missing at a =
     ∙ charge-beyond-most b _ at a (omega (arith, a .capacity-most))
     ∙ some-taken-out c b (missing - c .capacity) at (λ none. omega (arith, a .capacity-most)))
 
-pub restore-saturated : {c : BucketConfig} (b : BucketCore) (missing : ℕ) (at : Nanos) → Accepted c → lacking c b (saturated missing) at ≡ lacking c b missing at
+pub restore-saturated : {c : BucketConfig} (b : BucketCore) (missing : ℕ) (at : Nanos) → Accepted c
+    → lacking c b (saturated missing) at ≡ lacking c b missing at
 unfolding lacking
 restore-saturated {c} b missing at a = rw (fall-saturated (c .capacity) missing (omega (arith, a .capacity-most))) (taken-out-saturated _ missing at a)
 

@@ -1,5 +1,6 @@
 -- What a caller may count on who is told a wait by a denial. If nothing happens to the bucket in between, a try of the cost is granted at the told moment and
--- from then on, and at no moment before it, whether the stamp is before the call or after it. A moment at the bound of 64 bits may be held, and promises nothing.
+-- from then on, and at no moment before it, whether the stamp is before the call or after it. A moment at the bound of 64 bits may be held, and promises
+-- nothing.
 use Prim.Native.Nat.{ℕ, _+_, _*_, _-_, _≤_, _<_, _^_}
 use mathlib.Core.Path.{_≡_, ap, sym, _∙_}
 use native.Mathlib.Nat.{mul-le-mul-right}

@@ -2,7 +2,8 @@
 ghost use mathlib.Core.Path.{_≡_};
 ghost use Prim.Native.Nat.{_≤_};
 ghost use Rattle.arith.specs.Arith.{saturated};
-ghost use Rattle.bucket.specs.Bucket.{Accepted, fullParts, mostShortfall, readShortfall, shortfallAt, availableAt, fullAt, fresh, grown, waitAt, dueAfter, dueAt, recoveryOf, recoveryAt, spent, longestWait, asked, refunded};
+ghost use Rattle.bucket.specs.Bucket.{Accepted, fullParts, mostShortfall, readShortfall, shortfallAt, availableAt, fullAt, fresh, grown, waitAt};
+ghost use Rattle.bucket.specs.Bucket.{dueAfter, dueAt, recoveryOf, recoveryAt, spent, longestWait, asked, refunded};
 ghost use Rattle.bucket.specs.Debt.{missingTokens, charged, takenOut, restored};
 use units::Nanos;
 
@@ -26,14 +27,15 @@ pub enum Request {
     Reserve(Nanos),
 }
 
-// When tokens or room are due: after the wait, at the moment. Both are held to 64 bits. Where a call comes before a bucket's stamp, as after a clock was set back,
-// a wait above 0 includes the time until the stamp.
+// When tokens or room are due: after the wait, at the moment. Both are held to 64 bits. Where a call comes before a bucket's stamp, as after a clock was set
+// back, a wait above 0 includes the time until the stamp.
 pub struct Due {
     pub wait: Nanos,
     pub moment: Nanos,
 }
 
-// What a bucket answers: the tokens are charged and usable when they are due, or nothing is charged and a try of the cost is granted then, if nothing happens meanwhile.
+// What a bucket answers: the tokens are charged and usable when they are due, or nothing is charged and a try of the cost is granted then, if nothing happens
+// meanwhile.
 pub enum BucketDecision {
     Allowed(Due),
     Denied(Due),

@@ -81,14 +81,16 @@ module _ {M : Type 1} {𝓤 : URA M} {H : Heap 𝓤} {A : Atoms 𝓤} {K : Type 
 
 module _ {M : Type 1} (𝓤 : URA M) (H : Heap 𝓤) (A : Atoms 𝓤) (W : Given 𝓤 H A) (l : ℕ) (s : Slot) where
   -- A local that holds a slot lies in memory as a slot that can be lent, and back.
-  pub local-lies : ent 𝓤 (sep 𝓤 (H .at fullShare slot-type l 0 (slot-val s)) (sem 𝓤 H A (S.the-row .own s (slot-vals s)))) (sem 𝓤 H A (mem S.the-row .lies s l 0))
+  pub local-lies : ent 𝓤 (sep 𝓤 (H .at fullShare slot-type l 0 (slot-val s)) (sem 𝓤 H A (S.the-row .own s (slot-vals s))))
+      (sem 𝓤 H A (mem S.the-row .lies s l 0))
   unfolding partOf
   local-lies =
       qed W (‵ (fat fullShare slot-type l 0 (slot-val s)) ∷ ‵ (S.the-row .own s (slot-vals s)) ∷ []) ∵
       use1 W (‵ (fat fullShare (rawTy slot-type) l 0 (slot-val s))) (W .laws .at-raw fullShare slot-type l 0 (slot-val s)) $
       fjoin ! $ fpack ! (List Val) (λ vs. fsep (cellAt fullShare (S.the-row .mir) vs l 0) (S.the-row .own s vs)) (slot-vals s) $ done !
 
-  pub lies-local : ent 𝓤 (sem 𝓤 H A (mem S.the-row .lies s l 0)) (sep 𝓤 (H .at fullShare slot-type l 0 (slot-val s)) (sem 𝓤 H A (S.the-row .own s (slot-vals s))))
+  pub lies-local : ent 𝓤 (sem 𝓤 H A (mem S.the-row .lies s l 0))
+      (sep 𝓤 (H .at fullShare slot-type l 0 (slot-val s)) (sem 𝓤 H A (S.the-row .own s (slot-vals s))))
   unfolding partOf
   lies-local =
       qed W (‵ (mem S.the-row .lies s l 0) ∷ []) ∵ fpick ! (λ vs. fsplit ! $ spelt-slot ! s vs l 0 $

@@ -59,7 +59,8 @@ part-placed s hash ws size = record { ends = refl; within = shard-fits s hash ws
 shard-start-most : (s : Settings) (hash : ℕ) → sizeRefusal s ≡ 0 → partStart (shapeOf s) hash + shardWords (capOf s) ≤ mostShards * shardWords mostKeysInShard
 shard-start-most s hash accepted = le-trans (shard-ends-before (capOf s) (shardOf s hash) (shardCount s) (shard-below s hash)) (words-most s accepted)
 
-pub part-ends-early : {shape : Shape} (hash : ℕ) → ShapeOfAccepted shape → partStart shape hash + shardWords (shape .cap) ≤ mostShards * shardWords mostKeysInShard
+pub part-ends-early : {shape : Shape} (hash : ℕ) → ShapeOfAccepted shape
+    → partStart shape hash + shardWords (shape .cap) ≤ mostShards * shardWords mostKeysInShard
 part-ends-early hash shaped = rw (shaped .is) (shard-start-most (shaped .settings) hash (shaped .accepted))
 
 -- So does the part of a shard by its number.
@@ -87,7 +88,8 @@ module _ {A : Type 0} (s : Settings) (hash : ℕ) (ws : List ℕ) (o : Outcome A
   -- The shard of the hash is the one that the operation leaves.
   pub in-shard-reads-back : shardAt s hash (inShard s hash ws o .after) ≡ o .after
   in-shard-reads-back =
-      ap (Layout.shard (capOf s)) (segment-back (partStart (shapeOf s) hash) (shardWords (capOf s)) ws (Layout.wordsOf (o .after)) (shard-fits s hash ws size) new-length)
+      ap (Layout.shard (capOf s))
+      (segment-back (partStart (shapeOf s) hash) (shardWords (capOf s)) ws (Layout.wordsOf (o .after)) (shard-fits s hash ws size) new-length)
       ∙ shard-of-words (capOf s) (o .after) sized
 
   -- So it is for every hash of that shard.
@@ -96,7 +98,8 @@ module _ {A : Type 0} (s : Settings) (hash : ℕ) (ws : List ℕ) (o : Outcome A
 
   -- A hash of another shard: its words, and so its shard, stay as they are.
   module _ (other : ℕ) (apart : shardOf s other ≡ shardOf s hash → ⊥) where
-    pub in-shard-leaves-other-words : segment (partStart (shapeOf s) other) (shardWords (capOf s)) (inShard s hash ws o .after) ≡ segment (partStart (shapeOf s) other) (shardWords (capOf s)) ws
+    pub in-shard-leaves-other-words : segment (partStart (shapeOf s) other) (shardWords (capOf s)) (inShard s hash ws o .after)
+        ≡ segment (partStart (shapeOf s) other) (shardWords (capOf s)) ws
     in-shard-leaves-other-words =
         other-shard-kept (capOf s) (shardOf s hash) (shardOf s other) ws (Layout.wordsOf (o .after)) (shard-fits s hash ws size) new-length apart
 

@@ -100,7 +100,8 @@ module _ (s : Settings) (ws : List ℕ) where
       record { settings = parts .0; size = length-not-refused (memoryWords s) ws (parts .1) }
 
   pub set-up-is-accepted : SetUp s ws → setUpRefusal s ws ≡ 0
-  set-up-is-accepted a = no-refusal-hands-on (settingsRefusal s) (memoryRefusal (memoryWords s) ws) (a .settings) ∙ length-is-accepted (memoryWords s) ws (a .size)
+  set-up-is-accepted a =
+      no-refusal-hands-on (settingsRefusal s) (memoryRefusal (memoryWords s) ws) (a .settings) ∙ length-is-accepted (memoryWords s) ws (a .size)
 
 -- The slot counts of all shards: the largest bounds each, and is within the cap where each is.
 module _ (cap : ℕ) (ws : List ℕ) where
@@ -152,14 +153,16 @@ module _ (s : Settings) (hash : ℕ) (ws : List ℕ) where
   pub keyed-is-accepted : Accepted s hash ws → keyedRefusal s hash ws ≡ 0
   keyed-is-accepted a =
       no-refusal-hands-on (setUpRefusal s ws) (countRefusal (capOf s) (shardAt s hash ws)) (set-up-is-accepted s ws (a .set-up))
-      ∙ counts-are-accepted (capOf s) (shardAt s hash ws) (rw (shard-at-cap s hash ws) at (a .sound .count-fits)) (rw (shard-at-debt-cap s hash ws) at (a .sound .ledger .count-fits))
+      ∙ counts-are-accepted (capOf s) (shardAt s hash ws) (rw (shard-at-cap s hash ws) at (a .sound .count-fits))
+      (rw (shard-at-debt-cap s hash ws) at (a .sound .ledger .count-fits))
 
 -- Of three refusals in a row the first that there is stands, however they are taken together.
 pub refusals-in-a-row : (a b c : ℕ) → firstRefusal (firstRefusal a b) c ≡ firstRefusal a (firstRefusal b c)
 refusals-in-a-row a b c =
     by-eq a 0
     (λ none. ap (λ (n : ℕ). firstRefusal n c) (no-refusal-hands-on a b none) ∙ sym (no-refusal-hands-on a (firstRefusal b c) none))
-    (λ some. ap (λ (n : ℕ). firstRefusal n c) (first-refusal-stands a b some) ∙ first-refusal-stands a c some ∙ sym (first-refusal-stands a (firstRefusal b c) some))
+    (λ some. ap (λ (n : ℕ). firstRefusal n c) (first-refusal-stands a b some) ∙ first-refusal-stands a c some
+    ∙ sym (first-refusal-stands a (firstRefusal b c) some))
 
 -- No refusal after one changes nothing.
 pub no-further-refusal : (a : ℕ) → firstRefusal a 0 ≡ a

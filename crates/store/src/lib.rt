@@ -67,7 +67,8 @@ pub fn with_existing(
     at: Nanos,
 ) -> BucketDecision
     requires { ⌜ Placed part (now ws) × Sound (shardIn part (now ws)) × Accepted (policy .config) × (cost ≤ policy .config .capacity) × (pos < part .cap) ⌝ }
-    ensures { λ r. ⌜ outcome r (now (ws .exit)) ≡ inPart part (now (ws .entry)) (OneShard.withExisting policy request cost at (shardIn part (now (ws .entry))) pos) ⌝ }
+    ensures { λ r. ⌜ outcome r (now (ws .exit))
+        ≡ inPart part (now (ws .entry)) (OneShard.withExisting policy request cost at (shardIn part (now (ws .entry))) pos) ⌝ }
 {
     let start = part.start;
     let end = part.end;

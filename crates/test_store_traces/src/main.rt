@@ -1,6 +1,7 @@
 // Runs recorded traces on the operations, a line of standard input after the other:
 // - 0, how many words are lent, and the twelve numbers of some settings: the calls that follow are on this store;
-// - an operation and its arguments, 0 for those that it has not, left out at the end: a call, which prints the code and the number of its reply, and a hash of all words after it;
+// - an operation and its arguments, 0 for those that it has not, left out at the end: a call, which prints the code and the number of its reply, and a hash of
+// all words after it;
 // - anything that begins with no digit, as the name of an edge of document 01 with a call in words: printed ahead of the next reply.
 // The gate compares what is printed with the file `stdout`, whose replies and words are those of the Rust oracle (oracle/record-store-traces).
 use libc::STDIN_FILENO;

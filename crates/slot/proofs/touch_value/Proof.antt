@@ -82,7 +82,8 @@ module _ {M : Type 1} (𝓤 : URA M) (H : Heap 𝓤) (A : Atoms 𝓤) (W : Given
         → ent 𝓤 (sep 𝓤 (sem 𝓤 H A (S.the-row .own r (slot-vals r))) (sem 𝓤 H A (S.the-row .own s (slot-vals s)))) (Post (slot-val r))
     exits r e =
         qed W (‵ (S.the-row .own r (slot-vals r)) ∷ ‵ (S.the-row .own s (slot-vals s)) ∷ []) ∵
-        suffices ! _ (ends-at 𝓤 H A f.ended stayed (f.clauses 𝓤 H A at-mem run) W ((tt, tt, tt, args, machine), tt) (slot-val r) r (tt, (tt, (tt, tt))) (tt, (tt, (tt, tt)))) $
+        suffices ! _ (ends-at 𝓤 H A f.ended stayed (f.clauses 𝓤 H A at-mem run) W ((tt, tt, tt, args, machine), tt) (slot-val r) r (tt, (tt, (tt, tt)))
+        (tt, (tt, (tt, tt)))) $
         says ! e $ move ! (1 ∷ []) $ owned-access ! at track is-moment $ move ! (1 ∷ 0 ∷ []) $ fjoin ! $ nothing ! $ done !
 
     -- The call: `touch` is passed the reference to the local at l, for the lifetime ν and under the name γ, the moment and the flag.
@@ -105,7 +106,8 @@ module _ {M : Type 1} (𝓤 : URA M) (H : Heap 𝓤) (A : Atoms 𝓤) (W : Given
       -- A local _i stands at the place that the comments give, with what frees it right after.
       walk : ent 𝓤 (onEntry 𝓤 H A f.signature tt tt args machine) (WpFn 𝓤 H C Λ code.function (slot-val s ∷ moment-val at ∷ vbool track ∷ []) Post)
       walk =
-          qed W (‵ ftrue ∷ ‵ (owns (S.the-row ∷ Moment.the-row ∷ bool ∷ []) args machine) ∷ []) ∵ move ! (1 ∷ []) $ fsplit ! $ peeks-slot ! s (slot-vals s) (λ is.
+          qed W (‵ ftrue ∷ ‵ (owns (S.the-row ∷ Moment.the-row ∷ bool ∷ []) args machine) ∷ []) ∵ move ! (1 ∷ []) $ fsplit ! $
+          peeks-slot ! s (slot-vals s) (λ is.
           -- the locals are allocated, and the arguments stored in _1, _2, _3
           enter ! C Λ code.function (slot-val s ∷ moment-val at ∷ vbool track ∷ []) _ $
           alloc1 ! (λ l₀. alloc1 ! (λ l₁. alloc1 ! (λ l₂. alloc1 ! (λ l₃. alloc1 ! (λ l₄. alloc1 ! (λ l₅. alloc1 ! (λ l₆. alloc0 ! $ params1 ! $
@@ -115,27 +117,33 @@ module _ {M : Type 1} (𝓤 : URA M) (H : Heap 𝓤) (A : Atoms 𝓤) (W : Given
           assigns ! (addr ! (from ! (stop !))) (from ! (stop !)) (init ! 0 refl (tt, tt)) $
           -- _4 is lent for a new lifetime
           move ! (4 ∷ 14 ∷ []) $ use2 W (‵ (mem S.the-row .lies s l₄ 0)) (local-lies 𝓤 H A W l₄ s) $ lft-new ! tt (λ ν. move ! (1 ∷ []) $
-          use1 W (later (some (λ (γ : GName). ‵ (MutRef (named 0) (ν ∷ []) S.the-row .own (ref l₄ γ) (vptr l₄ 0 ∷ [])) ⊛ ‵ (flent (ν ∷ []) (Body (mem S.the-row) l₄ 0 γ)))))
+          use1 W (later (some
+          (λ (γ : GName). ‵ (MutRef (named 0) (ν ∷ []) S.the-row .own (ref l₄ γ) (vptr l₄ 0 ∷ [])) ⊛ ‵ (flent (ν ∷ []) (Body (mem S.the-row) l₄ 0 γ)))))
           (lends-ref 𝓤 H A W S.the-row (named 0) (ν ∷ []) s l₄ 0) $ await ! tt $ pick ! (λ γ. split ! $
           -- [what the call asks; what is lent; _6 at 2; _5 at 4; what frees _4 at 6; _3 at 7; _2 at 9; _1 at 11; _0 at 13]: _5 = touch(_6, _2, _3)
           move ! (2 ∷ 0 ∷ []) $ use2 W (raw (Touch .pre (passed l₄ ν γ))) (passes l₄ ν γ) $
           calls-at ! fm Touch known (passed l₄ ν γ)
-          (and-then ! (load ! (from ! (stop !)) (look ! 2 refl)) (and-then ! (load ! (from ! (stop !)) (look ! 9 refl)) (and-then ! (load ! (from ! (stop !)) (look ! 7 refl)) (no-more !)))) (λ w.
+          (and-then ! (load ! (from ! (stop !)) (look ! 2 refl))
+          (and-then ! (load ! (from ! (stop !)) (look ! 9 refl)) (and-then ! (load ! (from ! (stop !)) (look ! 7 refl)) (no-more !)))) (λ w.
           use1 W (later (some (λ (r : Unit {0}). ((‵ (flft (ν ∷ []) fullShare) ⊛ ‵ ftrue) ⊛ ‵ (Nothing .own r (w ∷ [])))
-          ⊛ raw (ensured 𝓤 H A g.ended (g.clauses 𝓤 H A at-mem run) (ν ∷ [], tt) (ref l₄ γ, (at, (track, tt))) tt r)))) (id⊢ 𝓤 _) $ await ! tt $ pick ! (λ r. split ! $ move ! (1 ∷ []) $
+          ⊛ raw (ensured 𝓤 H A g.ended (g.clauses 𝓤 H A at-mem run) (ν ∷ [], tt) (ref l₄ γ, (at, (track, tt))) tt r)))) (id⊢ 𝓤 _) $ await ! tt $
+          pick ! (λ r. split ! $ move ! (1 ∷ []) $
           use1 W (some (λ (zs : Slot × (Unit {0} × (Unit {0} × Unit {0}))). ‵ (lasts g.ended (ν ∷ [], tt) (ref l₄ γ, (at, (track, tt))) zs) ⊛
           raw (fact 𝓤 (zs .0 ≡ touched s at track)))) (id⊢ 𝓤 _) $
-          pick ! (λ zs. split ! $ move ! (1 ∷ []) $ heard ! (zs .0 ≡ touched s at track) (λ e. fsplit ! $ move ! (2 ∷ []) $ split ! $ move ! (1 ∷ []) $ feqL ! (λ u. split ! $
+          pick ! (λ zs. split ! $ move ! (1 ∷ []) $
+          heard ! (zs .0 ≡ touched s at track) (λ e. fsplit ! $ move ! (2 ∷ []) $ split ! $ move ! (1 ∷ []) $ feqL ! (λ u. split ! $
           -- [the token; true; the last value; true; what is lent; _6 at 5; _5 at 7; what frees _4 at 9; _3 at 10; _2 at 12; _1 at 14; _0 at 16]
           land ! (from ! (stop !)) (init ! 7 refl (subst (λ (y : Val). T (hasTy tyUnit y) × WT y) (sym (ap only u)) (tt, tt))) $
           -- the lifetime ends, and _4 is back at the last value
-          lft-end ! tt $ move ! (0 ∷ 4 ∷ 2 ∷ []) $ use3 W (later (‵ (mem S.the-row .lies (zs .0) l₄ 0))) (ref-back 𝓤 H A W S.the-row (ν ∷ []) γ (zs .0) l₄ 0) $ await ! tt $
+          lft-end ! tt $ move ! (0 ∷ 4 ∷ 2 ∷ []) $ use3 W (later (‵ (mem S.the-row .lies (zs .0) l₄ 0))) (ref-back 𝓤 H A W S.the-row (ν ∷ []) γ (zs .0) l₄ 0) $
+          await ! tt $
           use1 W (‵ (fat fullShare slot-type l₄ 0 (slot-val (zs .0))) ⊛ ‵ (S.the-row .own (zs .0) (slot-vals (zs .0)))) (lies-local 𝓤 H A W l₄ (zs .0)) $
           split ! $ move ! (1 ∷ []) $ peeks-slot ! (zs .0) (slot-vals (zs .0)) (λ is′.
           -- [what the result owns; _4's cell; true; true; _6 at 4; _5 at 6; what frees _4 at 8; _3 at 9; _2 at 11; _1 at 13; _0 at 15]: _0 = _4
           assigns ! (of-opd ! (load ! (from ! (stop !)) (look ! 1 refl))) (from ! (stop !)) (init ! 15 refl (slot-typed W (zs .0) _ is′)) $
           -- the locals are freed
-          returns ! (look ! 15 refl) $ forget ! 1 refl $ forget ! 4 refl $ forget ! 6 refl $ forget ! 9 refl $ forget ! 11 refl $ forget ! 13 refl $ forget ! 15 refl $
+          returns ! (look ! 15 refl) $ forget ! 1 refl $ forget ! 4 refl $ forget ! 6 refl $ forget ! 9 refl $ forget ! 11 refl $ forget ! 13 refl $
+          forget ! 15 refl $
           move ! (15 ∷ 16 ∷ []) $ free1 ! $ move ! (13 ∷ 14 ∷ []) $ free1 ! $ move ! (11 ∷ 12 ∷ []) $ free1 ! $ move ! (9 ∷ 10 ∷ []) $ free1 ! $
           move ! (1 ∷ 8 ∷ []) $ free1 ! $ move ! (5 ∷ 6 ∷ []) $ free1 ! $ move ! (3 ∷ 4 ∷ []) $ free1 ! $ free0 ! $
           keep ! (0 ∷ []) $ owned-slot ! s is $ move ! (1 ∷ 0 ∷ []) $ by ! (exits (zs .0) e)))))))))))))))))

@@ -37,7 +37,8 @@ shaped l = l .before .shape .ensures
 abbrev place : tie.Then1 Inv-loop μ-loop → tie.At-loop Inv-loop μ-loop
 place t = t .before .before
 
-slots-few : (t : tie.Then1 Inv-loop μ-loop) → let l = place t in slotCount (l .before .shape .result .cap) (l .loop .i) (start l .args .ws .now) ≤ mostKeysInShard
+slots-few : (t : tie.Then1 Inv-loop μ-loop) → let l =
+    place t in slotCount (l .before .shape .result .cap) (l .loop .i) (start l .args .ws .now) ≤ mostKeysInShard
 slots-few t =
     let l = place t in
     counted-slots-few (start l .args .settings) (start l .args .ws .now) (start l .pre) (shaped l) (t .if1 .taken)

@@ -10,7 +10,10 @@ is-accepted-requires : tie.Need-is-accepted-requires
 is-accepted-requires c κs = search needs
 
 run-requires : tie.Need-run-requires
-run-requires c κs = (c .before .before .before .before .is-intact .ensures (c .before .before .before .if1 .taken), c .before .before .is-accepted .ensures (c .before .if2 .taken))
+run-requires c κs = (
+  c .before .before .before .before .is-intact .ensures (c .before .before .before .if1 .taken),
+  c .before .before .is-accepted .ensures (c .before .if2 .taken),
+)
 
 same-length : tie.Need-same-length
 same-length c = search needs

@@ -80,7 +80,8 @@ impl<H: Fn(usize) -> u64> Index<'_, H> {
         }
     }
 
-    /// Empties the place of an item that goes. One by one, up to the first that is met empty, the other places after it are emptied too, and their items added again.
+    /// Empties the place of an item that goes. One by one, up to the first that is met empty, the other places after it are emptied too, and their items added
+    /// again.
     /// The item that goes counts among the items until it is gone: named once more, it is added again.
     fn empty(&mut self, place: usize, gone: usize) {
         self.places[place] = 0;

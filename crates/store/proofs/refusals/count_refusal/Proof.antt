@@ -15,10 +15,12 @@ len-requires-2 : tie.Need-len-requires-2
 len-requires-2 c κs = search needs
 
 returns-2 : tie.Need-returns-2
-returns-2 c = sym (debts-over-are-refused _ _ (rw (c .before .before .before .len .ensures) at (c .before .before .if1 .left)) (rw (c .before .len2 .ensures) at (c .if2 .taken)))
+returns-2 c = sym (debts-over-are-refused _ _ (rw (c .before .before .before .len .ensures) at (c .before .before .if1 .left))
+    (rw (c .before .len2 .ensures) at (c .if2 .taken)))
 
 returns-3 : tie.Need-returns-3
-returns-3 c = sym (counts-are-accepted _ _ (rw (c .before .before .before .len .ensures) at (c .before .before .if1 .left)) (rw (c .before .len2 .ensures) at (c .if2 .left)))
+returns-3 c = sym
+    (counts-are-accepted _ _ (rw (c .before .before .before .len .ensures) at (c .before .before .if1 .left)) (rw (c .before .len2 .ensures) at (c .if2 .left)))
 
 pub count-refusal-spec : {M : Type 1} → statement M
 count-refusal-spec = tie.close (tie.spec len-requires returns len-requires-2 returns-2 returns-3)

@@ -19,7 +19,8 @@ memory-refusal-requires : tie.Need-memory-refusal-requires
 memory-refusal-requires c κs = search needs
 
 returns-2 : tie.Need-returns-2
-returns-2 c = second-is-told (c .before .before .before .refusal .ensures) (c .before .before .if1 .left) (rw (c .before .memory-words .ensures) at (c .memory-refusal .ensures))
+returns-2 c = second-is-told (c .before .before .before .refusal .ensures) (c .before .before .if1 .left)
+    (rw (c .before .memory-words .ensures) at (c .memory-refusal .ensures))
 
 pub set-up-refusal-spec : {M : Type 1} → statement M
 set-up-refusal-spec =
