@@ -26,8 +26,8 @@
 -- Then it is answered as that slot's bucket answers it, or a fresh bucket in that debt:                   ByOwnBucket, ownReply
 -- never for lack of space.
 --
--- Both claims are over any terms: they hold of lists in which every call names a key (`byKey`), of lists in which every call names an address (`byAddress`), of
--- lists that mix both (`byName`), and of lists whose calls also write their settings as the numbers of a C struct, each in its own way (`exported`).
+-- Both claims are over any terms: they hold of lists in which every call names a key (`byKey` of `rules`), of lists in which every call names an address (`byAddress` of `modems`), of
+-- lists that mix both (`byName` of `modems`), and of lists whose calls also write their settings as the numbers of a C struct, each in its own way (`exported`).
 --
 -- Theorems, in proofs/:
 -- * `rules-meet-demand3`: the rules meet it. `demand2-gives-demand3`: so does every limiter that meets demand 2.

@@ -72,7 +72,7 @@ numbersFit n =
 abbrev pub exported : Terms LimiterSettings Name
 exported = namedIn settingsOf numbersFit
 
--- The export by which a call is made, with the call's own numbers. There is none for the tokens of an address, and no list has such a call (`offers`).
+-- The export by which a call is made, with the call's own numbers. There is none for the tokens of an address, and no list has such a call (`offers` of `rules`).
 abbrev noExport : Gives
 noExport ws = outcome (toldOf Nothing) ws
 
