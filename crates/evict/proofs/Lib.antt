@@ -2,5 +2,6 @@ pub mod AwaitedLaws
 pub mod WalkLaws
 pub mod ModelLaws
 pub mod KeptLaws
+pub mod AlikeLaws
 pub mod PlaceOrderLaws
 pub mod Worked

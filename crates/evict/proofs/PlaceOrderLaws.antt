@@ -1,87 +1,19 @@
--- Lookup by an index changes nothing in an eviction: the walk, the choice of the victim and what happens to it are what they are where slots and debts are
--- found in place order. An eviction leaves a shard in which lookup finds each slot and each debt, if it did before.
-use Prim.Native.Nat.{ℕ, zero, suc, _+_, _<_}
-use mathlib.Core.Path.{_≡_, refl, ap}
+-- An eviction leaves a shard in which lookup finds each slot and each debt, if it did before, and its slots come from those before.
+use Prim.Native.Nat.{ℕ, _<_}
+use mathlib.Core.Path.{refl}
 use mathlib.Core.Bool.{Bool}
-use Rattle.arith.proofs.Cases.{by-test}
 use Rattle.units.specs.declared.Nanos.{Nanos}
 use Rattle.bucket.specs.declared.BucketConfig.{BucketConfig}
-use Rattle.rows.specs.Outcome.{outcome}
 use Rattle.held.proofs.SingleLaws.{ComesFrom, single-stays, comes-from-refl, comes-from-trans, same-identities}
-use Rattle.ledger.specs.declared.Recorded.{Recorded}
-use Rattle.ledger.specs.declared.Recorded.the-variants.{Done, NoRoom}
-use Rattle.ledger.specs.Model as Ledger
 use Rattle.ledger.proofs.PlaceOrderLaws as LedgerOrder
-use Rattle.ledger.proofs.PlaceOrderLaws.{recorded-in-place-order, recorded-finds-each}
-use Rattle.shard_map.specs.Model.{inPlaceOrder, Shard, Sound, slotItems, slotAt, withHand, withLedger, handOf}
-use Rattle.shard_map.proofs.PlaceOrderLaws.{leftInPlaceOrder, identityOf, FindsEach, found-is-sound, found-is-complete, SlotsFrom}
-use Rattle.shard_map.proofs.PlaceOrderLaws.{removal-in-place-order, removal-slots-from}
+use Rattle.ledger.proofs.PlaceOrderLaws.{recorded-finds-each}
+use Rattle.shard_map.specs.Model.{Shard, Sound, slotItems}
+use Rattle.shard_map.proofs.PlaceOrderLaws.{identityOf, FindsEach, found-is-sound, found-is-complete, SlotsFrom, removal-slots-from}
 use Rattle.shard_map.proofs.StepLaws.{slots-sound}
-use Rattle.evict.specs.declared.Awaited.{Awaited}
-use Rattle.evict.specs.declared.Walk.{Walk}
-use Rattle.evict.specs.declared.Victim.{Victim}
-use Rattle.evict.specs.declared.Victim.the-variants.{Free, Owing}
-use Rattle.evict.specs.declared.Room.the-variants.{Made}
-use Rattle.evict.specs.Evict.{nothingNoted, noted, looked, goesAtOnce, Walked, walkFrom, walked, victimOf, evictAt, debtLeft, afterRecording, evictVictim, evicted}
-use Rattle.evict.proofs.WalkLaws.{debtRecorded, Remarked, remarked-slots, evict-keeps-slots, evict-keeps-ledger, evict-sound, evict-complete}
-
--- The walk's end, with the slots and the debts found in the order of their places.
-abbrev pub walkedInPlaceOrder : Walked → Walked
-walkedInPlaceOrder w = record { ended = w .ended; walk = w .walk; after = inPlaceOrder (w .after) }
-
--- The walk looks up nothing, and leaves the ledger as it is, on any shard.
-module _ (c : BucketConfig) (at : Nanos) where
-  walkFrom-in-place-order : (left : ℕ) (s : Shard) (w : Walk) → walkFrom c at left (inPlaceOrder s) w ≡ walkedInPlaceOrder (walkFrom c at left s w)
-  unfolding walkFrom
-  walkFrom-in-place-order zero s w = refl
-  walkFrom-in-place-order (suc left) s w =
-      by-test (goesAtOnce c at (slotAt s (handOf s)))
-      (λ goes. rw (goes, walkFrom))
-      (λ stays. rw (stays, walkFrom) (walkFrom-in-place-order left (looked s (handOf s)) (noted c at w (handOf s) (slotAt s (handOf s)))))
-
-  pub walk-in-place-order : (s : Shard) → walked c at (inPlaceOrder s) ≡ walkedInPlaceOrder (walked c at s)
-  unfolding walked
-  walk-in-place-order s = walkFrom-in-place-order _ s nothingNoted
-
-  walkFrom-ledger : (left : ℕ) (s : Shard) (w : Walk) → walkFrom c at left s w .after .ledger ≡ s .ledger
-  unfolding walkFrom
-  walkFrom-ledger zero s w = refl
-  walkFrom-ledger (suc left) s w =
-      by-test (goesAtOnce c at (slotAt s (handOf s)))
-      (λ goes. rw (goes, walkFrom))
-      (λ stays. rw (stays, walkFrom) (walkFrom-ledger left (looked s (handOf s)) (noted c at w (handOf s) (slotAt s (handOf s)))))
-
-  walk-ledger : (s : Shard) → walked c at s .after .ledger ≡ s .ledger
-  unfolding walked
-  walk-ledger s = walkFrom-ledger _ s nothingNoted
-
--- A slot goes.
-pub evict-at-in-place-order : (s : Shard) (p : ℕ) → evictAt (inPlaceOrder s) p ≡ inPlaceOrder (evictAt s p)
-evict-at-in-place-order s p = ap (λ (t : Shard). withHand t (p + 1)) (removal-in-place-order s p)
+use Rattle.evict.specs.Evict.{evicted}
+use Rattle.evict.proofs.WalkLaws.{Remarked, remarked-slots, evict-keeps-slots, evict-keeps-ledger, evict-sound, evict-complete}
 
 module _ (c : BucketConfig) (at : Nanos) (forget : Bool) where
-  after-recording-in-place-order : (s : Shard) (p : ℕ) (awaited : Awaited) (l : Ledger.Ledger) (r : Recorded)
-      → afterRecording c at (inPlaceOrder s) p awaited (Ledger.inPlaceOrder l) r ≡ leftInPlaceOrder (afterRecording c at s p awaited l r)
-  after-recording-in-place-order s p awaited l Done = ap (outcome Made) (evict-at-in-place-order (withLedger s l) p)
-  after-recording-in-place-order s p awaited l (NoRoom wait) = refl
-
-  -- What happens to the victim, where lookup finds each debt.
-  pub victim-in-place-order : (s : Shard) → LedgerOrder.FindsEach (s .ledger) → (awaited : Awaited) (v : Victim)
-      → evictVictim c at forget (inPlaceOrder s) awaited v ≡ leftInPlaceOrder (evictVictim c at forget s awaited v)
-  victim-in-place-order s debts awaited (Free p) = ap (outcome Made) (evict-at-in-place-order s p)
-  victim-in-place-order s debts awaited (Owing p) =
-      let recording = debtRecorded c at forget s p in
-      rw (recorded-in-place-order (s .ledger) debts (debtLeft c at (slotAt s p)) at forget)
-      (after-recording-in-place-order s p awaited (recording .after) (recording .answer))
-
-  -- The eviction.
-  pub evict-in-place-order : (s : Shard) → FindsEach s → evicted c at forget (inPlaceOrder s) ≡ leftInPlaceOrder (evicted c at forget s)
-  unfolding evicted
-  evict-in-place-order s each =
-      let w : Walked = walked c at s in
-      rw (walk-in-place-order c at s)
-      (victim-in-place-order (w .after) (rw (walk-ledger c at s) (each .ledger)) (w .walk .awaited) (victimOf (w .ended) (w .walk) (handOf s)))
-
   -- The slots that it leaves come from those before, and lookup finds each slot and each debt.
   pub evict-slots-from : (s : Shard) → Sound s → 0 < s .slots .count → SlotsFrom s (evicted c at forget s .after)
   evict-slots-from s u some =

@@ -1,33 +1,25 @@
 -- Lookup by an index changes nothing: on a ledger in which lookup finds each debt, every operation gives the answer that it gives where debts are found in
 -- place order, and leaves the same debts, cursor and other words. Every operation leaves such a ledger.
-use Prim.Native.Nat.{ℕ, zero, suc, _<_}
-use mathlib.Core.Path.{_≡_, refl, ap}
-use mathlib.Core.Bool.{Bool, true, false}
+use Prim.Native.Nat.{ℕ, _<_}
+use mathlib.Core.Path.{_≡_, refl, sym}
+use mathlib.Core.Bool.{Bool}
 use borrow.Author.Tests.{eqb-true}
-use Rattle.arith.proofs.Cases.{by-test}
 use Rattle.units.specs.declared.Nanos.{Nanos}
 use Rattle.bucket.specs.declared.BucketConfig.{BucketConfig}
 use Rattle.rows.specs.declared.Place.the-variants.{Nowhere}
-use Rattle.rows.specs.Outcome.{Outcome, outcome}
+use Rattle.rows.specs.Outcome.{Outcome}
+use Rattle.held.specs.Held as Held
 use Rattle.held.specs.Held.{inOrder}
-use Rattle.held.specs.Round as Round
-use Rattle.held.proofs.RoundLaws as RoundLaws
+use Rattle.held.proofs.AlikeLaws.{SameOutcome, found-otherwise-alike}
 use Rattle.held.proofs.SingleLaws as Singles
 use Rattle.held.proofs.SingleLaws.{Lacks, lacks-stays, removed-comes-from, found-in-place-order, stored-finds-each, appended-finds-each, removed-finds-each}
 use Rattle.ledger.specs.declared.Debt.{Debt}
-use Rattle.ledger.specs.declared.Choice.{Choice}
-use Rattle.ledger.specs.declared.Choice.the-variants.{Settled, Soonest}
 use Rattle.ledger.specs.declared.Recorded.{Recorded}
-use Rattle.ledger.specs.Model.{Ledger, Sound, debtItems, capOf, debtAt, settledBy, hasSettled, cursorOf, withCursor, withDebt, inPlaceOrder, owes}
-use Rattle.ledger.specs.Model.{placeOf, removeAt, append, owedBy, taken, roundOf, withRound, look, sweep, scanFrom, scan}
-use Rattle.ledger.specs.Model.{dropChosen, makeRoom, later, recorded, credit, paidDown}
+use Rattle.ledger.specs.Model.{Ledger, Sound, debtItems, capOf, debtAt, settledBy, withCursor, withDebt, owes, placeOf, removeAt, append, taken, roundOf}
+use Rattle.ledger.specs.Model.{sweep, later, recorded, paidDown}
 use Rattle.ledger.proofs.StepLaws.{removal-leaves-room, nowhere-owes-none, found-owes, taken-cases, paid-cases}
-use Rattle.ledger.proofs.OthersLaws.{owedAt-changed, takenAt-changed, paidAt-changed, recordedAt-changed}
-use Rattle.ledger.proofs.RecordLaws.{chosen, scan-chooses-held, Recording, merged, joins, replaces, refused, record-cases}
-
--- What an operation gave, with the ledger in place order.
-abbrev pub leftInPlaceOrder : {A : Type 0} → Outcome A Ledger → Outcome A Ledger
-leftInPlaceOrder o = outcome (o .answer) (inPlaceOrder (o .after))
+use Rattle.ledger.proofs.RecordLaws.{Recording, merged, joins, replaces, refused, record-cases}
+use Rattle.ledger.proofs.AlikeLaws.{View, AlikeLedgers, owed-alike, sweep-alike, taken-alike, paid-alike, recorded-alike, KeptByLedgers}
 
 -- Lookup finds each debt: it misses none, and no two have one hash.
 abbrev pub hashOf : Debt → ℕ
@@ -35,42 +27,6 @@ hashOf d = d .hash
 
 abbrev pub FindsEach : Ledger → Type 0
 FindsEach l = Singles.FindsEach debtItems hashOf (l .debts)
-
--- The steps that look up nothing do the same on any ledger.
-module _ (l : Ledger) where
-  pub look-in-place-order : (at : Nanos) → look at (inPlaceOrder l) ≡ inPlaceOrder (look at l)
-  unfolding look Round.sweep
-  look-in-place-order at = ap (withRound l) (RoundLaws.sweep-in-place-order debtItems (settledBy at) 1 (roundOf l))
-
-  pub sweep-in-place-order : (at : Nanos) (n : ℕ) → sweep at n (inPlaceOrder l) ≡ inPlaceOrder (sweep at n l)
-  unfolding sweep
-  sweep-in-place-order at n = ap (withRound l) (RoundLaws.sweep-in-place-order debtItems (settledBy at) n (roundOf l))
-
--- Lookup, and what begins with a lookup, on a ledger in which it finds each debt.
-module _ (l : Ledger) (each : FindsEach l) where
-  pub place-in-place-order : (h : ℕ) → placeOf (inPlaceOrder l) h ≡ placeOf l h
-  unfolding placeOf
-  place-in-place-order h =
-      found-in-place-order debtItems hashOf (l .debts) each h h (owes h) (λ d passes. eqb-true _ _ passes) (λ d passes. eqb-true _ _ passes)
-
-  pub owed-in-place-order : (h : ℕ) → owedBy (inPlaceOrder l) h ≡ owedBy l h
-  unfolding owedBy
-  owed-in-place-order h = rw (place-in-place-order h) (owedAt-changed (λ _. inOrder) (λ ws. ws) (λ x key i. refl) (λ x hash n p. refl) l (placeOf l h))
-
-  pub taken-in-place-order : (h : ℕ) → taken (inPlaceOrder l) h ≡ leftInPlaceOrder (taken l h)
-  unfolding taken
-  taken-in-place-order h = rw (place-in-place-order h) (takenAt-changed (λ _. inOrder) (λ ws. ws) (λ x key i. refl) (λ x hash n p. refl) l (placeOf l h))
-
-  pub paid-in-place-order : (h cost : ℕ) (c : BucketConfig) → paidDown (inPlaceOrder l) h cost c ≡ leftInPlaceOrder (paidDown l h cost c)
-  unfolding paidDown
-  paid-in-place-order h cost c =
-      rw (place-in-place-order h) (paidAt-changed (λ _. inOrder) (λ ws. ws) (λ x key i. refl) (λ x hash n p. refl) l (credit c cost) (placeOf l h))
-
-  pub recorded-in-place-order : (d : Debt) (at : Nanos) (forget : Bool) → recorded (inPlaceOrder l) d at forget ≡ leftInPlaceOrder (recorded l d at forget)
-  unfolding recorded
-  recorded-in-place-order d at forget =
-      rw (place-in-place-order (d .hash))
-      (recordedAt-changed (λ _. inOrder) (λ ws. ws) (λ x key i. refl) (λ x hash n p. refl) l d at forget (placeOf l (d .hash)))
 
 -- Every operation leaves a ledger in which lookup finds each debt; a debt is appended only where none has its hash.
 module _ (l : Ledger) (each : FindsEach l) where
@@ -89,41 +45,12 @@ module _ (l : Ledger) (each : FindsEach l) where
   unfolding sweep
   sweep-finds-each at n = Singles.sweep-finds-each debtItems hashOf (settledBy at) n (roundOf l) each
 
-  pub look-finds-each : (at : Nanos) → FindsEach (look at l)
-  unfolding look sweep Round.sweep
-  look-finds-each at = sweep-finds-each at 1
-
   pub taken-finds-each : (h : ℕ) → FindsEach (taken l h .after)
   taken-finds-each h = taken-cases l h (λ o. FindsEach (o .after)) (λ p e. removal-finds-each p (found-owes l h p e .below)) (λ e. each)
 
   pub paid-finds-each : (h cost : ℕ) (c : BucketConfig) → FindsEach (paidDown l h cost c .after)
   paid-finds-each h cost c =
       paid-cases l h cost c (λ o. FindsEach (o .after)) (λ p e. change-finds-each p _ (found-owes l h p e .below) refl) (λ e. each)
-
--- The looks at a full ledger move only the cursor, and making room removes at most the debt that they chose.
-scanFrom-finds-each : (at : Nanos) (left : ℕ) (l : Ledger) (best : ℕ) → FindsEach l → FindsEach (scanFrom at left l best .after)
-unfolding scanFrom
-scanFrom-finds-each at zero l best each = each
-scanFrom-finds-each at (suc left) l best each =
-    by-test (hasSettled at l (cursorOf l))
-    (λ settled. rw (settled, scanFrom) each)
-    (λ unsettled. rw (unsettled, scanFrom) (scanFrom-finds-each at left (withCursor l _) _ each))
-
-pub scan-finds-each : (at : Nanos) (l : Ledger) → FindsEach l → FindsEach (scan at l .after)
-unfolding scan
-scan-finds-each at l each = scanFrom-finds-each at _ l (cursorOf l) each
-
-drop-finds-each : (at : Nanos) (forget : Bool) (l : Ledger) (choice : Choice) → chosen choice < l .debts .count → FindsEach l
-    → FindsEach (dropChosen at forget l choice .after)
-unfolding dropChosen
-drop-finds-each at forget l (Settled p) below each = removal-finds-each l each p below
-drop-finds-each at true l (Soonest p) below each = removal-finds-each l each p below
-drop-finds-each at false l (Soonest p) below each = each
-
-pub make-room-finds-each : (at : Nanos) (forget : Bool) (l : Ledger) → 0 < l .debts .count → FindsEach l → FindsEach (makeRoom at forget l .after)
-unfolding makeRoom
-make-room-finds-each at forget l some each =
-    drop-finds-each at forget (scan at l .after) (scan at l .answer) (scan-chooses-held at l some) (scan-finds-each at l each)
 
 -- A debt that is recorded merges, or joins where none has its hash. A removal brings no hash in.
 removal-brings-none : (l : Ledger) (p : ℕ) → Sound l → (h : ℕ) → Lacks debtItems hashOf h (l .debts) → Lacks debtItems hashOf h (removeAt l p .debts)
@@ -144,3 +71,35 @@ recorded-finds-each l each d at forget = go (record-cases l d at forget (each .s
         (removal-leaves-room (withCursor l c) p (each .sound .count-fits) below)
         (removal-brings-none (withCursor l c) p (each .sound) (d .hash) (lacks new))
     go (refused p c full below never unsettled) = each
+
+-- The second ledger has the debts of the first, found in place order, its cursor and its other words.
+abbrev pub placeOrder : View
+placeOrder = record {
+  Debts = λ h g. g ≡ Held.inPlaceOrder h;
+  ways = found-otherwise-alike debtItems (λ x. inOrder) (λ x key i. refl) (λ x hash n p. refl);
+  Others = λ old new. new ≡ old;
+}
+
+-- So every operation gives the same on both, where lookup finds each debt of the first.
+pub record PlaceOrdered (l m : Ledger) : Type 0 where
+  pub alike : AlikeLedgers placeOrder l m
+  pub each : FindsEach l
+
+place-in-place-order : {l m : Ledger} → PlaceOrdered l m → (h : ℕ) → placeOf l h ≡ placeOf m h
+unfolding placeOf
+place-in-place-order {l} {m} order h =
+    rw (order .alike .debts)
+    (sym (found-in-place-order debtItems hashOf (l .debts) (order .each) h h (owes h) (λ d passes. eqb-true _ _ passes) (λ d passes. eqb-true _ _ passes)))
+
+ordered : {A : Type 0} {o q : Outcome A Ledger} → SameOutcome (AlikeLedgers placeOrder) o q → FindsEach (o .after) → SameOutcome PlaceOrdered o q
+ordered same each = record { answer = same .answer; after = record { alike = same .after; each = each } }
+
+pub place-order-kept : KeptByLedgers PlaceOrdered
+place-order-kept = record {
+  owed = λ order h. owed-alike placeOrder (order .alike) (place-in-place-order order) h;
+  sweeps = λ order at n. record { alike = sweep-alike placeOrder (order .alike) at n; each = sweep-finds-each _ (order .each) at n };
+  takes = λ order h. ordered (taken-alike placeOrder (order .alike) (place-in-place-order order) h) (taken-finds-each _ (order .each) h);
+  pays = λ order h cost c. ordered (paid-alike placeOrder (order .alike) (place-in-place-order order) h cost c) (paid-finds-each _ (order .each) h cost c);
+  records = λ order d at forget.
+      ordered (recorded-alike placeOrder (order .alike) (place-in-place-order order) d at forget) (recorded-finds-each _ (order .each) d at forget);
+}

@@ -1,15 +1,14 @@
 -- Lookup by an index changes nothing: on a shard in which lookup finds each slot and each debt, every step gives what it gives where slots and debts are found
 -- in place order. Every step leaves such a shard.
 use Prim.Native.Nat.{ℕ, _<_}
-use mathlib.Core.Path.{_≡_, refl, ap}
+use mathlib.Core.Path.{_≡_, refl, sym, ap}
 use Rattle.units.specs.declared.Nanos.{Nanos}
 use Rattle.units.specs.declared.Millis.{Millis}
 use Rattle.bucket.specs.declared.BucketConfig.{BucketConfig}
 use Rattle.rows.specs.declared.Place.the-variants.{Nowhere}
-use Rattle.rows.specs.Outcome.{Outcome, outcome}
-use Rattle.held.specs.Held.{removed}
-use Rattle.held.specs.Round as Round
-use Rattle.held.proofs.RoundLaws.{sweep-in-place-order}
+use Rattle.held.specs.Held as Held
+use Rattle.held.specs.Held.{inOrder}
+use Rattle.held.proofs.AlikeLaws.{found-otherwise-alike}
 use Rattle.held.proofs.SingleLaws as Singles
 use Rattle.held.proofs.SingleLaws.{ComesFrom, Lacks, removed-comes-from, sweep-comes-from, found-in-place-order, none-finds-each}
 use Rattle.held.proofs.SingleLaws.{stored-finds-each, appended-finds-each, removed-finds-each, sweep-finds-each}
@@ -18,13 +17,10 @@ use Rattle.slot.specs.Slot.{isKey}
 use Rattle.slot.proofs.SlotLaws.{is-key-iff}
 use Rattle.ledger.specs.Model as Ledger
 use Rattle.ledger.proofs.PlaceOrderLaws as LedgerOrder
-use Rattle.shard_map.specs.Model.{Shard, Sound, Complete, slotItems, capOf, slotAt, withSlot, withHand, withLedger, inPlaceOrder, placeOf, removeAt, insert}
-use Rattle.shard_map.specs.Model.{reclaimable, roundOf, withRound, idleLook, sweepIdle}
+use Rattle.shard_map.specs.Model.{Shard, Sound, Complete, slotItems, capOf, slotAt, withSlot, withLedger, inPlaceOrder, placeOf, removeAt, insert}
+use Rattle.shard_map.specs.Model.{reclaimable, roundOf, sweepIdle}
 use Rattle.shard_map.proofs.StepLaws.{nowhere-holds-none, slots-sound}
-
--- What an operation gave, with the shard in place order.
-abbrev pub leftInPlaceOrder : {A : Type 0} → Outcome A Shard → Outcome A Shard
-leftInPlaceOrder o = outcome (o .answer) (inPlaceOrder (o .after))
+use Rattle.shard_map.proofs.AlikeLaws.{View, AlikeShards}
 
 -- What a slot is known by: its hash and its key.
 abbrev pub identityOf : Slot → ℕ × ℕ
@@ -59,42 +55,6 @@ in-place-order-finds-each s each = record {
 abbrev pub SlotsFrom : Shard → Shard → Type 0
 SlotsFrom s t = ComesFrom slotItems identityOf (s .slots) (t .slots)
 
--- The steps that look up nothing do the same on any shard.
-module _ (s : Shard) where
-  pub removal-in-place-order : (p : ℕ) → removeAt (inPlaceOrder s) p ≡ inPlaceOrder (removeAt s p)
-  unfolding removeAt removed
-  removal-in-place-order p = refl
-
-  pub insert-in-place-order : (slot : Slot) → insert (inPlaceOrder s) slot ≡ inPlaceOrder (insert s slot)
-  unfolding insert
-  insert-in-place-order slot = refl
-
-  pub change-in-place-order : (p : ℕ) (slot : Slot) → withSlot (inPlaceOrder s) p slot ≡ inPlaceOrder (withSlot s p slot)
-  change-in-place-order p slot = refl
-
-  pub hand-in-place-order : (hand : ℕ) → withHand (inPlaceOrder s) hand ≡ inPlaceOrder (withHand s hand)
-  hand-in-place-order hand = refl
-
-  pub ledger-in-place-order : (l : Ledger.Ledger) → withLedger (inPlaceOrder s) (Ledger.inPlaceOrder l) ≡ inPlaceOrder (withLedger s l)
-  ledger-in-place-order l = refl
-
-  module _ (c : BucketConfig) (at : Nanos) (limit : Millis) where
-    pub idle-look-in-place-order : idleLook c at limit (inPlaceOrder s) ≡ inPlaceOrder (idleLook c at limit s)
-    unfolding idleLook Round.sweep
-    idle-look-in-place-order = ap (withRound (inPlaceOrder s)) (sweep-in-place-order slotItems (reclaimable c at limit) 1 (roundOf s))
-
-    pub sweep-idle-in-place-order : (n : ℕ) → sweepIdle c at limit n (inPlaceOrder s) ≡ inPlaceOrder (sweepIdle c at limit n s)
-    unfolding sweepIdle
-    sweep-idle-in-place-order n = ap (withRound (inPlaceOrder s)) (sweep-in-place-order slotItems (reclaimable c at limit) n (roundOf s))
-
--- Lookup does, where it finds each slot.
-pub place-in-place-order : (s : Shard) → FindsEach s → (h k : ℕ) → placeOf (inPlaceOrder s) h k ≡ placeOf s h k
-unfolding placeOf
-place-in-place-order s each h k =
-    found-in-place-order slotItems identityOf (s .slots) (each .slots) h (h, k) (isKey h k)
-    (λ slot passes. is-key-iff h k slot .0 passes .0)
-    (λ slot passes. let own = is-key-iff h k slot .0 passes in rw (own .0, own .1))
-
 -- Where it finds none, no slot has the hash and the key.
 pub nowhere-lacks : (s : Shard) → Complete s → (h k : ℕ) → placeOf s h k ≡ Nowhere → Lacks slotItems identityOf (h, k) (s .slots)
 nowhere-lacks s complete h k new i below own = nowhere-holds-none s complete h k new i below (ap (λ x. x .0) own) (ap (λ x. x .1) own)
@@ -125,9 +85,6 @@ module _ (s : Shard) (each : FindsEach s) where
     ledger = each .ledger;
   }
 
-  pub hand-finds-each : (hand : ℕ) → FindsEach (withHand s hand)
-  hand-finds-each hand = record { slots = each .slots; ledger = each .ledger }
-
   pub ledger-finds-each : (l : Ledger.Ledger) → LedgerOrder.FindsEach l → FindsEach (withLedger s l)
   ledger-finds-each l debts = record { slots = each .slots; ledger = debts }
 
@@ -138,6 +95,38 @@ module _ (s : Shard) (each : FindsEach s) where
     ledger = each .ledger;
   }
 
-  pub idle-look-finds-each : (c : BucketConfig) (at : Nanos) (limit : Millis) → FindsEach (idleLook c at limit s)
-  unfolding idleLook sweepIdle Round.sweep
-  idle-look-finds-each c at limit = sweep-idle-finds-each c at limit 1
+-- The second shard has the slots and the debts of the first, found in place order. So every step gives the same on both.
+abbrev pub placeOrder : View
+placeOrder = record {
+  Same = _≡_;
+  reads = λ same. rw same (record { hash = refl; key = refl; bucket = refl; mark = refl; seen = refl });
+  itself = λ x. refl;
+  marks = λ same mark. rw same;
+  refills = λ same bucket. rw (same, bucket);
+  touches = λ same at track. rw same;
+  Slots = λ h g. g ≡ Held.inPlaceOrder h;
+  ways = found-otherwise-alike slotItems (λ x. inOrder) (λ x key i. refl) (λ x hash n p. refl);
+  Ledgers = LedgerOrder.PlaceOrdered;
+  ledgers = LedgerOrder.place-order-kept;
+}
+
+pub in-place-order-alike : (s : Shard) → LedgerOrder.FindsEach (s .ledger) → AlikeShards placeOrder s (inPlaceOrder s)
+in-place-order-alike s each = record {
+  slots = refl;
+  hand = refl;
+  sweep = refl;
+  ledger = record { alike = record { debts = refl; cursor = refl; others = refl }; each = each };
+}
+
+pub alike-is-in-place-order : {s t : Shard} → AlikeShards placeOrder s t → t ≡ inPlaceOrder s
+alike-is-in-place-order like =
+    let ledger = like .ledger .alike in
+    rw (← like .slots, like .hand, like .sweep, ← ledger .debts, ledger .cursor, ← ledger .others)
+
+-- Lookup finds the same place in both, where it finds each slot of the first.
+pub place-in-place-order : (s : Shard) → FindsEach s → (h k : ℕ) → placeOf s h k ≡ placeOf (inPlaceOrder s) h k
+unfolding placeOf
+place-in-place-order s each h k =
+    sym (found-in-place-order slotItems identityOf (s .slots) (each .slots) h (h, k) (isKey h k)
+    (λ slot passes. is-key-iff h k slot .0 passes .0)
+    (λ slot passes. let own = is-key-iff h k slot .0 passes in rw (own .0, own .1)))
