@@ -5,13 +5,11 @@ use mathlib.Core.Bool.{Bool}
 use Rattle.units.specs.declared.Nanos.{Nanos}
 use Rattle.bucket.specs.declared.BucketConfig.{BucketConfig}
 use Rattle.held.proofs.SingleLaws.{ComesFrom, single-stays, comes-from-refl, comes-from-trans, same-identities}
-use Rattle.ledger.proofs.PlaceOrderLaws as LedgerOrder
-use Rattle.ledger.proofs.PlaceOrderLaws.{recorded-finds-each}
 use Rattle.shard_map.specs.Model.{Shard, Sound, slotItems}
 use Rattle.shard_map.proofs.PlaceOrderLaws.{identityOf, FindsEach, found-is-sound, found-is-complete, SlotsFrom, removal-slots-from}
 use Rattle.shard_map.proofs.StepLaws.{slots-sound}
 use Rattle.evict.specs.Evict.{evicted}
-use Rattle.evict.proofs.WalkLaws.{Remarked, remarked-slots, evict-keeps-slots, evict-keeps-ledger, evict-sound, evict-complete}
+use Rattle.evict.proofs.WalkLaws.{Remarked, remarked-slots, evict-keeps-slots, evict-ledger-room, evict-sound, evict-complete}
 
 module _ (c : BucketConfig) (at : Nanos) (forget : Bool) where
   -- The slots that it leaves come from those before, and lookup finds each slot and each debt.
@@ -36,5 +34,5 @@ module _ (c : BucketConfig) (at : Nanos) (forget : Bool) where
           complete = evict-complete c at forget s u some (found-is-complete each) .slots;
           single = single-stays slotItems identityOf (evict-slots-from s u some) (each .slots .single);
         };
-        ledger = evict-keeps-ledger c at forget s u some LedgerOrder.FindsEach (λ l d v debts. recorded-finds-each l debts d at forget) (each .ledger);
+        ledger = evict-ledger-room c at forget s u some .each (each .ledger);
       }

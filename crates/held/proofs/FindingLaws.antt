@@ -98,17 +98,6 @@ module _ {A : Type 0} (items : Items A) (h : Held A) where
   position-in-place-order (exact-is-complete ix by size exact) key test own only =
       rw by (find-lowest exact (λ i. test (itemAt items h i)) key (λ i below passes. own (itemAt items h i) passes) only)
 
-  -- On any value: the steps do to the items in place order what they do to the items.
-  pub appended-in-place-order : (x : A) → inPlaceOrder (appended items h x) ≡ appended items (inPlaceOrder h) x
-  appended-in-place-order x = refl
-
-  pub removed-in-place-order : (p : ℕ) → inPlaceOrder (removed items h p) ≡ removed items (inPlaceOrder h) p
-  unfolding removed
-  removed-in-place-order p = refl
-
-  pub stored-in-place-order : (i : ℕ) (x : A) → inPlaceOrder (stored h i x) ≡ stored (inPlaceOrder h) i x
-  stored-in-place-order i x = refl
-
   -- No item is held, and all places of the index are empty: that is complete.
   pub fresh-is-complete : 0 < length (h .places) → h .count ≡ 0 → h .finding ≡ byIndex (replicate (2 * length (h .places)) 0) → Complete items h
   fresh-is-complete room none fresh =

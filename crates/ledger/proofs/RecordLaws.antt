@@ -4,7 +4,6 @@ use Prim.Native.Nat.{ℕ, zero, suc, _-_, _≤_, _<_}
 use mathlib.Core.Path.{_≡_, refl, sym, _∙_}
 use mathlib.Core.Bool.{Bool, true, false, true≢false}
 use native.Mathlib.Omega.{arith}
-use lib.ListN.{length-set}
 use lib.Dec.{ltb}
 use borrow.Author.Tests.{ltb-true, ltb-false, leb-true, leb-false}
 use Rattle.arith.proofs.Cases.{by-test}
@@ -12,15 +11,16 @@ use Rattle.units.specs.declared.Nanos.{Nanos}
 use Rattle.rows.specs.declared.Place.{Place}
 use Rattle.rows.specs.declared.Place.the-variants.{At, Nowhere}
 use Rattle.rows.specs.Outcome.{Outcome, outcome}
+use Rattle.held.proofs.SingleLaws.{Lacks, lacks-stays, removed-comes-from}
 use Rattle.ledger.specs.declared.Debt.{Debt}
 use Rattle.ledger.specs.declared.Choice.{Choice}
 use Rattle.ledger.specs.declared.Choice.the-variants.{Settled, Soonest}
 use Rattle.ledger.specs.declared.Recorded.{Recorded}
 use Rattle.ledger.specs.declared.Recorded.the-variants.{Done, NoRoom}
-use Rattle.ledger.specs.Model.{Ledger, Sound, Complete, capOf, debtAt, hasSettled, settlesAt, cursorOf, withCursor, withDebt, placeOf, removeAt, append, sooner}
+use Rattle.ledger.specs.Model.{Ledger, Sound, Complete, debtItems, capOf, debtAt, hasSettled, settlesAt, cursorOf, withCursor, withDebt, placeOf, removeAt, append, sooner}
 use Rattle.ledger.specs.Model.{scanFrom, scan, dropChosen, makeRoom, joined, later, recordedAt, recorded}
-use Rattle.ledger.proofs.StepLaws.{cursor-below, change-sound, append-sound, SameRoom, removal-sound, removal-room, removal-leaves-room, found-owes}
-use Rattle.ledger.proofs.StepLaws.{change-complete, append-complete, append-kind, removal-complete}
+use Rattle.ledger.proofs.StepLaws.{cursor-below, found-owes, nowhere-owes-none, hashOf, FindsEach, SameRoom, same-room, same-room-trans, cursor-room}
+use Rattle.ledger.proofs.StepLaws.{removal-room, removal-leaves-room, change-room, append-room}
 
 -- What the looks at a full ledger come to: nothing but the cursor moves, and the place told has a settled debt, or an unsettled one.
 data Scanned (at : Nanos) (l : Ledger) : Outcome Choice Ledger → Type 0 where
@@ -113,7 +113,7 @@ module _ (l : Ledger) (at : Nanos) (forget : Bool) (some : 0 < l .debts .count) 
   make-room-sound = go (room-cases l at forget some)
     where
       go : {o : Outcome Recorded Ledger} → MakingRoom l at forget o → Sound (o .after)
-      go (one-leaves p c below settled) = removal-sound (withCursor l c) p s
+      go (one-leaves p c below settled) = removal-room (withCursor l c) p below .sound s
       go (none-leaves p c below never unsettled) = s
 
   pub make-room-makes-room : makeRoom at forget l .answer ≡ Done → makeRoom at forget l .after .debts .count < capOf (makeRoom at forget l .after)
@@ -149,38 +149,27 @@ record-cases l d at forget s = go (placeOf l (d .hash)) refl
         (λ t. rw (t, recordedAt) (joins e (ltb-true _ _ t)))
         (λ t. let full : capOf l ≤ l .debts .count = ltb-false _ _ t in rw (t, recordedAt) (full-cases l d at forget e full (room-cases l at forget (omega (arith, s .room)))))
 
--- Recording leaves a sound ledger with the same room, and lookup misses none if it missed none.
-pub recorded-sound : (l : Ledger) (d : Debt) (at : Nanos) (forget : Bool) → Sound l → Sound (recorded l d at forget .after)
-recorded-sound l d at forget s = go (record-cases l d at forget s)
-  where
-    go : {o : Outcome Recorded Ledger} → Recording l d at forget o → Sound (o .after)
-    go (merged p e) = change-sound l p (later (debtAt l p) (d .settles)) s
-    go (joins new free) = append-sound l d free
-    go (replaces p c new below settled) = append-sound (removeAt (withCursor l c) p) d (removal-leaves-room (withCursor l c) p (s .count-fits) below)
-    go (refused p c full below never unsettled) = s
-
-pub recorded-complete : (l : Ledger) (d : Debt) (at : Nanos) (forget : Bool) → Sound l → Complete l → Complete (recorded l d at forget .after)
-recorded-complete l d at forget s complete = go (record-cases l d at forget s)
-  where
-    go : {o : Outcome Recorded Ledger} → Recording l d at forget o → Complete (o .after)
-    go (merged p e) = change-complete l p (later (debtAt l p) (d .settles)) s complete (found-owes l (d .hash) p e .below) refl
-    go (joins new free) = append-complete l d complete free
-    go (replaces p c new below settled) =
-        append-complete (removeAt (withCursor l c) p) d (removal-complete (withCursor l c) p s complete below)
-        (removal-leaves-room (withCursor l c) p (s .count-fits) below)
-    go (refused p c full below never unsettled) = complete
-
+-- What a recording leaves. A debt joins where none has its hash, and a removal brings no hash in.
 pub recorded-room : (l : Ledger) (d : Debt) (at : Nanos) (forget : Bool) → Sound l → SameRoom l (recorded l d at forget .after)
-unfolding append
+unfolding removeAt
 recorded-room l d at forget s = go (record-cases l d at forget s)
   where
+    lacks : placeOf l (d .hash) ≡ Nowhere → FindsEach l → Lacks debtItems hashOf (d .hash) (l .debts)
+    lacks new each = nowhere-owes-none l (each .complete) (d .hash) new
+
     go : {o : Outcome Recorded Ledger} → Recording l d at forget o → SameRoom l (o .after)
-    go (merged p e) = record { cap = simp length-set; kind = refl; others = refl }
-    go (joins new free) = record { cap = simp length-set; kind = append-kind l d; others = refl }
+    go (merged p e) = change-room l p (later (debtAt l p) (d .settles)) (found-owes l (d .hash) p e .below) refl
+    go (joins new free) = append-room (same-room l) d free (lacks new)
     go (replaces p c new below settled) =
-        let removed = removal-room (withCursor l c) p in
-        record { cap = simp length-set (removed .cap); kind = append-kind (removeAt (withCursor l c) p) d ∙ removed .kind; others = removed .others }
-    go (refused p c full below never unsettled) = record { cap = refl; kind = refl; others = refl }
+        append-room (same-room-trans (cursor-room l c) (removal-room (withCursor l c) p below)) d (removal-leaves-room (withCursor l c) p (s .count-fits) below)
+        (λ each. lacks-stays debtItems hashOf (removed-comes-from debtItems hashOf (l .debts) p s) (d .hash) (lacks new each))
+    go (refused p c full below never unsettled) = cursor-room l c
+
+pub recorded-sound : (l : Ledger) (d : Debt) (at : Nanos) (forget : Bool) → Sound l → Sound (recorded l d at forget .after)
+recorded-sound l d at forget s = recorded-room l d at forget s .sound s
+
+pub recorded-complete : (l : Ledger) (d : Debt) (at : Nanos) (forget : Bool) → Sound l → Complete l → Complete (recorded l d at forget .after)
+recorded-complete l d at forget s complete = recorded-room l d at forget s .complete s complete
 
 -- A debt is recorded unless the ledger is full and nothing may be forgotten.
 record-succeeds : (l : Ledger) (d : Debt) (at : Nanos) (forget : Bool) → Sound l → (forget ≡ false → l .debts .count < capOf l) → recorded l d at forget .answer ≡ Done

@@ -16,7 +16,8 @@ use Rattle.slot.specs.declared.Slot.{Slot}
 use Rattle.slot.specs.Slot.{isKey}
 use Rattle.slot.proofs.SlotLaws.{is-key-iff}
 use Rattle.ledger.specs.Model as Ledger
-use Rattle.ledger.proofs.PlaceOrderLaws as LedgerOrder
+use Rattle.ledger.proofs.StepLaws as LedgerSteps
+use Rattle.ledger.proofs.PlaceOrderLaws.{PlaceOrdered, place-order-kept}
 use Rattle.shard_map.specs.Model.{Shard, Sound, Complete, slotItems, capOf, slotAt, withSlot, withLedger, inPlaceOrder, placeOf, removeAt, insert}
 use Rattle.shard_map.specs.Model.{reclaimable, roundOf, sweepIdle}
 use Rattle.shard_map.proofs.StepLaws.{nowhere-holds-none, slots-sound}
@@ -29,7 +30,7 @@ identityOf slot = (slot .hash, slot .key)
 -- Lookup finds each slot and each debt: it misses none, no two slots have one hash and key, and no two debts have one hash.
 pub record FindsEach (s : Shard) : Type 0 where
   pub slots : Singles.FindsEach slotItems identityOf (s .slots)
-  pub ledger : LedgerOrder.FindsEach (s .ledger)
+  pub ledger : LedgerSteps.FindsEach (s .ledger)
 
 -- Such a shard is sound and complete.
 pub found-is-sound : {s : Shard} → FindsEach s → Sound s
@@ -42,13 +43,13 @@ found-is-complete each = record { slots = each .slots .complete; ledger = each .
 pub empty-finds-each : (s : Shard) → Sound s → Complete s → s .slots .count ≡ 0 → s .ledger .debts .count ≡ 0 → FindsEach s
 empty-finds-each s sound complete no-slot no-debt = record {
   slots = none-finds-each slotItems identityOf (s .slots) (slots-sound s sound) (complete .slots) no-slot;
-  ledger = none-finds-each Ledger.debtItems LedgerOrder.hashOf (s .ledger .debts) (sound .ledger) (complete .ledger) no-debt;
+  ledger = none-finds-each Ledger.debtItems LedgerSteps.hashOf (s .ledger .debts) (sound .ledger) (complete .ledger) no-debt;
 }
 
 pub in-place-order-finds-each : (s : Shard) → FindsEach s → FindsEach (inPlaceOrder s)
 in-place-order-finds-each s each = record {
   slots = Singles.in-place-order-finds-each slotItems identityOf (s .slots) (each .slots);
-  ledger = Singles.in-place-order-finds-each Ledger.debtItems LedgerOrder.hashOf (s .ledger .debts) (each .ledger);
+  ledger = Singles.in-place-order-finds-each Ledger.debtItems LedgerSteps.hashOf (s .ledger .debts) (each .ledger);
 }
 
 -- The slots of a shard come from those of another.
@@ -85,9 +86,6 @@ module _ (s : Shard) (each : FindsEach s) where
     ledger = each .ledger;
   }
 
-  pub ledger-finds-each : (l : Ledger.Ledger) → LedgerOrder.FindsEach l → FindsEach (withLedger s l)
-  ledger-finds-each l debts = record { slots = each .slots; ledger = debts }
-
   pub sweep-idle-finds-each : (c : BucketConfig) (at : Nanos) (limit : Millis) (n : ℕ) → FindsEach (sweepIdle c at limit n s)
   unfolding sweepIdle
   sweep-idle-finds-each c at limit n = record {
@@ -106,22 +104,15 @@ placeOrder = record {
   touches = λ same at track. rw same;
   Slots = λ h g. g ≡ Held.inPlaceOrder h;
   ways = found-otherwise-alike slotItems (λ x. inOrder) (λ x key i. refl) (λ x hash n p. refl);
-  Ledgers = LedgerOrder.PlaceOrdered;
-  ledgers = LedgerOrder.place-order-kept;
+  Ledgers = PlaceOrdered;
+  ledgers = place-order-kept;
 }
 
-pub in-place-order-alike : (s : Shard) → LedgerOrder.FindsEach (s .ledger) → AlikeShards placeOrder s (inPlaceOrder s)
-in-place-order-alike s each = record {
-  slots = refl;
-  hand = refl;
-  sweep = refl;
-  ledger = record { alike = record { debts = refl; cursor = refl; others = refl }; each = each };
-}
+pub in-place-order-alike : (s : Shard) → FindsEach s → AlikeShards placeOrder s (inPlaceOrder s)
+in-place-order-alike s each = record { slots = refl; hand = refl; sweep = refl; ledger = record { is = refl; each = each .ledger } }
 
 pub alike-is-in-place-order : {s t : Shard} → AlikeShards placeOrder s t → t ≡ inPlaceOrder s
-alike-is-in-place-order like =
-    let ledger = like .ledger .alike in
-    rw (← like .slots, like .hand, like .sweep, ← ledger .debts, ledger .cursor, ← ledger .others)
+alike-is-in-place-order like = rw (← like .slots, like .hand, like .sweep, ← like .ledger .is)
 
 -- Lookup finds the same place in both, where it finds each slot of the first.
 pub place-in-place-order : (s : Shard) → FindsEach s → (h k : ℕ) → placeOf s h k ≡ placeOf (inPlaceOrder s) h k
