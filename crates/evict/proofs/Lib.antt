@@ -3,5 +3,5 @@ pub mod WalkLaws
 pub mod ModelLaws
 pub mod KeptLaws
 pub mod AlikeLaws
-pub mod PlaceOrderLaws
+pub mod RoomLaws
 pub mod Worked

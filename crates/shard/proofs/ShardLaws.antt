@@ -4,7 +4,6 @@ use Prim.Native.Nat.{ℕ, _<_}
 use mathlib.Core.Path.{_≡_, refl, sym, _∙_, ap}
 use mathlib.Core.Bool.{Bool, true}
 use Rattle.units.specs.declared.Nanos.{Nanos}
-use Rattle.units.specs.declared.Millis.{Millis}
 use Rattle.units.specs.declared.OptionNanos.{OptionNanos}
 use Rattle.units.specs.declared.OptionNanos.the-variants as nanos
 use Rattle.bucket.specs.declared.BucketConfig.{BucketConfig}
@@ -19,24 +18,21 @@ use Rattle.rows.specs.declared.Place.the-variants.{At, Nowhere}
 use Rattle.rows.specs.Outcome.{Outcome, outcome}
 use Rattle.settings.specs.Eviction.{ttlSweep, ledgerScan}
 use Rattle.held.specs.Held.{Held}
-use Rattle.held.proofs.FindingLaws.{kindOf}
 use Rattle.held.proofs.SingleLaws.{ComesFrom, lacks-stays, comes-from-refl, comes-from-trans}
 use Rattle.slot.specs.declared.Slot.{Slot}
 use Rattle.ledger.specs.Model as Ledger
 use Rattle.ledger.proofs.StepLaws as LedgerSteps
 use Rattle.ledger.proofs.StepLaws.{found-owes, taken-cases, taken-room, paid-room}
 use Rattle.ledger.proofs.LookupLaws.{taken-tells}
-use Rattle.shard_map.specs.Model.{Shard, Sound, Complete, slotItems, capOf, slotAt, withSlot, withLedger, inLedger, placeOf, removeAt, insert, sweepIdle}
-use Rattle.shard_map.proofs.StepLaws.{Holding, found-holds, removal-cap, removal-ledger, removal-sound, insert-cap, insert-ledger, insert-sound, change-cap}
-use Rattle.shard_map.proofs.StepLaws.{change-sound, ledger-sound, removal-complete, removal-kind, insert-complete, insert-kind, change-complete, ledger-complete}
-use Rattle.shard_map.proofs.StepLaws.{sweep-idle-sound, sweep-idle-complete, sweep-idle-cap, sweep-idle-kind, sweep-idle-ledger}
-use Rattle.shard_map.proofs.PlaceOrderLaws.{identityOf, FindsEach, found-is-complete, SlotsFrom, nowhere-lacks, sweep-idle-slots-from}
-use Rattle.shard_map.proofs.PlaceOrderLaws.{removal-finds-each, insert-finds-each, change-finds-each, sweep-idle-finds-each}
+use Rattle.shard_map.specs.Model.{Shard, Sound, slotItems, slotAt, withSlot, withLedger, inLedger, placeOf, removeAt}
+use Rattle.shard_map.proofs.StepLaws.{Holding, found-holds, ledger-sound}
+use Rattle.shard_map.proofs.RoomLaws.{identityOf, found-is-complete, SlotsFrom, nowhere-lacks, sweep-idle-slots-from, same-room-trans, ledger-same-room, same-room}
+use Rattle.shard_map.proofs.RoomLaws.{change-same-room, removal-same-room, idle-same-room, insert-same-room}
+pub use Rattle.shard_map.proofs.RoomLaws.{SameRoom}
 use Rattle.evict.specs.declared.Room.{Room}
 use Rattle.evict.specs.declared.Room.the-variants.{Made, Refused}
-use Rattle.evict.specs.Evict.{evicted}
-use Rattle.evict.proofs.WalkLaws.{made-is-no-refusal, evict-cap, evict-kind, evict-ledger-room, evict-sound, evict-complete}
-use Rattle.evict.proofs.PlaceOrderLaws.{evict-slots-from, evict-finds-each}
+use Rattle.evict.proofs.WalkLaws.{made-is-no-refusal}
+use Rattle.evict.proofs.RoomLaws.{evict-slots-from, evict-same-room}
 use Rattle.shard.specs.declared.Identity.{Identity}
 use Rattle.shard.specs.declared.Policy.{Policy}
 use Rattle.shard.specs.Model.{withExisting, makeRoom, joined, admitted, admit, askedFrom, withOrInsert, hasDebt, refundedFrom, refunded, removedFrom, removed}
@@ -136,79 +132,7 @@ remove-cases id s = go (placeOf s (id .hash) (id .key)) refl
     go (At i) e = slot-removed i e (found-holds s (id .hash) (id .key) i e)
     go Nowhere e = no-slot e
 
--- A sound shard with the room for slots and for debts that another has, found in the same way. Lookup misses none in it if it missed none in the other, and
--- finds each slot and each debt if it found each.
-pub record SameRoom (s t : Shard) : Type 0 where
-  pub sound : Sound t
-  pub cap : capOf t ≡ capOf s
-  pub kind : kindOf (t .slots .finding) ≡ kindOf (s .slots .finding)
-  pub ledger-room : LedgerSteps.SameRoom (s .ledger) (t .ledger)
-  pub complete : Complete s → Complete t
-  pub finds-each : FindsEach s → FindsEach t
-
-same-room-trans : {s t w : Shard} → SameRoom s t → SameRoom t w → SameRoom s w
-same-room-trans first second = record {
-  sound = second .sound;
-  cap = second .cap ∙ first .cap;
-  kind = second .kind ∙ first .kind;
-  ledger-room = LedgerSteps.same-room-trans (first .ledger-room) (second .ledger-room);
-  complete = λ complete. second .complete (first .complete complete);
-  finds-each = λ each. second .finds-each (first .finds-each each);
-}
-
--- That is what every step leaves.
-module _ (s : Shard) (u : Sound s) where
-  ledger-same-room : (l : Ledger.Ledger) → LedgerSteps.SameRoom (s .ledger) l → SameRoom s (withLedger s l)
-  ledger-same-room l room = record {
-    sound = ledger-sound s l u (room .sound (u .ledger));
-    cap = refl;
-    kind = refl;
-    ledger-room = room;
-    complete = λ complete. ledger-complete s l complete (room .complete (u .ledger) (complete .ledger));
-    finds-each = λ each. record { slots = each .slots; ledger = room .each (each .ledger) };
-  }
-
-  changed-same-room : (i : ℕ) (slot : Slot) (b : BucketCore) → i < s .slots .count → Rebucketed (slotAt s i) b slot → SameRoom s (withSlot s i slot)
-  changed-same-room i slot b below same = record {
-    sound = change-sound s i slot u;
-    cap = change-cap s i slot;
-    kind = refl;
-    ledger-room = LedgerSteps.same-room (s .ledger);
-    complete = λ complete. change-complete s i slot u complete below (same .hash);
-    finds-each = λ each. change-finds-each s each i slot below (same .hash) (same .key);
-  }
-
-  removal-same-room : (i : ℕ) → i < s .slots .count → SameRoom s (removeAt s i)
-  removal-same-room i below = record {
-    sound = removal-sound s i u;
-    cap = removal-cap s i;
-    kind = removal-kind s i;
-    ledger-room = rw (removal-ledger s i) (LedgerSteps.same-room (s .ledger));
-    complete = λ complete. removal-complete s i u complete below;
-    finds-each = λ each. removal-finds-each s each i below;
-  }
-
-  idle-same-room : (c : BucketConfig) (at : Nanos) (limit : Millis) (n : ℕ) → SameRoom s (sweepIdle c at limit n s)
-  idle-same-room c at limit n = record {
-    sound = sweep-idle-sound c at limit n s u;
-    cap = sweep-idle-cap c at limit n s;
-    kind = sweep-idle-kind c at limit n s;
-    ledger-room = rw (sweep-idle-ledger c at limit n s) (LedgerSteps.same-room (s .ledger));
-    complete = sweep-idle-complete c at limit n s u;
-    finds-each = λ each. sweep-idle-finds-each s each c at limit n;
-  }
-
-  evict-same-room : (c : BucketConfig) (at : Nanos) (forget : Bool) → 0 < s .slots .count → SameRoom s (evicted c at forget s .after)
-  evict-same-room c at forget some = record {
-    sound = evict-sound c at forget s u some;
-    cap = evict-cap c at forget s u some;
-    kind = evict-kind c at forget s u some;
-    ledger-room = evict-ledger-room c at forget s u some;
-    complete = evict-complete c at forget s u some;
-    finds-each = λ each. evict-finds-each c at forget s each some;
-  }
-
--- So does making room, and its slots come from those before.
+-- Making room keeps what every step keeps, and its slots come from those before.
 module _ (p : Policy) (at : Nanos) (s : Shard) (u : Sound s) where
   room-same-room : SameRoom s (makeRoom p at s .after)
   room-same-room =
@@ -217,8 +141,8 @@ module _ (p : Policy) (at : Nanos) (s : Shard) (u : Sound s) where
         idle = λ t limit v room. same-room-trans room (idle-same-room t v (p .config) at limit ttlSweep);
         ledger = λ t v room. same-room-trans room (ledger-same-room t v _ (LedgerSteps.sweep-room at ledgerScan (t .ledger)));
       })
-      (λ t v some room. same-room-trans room (evict-same-room t v (p .config) at (p .«forget_debt») some))
-      (ledger-same-room s u (s .ledger) (LedgerSteps.same-room (s .ledger)))
+      (λ t v some room. same-room-trans room (evict-same-room (p .config) at (p .«forget_debt») t v some))
+      (same-room s u)
 
   room-slots-from : SlotsFrom s (makeRoom p at s .after)
   room-slots-from =
@@ -239,38 +163,21 @@ module _ (s : Shard) (u : Sound s) where
   pub ask-same-room : (p : Policy) (id : Identity) (request : Request) (cost : ℕ) (at : Nanos) → SameRoom s (withOrInsert p id request cost at s .after)
   ask-same-room p id request cost at = go (ask-cases p id request cost at s u)
     where
-      t : Shard
-      t = roomFor p id at s .after
-
       v : Sound (debtTaken id s)
       v = debt-taken-sound id s u
 
-      made-room : SameRoom s t
-      made-room = same-room-trans (taken-same-room id) (room-same-room p at (debtTaken id s) v)
-
-      joined-same-room : (slot : Slot) → identityOf slot ≡ (id .hash, id .key) → placeOf s (id .hash) (id .key) ≡ Nowhere → t .slots .count < capOf t
-          → SameRoom s (insert t slot)
-      joined-same-room slot own new free = record {
-        sound = insert-sound t slot (made-room .sound) free;
-        cap = insert-cap t slot ∙ made-room .cap;
-        kind = insert-kind t slot ∙ made-room .kind;
-        ledger-room = rw (insert-ledger t slot) (made-room .ledger-room);
-        complete = λ complete. insert-complete t slot (made-room .complete complete) free;
-        finds-each = λ each.
-            insert-finds-each t (made-room .finds-each each) slot free
-            (rw own (lacks-stays slotItems identityOf (room-slots-from p at (debtTaken id s) v) _ (nowhere-lacks s (found-is-complete each) (id .hash) (id .key) new)));
-      }
-
       go : {o : Outcome BucketDecision Shard} → Asking p id request cost at s o → SameRoom s (o .after)
-      go (slot-asked i slot e f r) = changed-same-room s u i slot _ (f .below) r
-      go (key-joins new made) = joined-same-room _ refl new (room-made-leaves-room p at (debtTaken id s) v made)
+      go (slot-asked i slot e f r) = change-same-room s u i slot (f .below) (r .hash) (r .key)
+      go (key-joins new made) =
+          insert-same-room (same-room-trans (taken-same-room id) (room-same-room p at (debtTaken id s) v)) _ (room-made-leaves-room p at (debtTaken id s) v made)
+          (λ each. lacks-stays slotItems identityOf (room-slots-from p at (debtTaken id s) v) _ (nowhere-lacks s (found-is-complete each) (id .hash) (id .key) new))
       go (no-space due e no-debt told) = room-same-room p at s u
 
   pub refund-same-room : (c : BucketConfig) (id : Identity) (cost : ℕ) → SameRoom s (refunded c id cost s .after)
   refund-same-room c id cost = go (refund-cases c id cost s)
     where
       go : {o : Outcome Bool Shard} → Refunding c id cost s o → SameRoom s (o .after)
-      go (slot-refunded i slot e f r) = changed-same-room s u i slot _ (f .below) r
+      go (slot-refunded i slot e f r) = change-same-room s u i slot (f .below) (r .hash) (r .key)
       go (debt-paid e) = ledger-same-room s u _ (paid-room (s .ledger) (id .hash) cost c)
 
   pub remove-same-room : (id : Identity) → SameRoom s (removed id s .after)
