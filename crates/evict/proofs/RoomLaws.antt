@@ -1,5 +1,5 @@
 -- What an eviction keeps of a shard: what every step on a shard keeps, and its slots come from those before.
-use Prim.Native.Nat.{ℕ, _<_}
+use Prim.Native.Nat.{_<_}
 use mathlib.Core.Path.{refl}
 use mathlib.Core.Bool.{Bool}
 use Rattle.units.specs.declared.Nanos.{Nanos}

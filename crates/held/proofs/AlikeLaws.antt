@@ -1,7 +1,7 @@
 -- Held items that are alike to an operation: as many, in as many places, each alike, and alike again after each way in which items change. What operations do
 -- to values that are alike is proved over any such relation. Two instances follow from how items are found: it may be by an index or in place order.
 use Prim.Native.Nat.{ℕ, zero, suc, _+_}
-use mathlib.Core.Path.{_≡_, refl, sym, ap}
+use mathlib.Core.Path.{_≡_, sym, ap}
 use mathlib.Core.Bool.{Bool, true, false, cond}
 use lib.Dec.{eqb}
 use lib.ListN.{length}

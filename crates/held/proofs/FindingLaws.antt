@@ -1,6 +1,6 @@
 -- What a lookup says. On any value, what it finds is below the count and passes. On a complete value it misses no item of the hash. So layers above know
 -- lookup by two laws. Then what each step keeps: that the value is complete, the kind of its finding, and a bound over the words of its index.
-use Prim.Native.Nat.{ℕ, _+_, _-_, _*_, _<_}
+use Prim.Native.Nat.{ℕ, _+_, _*_, _<_}
 use native.Mathlib.Omega.{arith}
 use mathlib.Core.Path.{_≡_, refl, ap, _∙_}
 use mathlib.Core.List.{List}
@@ -20,7 +20,7 @@ use Rattle.index.proofs.FindLaws.{find-sound, find-nowhere, find-lowest}
 use Rattle.held.specs.Held.{Finding, inOrder, byIndex, Held, Sound, Items, foundBy, withAdded, withRemoved, itemAt, hashAt, position, appended, removed, stored}
 use Rattle.held.specs.Held.{inPlaceOrder, Complete, in-order-is-complete, exact-is-complete}
 use Rattle.held.specs.Layout.{indexWords}
-use Rattle.held.proofs.HeldLaws.{item-stored, item-stored-other, item-appended, item-appended-other, item-moved, item-kept, removed-count, removed-length}
+use Rattle.held.proofs.HeldLaws.{item-stored, item-stored-other, item-appended, item-appended-other, item-moved, item-kept}
 
 -- The kind of a finding: in place order, or by an index of so many places.
 pub data Kind : Type 0 where

@@ -111,7 +111,7 @@ module _ (l : Ledger) (s : Sound l) (complete : Complete l) (d : Debt) (at : Nan
           ))
       go value (joins new room) q =
           rw (← owed-where l (d .hash) new) (omega (arith, owed-appended (d .hash) value l d room, weigh-own (d .hash) value d refl, nowhere-owes-nothing (d .hash) value l complete new))
-      go value (replaces p c new below settled) q =
+      go value (replaces p c near new below settled) q =
           rw (← owed-where l (d .hash) new)
           (omega (
             arith,
@@ -120,4 +120,4 @@ module _ (l : Ledger) (s : Sound l) (complete : Complete l) (d : Debt) (at : Nan
             nowhere-owes-nothing (d .hash) value l complete new,
             weigh-other (d .hash) value (debtAt l p) (nowhere-owes-none l complete (d .hash) new p below),
           ))
-      go value (refused p c full below never unsettled) q = done-is-no-refusal (sym q)
+      go value (refused p c near full below never unsettled) q = done-is-no-refusal (sym q)

@@ -3,7 +3,7 @@ use Prim.Native.Nat.{ℕ, zero, suc, _+_, _-_, _≤_, _<_}
 use native.Mathlib.Omega.{arith}
 use mathlib.Core.Path.{_≡_, refl, ap, sym, _∙_}
 use mathlib.Core.List.{List, [], _∷_, _++_, append-nil}
-use lib.ListN.{length, getD, set, take, drop, length-take, length-drop, List·getD-append, take-append-drop, drop-of-length-le}
+use lib.ListN.{length, getD, set, take, drop, length-drop, List·getD-append, take-append-drop, drop-of-length-le}
 use native.Mathlib.Nat.{add-suc}
 use lib.Seq.{sets, take-take, take-set-lt, take-set-le, drop-set-lt, drop-set-add, drop-drop, drop-append-le, take-append-le, take-at, drop-at, length-take-le, getD-take}
 use borrow.Rule.Slice.PartMut.{putMid}

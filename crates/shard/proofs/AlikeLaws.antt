@@ -2,7 +2,7 @@
 -- cite `every-operation-alike` and open none of the operations.
 use Prim.Native.Nat.{ℕ}
 use mathlib.Core.Path.{_≡_, refl, ap}
-use mathlib.Core.Bool.{Bool, false, true, cond}
+use mathlib.Core.Bool.{false}
 use lib.Dec.{ltb}
 use Rattle.units.specs.declared.Nanos.{Nanos}
 use Rattle.units.specs.declared.OptionNanos.{OptionNanos}
@@ -15,7 +15,6 @@ use Rattle.bucket.specs.declared.Request.{Request}
 use Rattle.bucket.specs.Bucket as Bucket
 use Rattle.rows.specs.declared.Place.{Place}
 use Rattle.rows.specs.declared.Place.the-variants.{At, Nowhere}
-use Rattle.rows.specs.Outcome.{outcome}
 use Rattle.settings.specs.Eviction.{ttlSweep, ledgerScan}
 use Rattle.held.proofs.AlikeLaws.{SameOutcome, alike-by-test}
 use Rattle.ledger.specs.Model as Ledger
@@ -27,7 +26,7 @@ use Rattle.evict.proofs.AlikeLaws.{evict-alike}
 use Rattle.shard.specs.declared.Identity.{Identity}
 use Rattle.shard.specs.declared.Policy.{Policy}
 use Rattle.shard.specs.Model.{tracks, withExisting, idleLimitIn, sweptIdle, swept, makeRoom, putBack, admitted, admit, askedFrom, withOrInsert}
-use Rattle.shard.specs.Model.{returning, viewedFrom, viewed, hasSlot, hasDebt, holds, refundedFrom, refunded, removedFrom, removed}
+use Rattle.shard.specs.Model.{returning, viewedFrom, viewed, hasDebt, holds, refundedFrom, refunded, removedFrom, removed}
 use Rattle.shard.proofs.ShardLaws.{debtTaken, roomFor}
 
 module _ (v : View) where

@@ -1,6 +1,5 @@
 -- What lookup by hash and key says, and what the steps leave of the room.
 use Prim.Native.Nat.{ℕ, _-_, _<_}
-use native.Mathlib.Omega.{arith}
 use mathlib.Core.Path.{_≡_, refl, sym, _∙_}
 use mathlib.Core.Bool.{true, false, true≢false}
 use borrow.Author.Tests.{eqb-true}
