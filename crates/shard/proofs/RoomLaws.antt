@@ -2,7 +2,7 @@
 -- three steps keep, making room keeps; and it is refused only where the ledger is full and nothing may be forgotten. Laws above go by this and open none
 -- of the steps.
 use Prim.Native.Nat.{ℕ, _≤_, _<_, _^_}
-use mathlib.Core.Path.{_≡_, sym, _∙_}
+use mathlib.Core.Path.{_≡_, refl, sym, _∙_}
 use mathlib.Core.Bool.{true, false, true≢false}
 use native.Mathlib.Omega.{arith}
 use lib.Dec.{ltb}
@@ -75,23 +75,14 @@ module _ (p : Policy) (at : Nanos) (s : Shard) (u : Sound s) where
   swept-sound = swept-keeps Sound (sound-by-sweeps p at) u
 
   -- They leave the ledger the room that it had, and no more debts than there were.
-  swept-ledger-room : LedgerSteps.SameRoom (s .ledger) (swept p at s .ledger)
-  swept-ledger-room =
-      swept-keeps (λ t. LedgerSteps.SameRoom (s .ledger) (t .ledger))
+  swept-ledger : (Ledger.capOf (swept p at s .ledger) ≡ Ledger.capOf (s .ledger)) × (swept p at s .ledger .debts .count ≤ s .ledger .debts .count)
+  swept-ledger =
+      swept-keeps (λ t. (Ledger.capOf (t .ledger) ≡ Ledger.capOf (s .ledger)) × (t .ledger .debts .count ≤ s .ledger .debts .count))
       (record {
-        idle = λ t limit v same. rw (sweep-idle-ledger (p .config) at limit ttlSweep t) same;
-        ledger = λ t v same. LedgerSteps.same-room-trans same (LedgerSteps.sweep-room at ledgerScan (t .ledger));
+        idle = λ t limit v kept. rw (sweep-idle-ledger (p .config) at limit ttlSweep t) kept;
+        ledger = λ t v kept. (LedgerSteps.sweep-room at ledgerScan (t .ledger) .cap ∙ kept .0, omega (arith, kept .1, LedgerSteps.sweep-count at ledgerScan (t .ledger)));
       })
-      (LedgerSteps.same-room (s .ledger))
-
-  swept-ledger-count : swept p at s .ledger .debts .count ≤ s .ledger .debts .count
-  swept-ledger-count =
-      swept-keeps (λ t. t .ledger .debts .count ≤ s .ledger .debts .count)
-      (record {
-        idle = λ t limit v fewer. rw (sweep-idle-ledger (p .config) at limit ttlSweep t) fewer;
-        ledger = λ t v fewer. omega (arith, LedgerSteps.sweep-count at ledgerScan (t .ledger));
-      })
-      (omega arith)
+      (refl, omega arith)
 
   -- How making room ends: the sweeps left room, or the shard is full and an eviction decides.
   room-cases : (Q : Outcome Room Shard → Type 0) → (swept p at s .slots .count < capOf (swept p at s) → Q (outcome Made (swept p at s)))
@@ -137,7 +128,7 @@ module _ (p : Policy) (at : Nanos) (s : Shard) (u : Sound s) where
       (λ free e. made-is-no-refusal e)
       (λ some e.
       let r = evict-refusal (p .config) at (p .«forget_debt») (swept p at s) swept-sound some due e in
-      record { full = omega (arith, r .full, swept-ledger-room .cap, swept-ledger-count); never = r .never; least = r .least })
+      record { full = omega (arith, r .full, swept-ledger .0, swept-ledger .1); never = r .never; least = r .least })
 
   -- So room is made while the ledger is below its cap, and wherever debts may be forgotten.
   pub room-below-ledger-cap-never-refuses : s .ledger .debts .count < Ledger.capOf (s .ledger) → makeRoom p at s .answer ≡ Made
