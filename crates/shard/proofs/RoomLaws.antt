@@ -25,7 +25,8 @@ use Rattle.shard_map.proofs.KeptLaws.{Keeps, keeps-refl, keeps-trans, sweep-idl
 use Rattle.evict.specs.declared.Room.{Room}
 use Rattle.evict.specs.declared.Room.the-variants.{Made, Refused}
 use Rattle.evict.specs.Evict.{minRefusalWait, evicted}
-use Rattle.evict.proofs.WalkLaws.{made-is-no-refusal, never-refused-is-made, evict-sound, evict-made-leaves-room, evict-refusal}
+use Rattle.evict.proofs.WalkLaws.{made-is-no-refusal, never-refused-is-made, evict-made-leaves-room, evict-refusal}
+use Rattle.evict.proofs.RoomLaws.{evict-same-room}
 use Rattle.evict.proofs.KeptLaws.{evict-keeps-shortage}
 use Rattle.shard.specs.declared.Policy.{Policy}
 use Rattle.shard.specs.Model.{idleLimitIn, sweptIdle, swept, makeRoom}
@@ -99,7 +100,7 @@ module _ (p : Policy) (at : Nanos) (s : Shard) (u : Sound s) where
 
   -- It leaves a sound shard.
   pub room-sound : Sound (makeRoom p at s .after)
-  room-sound = room-keeps Sound (sound-by-sweeps p at) (λ t v some q. evict-sound (p .config) at (p .«forget_debt») t v some) u
+  room-sound = room-keeps Sound (sound-by-sweeps p at) (λ t v some q. evict-same-room (p .config) at (p .«forget_debt») t v some .sound) u
 
   -- Where debts may not be forgotten, nothing that a key lacks is lost.
   pub room-keeps-shortage : Accepted (p .config) → at .0 ≤ 2 ^ 62 → p .«forget_debt» ≡ false → (h k : ℕ) → Keeps (p .config) h k at s (makeRoom p at s .after)

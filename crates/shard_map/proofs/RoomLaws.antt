@@ -16,7 +16,7 @@ use Rattle.held.proofs.SingleLaws.{stored-finds-each, appended-finds-each, remo
 use Rattle.slot.specs.declared.Slot.{Slot}
 use Rattle.ledger.specs.Model as Ledger
 use Rattle.ledger.proofs.StepLaws as LedgerSteps
-use Rattle.shard_map.specs.Model.{Shard, Sound, Complete, slotItems, capOf, slotAt, withSlot, withLedger, placeOf, removeAt, insert, reclaimable, roundOf, sweepIdle}
+use Rattle.shard_map.specs.Model.{Shard, Sound, Complete, slotItems, capOf, slotAt, withSlot, withHand, withLedger, placeOf, removeAt, insert, reclaimable, roundOf, sweepIdle}
 use Rattle.shard_map.proofs.StepLaws.{nowhere-holds-none, slots-sound, sound-by-parts, change-sound, ledger-sound, sweep-idle-sound}
 
 -- What a slot is known by: its hash and its key.
@@ -78,6 +78,17 @@ same-room-trans first second = record {
   ledger-room = LedgerSteps.same-room-trans (first .ledger-room) (second .ledger-room);
   complete = λ complete. second .complete (first .complete complete);
   finds-each = λ each. second .finds-each (first .finds-each each);
+}
+
+-- The hand moves.
+pub hand-same-room : {s t : Shard} → SameRoom s t → (hand : ℕ) → SameRoom s (withHand t hand)
+hand-same-room room hand = record {
+  sound = sound-by-parts _ (slots-sound _ (room .sound)) (room .sound .ledger);
+  cap = room .cap;
+  kind = room .kind;
+  ledger-room = room .ledger-room;
+  complete = λ complete. let kept = room .complete complete in record { slots = kept .slots; ledger = kept .ledger };
+  finds-each = λ each. let kept = room .finds-each each in record { slots = kept .slots; ledger = kept .ledger };
 }
 
 module _ (s : Shard) (u : Sound s) where
