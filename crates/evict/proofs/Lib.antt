@@ -4,5 +4,6 @@ pub mod CaseLaws
 pub mod RefusalLaws
 pub mod ModelLaws
 pub mod KeptLaws
-pub mod PlaceOrderLaws
+pub mod AlikeLaws
+pub mod RoomLaws
 pub mod Worked

@@ -1,6 +1,6 @@
 -- What a lookup says. On any value, what it finds is below the count and passes. On a complete value it misses no item of the hash. So layers above know
 -- lookup by two laws. Then what each step keeps: that the value is complete, the kind of its finding, and a bound over the words of its index.
-use Prim.Native.Nat.{ℕ, _+_, _-_, _<_}
+use Prim.Native.Nat.{ℕ, _+_, _-_, _*_, _<_}
 use native.Mathlib.Omega.{arith}
 use mathlib.Core.Path.{_≡_, refl, ap, _∙_}
 use mathlib.Core.List.{List}
@@ -21,7 +21,7 @@ use Rattle.index.proofs.FindLaws.{find-sound, find-nowhere, find-lowest}
 use Rattle.held.specs.Held.{Finding, inOrder, byIndex, Held, Sound, Items, foundBy, withAdded, withRemoved, itemAt, hashAt, position, appended, removed, stored}
 use Rattle.held.specs.Held.{inPlaceOrder, Complete, in-order-is-complete, exact-is-complete}
 use Rattle.held.specs.Layout.{indexWords}
-use Rattle.held.proofs.HeldLaws.{item-stored, item-stored-other, item-appended, item-appended-other, item-moved, item-kept, removed-count, removed-length}
+use Rattle.held.proofs.HeldLaws.{item-stored, item-stored-other, item-appended, item-appended-other, item-moved, item-kept}
 
 -- The kind of a finding: in place order, or by an index of so many places.
 pub data Kind : Type 0 where
@@ -98,17 +98,6 @@ module _ {A : Type 0} (items : Items A) (h : Held A) where
   position-in-place-order (in-order-is-complete order) key test own only = rw order
   position-in-place-order (exact-is-complete ix by size exact) key test own only =
       rw by (find-lowest exact (λ i. test (itemAt items h i)) key (λ i below passes. own (itemAt items h i) passes) only)
-
-  -- On any value: the steps do to the items in place order what they do to the items.
-  pub appended-in-place-order : (x : A) → inPlaceOrder (appended items h x) ≡ appended items (inPlaceOrder h) x
-  appended-in-place-order x = refl
-
-  pub removed-in-place-order : (p : ℕ) → inPlaceOrder (removed items h p) ≡ removed items (inPlaceOrder h) p
-  unfolding removed
-  removed-in-place-order p = refl
-
-  pub stored-in-place-order : (i : ℕ) (x : A) → inPlaceOrder (stored h i x) ≡ stored (inPlaceOrder h) i x
-  stored-in-place-order i x = refl
 
   -- No item is held, and all places of the index are empty: that is complete.
   pub fresh-is-complete : 0 < length (h .places) → h .count ≡ 0 → h .finding ≡ byIndex (replicate (placesFor (length (h .places))) 0) → Complete items h

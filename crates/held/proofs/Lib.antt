@@ -6,3 +6,4 @@ pub mod SingleLaws
 pub mod LayoutLaws
 pub mod ReadBack
 pub mod IndexLaws
+pub mod AlikeLaws

@@ -8,7 +8,7 @@ use lib.Dec.{eqb}
 use lib.ListN.{length}
 use borrow.Author.Tests.{eqb-false, eq-eqb, ne-eqb}
 use Rattle.arith.proofs.Cases.{by-test}
-use Rattle.held.specs.Held.{Held, Sound, Items, itemAt, removed, total, inPlaceOrder, Complete}
+use Rattle.held.specs.Held.{Held, Sound, Items, itemAt, removed, total, Complete}
 use Rattle.held.specs.Round.{Round, nextOf, lookAt, look, sweep}
 use Rattle.held.proofs.HeldLaws.{wrapped-below, removed-count, removed-length, removed-sound, total-removed}
 use Rattle.held.proofs.FindingLaws.{kindOf, removed-kind, removed-complete}
@@ -72,22 +72,6 @@ module _ {A : Type 0} (items : Items A) (goes : A → Bool) where
 
   pub sweep-kind : (n : ℕ) (r : Round A) → kindOf (sweep items goes n r .items .finding) ≡ kindOf (r .items .finding)
   sweep-kind n r = sweep-keeps (λ h. kindOf (h .finding) ≡ kindOf (r .items .finding)) (λ h p below passes same. removed-kind items h p ∙ same) n r refl
-
-  -- A sweep does to the items in place order what it does to the items.
-  abbrev pub roundInPlaceOrder : Round A → Round A
-  roundInPlaceOrder r = record { items = inPlaceOrder (r .items); next = r .next }
-
-  look-in-place-order : (r : Round A) → look items goes (roundInPlaceOrder r) ≡ roundInPlaceOrder (look items goes r)
-  unfolding look lookAt removed
-  look-in-place-order r =
-      by-test (eqb (r .items .count) 0)
-      (λ none. rw (none, look))
-      (λ some. by-test (goes (itemAt items (r .items) (nextOf r))) (λ passes. rw (some, look, passes, lookAt)) (λ fails. rw (some, look, fails, lookAt)))
-
-  pub sweep-in-place-order : (n : ℕ) (r : Round A) → sweep items goes n (roundInPlaceOrder r) ≡ roundInPlaceOrder (sweep items goes n r)
-  unfolding sweep
-  sweep-in-place-order zero r = refl
-  sweep-in-place-order (suc n) r = rw (look-in-place-order r) (sweep-in-place-order n (look items goes r))
 
   -- The next look is at a place up to the count, unless there was no look.
   pub sweep-next : (n : ℕ) (r : Round A) → sweep items goes n r .next ≤ max (r .next) (r .items .count)

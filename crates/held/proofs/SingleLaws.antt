@@ -8,7 +8,7 @@ use lib.Dec.{eqb}
 use lib.ListN.{length}
 use borrow.Author.Tests.{eq-eqb, ne-eqb}
 use Rattle.arith.proofs.Cases.{by-eq}
-use Rattle.held.specs.Held.{Held, Sound, Items, itemAt, position, appended, removed, stored, inPlaceOrder, Complete, in-order-is-complete}
+use Rattle.held.specs.Held.{Held, Sound, Items, itemAt, position, appended, removed, stored, inPlaceOrder, Complete}
 use Rattle.held.specs.Round.{Round, sweep}
 use Rattle.held.proofs.HeldLaws.{item-stored, item-stored-other, item-appended, item-appended-other, item-moved, item-kept, removed-count}
 use Rattle.held.proofs.HeldLaws.{stored-sound, appended-sound, removed-sound}
@@ -129,17 +129,10 @@ pub record FindsEach {A I : Type 0} (items : Items A) (identity : A → I) (h : 
   pub complete : Complete items h
   pub single : Single items identity h
 
--- So it does where no item is held, and where the same items are found in place order.
+-- So it does where no item is held.
 module _ {A I : Type 0} (items : Items A) (identity : A → I) (h : Held A) where
   pub none-finds-each : Sound h → Complete items h → h .count ≡ 0 → FindsEach items identity h
   none-finds-each sound complete none = record { sound = sound; complete = complete; single = λ i j belowI belowJ same. omega arith }
-
-  pub in-place-order-finds-each : FindsEach items identity h → FindsEach items identity (inPlaceOrder h)
-  in-place-order-finds-each each = record {
-    sound = record { room = each .sound .room; count-fits = each .sound .count-fits };
-    complete = in-order-is-complete refl;
-    single = each .single;
-  }
 
 module _ {A I : Type 0} (items : Items A) (identity : A → I) (h : Held A) (each : FindsEach items identity h) where
   -- Items are then found where they are found in place order, by a test that only items of one hash and of one identity pass.

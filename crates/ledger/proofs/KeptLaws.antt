@@ -157,8 +157,8 @@ module _ (h : ℕ) (value : ℕ → ℕ) (l : Ledger) (s : Sound l) where
           let f : Owing l (d .hash) p = found-owes l (d .hash) p e in
           omega (arith, owed-stored h value l p (later (debtAt l p) (d .settles)) s (f .below), weigh-later h value (debtAt l p) d (f .own))
       go (joins new room) done = omega (arith, owed-appended h value l d room)
-      go (replaces p c new below settled) done = omega (arith, owed-replaced h value l c p d s below)
-      go (refused p c full below never unsettled) done = done-is-no-refusal (sym done)
+      go (replaces p c near new below settled) done = omega (arith, owed-replaced h value l c p d s below)
+      go (refused p c near full below never unsettled) done = done-is-no-refusal (sym done)
 
   -- Where debts may not be forgotten, recording loses nothing that is unsettled: the sum grows by the debt's value. For a hash that already owes this
   -- need not hold (two moments become one), hence the bound on their number.
@@ -176,8 +176,8 @@ module _ (h : ℕ) (value : ℕ → ℕ) (l : Ledger) (s : Sound l) where
           let foreign : x .hash ≡ h → ⊥ = λ own. other (sym (f .own) ∙ own) in
           omega (arith, owed-stored h value l p (later x (d .settles)) s (f .below), weigh-other h value d other, weigh-other h value x foreign, weigh-other h value (later x (d .settles)) foreign))
       go (joins new room) done = owed-appended h value l d room
-      go (replaces p c new below settled) done = omega (arith, owed-replaced h value l c p d s below, weigh-settled h value at nothing (debtAt l p) (settled never))
-      go (refused p c full below _ unsettled) done = done-is-no-refusal (sym done)
+      go (replaces p c near new below settled) done = omega (arith, owed-replaced h value l c p d s below, weigh-settled h value at nothing (debtAt l p) (settled never))
+      go (refused p c near full below _ unsettled) done = done-is-no-refusal (sym done)
 
   -- A refusal changes no sum.
   pub refusal-keeps : (d : Debt) (at : Nanos) (forget : Bool) (wait : Nanos) → recorded l d at forget .answer ≡ NoRoom wait → owed h value (recorded l d at forget .after) ≡ owed h value l

@@ -4,6 +4,7 @@ pub mod RecordLaws
 pub mod ModelLaws
 pub mod KeptLaws
 pub mod LookupLaws
+pub mod AlikeLaws
 pub mod OthersLaws
 pub mod PlaceOrderLaws
 pub mod Worked

@@ -15,7 +15,7 @@ use Rattle.ledger.specs.declared.Debt.{Debt}
 use Rattle.ledger.specs.declared.Recorded.{Recorded}
 use Rattle.ledger.specs.declared.Recorded.the-variants.{Done}
 use Rattle.ledger.specs.Model.{Ledger, Sound, Complete, debtAt, placeOf, owedAt, owedBy, taken, sweep, later, recorded, credit, paidDown}
-use Rattle.ledger.proofs.StepLaws.{sweep-sound, sweep-complete, paid-sound, paid-complete, Owing, found-owes, nowhere-owes-none, owed-where, taken-cases, paid-cases, sooner-by}
+use Rattle.ledger.proofs.StepLaws.{sweep-room, paid-room, Owing, found-owes, nowhere-owes-none, owed-where, taken-cases, paid-cases, sooner-by}
 use Rattle.ledger.proofs.RecordLaws.{Recording, merged, joins, replaces, refused, record-cases, recorded-sound, recorded-complete, done-is-no-refusal}
 use Rattle.ledger.proofs.KeptLaws.{owed, one, worth, weigh-own, weigh-other, owed-stored, owed-appended, owed-replaced, sweep-never-adds}
 use Rattle.ledger.proofs.KeptLaws.{sweep-keeps-unsettled, nowhere-owes-nothing, found-is-all}
@@ -73,13 +73,13 @@ module _ (l : Ledger) (s : Sound l) (complete : Complete l) (h : ℕ) (single : 
   -- After a sweep an unsettled debt is found as before.
   pub sweep-finds-unsettled : (at : Nanos) (n : ℕ) (t : Nanos) → owedBy l h ≡ Some t → at .0 < t .0 → owedBy (sweep at n l) h ≡ Some t
   sweep-finds-unsettled at n t found unsettled =
-      same-time-left-same-lookup h at l (sweep at n l) s (sweep-sound at n l s) complete (sweep-complete at n l s complete) single (omega (arith, sweep-never-adds h one at n l s))
+      same-time-left-same-lookup h at l (sweep at n l) s (sweep-room at n l .sound s) complete (sweep-room at n l .complete s complete) single (omega (arith, sweep-never-adds h one at n l s))
       (sweep-keeps-unsettled h (λ m. m - at .0) at n l s (λ m settled. omega arith)) t found unsettled
 
   -- After a payment the debt settles so much sooner.
   pub paid-finds-sooner : (cost : ℕ) (c : BucketConfig) → owedBy (paidDown l h cost c .after) h ≡ paidOff (credit c cost) (owedBy l h)
   paid-finds-sooner cost c =
-      lookup-by-sums h (paidDown l h cost c .after) (paid-sound l h cost c s) (paid-complete l h cost c s complete) (paidOff (credit c cost) (owedBy l h))
+      lookup-by-sums h (paidDown l h cost c .after) (paid-room l h cost c .sound s) (paid-room l h cost c .complete s complete) (paidOff (credit c cost) (owedBy l h))
       (λ value. paid-cases l h cost c (λ o. owed h value (o .after) ≡ worth value (paidOff (credit c cost) (owedBy l h)))
       (λ p e.
       let f : Owing l h p = found-owes l h p e in
@@ -111,7 +111,7 @@ module _ (l : Ledger) (s : Sound l) (complete : Complete l) (d : Debt) (at : Nan
           ))
       go value (joins new room) q =
           rw (← owed-where l (d .hash) new) (omega (arith, owed-appended (d .hash) value l d room, weigh-own (d .hash) value d refl, nowhere-owes-nothing (d .hash) value l complete new))
-      go value (replaces p c new below settled) q =
+      go value (replaces p c near new below settled) q =
           rw (← owed-where l (d .hash) new)
           (omega (
             arith,
@@ -120,4 +120,4 @@ module _ (l : Ledger) (s : Sound l) (complete : Complete l) (d : Debt) (at : Nan
             nowhere-owes-nothing (d .hash) value l complete new,
             weigh-other (d .hash) value (debtAt l p) (nowhere-owes-none l complete (d .hash) new p below),
           ))
-      go value (refused p c full below never unsettled) q = done-is-no-refusal (sym q)
+      go value (refused p c near full below never unsettled) q = done-is-no-refusal (sym q)

@@ -17,7 +17,7 @@ use Rattle.ledger.specs.declared.Choice.{Choice}
 use Rattle.ledger.specs.declared.Choice.the-variants.{Settled, Soonest}
 use Rattle.ledger.specs.declared.Recorded.{Recorded}
 use Rattle.ledger.specs.declared.Recorded.the-variants.{Done, NoRoom}
-use Rattle.ledger.specs.Model.{Ledger, capOf, hasSettled, cursorOf, withCursor, withOthers, placeOf, removeAt, append, owedAt, owedBy, takenAt, taken, look, sweep}
+use Rattle.ledger.specs.Model.{Ledger, capOf, hasSettled, cursorOf, withCursor, withOthers, placeOf, removeAt, append, owedAt, owedBy, takenAt, taken, sweep}
 use Rattle.ledger.specs.Model.{sooner, scanFrom, scan, dropChosen, makeRoom, joined, recordedAt, recorded, credit, paidAt, paidDown}
 
 -- The same ledger with its finding and the other words changed; and what an operation gave, with that ledger.
@@ -110,25 +110,6 @@ module _ (l : Ledger) (ws : List ℕ) where
   unfolding recorded placeOf
   recorded-with-others d at forget = recordedAt-changed (λ x. x) (λ _. ws) (λ x key i. refl) (λ x hash n p. refl) l d at forget (placeOf l (d .hash))
 
-  pub look-with-others : (at : Nanos) → look at (withOthers l ws) ≡ withOthers (look at l) ws
-  unfolding look
-  look-with-others at = refl
-
   pub sweep-with-others : (at : Nanos) (n : ℕ) → sweep at n (withOthers l ws) ≡ withOthers (sweep at n l) ws
   unfolding sweep
   sweep-with-others at n = refl
-
--- The operations keep the others.
-module _ (l : Ledger) where
-  pub taken-keeps-others : (h : ℕ) → taken l h .after .others ≡ l .others
-  taken-keeps-others h = ap (λ o. o .after .others) (taken-with-others l (l .others) h)
-
-  pub paid-keeps-others : (h cost : ℕ) (c : BucketConfig) → paidDown l h cost c .after .others ≡ l .others
-  paid-keeps-others h cost c = ap (λ o. o .after .others) (paid-with-others l (l .others) h cost c)
-
-  pub recorded-keeps-others : (d : Debt) (at : Nanos) (forget : Bool) → recorded l d at forget .after .others ≡ l .others
-  recorded-keeps-others d at forget = ap (λ o. o .after .others) (recorded-with-others l (l .others) d at forget)
-
-  pub sweep-keeps-others : (at : Nanos) (n : ℕ) → sweep at n l .others ≡ l .others
-  unfolding sweep
-  sweep-keeps-others at n = refl

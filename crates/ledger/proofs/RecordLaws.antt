@@ -1,10 +1,9 @@
 -- How a recording goes: it merges, joins, takes the place of a debt, or is refused. Laws about sums, hashes and lookup go by these four cases and do not
 -- open the looks at a full ledger. What the answer says follows from them here, and so does what each step leaves of the room.
-use Prim.Native.Nat.{ℕ, zero, suc, _-_, _≤_, _<_}
-use mathlib.Core.Path.{_≡_, refl, sym, _∙_}
+use Prim.Native.Nat.{ℕ, zero, suc, _-_, _≤_, _<_, max}
+use mathlib.Core.Path.{_≡_, refl, sym}
 use mathlib.Core.Bool.{Bool, true, false, true≢false}
 use native.Mathlib.Omega.{arith}
-use lib.ListN.{length-set}
 use lib.Dec.{ltb}
 use borrow.Author.Tests.{ltb-true, ltb-false, leb-true, leb-false}
 use Rattle.arith.proofs.Cases.{by-test}
@@ -12,20 +11,21 @@ use Rattle.units.specs.declared.Nanos.{Nanos}
 use Rattle.rows.specs.declared.Place.{Place}
 use Rattle.rows.specs.declared.Place.the-variants.{At, Nowhere}
 use Rattle.rows.specs.Outcome.{Outcome, outcome}
+use Rattle.held.proofs.SingleLaws.{Lacks, lacks-stays, removed-comes-from}
 use Rattle.ledger.specs.declared.Debt.{Debt}
 use Rattle.ledger.specs.declared.Choice.{Choice}
 use Rattle.ledger.specs.declared.Choice.the-variants.{Settled, Soonest}
 use Rattle.ledger.specs.declared.Recorded.{Recorded}
 use Rattle.ledger.specs.declared.Recorded.the-variants.{Done, NoRoom}
-use Rattle.ledger.specs.Model.{Ledger, Sound, Complete, capOf, debtAt, hasSettled, settlesAt, cursorOf, withCursor, withDebt, placeOf, removeAt, append, sooner}
+use Rattle.ledger.specs.Model.{Ledger, Sound, Complete, debtItems, capOf, debtAt, hasSettled, settlesAt, cursorOf, withCursor, withDebt, placeOf, removeAt, append, sooner}
 use Rattle.ledger.specs.Model.{scanFrom, scan, dropChosen, makeRoom, joined, later, recordedAt, recorded}
-use Rattle.ledger.proofs.StepLaws.{cursor-below, change-sound, append-sound, SameRoom, removal-sound, removal-room, removal-leaves-room, found-owes}
-use Rattle.ledger.proofs.StepLaws.{change-complete, append-complete, append-kind, removal-complete}
+use Rattle.ledger.proofs.StepLaws.{cursor-below, found-owes, nowhere-owes-none, hashOf, FindsEach, SameRoom, same-room, same-room-trans, cursor-room}
+use Rattle.ledger.proofs.StepLaws.{removal-room, removal-leaves-room, change-room, append-room}
 
--- What the looks at a full ledger come to: nothing but the cursor moves, and the place told has a settled debt, or an unsettled one.
+-- What the looks at a full ledger come to: nothing but the cursor moves, not past the count, and the place told has a settled debt, or an unsettled one.
 data Scanned (at : Nanos) (l : Ledger) : Outcome Choice Ledger → Type 0 where
-  one-settled : (p c : ℕ) → p < l .debts .count → settlesAt l p .0 ≤ at .0 → Scanned at l (outcome (Settled p) (withCursor l c))
-  all-unsettled : (p c : ℕ) → p < l .debts .count → at .0 < settlesAt l p .0 → Scanned at l (outcome (Soonest p) (withCursor l c))
+  one-settled : (p c : ℕ) → c ≤ max (l .cursor) (l .debts .count) → p < l .debts .count → settlesAt l p .0 ≤ at .0 → Scanned at l (outcome (Settled p) (withCursor l c))
+  all-unsettled : (p c : ℕ) → c ≤ max (l .cursor) (l .debts .count) → p < l .debts .count → at .0 < settlesAt l p .0 → Scanned at l (outcome (Soonest p) (withCursor l c))
 
 -- The place of an unsettled debt that is held.
 record Unsettled (at : Nanos) (l : Ledger) (p : ℕ) : Type 0 where
@@ -39,18 +39,18 @@ sooner-is-either l best c Q b d = by-test (ltb (settlesAt l c .0) (settlesAt l b
 -- From a place of an unsettled debt on; and from the place that the first look is at, whatever stands there, if there is a look.
 scanFrom-cases : (at : Nanos) (left : ℕ) (l : Ledger) (best : ℕ) → Unsettled at l best → Scanned at l (scanFrom at left l best)
 unfolding scanFrom
-scanFrom-cases at zero l best u = all-unsettled best (l .cursor) (u .below) (u .waits)
+scanFrom-cases at zero l best u = all-unsettled best (l .cursor) (omega arith) (u .below) (u .waits)
 scanFrom-cases at (suc left) l best u =
     let below : cursorOf l < l .debts .count = cursor-below l (omega (arith, u .below)) in
     by-test (hasSettled at l (cursorOf l))
-    (λ t. rw (t, scanFrom) (one-settled (cursorOf l) _ below (leb-true _ _ t)))
+    (λ t. rw (t, scanFrom) (one-settled (cursorOf l) (cursorOf l) (omega arith) below (leb-true _ _ t)))
     (λ t.
     let next : Unsettled at l (sooner l best (cursorOf l)) = sooner-is-either l best (cursorOf l) (Unsettled at l) u (record { below = below; waits = leb-false _ _ t }) in
-    rw (t, scanFrom) (same-debts (scanFrom-cases at left (withCursor l _) _ (record { below = next .below; waits = next .waits }))))
+    rw (t, scanFrom) (same-debts (omega arith) (scanFrom-cases at left (withCursor l _) _ (record { below = next .below; waits = next .waits }))))
   where
-    same-debts : {c : ℕ} {o : Outcome Choice Ledger} → Scanned at (withCursor l c) o → Scanned at l o
-    same-debts (one-settled p c b t) = one-settled p c b t
-    same-debts (all-unsettled p c b t) = all-unsettled p c b t
+    same-debts : {c : ℕ} {o : Outcome Choice Ledger} → c ≤ l .debts .count → Scanned at (withCursor l c) o → Scanned at l o
+    same-debts inside (one-settled p c near b t) = one-settled p c (omega arith) b t
+    same-debts inside (all-unsettled p c near b t) = all-unsettled p c (omega arith) b t
 
 first-look-cases : (at : Nanos) (looks : ℕ) (l : Ledger) → 0 < looks → 0 < l .debts .count → Scanned at l (scanFrom at looks l (cursorOf l))
 unfolding scanFrom
@@ -58,7 +58,7 @@ first-look-cases at zero l look some = absurd (omega arith)
 first-look-cases at (suc left) l look some =
     let below : cursorOf l < l .debts .count = cursor-below l some in
     by-test (hasSettled at l (cursorOf l))
-    (λ t. rw (t, scanFrom) (one-settled (cursorOf l) _ below (leb-true _ _ t)))
+    (λ t. rw (t, scanFrom) (one-settled (cursorOf l) (cursorOf l) (omega arith) below (leb-true _ _ t)))
     (λ t. scanFrom-cases at (suc left) l (cursorOf l) (record { below = below; waits = leb-false _ _ t }))
 
 scan-cases : (at : Nanos) (l : Ledger) → 0 < l .debts .count → Scanned at l (scan at l)
@@ -74,30 +74,30 @@ pub scan-chooses-held : (at : Nanos) (l : Ledger) → 0 < l .debts .count → ch
 scan-chooses-held at l some = go (scan-cases at l some)
   where
     go : {o : Outcome Choice Ledger} → Scanned at l o → chosen (o .answer) < o .after .debts .count
-    go (one-settled p c below settled) = below
-    go (all-unsettled p c below unsettled) = below
+    go (one-settled p c near below settled) = below
+    go (all-unsettled p c near below unsettled) = below
 
 pub scan-sound : (at : Nanos) (l : Ledger) → 0 < l .debts .count → Sound l → Sound (scan at l .after)
 scan-sound at l some s = go (scan-cases at l some)
   where
     go : {o : Outcome Choice Ledger} → Scanned at l o → Sound (o .after)
-    go (one-settled p c below settled) = s
-    go (all-unsettled p c below unsettled) = s
+    go (one-settled p c near below settled) = s
+    go (all-unsettled p c near below unsettled) = s
 
 -- How room is made: a debt leaves, which is settled unless debts may be forgotten; or none does, where only the cursor moves and the wait is that of an
 -- unsettled debt.
 data MakingRoom (l : Ledger) (at : Nanos) (forget : Bool) : Outcome Recorded Ledger → Type 0 where
-  one-leaves : (p c : ℕ) → p < l .debts .count → (forget ≡ false → settlesAt l p .0 ≤ at .0)
+  one-leaves : (p c : ℕ) → c ≤ max (l .cursor) (l .debts .count) → p < l .debts .count → (forget ≡ false → settlesAt l p .0 ≤ at .0)
       → MakingRoom l at forget (outcome Done (removeAt (withCursor l c) p))
-  none-leaves : (p c : ℕ) → p < l .debts .count → forget ≡ false → at .0 < settlesAt l p .0
+  none-leaves : (p c : ℕ) → c ≤ max (l .cursor) (l .debts .count) → p < l .debts .count → forget ≡ false → at .0 < settlesAt l p .0
       → MakingRoom l at forget (outcome (NoRoom (record { 0 = settlesAt l p .0 - at .0 })) (withCursor l c))
 
 drop-cases : (l : Ledger) (at : Nanos) (forget : Bool) {o : Outcome Choice Ledger} → Scanned at l o
     → MakingRoom l at forget (dropChosen at forget (o .after) (o .answer))
 unfolding dropChosen
-drop-cases l at forget (one-settled p c below t) = one-leaves p c below (λ _. t)
-drop-cases l at true (all-unsettled p c below t) = one-leaves p c below (λ e. absurd (true≢false e))
-drop-cases l at false (all-unsettled p c below t) = none-leaves p c below refl t
+drop-cases l at forget (one-settled p c near below t) = one-leaves p c near below (λ _. t)
+drop-cases l at true (all-unsettled p c near below t) = one-leaves p c near below (λ e. absurd (true≢false e))
+drop-cases l at false (all-unsettled p c near below t) = none-leaves p c near below refl t
 
 room-cases : (l : Ledger) (at : Nanos) (forget : Bool) → 0 < l .debts .count → MakingRoom l at forget (makeRoom at forget l)
 unfolding makeRoom
@@ -113,30 +113,30 @@ module _ (l : Ledger) (at : Nanos) (forget : Bool) (some : 0 < l .debts .count) 
   make-room-sound = go (room-cases l at forget some)
     where
       go : {o : Outcome Recorded Ledger} → MakingRoom l at forget o → Sound (o .after)
-      go (one-leaves p c below settled) = removal-sound (withCursor l c) p s
-      go (none-leaves p c below never unsettled) = s
+      go (one-leaves p c near below settled) = removal-room (withCursor l c) p below .sound s
+      go (none-leaves p c near below never unsettled) = s
 
   pub make-room-makes-room : makeRoom at forget l .answer ≡ Done → makeRoom at forget l .after .debts .count < capOf (makeRoom at forget l .after)
   make-room-makes-room = go (room-cases l at forget some)
     where
       go : {o : Outcome Recorded Ledger} → MakingRoom l at forget o → o .answer ≡ Done → o .after .debts .count < capOf (o .after)
-      go (one-leaves p c below settled) done = removal-leaves-room (withCursor l c) p (s .count-fits) below
-      go (none-leaves p c below never unsettled) done = done-is-no-refusal (sym done)
+      go (one-leaves p c near below settled) done = removal-leaves-room (withCursor l c) p (s .count-fits) below
+      go (none-leaves p c near below never unsettled) done = done-is-no-refusal (sym done)
 
 -- How a recording goes, for every ledger that is sound: the hash is there and is merged; there is room and the debt joins; a debt leaves for it, which is
 -- settled unless debts may be forgotten; or it is refused, where only the cursor moves and the wait is that of an unsettled debt.
 pub data Recording (l : Ledger) (d : Debt) (at : Nanos) (forget : Bool) : Outcome Recorded Ledger → Type 0 where
   merged : (p : ℕ) → placeOf l (d .hash) ≡ At p → Recording l d at forget (outcome Done (withDebt l p (later (debtAt l p) (d .settles))))
   joins : placeOf l (d .hash) ≡ Nowhere → l .debts .count < capOf l → Recording l d at forget (outcome Done (append l d))
-  replaces : (p c : ℕ) → placeOf l (d .hash) ≡ Nowhere → p < l .debts .count → (forget ≡ false → settlesAt l p .0 ≤ at .0)
+  replaces : (p c : ℕ) → c ≤ max (l .cursor) (l .debts .count) → placeOf l (d .hash) ≡ Nowhere → p < l .debts .count → (forget ≡ false → settlesAt l p .0 ≤ at .0)
       → Recording l d at forget (outcome Done (append (removeAt (withCursor l c) p) d))
-  refused : (p c : ℕ) → capOf l ≤ l .debts .count → p < l .debts .count → forget ≡ false → at .0 < settlesAt l p .0
+  refused : (p c : ℕ) → c ≤ max (l .cursor) (l .debts .count) → capOf l ≤ l .debts .count → p < l .debts .count → forget ≡ false → at .0 < settlesAt l p .0
       → Recording l d at forget (outcome (NoRoom (record { 0 = settlesAt l p .0 - at .0 })) (withCursor l c))
 
 full-cases : (l : Ledger) (d : Debt) (at : Nanos) (forget : Bool) → placeOf l (d .hash) ≡ Nowhere → capOf l ≤ l .debts .count → {o : Outcome Recorded Ledger}
     → MakingRoom l at forget o → Recording l d at forget (joined d (o .after) (o .answer))
-full-cases l d at forget new full (one-leaves p c below settled) = replaces p c new below settled
-full-cases l d at forget new full (none-leaves p c below never unsettled) = refused p c full below never unsettled
+full-cases l d at forget new full (one-leaves p c near below settled) = replaces p c near new below settled
+full-cases l d at forget new full (none-leaves p c near below never unsettled) = refused p c near full below never unsettled
 
 pub record-cases : (l : Ledger) (d : Debt) (at : Nanos) (forget : Bool) → Sound l → Recording l d at forget (recorded l d at forget)
 unfolding recorded recordedAt
@@ -149,38 +149,27 @@ record-cases l d at forget s = go (placeOf l (d .hash)) refl
         (λ t. rw (t, recordedAt) (joins e (ltb-true _ _ t)))
         (λ t. let full : capOf l ≤ l .debts .count = ltb-false _ _ t in rw (t, recordedAt) (full-cases l d at forget e full (room-cases l at forget (omega (arith, s .room)))))
 
--- Recording leaves a sound ledger with the same room, and lookup misses none if it missed none.
-pub recorded-sound : (l : Ledger) (d : Debt) (at : Nanos) (forget : Bool) → Sound l → Sound (recorded l d at forget .after)
-recorded-sound l d at forget s = go (record-cases l d at forget s)
-  where
-    go : {o : Outcome Recorded Ledger} → Recording l d at forget o → Sound (o .after)
-    go (merged p e) = change-sound l p (later (debtAt l p) (d .settles)) s
-    go (joins new free) = append-sound l d free
-    go (replaces p c new below settled) = append-sound (removeAt (withCursor l c) p) d (removal-leaves-room (withCursor l c) p (s .count-fits) below)
-    go (refused p c full below never unsettled) = s
-
-pub recorded-complete : (l : Ledger) (d : Debt) (at : Nanos) (forget : Bool) → Sound l → Complete l → Complete (recorded l d at forget .after)
-recorded-complete l d at forget s complete = go (record-cases l d at forget s)
-  where
-    go : {o : Outcome Recorded Ledger} → Recording l d at forget o → Complete (o .after)
-    go (merged p e) = change-complete l p (later (debtAt l p) (d .settles)) s complete (found-owes l (d .hash) p e .below) refl
-    go (joins new free) = append-complete l d complete free
-    go (replaces p c new below settled) =
-        append-complete (removeAt (withCursor l c) p) d (removal-complete (withCursor l c) p s complete below)
-        (removal-leaves-room (withCursor l c) p (s .count-fits) below)
-    go (refused p c full below never unsettled) = complete
-
+-- What a recording leaves. A debt joins where none has its hash, and a removal brings no hash in.
 pub recorded-room : (l : Ledger) (d : Debt) (at : Nanos) (forget : Bool) → Sound l → SameRoom l (recorded l d at forget .after)
-unfolding append
+unfolding removeAt
 recorded-room l d at forget s = go (record-cases l d at forget s)
   where
+    lacks : placeOf l (d .hash) ≡ Nowhere → FindsEach l → Lacks debtItems hashOf (d .hash) (l .debts)
+    lacks new each = nowhere-owes-none l (each .complete) (d .hash) new
+
     go : {o : Outcome Recorded Ledger} → Recording l d at forget o → SameRoom l (o .after)
-    go (merged p e) = record { cap = simp length-set; kind = refl; others = refl }
-    go (joins new free) = record { cap = simp length-set; kind = append-kind l d; others = refl }
-    go (replaces p c new below settled) =
-        let removed = removal-room (withCursor l c) p in
-        record { cap = simp length-set (removed .cap); kind = append-kind (removeAt (withCursor l c) p) d ∙ removed .kind; others = removed .others }
-    go (refused p c full below never unsettled) = record { cap = refl; kind = refl; others = refl }
+    go (merged p e) = change-room l p (later (debtAt l p) (d .settles)) (found-owes l (d .hash) p e .below) refl
+    go (joins new free) = append-room (same-room l) d free (lacks new)
+    go (replaces p c near new below settled) =
+        append-room (same-room-trans (cursor-room l c) (removal-room (withCursor l c) p below)) d (removal-leaves-room (withCursor l c) p (s .count-fits) below)
+        (λ each. lacks-stays debtItems hashOf (removed-comes-from debtItems hashOf (l .debts) p s) (d .hash) (lacks new each))
+    go (refused p c near full below never unsettled) = cursor-room l c
+
+pub recorded-sound : (l : Ledger) (d : Debt) (at : Nanos) (forget : Bool) → Sound l → Sound (recorded l d at forget .after)
+recorded-sound l d at forget s = recorded-room l d at forget s .sound s
+
+pub recorded-complete : (l : Ledger) (d : Debt) (at : Nanos) (forget : Bool) → Sound l → Complete l → Complete (recorded l d at forget .after)
+recorded-complete l d at forget s complete = recorded-room l d at forget s .complete s complete
 
 -- A debt is recorded unless the ledger is full and nothing may be forgotten.
 record-succeeds : (l : Ledger) (d : Debt) (at : Nanos) (forget : Bool) → Sound l → (forget ≡ false → l .debts .count < capOf l) → recorded l d at forget .answer ≡ Done
@@ -189,8 +178,8 @@ record-succeeds l d at forget s room = go (record-cases l d at forget s)
     go : {o : Outcome Recorded Ledger} → Recording l d at forget o → o .answer ≡ Done
     go (merged p e) = refl
     go (joins new free) = refl
-    go (replaces p c new below settled) = refl
-    go (refused p c full below never unsettled) = absurd (omega (arith, room never))
+    go (replaces p c near new below settled) = refl
+    go (refused p c near full below never unsettled) = absurd (omega (arith, room never))
 
 pub record-below-cap-never-fails : (l : Ledger) (d : Debt) (at : Nanos) (forget : Bool) → l .debts .count < capOf l → recorded l d at forget .answer ≡ Done
 record-below-cap-never-fails l d at forget room = record-succeeds l d at forget (record { room = omega arith; count-fits = omega arith }) (λ _. room)
@@ -212,7 +201,7 @@ refusal l d at forget wait s = go (record-cases l d at forget s)
     go : {o : Outcome Recorded Ledger} → Recording l d at forget o → o .answer ≡ NoRoom wait → Refusal l forget wait (o .after)
     go (merged p e) q = done-is-no-refusal q
     go (joins new room) q = done-is-no-refusal q
-    go (replaces p c new below settled) q = done-is-no-refusal q
-    go (refused p c full below never unsettled) q =
+    go (replaces p c near new below settled) q = done-is-no-refusal q
+    go (refused p c near full below never unsettled) q =
         let told : settlesAt l p .0 - at .0 ≡ wait .0 = cc in
         record { full = full; never = never; waits = omega arith; debts = refl }

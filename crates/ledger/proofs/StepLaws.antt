@@ -16,9 +16,11 @@ use Rattle.held.specs.Round as Round
 use Rattle.held.proofs.RoundLaws as RoundLaws
 use Rattle.held.proofs.RoundLaws.{sweep-length, sweep-kind}
 use Rattle.held.proofs.HeldLaws.{wrapped-below, stored-sound, appended-sound, removed-count, removed-length, removed-sound}
+use Rattle.held.proofs.SingleLaws as Singles
+use Rattle.held.proofs.SingleLaws.{Lacks, stored-finds-each, appended-finds-each, removed-finds-each}
 use Rattle.held.proofs.FindingLaws.{kindOf, added-kind, removed-kind, found-passes, nowhere-passes-none, stored-complete, appended-complete, removed-complete}
 use Rattle.ledger.specs.declared.Debt.{Debt}
-use Rattle.ledger.specs.Model.{Ledger, Sound, Complete, debtItems, capOf, debtAt, settledBy, cursorOf, withDebt, owes, placeOf, removeAt}
+use Rattle.ledger.specs.Model.{Ledger, Sound, Complete, debtItems, capOf, debtAt, settledBy, cursorOf, withCursor, withDebt, owes, placeOf, removeAt}
 use Rattle.ledger.specs.Model.{append, owedAt, owedBy, takenAt, taken, roundOf, look, sweep, credit, paidAt, paidDown}
 
 -- The cursor, as it is read, stands at a debt.
@@ -44,17 +46,39 @@ pub owed-where : (l : Ledger) (h : ℕ) {place : Place} → placeOf l h ≡ plac
 unfolding owedBy
 owed-where l h looked-up = rw looked-up
 
--- A ledger has the room that another has: as many places for debts, found in the same way, and as many words that are not its own.
+-- Lookup finds each debt: it misses none, and no two have one hash.
+abbrev pub hashOf : Debt → ℕ
+hashOf d = d .hash
+
+abbrev pub FindsEach : Ledger → Type 0
+FindsEach l = Singles.FindsEach debtItems hashOf (l .debts)
+
+-- A ledger has the room that another has: as many places for debts, found in the same way, and as many words that are not its own. It is sound if the other
+-- is, lookup misses none if it missed none, and finds each debt if it found each. That is what every operation leaves.
 pub record SameRoom (l m : Ledger) : Type 0 where
   pub cap : capOf m ≡ capOf l
   pub kind : kindOf (m .debts .finding) ≡ kindOf (l .debts .finding)
   pub others : length (m .others) ≡ length (l .others)
-
-pub same-room : (l : Ledger) → SameRoom l l
-same-room l = record { cap = refl; kind = refl; others = refl }
+  pub sound : Sound l → Sound m
+  pub complete : Sound l → Complete l → Complete m
+  pub each : FindsEach l → FindsEach m
 
 pub same-room-trans : {l m n : Ledger} → SameRoom l m → SameRoom m n → SameRoom l n
-same-room-trans first second = record { cap = second .cap ∙ first .cap; kind = second .kind ∙ first .kind; others = second .others ∙ first .others }
+same-room-trans first second = record {
+  cap = second .cap ∙ first .cap;
+  kind = second .kind ∙ first .kind;
+  others = second .others ∙ first .others;
+  sound = λ s. second .sound (first .sound s);
+  complete = λ s complete. second .complete (first .sound s) (first .complete s complete);
+  each = λ each. second .each (first .each each);
+}
+
+-- Only the cursor moves.
+pub cursor-room : (l : Ledger) (c : ℕ) → SameRoom l (withCursor l c)
+cursor-room l c = record { cap = refl; kind = refl; others = refl; sound = λ s. s; complete = λ s complete. complete; each = λ each. each }
+
+pub same-room : (l : Ledger) → SameRoom l l
+same-room l = cursor-room l (l .cursor)
 
 -- A removal leaves one debt less and the same room.
 pub removal-count : (l : Ledger) (p : ℕ) → removeAt l p .debts .count ≡ l .debts .count - 1
@@ -65,41 +89,44 @@ pub removal-cap : (l : Ledger) (p : ℕ) → capOf (removeAt l p) ≡ capOf l
 unfolding removeAt
 removal-cap l p = removed-length debtItems (l .debts) p
 
-pub removal-room : (l : Ledger) (p : ℕ) → SameRoom l (removeAt l p)
+pub removal-room : (l : Ledger) (p : ℕ) → p < l .debts .count → SameRoom l (removeAt l p)
 unfolding removeAt
-removal-room l p = record { cap = removal-cap l p; kind = removed-kind debtItems (l .debts) p; others = refl }
-
-pub removal-sound : (l : Ledger) (p : ℕ) → Sound l → Sound (removeAt l p)
-unfolding removeAt
-removal-sound l p s = removed-sound debtItems (l .debts) p s
-
-pub removal-complete : (l : Ledger) (p : ℕ) → Sound l → Complete l → p < l .debts .count → Complete (removeAt l p)
-unfolding removeAt
-removal-complete l p s complete below = removed-complete debtItems (l .debts) s complete p below
+removal-room l p below = record {
+  cap = removal-cap l p;
+  kind = removed-kind debtItems (l .debts) p;
+  others = refl;
+  sound = λ s. removed-sound debtItems (l .debts) p s;
+  complete = λ s complete. removed-complete debtItems (l .debts) s complete p below;
+  each = λ each. removed-finds-each debtItems hashOf (l .debts) each p below;
+}
 
 -- So there is room for another debt.
 pub removal-leaves-room : (l : Ledger) (p : ℕ) → l .debts .count ≤ capOf l → p < l .debts .count → removeAt l p .debts .count < capOf (removeAt l p)
 removal-leaves-room l p held below = omega (arith, removal-cap l p, removal-count l p)
 
--- A debt that is changed, or that joins where there is room, leaves a sound ledger.
-pub change-sound : (l : Ledger) (p : ℕ) (d : Debt) → Sound l → Sound (withDebt l p d)
-change-sound l p d s = stored-sound (l .debts) p d s
+-- A debt is changed, and keeps its hash.
+pub change-room : (l : Ledger) (p : ℕ) (d : Debt) → p < l .debts .count → d .hash ≡ debtAt l p .hash → SameRoom l (withDebt l p d)
+change-room l p d below same = record {
+  cap = simp length-set;
+  kind = refl;
+  others = refl;
+  sound = λ s. stored-sound (l .debts) p d s;
+  complete = λ s complete. stored-complete debtItems (l .debts) complete p d (omega (arith, s .count-fits)) same;
+  each = λ each. stored-finds-each debtItems hashOf (l .debts) each p d below same same;
+}
 
-pub append-sound : (l : Ledger) (d : Debt) → l .debts .count < capOf l → Sound (append l d)
+-- A debt joins where there is room, and no debt has its hash.
+pub append-room : {l m : Ledger} → SameRoom l m → (d : Debt) → m .debts .count < capOf m → (FindsEach l → Lacks debtItems hashOf (d .hash) (m .debts))
+    → SameRoom l (append m d)
 unfolding append
-append-sound l d room = appended-sound debtItems (l .debts) d room
-
--- Lookup misses none after either, where the debt that is changed keeps its hash.
-pub change-complete : (l : Ledger) (p : ℕ) (d : Debt) → Sound l → Complete l → p < l .debts .count → d .hash ≡ debtAt l p .hash → Complete (withDebt l p d)
-change-complete l p d s complete below same = stored-complete debtItems (l .debts) complete p d (omega (arith, s .count-fits)) same
-
-pub append-complete : (l : Ledger) (d : Debt) → Complete l → l .debts .count < capOf l → Complete (append l d)
-unfolding append
-append-complete l d complete room = appended-complete debtItems (l .debts) complete d room
-
-pub append-kind : (l : Ledger) (d : Debt) → kindOf (append l d .debts .finding) ≡ kindOf (l .debts .finding)
-unfolding append
-append-kind l d = added-kind (l .debts .finding) (d .hash) (l .debts .count)
+append-room {l} {m} before d room lacks = record {
+  cap = simp length-set (before .cap);
+  kind = added-kind (m .debts .finding) (d .hash) (m .debts .count) ∙ before .kind;
+  others = before .others;
+  sound = λ s. appended-sound debtItems (m .debts) d room;
+  complete = λ s complete. appended-complete debtItems (m .debts) (before .complete s complete) d room;
+  each = λ each. appended-finds-each debtItems hashOf (m .debts) (before .each each) d room (lacks each);
+}
 
 -- A debt that settles so much sooner.
 abbrev pub sooner-by : Nanos → Debt → Debt
@@ -124,27 +151,14 @@ paid-cases l h cost c Q found none = go (placeOf l h) refl
     go (At p) e = found p e
     go Nowhere e = none e
 
--- Both leave a sound ledger with the same room, and lookup misses none if it missed none.
-pub taken-sound : (l : Ledger) (h : ℕ) → Sound l → Sound (taken l h .after)
-taken-sound l h s = taken-cases l h (λ o. Sound (o .after)) (λ p e. removal-sound l p s) (λ e. s)
-
-pub taken-complete : (l : Ledger) (h : ℕ) → Sound l → Complete l → Complete (taken l h .after)
-taken-complete l h s complete = taken-cases l h (λ o. Complete (o .after)) (λ p e. removal-complete l p s complete (found-owes l h p e .below)) (λ e. complete)
-
+-- What they leave.
 pub taken-room : (l : Ledger) (h : ℕ) → SameRoom l (taken l h .after)
-taken-room l h = taken-cases l h (λ o. SameRoom l (o .after)) (λ p e. removal-room l p) (λ e. same-room l)
-
-pub paid-sound : (l : Ledger) (h cost : ℕ) (c : BucketConfig) → Sound l → Sound (paidDown l h cost c .after)
-paid-sound l h cost c s = paid-cases l h cost c (λ o. Sound (o .after)) (λ p e. change-sound l p _ s) (λ e. s)
-
-pub paid-complete : (l : Ledger) (h cost : ℕ) (c : BucketConfig) → Sound l → Complete l → Complete (paidDown l h cost c .after)
-paid-complete l h cost c s complete =
-    paid-cases l h cost c (λ o. Complete (o .after)) (λ p e. change-complete l p _ s complete (found-owes l h p e .below) refl) (λ e. complete)
+taken-room l h = taken-cases l h (λ o. SameRoom l (o .after)) (λ p e. removal-room l p (found-owes l h p e .below)) (λ e. same-room l)
 
 pub paid-room : (l : Ledger) (h cost : ℕ) (c : BucketConfig) → SameRoom l (paidDown l h cost c .after)
-paid-room l h cost c = paid-cases l h cost c (λ o. SameRoom l (o .after)) (λ p e. record { cap = simp length-set; kind = refl; others = refl }) (λ e. same-room l)
+paid-room l h cost c = paid-cases l h cost c (λ o. SameRoom l (o .after)) (λ p e. change-room l p _ (found-owes l h p e .below) refl) (λ e. same-room l)
 
--- A sweep leaves a sound ledger with the same room, and no more debts than there were. So does a look, which is a sweep of one look.
+-- A sweep leaves the same room, and no more debts than there were. So does a look, which is a sweep of one look.
 module _ (at : Nanos) (n : ℕ) (l : Ledger) where
   pub sweep-room : SameRoom l (sweep at n l)
   unfolding sweep
@@ -152,20 +166,15 @@ module _ (at : Nanos) (n : ℕ) (l : Ledger) where
     cap = sweep-length debtItems (settledBy at) n (roundOf l);
     kind = sweep-kind debtItems (settledBy at) n (roundOf l);
     others = refl;
+    sound = λ s. RoundLaws.sweep-sound debtItems (settledBy at) n (roundOf l) s;
+    complete = λ s complete. RoundLaws.sweep-complete debtItems (settledBy at) n (roundOf l) s complete;
+    each = λ each. Singles.sweep-finds-each debtItems hashOf (settledBy at) n (roundOf l) each;
   }
 
   pub sweep-count : sweep at n l .debts .count ≤ l .debts .count
   unfolding sweep
   sweep-count = RoundLaws.sweep-count debtItems (settledBy at) n (roundOf l)
 
-  pub sweep-sound : Sound l → Sound (sweep at n l)
-  unfolding sweep
-  sweep-sound s = RoundLaws.sweep-sound debtItems (settledBy at) n (roundOf l) s
-
-  pub sweep-complete : Sound l → Complete l → Complete (sweep at n l)
-  unfolding sweep
-  sweep-complete s complete = RoundLaws.sweep-complete debtItems (settledBy at) n (roundOf l) s complete
-
 pub look-sound : (at : Nanos) (l : Ledger) → Sound l → Sound (look at l)
 unfolding look sweep Round.sweep
-look-sound at l s = sweep-sound at 1 l s
+look-sound at l s = sweep-room at 1 l .sound s

@@ -3,23 +3,20 @@ use Prim.Native.Nat.{ℕ, zero, suc, _+_, _-_, _≤_, _<_}
 use native.Mathlib.Omega.{arith}
 use mathlib.Core.Path.{_≡_, refl, ap, sym, _∙_}
 use mathlib.Core.List.{List, [], _∷_, _++_, append-nil}
-use lib.ListN.{length, getD, set, take, drop, length-take, length-drop, List·getD-append, take-append-drop, drop-of-length-le}
+use lib.ListN.{length, getD, set, take, drop, length-drop, List·getD-append, take-append-drop, drop-of-length-le}
 use native.Mathlib.Nat.{add-suc}
 use lib.Seq.{sets, take-take, take-set-lt, take-set-le, drop-set-lt, drop-set-add, drop-drop, drop-append-le, take-append-le, take-at, drop-at, length-take-le}
 use lib.Seq.{getD-take}
 use borrow.Rule.Slice.PartMut.{putMid}
 use Rattle.rows.specs.Segments.{segment}
 
--- A store in the part, and before it; how long a part is at most, and within the words.
+-- A store in the part, and before it; how long a part is within the words.
 module _ (a n : ℕ) (ws : List ℕ) where
   pub segment-set : (i v : ℕ) → i < n → segment a n (set ws (a + i) v) ≡ set (segment a n ws) i v
   segment-set i v h = rw (drop-set-add, take-set-lt n (drop a ws) i v h)
 
   pub segment-set-below : (i v : ℕ) → i < a → segment a n (set ws i v) ≡ segment a n ws
   segment-set-below i v h = rw (drop-set-lt a ws i v h)
-
-  pub segment-most : length (segment a n ws) ≤ n
-  segment-most = omega (arith, length-take n (drop a ws))
 
   pub segment-length : a + n ≤ length ws → length (segment a n ws) ≡ n
   segment-length h = let d = length-drop a ws in length-take-le n (drop a ws) (omega arith)

@@ -3,4 +3,5 @@ pub mod ShardLaws
 pub mod OwnBucketLaws
 pub mod ModelLaws
 pub mod DueLaws
+pub mod AlikeLaws
 pub mod PlaceOrderLaws

@@ -16,18 +16,16 @@ use Rattle.bucket.specs.declared.BucketConfig.{BucketConfig}
 use Rattle.bucket.specs.declared.Due.{Due}
 use Rattle.bucket.specs.Bucket.{Accepted}
 use Rattle.rows.specs.Outcome.{Outcome, outcome}
-use Rattle.held.proofs.FindingLaws.{kindOf}
 use Rattle.settings.specs.Eviction.{ttlSweep, ledgerScan}
 use Rattle.ledger.specs.Model as Ledger
 use Rattle.ledger.proofs.StepLaws as LedgerSteps
-use Rattle.shard_map.specs.Model.{Shard, Sound, Complete, capOf, withLedger, sweepIdle}
-use Rattle.shard_map.proofs.StepLaws.{ledger-sound, ledger-complete, sweep-idle-sound, sweep-idle-complete, sweep-idle-cap, sweep-idle-kind, sweep-idle-ledger}
+use Rattle.shard_map.specs.Model.{Shard, Sound, capOf, withLedger, sweepIdle}
+use Rattle.shard_map.proofs.StepLaws.{ledger-sound, sweep-idle-sound, sweep-idle-ledger}
 use Rattle.shard_map.proofs.KeptLaws.{Keeps, keeps-refl, keeps-trans, sweep-idle-keeps-shortage, ledger-sweep-keeps-shortage}
 use Rattle.evict.specs.declared.Room.{Room}
 use Rattle.evict.specs.declared.Room.the-variants.{Made, Refused}
 use Rattle.evict.specs.Evict.{minRefusalWait, evicted}
-use Rattle.evict.proofs.CaseLaws.{made-is-no-refusal, never-refused-is-made, evict-cap, evict-kind, evict-ledger-room, evict-sound, evict-complete}
-use Rattle.evict.proofs.CaseLaws.{evict-made-leaves-room}
+use Rattle.evict.proofs.CaseLaws.{made-is-no-refusal, never-refused-is-made, evict-sound, evict-made-leaves-room}
 use Rattle.evict.proofs.RefusalLaws.{evict-refusal}
 use Rattle.evict.proofs.KeptLaws.{evict-keeps-shortage}
 use Rattle.shard.specs.declared.Policy.{Policy}
@@ -46,25 +44,12 @@ pub record KeptBySweeps (p : Policy) (at : Nanos) (Q : Shard → Type 0) : Type 
 abbrev pub KeptByEviction : Policy → Nanos → (Shard → Type 0) → Type 0
 KeptByEviction p at Q = (s : Shard) → Sound s → 0 < s .slots .count → Q s → Q (evicted (p .config) at (p .«forget_debt») s .after)
 
--- Soundness, completeness and the ledger's room are kept by both sweeps.
-module _ (p : Policy) (at : Nanos) where
-  sound-by-sweeps : KeptBySweeps p at Sound
-  sound-by-sweeps = record {
-    idle = λ s limit u q. sweep-idle-sound (p .config) at limit ttlSweep s u;
-    ledger = λ s u q. ledger-sound s _ u (LedgerSteps.sweep-sound at ledgerScan (s .ledger) (u .ledger));
-  }
-
-  complete-by-sweeps : KeptBySweeps p at Complete
-  complete-by-sweeps = record {
-    idle = λ s limit u complete. sweep-idle-complete (p .config) at limit ttlSweep s u complete;
-    ledger = λ s u complete. ledger-complete s _ complete (LedgerSteps.sweep-complete at ledgerScan (s .ledger) (u .ledger) (complete .ledger));
-  }
-
-  ledger-room-by-sweeps : (l : Ledger.Ledger) → KeptBySweeps p at (λ s. LedgerSteps.SameRoom l (s .ledger))
-  ledger-room-by-sweeps l = record {
-    idle = λ s limit u same. rw (sweep-idle-ledger (p .config) at limit ttlSweep s) same;
-    ledger = λ s u same. LedgerSteps.same-room-trans same (LedgerSteps.sweep-room at ledgerScan (s .ledger));
-  }
+-- Soundness is kept by both sweeps.
+sound-by-sweeps : (p : Policy) (at : Nanos) → KeptBySweeps p at Sound
+sound-by-sweeps p at = record {
+  idle = λ s limit u q. sweep-idle-sound (p .config) at limit ttlSweep s u;
+  ledger = λ s u q. ledger-sound s _ u (LedgerSteps.sweep-room at ledgerScan (s .ledger) .sound (u .ledger));
+}
 
 -- What a refusal says: the ledger is full, nothing may be forgotten, and the wait is at least a millisecond.
 pub record RoomRefusal (p : Policy) (s : Shard) (wait : Nanos) : Type 0 where
@@ -91,17 +76,14 @@ module _ (p : Policy) (at : Nanos) (s : Shard) (u : Sound s) where
   swept-sound = swept-keeps Sound (sound-by-sweeps p at) u
 
   -- They leave the ledger the room that it had, and no more debts than there were.
-  swept-ledger-room : LedgerSteps.SameRoom (s .ledger) (swept p at s .ledger)
-  swept-ledger-room = swept-keeps (λ t. LedgerSteps.SameRoom (s .ledger) (t .ledger)) (ledger-room-by-sweeps p at _) (LedgerSteps.same-room (s .ledger))
-
-  swept-ledger-count : swept p at s .ledger .debts .count ≤ s .ledger .debts .count
-  swept-ledger-count =
-      swept-keeps (λ t. t .ledger .debts .count ≤ s .ledger .debts .count)
+  swept-ledger : (Ledger.capOf (swept p at s .ledger) ≡ Ledger.capOf (s .ledger)) × (swept p at s .ledger .debts .count ≤ s .ledger .debts .count)
+  swept-ledger =
+      swept-keeps (λ t. (Ledger.capOf (t .ledger) ≡ Ledger.capOf (s .ledger)) × (t .ledger .debts .count ≤ s .ledger .debts .count))
       (record {
-        idle = λ t limit v fewer. rw (sweep-idle-ledger (p .config) at limit ttlSweep t) fewer;
-        ledger = λ t v fewer. omega (arith, LedgerSteps.sweep-count at ledgerScan (t .ledger));
+        idle = λ t limit v kept. rw (sweep-idle-ledger (p .config) at limit ttlSweep t) kept;
+        ledger = λ t v kept. (LedgerSteps.sweep-room at ledgerScan (t .ledger) .cap ∙ kept .0, omega (arith, kept .1, LedgerSteps.sweep-count at ledgerScan (t .ledger)));
       })
-      (omega arith)
+      (refl, omega arith)
 
   -- How making room ends: the sweeps left room, or the shard is full and an eviction decides.
   room-cases : (Q : Outcome Room Shard → Type 0) → (swept p at s .slots .count < capOf (swept p at s) → Q (outcome Made (swept p at s)))
@@ -116,29 +98,9 @@ module _ (p : Policy) (at : Nanos) (s : Shard) (u : Sound s) where
   pub room-keeps : (Q : Shard → Type 0) → KeptBySweeps p at Q → KeptByEviction p at Q → Q s → Q (makeRoom p at s .after)
   room-keeps Q k evicts q = room-cases (λ o. Q (o .after)) (λ free. swept-keeps Q k q) (λ some. evicts (swept p at s) swept-sound some (swept-keeps Q k q))
 
-  -- It leaves a sound shard with the same room for slots and for debts, and lookup misses none if it missed none.
+  -- It leaves a sound shard.
   pub room-sound : Sound (makeRoom p at s .after)
-  room-sound = room-keeps Sound (sound-by-sweeps p at) (λ t v some q. evict-sound (p .config) at (p .«forget_debt») t v some) u
-
-  pub room-cap : capOf (makeRoom p at s .after) ≡ capOf s
-  room-cap =
-      room-keeps (λ t. capOf t ≡ capOf s)
-      (record { idle = λ t limit v same. sweep-idle-cap (p .config) at limit ttlSweep t ∙ same; ledger = λ t v same. same })
-      (λ t v some same. evict-cap (p .config) at (p .«forget_debt») t v some ∙ same) refl
-
-  pub room-kind : kindOf (makeRoom p at s .after .slots .finding) ≡ kindOf (s .slots .finding)
-  room-kind =
-      room-keeps (λ t. kindOf (t .slots .finding) ≡ kindOf (s .slots .finding))
-      (record { idle = λ t limit v same. sweep-idle-kind (p .config) at limit ttlSweep t ∙ same; ledger = λ t v same. same })
-      (λ t v some same. evict-kind (p .config) at (p .«forget_debt») t v some ∙ same) refl
-
-  pub room-complete : Complete s → Complete (makeRoom p at s .after)
-  room-complete = room-keeps Complete (complete-by-sweeps p at) (λ t v some complete. evict-complete (p .config) at (p .«forget_debt») t v some complete)
-
-  pub room-ledger-room : LedgerSteps.SameRoom (s .ledger) (makeRoom p at s .after .ledger)
-  room-ledger-room =
-      room-keeps (λ t. LedgerSteps.SameRoom (s .ledger) (t .ledger)) (ledger-room-by-sweeps p at _)
-      (λ t v some same. LedgerSteps.same-room-trans same (evict-ledger-room (p .config) at (p .«forget_debt») t v some)) (LedgerSteps.same-room (s .ledger))
+  room-sound = room-keeps Sound (sound-by-sweeps p at) (λ t v some q. evict-same-room (p .config) at (p .«forget_debt») t v some .sound) u
 
   -- Where debts may not be forgotten, nothing that a key lacks is lost.
   pub room-keeps-shortage : Accepted (p .config) → at .0 ≤ 2 ^ 62 → p .«forget_debt» ≡ false → (h k : ℕ) → Keeps (p .config) h k at s (makeRoom p at s .after)
@@ -167,7 +129,7 @@ module _ (p : Policy) (at : Nanos) (s : Shard) (u : Sound s) where
       (λ free e. made-is-no-refusal e)
       (λ some e.
       let r = evict-refusal (p .config) at (p .«forget_debt») (swept p at s) swept-sound some due e in
-      record { full = omega (arith, r .full, swept-ledger-room .cap, swept-ledger-count); never = r .never; least = r .least })
+      record { full = omega (arith, r .full, swept-ledger .0, swept-ledger .1); never = r .never; least = r .least })
 
   -- So room is made while the ledger is below its cap, and wherever debts may be forgotten.
   pub room-below-ledger-cap-never-refuses : s .ledger .debts .count < Ledger.capOf (s .ledger) → makeRoom p at s .answer ≡ Made

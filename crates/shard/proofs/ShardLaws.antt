@@ -16,22 +16,27 @@ use Rattle.bucket.specs.Bucket as Bucket
 use Rattle.rows.specs.declared.Place.{Place}
 use Rattle.rows.specs.declared.Place.the-variants.{At, Nowhere}
 use Rattle.rows.specs.Outcome.{Outcome, outcome}
-use Rattle.held.proofs.FindingLaws.{kindOf}
+use Rattle.settings.specs.Eviction.{ttlSweep, ledgerScan}
+use Rattle.held.specs.Held.{Held}
+use Rattle.held.proofs.SingleLaws.{ComesFrom, lacks-stays, comes-from-refl, comes-from-trans}
 use Rattle.slot.specs.declared.Slot.{Slot}
 use Rattle.ledger.specs.Model as Ledger
 use Rattle.ledger.proofs.StepLaws as LedgerSteps
-use Rattle.ledger.proofs.StepLaws.{found-owes, taken-cases, taken-sound, taken-complete, taken-room, paid-sound, paid-complete, paid-room}
+use Rattle.ledger.proofs.StepLaws.{found-owes, taken-cases, taken-room, paid-room}
 use Rattle.ledger.proofs.LookupLaws.{taken-tells}
-use Rattle.shard_map.specs.Model.{Shard, Sound, Complete, capOf, slotAt, withSlot, withLedger, inLedger, placeOf, removeAt}
-use Rattle.shard_map.proofs.StepLaws.{Holding, found-holds, removal-cap, removal-ledger, removal-sound, insert-cap, insert-ledger, insert-sound, change-cap}
-use Rattle.shard_map.proofs.StepLaws.{change-sound, ledger-sound, removal-complete, removal-kind, insert-complete, insert-kind, change-complete, ledger-complete}
+use Rattle.shard_map.specs.Model.{Shard, Sound, slotItems, slotAt, withSlot, withLedger, inLedger, placeOf, removeAt}
+use Rattle.shard_map.proofs.StepLaws.{Holding, found-holds, ledger-sound}
+use Rattle.shard_map.proofs.RoomLaws.{identityOf, found-is-complete, SlotsFrom, nowhere-lacks, sweep-idle-slots-from, same-room-trans, ledger-same-room, same-room}
+use Rattle.shard_map.proofs.RoomLaws.{change-same-room, removal-same-room, idle-same-room, insert-same-room}
+pub use Rattle.shard_map.proofs.RoomLaws.{SameRoom}
 use Rattle.evict.specs.declared.Room.{Room}
 use Rattle.evict.specs.declared.Room.the-variants.{Made, Refused}
 use Rattle.evict.proofs.CaseLaws.{made-is-no-refusal}
+use Rattle.evict.proofs.RoomLaws.{evict-slots-from, evict-same-room}
 use Rattle.shard.specs.declared.Identity.{Identity}
 use Rattle.shard.specs.declared.Policy.{Policy}
 use Rattle.shard.specs.Model.{withExisting, makeRoom, joined, admitted, admit, askedFrom, withOrInsert, hasDebt, refundedFrom, refunded, removedFrom, removed}
-use Rattle.shard.proofs.RoomLaws.{room-sound, room-complete, room-cap, room-kind, room-ledger-room, room-made-leaves-room, room-below-ledger-cap-never-refuses}
+use Rattle.shard.proofs.RoomLaws.{room-keeps, room-made-leaves-room, room-below-ledger-cap-never-refuses}
 
 -- A slot of the same key, with a bucket that is given. Its mark and its last-seen may be any.
 pub record Rebucketed (old : Slot) (b : BucketCore) (slot : Slot) : Type 0 where
@@ -47,10 +52,7 @@ abbrev pub roomFor : Policy → Identity → Nanos → Shard → Outcome Room Sh
 roomFor p id at s = makeRoom p at (debtTaken id s)
 
 pub debt-taken-sound : (id : Identity) (s : Shard) → Sound s → Sound (debtTaken id s)
-debt-taken-sound id s u = ledger-sound s _ u (taken-sound (s .ledger) (id .hash) (u .ledger))
-
-pub debt-taken-complete : (id : Identity) (s : Shard) → Sound s → Complete s → Complete (debtTaken id s)
-debt-taken-complete id s u complete = ledger-complete s _ complete (taken-complete (s .ledger) (id .hash) (u .ledger) (complete .ledger))
+debt-taken-sound id s u = ledger-sound s _ u (taken-room (s .ledger) (id .hash) .sound (u .ledger))
 
 -- How a request ends: the key's slot is asked; the key is new, and joins once there is room; or there is no room. A key that is refused for space has
 -- neither a slot nor a debt, so no debt was taken out and none is put back: what is left is what making room left.
@@ -71,7 +73,7 @@ refused-took-nothing p id at s due u =
     (λ q e told.
     let l : Ledger.Ledger = Ledger.removeAt (s .ledger) q in
     let below : l .debts .count < Ledger.capOf l = LedgerSteps.removal-leaves-room (s .ledger) q (u .ledger .count-fits) (found-owes (s .ledger) (id .hash) q e .below) in
-    let sound : Sound (withLedger s l) = ledger-sound s l u (LedgerSteps.removal-sound (s .ledger) q (u .ledger)) in
+    let sound : Sound (withLedger s l) = ledger-sound s l u (LedgerSteps.removal-room (s .ledger) q (found-owes (s .ledger) (id .hash) q e .below) .sound (u .ledger)) in
     made-is-no-refusal (sym (room-below-ledger-cap-never-refuses p at (withLedger s l) sound below) ∙ told))
     (λ e told. refl)
 
@@ -130,80 +132,57 @@ remove-cases id s = go (placeOf s (id .hash) (id .key)) refl
     go (At i) e = slot-removed i e (found-holds s (id .hash) (id .key) i e)
     go Nowhere e = no-slot e
 
--- A sound shard with the room for slots and for debts that another has, found in the same way. Lookup misses none in it if it missed none in the other.
-pub record SameRoom (s t : Shard) : Type 0 where
-  pub sound : Sound t
-  pub cap : capOf t ≡ capOf s
-  pub kind : kindOf (t .slots .finding) ≡ kindOf (s .slots .finding)
-  pub ledger-room : LedgerSteps.SameRoom (s .ledger) (t .ledger)
-  pub complete : Complete s → Complete t
+-- Making room keeps what every step keeps, and its slots come from those before.
+module _ (p : Policy) (at : Nanos) (s : Shard) (u : Sound s) where
+  room-same-room : SameRoom s (makeRoom p at s .after)
+  room-same-room =
+      room-keeps p at s u (SameRoom s)
+      (record {
+        idle = λ t limit v room. same-room-trans room (idle-same-room t v (p .config) at limit ttlSweep);
+        ledger = λ t v room. same-room-trans room (ledger-same-room t v _ (LedgerSteps.sweep-room at ledgerScan (t .ledger)));
+      })
+      (λ t v some room. same-room-trans room (evict-same-room (p .config) at (p .«forget_debt») t v some))
+      (same-room s u)
 
--- That is what every operation leaves, whatever it answers.
+  room-slots-from : SlotsFrom s (makeRoom p at s .after)
+  room-slots-from =
+      room-keeps p at s u (SlotsFrom s)
+      (record { idle = λ t limit v from. trans from (sweep-idle-slots-from t v (p .config) at limit ttlSweep); ledger = λ t v from. from })
+      (λ t v some from. trans from (evict-slots-from (p .config) at (p .«forget_debt») t v some))
+      (comes-from-refl slotItems identityOf (s .slots))
+    where
+      trans : {h g f : Held Slot} → ComesFrom slotItems identityOf h g → ComesFrom slotItems identityOf g f → ComesFrom slotItems identityOf h f
+      trans = comes-from-trans slotItems identityOf
+
+-- And so does every operation, whatever it answers.
 module _ (s : Shard) (u : Sound s) where
-  changed-same-room : (i : ℕ) (slot : Slot) → i < s .slots .count → slot .hash ≡ slotAt s i .hash → SameRoom s (withSlot s i slot)
-  changed-same-room i slot below same = record {
-    sound = change-sound s i slot u;
-    cap = change-cap s i slot;
-    kind = refl;
-    ledger-room = LedgerSteps.same-room (s .ledger);
-    complete = λ complete. change-complete s i slot u complete below same;
-  }
+  taken-same-room : (id : Identity) → SameRoom s (debtTaken id s)
+  taken-same-room id = ledger-same-room s u _ (taken-room (s .ledger) (id .hash))
 
+  -- A slot comes only for a key that lookup did not find. Making room brings none in, so no other slot has its hash and its key.
   pub ask-same-room : (p : Policy) (id : Identity) (request : Request) (cost : ℕ) (at : Nanos) → SameRoom s (withOrInsert p id request cost at s .after)
   ask-same-room p id request cost at = go (ask-cases p id request cost at s u)
     where
-      t : Shard
-      t = roomFor p id at s .after
-
       v : Sound (debtTaken id s)
       v = debt-taken-sound id s u
 
       go : {o : Outcome BucketDecision Shard} → Asking p id request cost at s o → SameRoom s (o .after)
-      go (slot-asked i slot e f r) = changed-same-room i slot (f .below) (r .hash)
-      go (key-joins e made) = record {
-        sound = insert-sound t _ (room-sound p at (debtTaken id s) v) (room-made-leaves-room p at (debtTaken id s) v made);
-        cap = insert-cap t _ ∙ room-cap p at (debtTaken id s) v;
-        kind = insert-kind t _ ∙ room-kind p at (debtTaken id s) v;
-        ledger-room = rw (insert-ledger t _) (LedgerSteps.same-room-trans (taken-room (s .ledger) (id .hash)) (room-ledger-room p at (debtTaken id s) v));
-        complete = λ complete.
-            insert-complete t _ (room-complete p at (debtTaken id s) v (debt-taken-complete id s u complete)) (room-made-leaves-room p at (debtTaken id s) v made);
-      }
-      go (no-space due e no-debt told) = record {
-        sound = room-sound p at s u;
-        cap = room-cap p at s u;
-        kind = room-kind p at s u;
-        ledger-room = room-ledger-room p at s u;
-        complete = room-complete p at s u;
-      }
+      go (slot-asked i slot e f r) = change-same-room s u i slot (f .below) (r .hash) (r .key)
+      go (key-joins new made) =
+          insert-same-room (same-room-trans (taken-same-room id) (room-same-room p at (debtTaken id s) v)) _ (room-made-leaves-room p at (debtTaken id s) v made)
+          (λ each. lacks-stays slotItems identityOf (room-slots-from p at (debtTaken id s) v) _ (nowhere-lacks s (found-is-complete each) (id .hash) (id .key) new))
+      go (no-space due e no-debt told) = room-same-room p at s u
 
   pub refund-same-room : (c : BucketConfig) (id : Identity) (cost : ℕ) → SameRoom s (refunded c id cost s .after)
   refund-same-room c id cost = go (refund-cases c id cost s)
     where
       go : {o : Outcome Bool Shard} → Refunding c id cost s o → SameRoom s (o .after)
-      go (slot-refunded i slot e f r) = changed-same-room i slot (f .below) (r .hash)
-      go (debt-paid e) = record {
-        sound = ledger-sound s _ u (paid-sound (s .ledger) (id .hash) cost c (u .ledger));
-        cap = refl;
-        kind = refl;
-        ledger-room = paid-room (s .ledger) (id .hash) cost c;
-        complete = λ complete. ledger-complete s _ complete (paid-complete (s .ledger) (id .hash) cost c (u .ledger) (complete .ledger));
-      }
+      go (slot-refunded i slot e f r) = change-same-room s u i slot (f .below) (r .hash) (r .key)
+      go (debt-paid e) = ledger-same-room s u _ (paid-room (s .ledger) (id .hash) cost c)
 
   pub remove-same-room : (id : Identity) → SameRoom s (removed id s .after)
   remove-same-room id = go (remove-cases id s)
     where
       go : {o : Outcome Bool Shard} → Removing id s o → SameRoom s (o .after)
-      go (slot-removed i e f) = record {
-        sound = removal-sound (debtTaken id s) i (debt-taken-sound id s u);
-        cap = removal-cap (debtTaken id s) i;
-        kind = removal-kind (debtTaken id s) i;
-        ledger-room = rw (removal-ledger (debtTaken id s) i) (taken-room (s .ledger) (id .hash));
-        complete = λ complete. removal-complete (debtTaken id s) i (debt-taken-sound id s u) (debt-taken-complete id s u complete) (f .below);
-      }
-      go (no-slot e) = record {
-        sound = debt-taken-sound id s u;
-        cap = refl;
-        kind = refl;
-        ledger-room = taken-room (s .ledger) (id .hash);
-        complete = debt-taken-complete id s u;
-      }
+      go (slot-removed i e f) = same-room-trans (taken-same-room id) (removal-same-room (debtTaken id s) (debt-taken-sound id s u) i (f .below))
+      go (no-slot e) = taken-same-room id

@@ -2,6 +2,8 @@ pub mod LayoutLaws
 pub mod StepLaws
 pub mod ModelLaws
 pub mod KeptLaws
+pub mod RoomLaws
+pub mod AlikeLaws
 pub mod PlaceOrderLaws
 pub mod ReadBack
 pub mod Worked

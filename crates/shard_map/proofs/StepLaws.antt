@@ -1,9 +1,7 @@
 -- What lookup by hash and key says, and what the steps leave of the room.
 use Prim.Native.Nat.{ℕ, _-_, _<_}
-use native.Mathlib.Omega.{arith}
 use mathlib.Core.Path.{_≡_, refl, sym, _∙_}
 use mathlib.Core.Bool.{true, false, true≢false}
-use lib.ListN.{length-set}
 use borrow.Author.Tests.{eqb-true}
 use Rattle.arith.proofs.Cases.{by-test}
 use Rattle.units.specs.declared.Nanos.{Nanos}
@@ -15,14 +13,13 @@ use Rattle.rows.specs.declared.Place.the-variants.{At, Nowhere}
 use Rattle.held.specs.Held as Held
 use Rattle.held.specs.Round as Round
 use Rattle.held.proofs.RoundLaws as RoundLaws
-use Rattle.held.proofs.RoundLaws.{sweep-length, sweep-kind}
-use Rattle.held.proofs.HeldLaws.{wrapped-below, stored-sound, appended-sound, removed-count, removed-length, removed-sound}
-use Rattle.held.proofs.FindingLaws.{kindOf, added-kind, removed-kind, found-passes, nowhere-passes-none, stored-complete, appended-complete, removed-complete}
+use Rattle.held.proofs.HeldLaws.{wrapped-below, stored-sound, removed-count, removed-length}
+use Rattle.held.proofs.FindingLaws.{kindOf, removed-kind, found-passes, nowhere-passes-none, removed-complete}
 use Rattle.slot.specs.declared.Slot.{Slot}
 use Rattle.slot.specs.Slot.{isKey, expired}
 use Rattle.slot.proofs.SlotLaws.{is-key-iff}
 use Rattle.ledger.specs.Model as Ledger
-use Rattle.shard_map.specs.Model.{Shard, Sound, Complete, slotItems, capOf, slotAt, withSlot, withSweep, withLedger, handOf, sweepOf, placeOf, removeAt, insert}
+use Rattle.shard_map.specs.Model.{Shard, Sound, Complete, slotItems, capOf, slotAt, withSlot, withSweep, withLedger, handOf, sweepOf, placeOf, removeAt}
 use Rattle.shard_map.specs.Model.{reclaimable, roundOf, idleLook, sweepIdle}
 
 -- The hand and the sweep, as they are read, stand at a slot.
@@ -58,10 +55,10 @@ nowhere-holds-none s complete h k e i below hash key =
 pub slots-sound : (s : Shard) → Sound s → Held.Sound (s .slots)
 slots-sound s t = record { room = t .room; count-fits = t .count-fits }
 
-sound-by-parts : (s : Shard) → Held.Sound (s .slots) → Ledger.Sound (s .ledger) → Sound s
+pub sound-by-parts : (s : Shard) → Held.Sound (s .slots) → Ledger.Sound (s .ledger) → Sound s
 sound-by-parts s t u = record { room = t .room; count-fits = t .count-fits; ledger = u }
 
--- A removal leaves one slot less, the same room and the same ledger, and lookup misses none if it missed none. So do the other steps.
+-- A removal leaves one slot less, the same room and the same ledger, and lookup misses none if it missed none.
 pub removal-count : (s : Shard) (p : ℕ) → removeAt s p .slots .count ≡ s .slots .count - 1
 unfolding removeAt
 removal-count s p = removed-count slotItems (s .slots) p
@@ -74,55 +71,17 @@ pub removal-ledger : (s : Shard) (p : ℕ) → removeAt s p .ledger ≡ s .ledge
 unfolding removeAt
 removal-ledger s p = refl
 
-pub removal-sound : (s : Shard) (p : ℕ) → Sound s → Sound (removeAt s p)
-unfolding removeAt
-removal-sound s p t = sound-by-parts (removeAt s p) (removed-sound slotItems (s .slots) p (slots-sound s t)) (t .ledger)
-
 pub removal-slots-complete : (s : Shard) (p : ℕ) → Sound s → p < s .slots .count → Held.Complete slotItems (s .slots) → Held.Complete slotItems (removeAt s p .slots)
 unfolding removeAt
 removal-slots-complete s p t below complete = removed-complete slotItems (s .slots) (slots-sound s t) complete p below
-
-pub removal-complete : (s : Shard) (p : ℕ) → Sound s → Complete s → p < s .slots .count → Complete (removeAt s p)
-unfolding removeAt
-removal-complete s p t complete below = record { slots = removal-slots-complete s p t below (complete .slots); ledger = complete .ledger }
 
 pub removal-kind : (s : Shard) (p : ℕ) → kindOf (removeAt s p .slots .finding) ≡ kindOf (s .slots .finding)
 unfolding removeAt
 removal-kind s p = removed-kind slotItems (s .slots) p
 
--- An insertion where there is room leaves the same room and the same ledger.
-pub insert-cap : (s : Shard) (slot : Slot) → capOf (insert s slot) ≡ capOf s
-unfolding insert
-insert-cap s slot = simp length-set
-
-pub insert-ledger : (s : Shard) (slot : Slot) → insert s slot .ledger ≡ s .ledger
-unfolding insert
-insert-ledger s slot = refl
-
-pub insert-sound : (s : Shard) (slot : Slot) → Sound s → s .slots .count < capOf s → Sound (insert s slot)
-unfolding insert
-insert-sound s slot t room = sound-by-parts (insert s slot) (appended-sound slotItems (s .slots) slot room) (t .ledger)
-
-pub insert-complete : (s : Shard) (slot : Slot) → Complete s → s .slots .count < capOf s → Complete (insert s slot)
-unfolding insert
-insert-complete s slot complete room = record { slots = appended-complete slotItems (s .slots) (complete .slots) slot room; ledger = complete .ledger }
-
-pub insert-kind : (s : Shard) (slot : Slot) → kindOf (insert s slot .slots .finding) ≡ kindOf (s .slots .finding)
-unfolding insert
-insert-kind s slot = added-kind (s .slots .finding) (slot .hash) (s .slots .count)
-
--- A slot that is changed, a sweep that moves, and a sound ledger put in leave a sound shard; a change leaves the same room.
-pub change-cap : (s : Shard) (p : ℕ) (slot : Slot) → capOf (withSlot s p slot) ≡ capOf s
-change-cap s p slot = simp length-set
-
+-- A slot that is changed, a sweep that moves, and a sound ledger put in leave a sound shard.
 pub change-sound : (s : Shard) (p : ℕ) (slot : Slot) → Sound s → Sound (withSlot s p slot)
 change-sound s p slot t = sound-by-parts (withSlot s p slot) (stored-sound (s .slots) p slot (slots-sound s t)) (t .ledger)
-
-pub change-complete : (s : Shard) (p : ℕ) (slot : Slot) → Sound s → Complete s → p < s .slots .count → slot .hash ≡ slotAt s p .hash → Complete (withSlot s p slot)
-change-complete s p slot t complete below same = record {
-  slots = stored-complete slotItems (s .slots) (complete .slots) p slot (omega (arith, t .count-fits)) same;
-  ledger = complete .ledger;
-}
 
 pub sweep-sound : (s : Shard) (sweep : ℕ) → Sound s → Sound (withSweep s sweep)
 sweep-sound s sweep t = sound-by-parts (withSweep s sweep) (slots-sound s t) (t .ledger)
@@ -130,19 +89,12 @@ sweep-sound s sweep t = sound-by-parts (withSweep s sweep) (slots-sound s t) (t 
 pub ledger-sound : (s : Shard) (l : Ledger.Ledger) → Sound s → Ledger.Sound l → Sound (withLedger s l)
 ledger-sound s l t u = sound-by-parts (withLedger s l) (slots-sound s t) u
 
-pub ledger-complete : (s : Shard) (l : Ledger.Ledger) → Complete s → Ledger.Complete l → Complete (withLedger s l)
-ledger-complete s l complete debts = record { slots = complete .slots; ledger = debts }
-
 -- A slot that may be reclaimed has a full bucket.
 pub reclaimable-is-full : (c : BucketConfig) (at : Nanos) (limit : Millis) (slot : Slot) → reclaimable c at limit slot ≡ true → shortfallAt c (slot .bucket) at ≡ 0
 reclaimable-is-full c at limit slot = by-test (expired slot (millisOf at) limit) (λ t. rw t (λ full. eqb-true _ _ full)) (λ t. rw t (λ e. cc))
 
--- An idle sweep leaves a sound shard with the same room and the same ledger. So does a look, which is an idle sweep of one look.
+-- An idle sweep leaves a sound shard with the same ledger. So does a look, which is an idle sweep of one look.
 module _ (c : BucketConfig) (at : Nanos) (limit : Millis) where
-  pub sweep-idle-cap : (n : ℕ) (s : Shard) → capOf (sweepIdle c at limit n s) ≡ capOf s
-  unfolding sweepIdle
-  sweep-idle-cap n s = sweep-length slotItems (reclaimable c at limit) n (roundOf s)
-
   pub sweep-idle-ledger : (n : ℕ) (s : Shard) → sweepIdle c at limit n s .ledger ≡ s .ledger
   unfolding sweepIdle
   sweep-idle-ledger n s = refl
@@ -151,17 +103,6 @@ module _ (c : BucketConfig) (at : Nanos) (limit : Millis) where
   unfolding sweepIdle
   sweep-idle-sound n s t =
       sound-by-parts (sweepIdle c at limit n s) (RoundLaws.sweep-sound slotItems (reclaimable c at limit) n (roundOf s) (slots-sound s t)) (t .ledger)
-
-  pub sweep-idle-complete : (n : ℕ) (s : Shard) → Sound s → Complete s → Complete (sweepIdle c at limit n s)
-  unfolding sweepIdle
-  sweep-idle-complete n s t complete = record {
-    slots = RoundLaws.sweep-complete slotItems (reclaimable c at limit) n (roundOf s) (slots-sound s t) (complete .slots);
-    ledger = complete .ledger;
-  }
-
-  pub sweep-idle-kind : (n : ℕ) (s : Shard) → kindOf (sweepIdle c at limit n s .slots .finding) ≡ kindOf (s .slots .finding)
-  unfolding sweepIdle
-  sweep-idle-kind n s = sweep-kind slotItems (reclaimable c at limit) n (roundOf s)
 
   pub idle-look-sound : (s : Shard) → Sound s → Sound (idleLook c at limit s)
   unfolding idleLook sweepIdle Round.sweep
