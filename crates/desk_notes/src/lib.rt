@@ -8,9 +8,12 @@ use libc::STDERR_FILENO;
 mod names;
 mod words;
 
+// The bytes of a note. The longest has about 100.
+const NOTE_BYTES: usize = 192;
+
 // Writes why a line is answered with 9, as line 1 or as another. A write that fails here has nobody to be told.
 pub fn tell(number: u64, first: bool, line: &[u8]) {
-    let mut note: [u8; 192] = [0; 192];
+    let mut note: [u8; NOTE_BYTES] = [0; NOTE_BYTES];
     let letter = letter_of(line);
     let reason = desk_reasons::reason_at(first, line);
     let end = compose(&mut note, number, letter, reason);
@@ -32,7 +35,7 @@ fn letter_of(line: &[u8]) -> u8 {
     line[0]
 }
 
-// The bytes of a note, of which those have room that the buffer holds. Tells how many they are.
+// Makes the bytes of a note. Tells how many they are.
 fn compose(note: &mut [u8], number: u64, letter: u8, reason: Reason) -> usize
     ensures { λ r. ⌜ r ≤ length (now (note .exit)) ⌝ }
 {

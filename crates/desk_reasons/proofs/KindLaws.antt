@@ -27,7 +27,9 @@ reserve-as-request zero other = refl
 reserve-as-request (suc zero) other = refl
 reserve-as-request (suc (suc zero)) other = refl
 reserve-as-request (suc (suc (suc zero))) other = absurd (other refl)
-reserve-as-request (suc (suc (suc (suc i)))) other = sym (none-past requestKinds (suc (suc (suc (suc i)))) (omega arith)) ∙ none-past reserveKinds (suc (suc (suc (suc i)))) (omega arith)
+reserve-as-request (suc (suc (suc (suc i)))) other =
+    let place = suc (suc (suc (suc i))) in
+    sym (none-past requestKinds place (omega arith)) ∙ none-past reserveKinds place (omega arith)
 
 pub refund-as-remove : (i : ℕ) → (i ≡ 1 → ⊥) → firstKind (drop i removeKinds) ≡ firstKind (drop i refundKinds)
 refund-as-remove zero other = refl

@@ -84,7 +84,8 @@ kind-taken (Number most) f fs = number-taken fs (numberOf most f)
 kind-taken Idle f fs = idle-taken f fs
 
 -- So the fields have no fault exactly if the reading is finished with them.
-field-agrees : (i : ℕ) (k : Kind) (ks : List Kind) (f : List ℕ) (fs : List (List ℕ)) → isFine (fieldsReason (i + 1) ks fs) ≡ isFinished (takenKinds ks (left fs))
+field-agrees : (i : ℕ) (k : Kind) (ks : List Kind) (f : List ℕ) (fs : List (List ℕ))
+    → isFine (fieldsReason (i + 1) ks fs) ≡ isFinished (takenKinds ks (left fs))
     → isFine (fieldsReason i (k ∷ ks) (f ∷ fs)) ≡ isFinished (takenKinds ks (takenKind k (left (f ∷ fs))))
 unfolding fieldsReason
 field-agrees i k ks f fs others = rw (kind-taken k f fs) (by-test (accepts k f) (λ t. rw t others) (λ t. rw (t, failed-stays ks)))

@@ -53,7 +53,9 @@ module _ (line : List ℕ) where
     module _ (short : length line ≤ longestLine) {end : ℕ} (ends : end ≡ fieldEnd line 0) {letter : ℕ} (is : letter ≡ letterIn (segment 0 (end - 0) line)) where
       by-first : reasonOf line ≡ reasonOfFields (segment 0 (end - 0) line ∷ fieldsFrom line (end + 1))
       unfolding reasonOf fieldsFrom
-      by-first = rw (ne-eqb _ _ some, le-leb _ _ short, ends) (ap reasonOfFields (rw (le-leb 0 (length line) (omega arith)) at (first-field line 0 (omega arith))))
+      by-first =
+          let first = rw (le-leb 0 (length line) (omega arith)) at (first-field line 0 (omega arith)) in
+          rw (ne-eqb _ _ some, le-leb _ _ short, ends) (ap reasonOfFields first)
 
       pub no-letter-first : letter ≡ 0 → {f : Fault} → f ≡ letterFault (segment 0 (end - 0) line) → Field 1 f ≡ reasonOf line
       no-letter-first none fault = rw (by-first, ← is, eq-eqb _ _ none, fault)

@@ -93,6 +93,7 @@ pub fn help() {
     );
     lines();
     codes();
+    say(b"Standard error says why a line is answered with 9.\n");
     say(b"A line 1 that is not told 0 ends the run. So does a read or a write that fails.\n");
 }
 

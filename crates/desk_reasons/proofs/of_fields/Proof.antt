@@ -5,7 +5,7 @@ use Prim.Native.Nat.{_+_, _-_, _≤_}
 use lib.ListN.{length}
 use native.Mathlib.Omega.{arith}
 use borrow.Author.Tests.{not-true, not-false}
-use Rattle.desk_lines.specs.Fields.{space}
+use Rattle.desk_lines.specs.Fields.{space, fieldEnd}
 use Rattle.desk_lines.proofs.FieldLaws.{found-from}
 use borrow.Author.Needs.{needs}
 use Rattle.desk_reasons.proofs.of_fields.Statement.{statement}
@@ -16,6 +16,20 @@ Inv-loop line letter from at₀ i₀ at i = (i ≤ at) × (i ≤ length line + 1
 
 abbrev μ-loop : tie.MeasureT-loop
 μ-loop line letter from at₀ i₀ at i = length line + 1 - at
+
+-- Where the call began, from the loop's head; the loop's head, once a space was looked for; and that search, once the field is judged.
+abbrev start : tie.At-loop Inv-loop μ-loop → tie.Start Inv-loop μ-loop
+start head = head .before .before
+
+abbrev turn : tie.After-find Inv-loop μ-loop → tie.At-loop Inv-loop μ-loop
+turn f = f .before .before
+
+abbrev search-of : tie.After-accepts Inv-loop μ-loop → tie.After-find Inv-loop μ-loop
+search-of judged = judged .before .before .before
+
+-- The search stops where the field ends.
+stops : (f : tie.After-find Inv-loop μ-loop) → f .find .result ≡ fieldEnd (start (turn f) .args .line .now) (turn f .loop .at)
+stops f = found-from space (start (turn f) .args .line .now) (turn f .loop .at) (f .find .ensures .0)
 
 loop-holds : tie.Need-loop-holds Inv-loop μ-loop
 loop-holds c = (omega arith, omega arith, refl)
@@ -55,11 +69,13 @@ of-field-requires c κs = search needs
 
 returns : tie.Need-returns Inv-loop μ-loop
 returns c =
-    let a = c .before .before .before .before .before .before .before .before .before .before .args in
-    let loop′ = c .before .before .before .before .before .before .before .before .loop in
-    let ends = found-from space (a .line .now) (loop′ .at) (c .before .before .before .before .before .before .find .ensures .0) in
-    let wrong = sym (c .before .before .before .accepts .ensures) ∙ not-true _ (c .before .before .if1 .taken) in
-    field-at-fault (a .line .now) (a .letter) (loop′ .at) (loop′ .i) (omega arith) ends (c .before .before .before .before .before .at .ensures) wrong (c .of-field .ensures) ∙ loop′ .inv .2
+    let judged = c .before .before .before in
+    let f = search-of judged in
+    let a = start (turn f) .args in
+    let loop′ = turn f .loop in
+    let wrong = sym (judged .accepts .ensures) ∙ not-true _ (c .before .before .if1 .taken) in
+    let is-kind = judged .before .before .at .ensures in
+    field-at-fault (a .line .now) (a .letter) (loop′ .at) (loop′ .i) (omega arith) (stops f) is-kind wrong (c .of-field .ensures) ∙ loop′ .inv .2
 
 add-at : tie.Need-add-at Inv-loop μ-loop
 add-at c = search needs
@@ -72,12 +88,14 @@ loop-less c = search needs
 
 loop-again : tie.Need-loop-again Inv-loop μ-loop
 loop-again c =
-    let a = c .before .before .before .before .before .before .before .before .args in
-    let loop′ = c .before .before .before .before .before .before .loop in
-    let ends = found-from space (a .line .now) (loop′ .at) (c .before .before .before .before .find .ensures .0) in
-    let right = sym (c .before .accepts .ensures) ∙ not-false _ (c .if1 .left) in
-    let next = field-is-fine (a .line .now) (a .letter) (loop′ .at) (loop′ .i) (omega arith) ends (c .before .before .before .at .ensures) right in
-    (omega (arith, ends), omega (arith, ends), next ∙ loop′ .inv .2)
+    let judged = c .before in
+    let f = search-of judged in
+    let a = start (turn f) .args in
+    let loop′ = turn f .loop in
+    let right = sym (judged .accepts .ensures) ∙ not-false _ (c .if1 .left) in
+    let is-kind = judged .before .before .at .ensures in
+    let next = field-is-fine (a .line .now) (a .letter) (loop′ .at) (loop′ .i) (omega arith) (stops f) is-kind right in
+    (omega (arith, stops f), omega (arith, stops f), next ∙ loop′ .inv .2)
 
 at-requires-2 : tie.Need-at-requires-2 Inv-loop μ-loop
 at-requires-2 c κs = search needs
@@ -87,8 +105,9 @@ at-end-requires c κs = search needs
 
 returns-2 : tie.Need-returns-2 Inv-loop μ-loop
 returns-2 c =
-    let a = c .before .before .before .before .before .args in
-    let loop′ = c .before .before .before .loop in
+    let head = c .before .before .before in
+    let a = start head .args in
+    let loop′ = head .loop in
     c .at-end .ensures ∙ line-ends (a .line .now) (a .letter) (loop′ .at) (loop′ .i) (c .before .at2 .ensures) (omega arith) ∙ loop′ .inv .2
 
 pub of-fields-spec : {M : Type 1} → statement M

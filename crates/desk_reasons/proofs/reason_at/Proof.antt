@@ -21,7 +21,11 @@ out-of-place-requires : tie.Need-out-of-place-requires
 out-of-place-requires c κs = search needs
 
 returns : tie.Need-returns
-returns c = fine-by-place _ _ (sym (c .before .before .before .before .is-fine .ensures) ∙ c .before .before .before .if1 .taken) (c .before .before .before .before .before .reason-of .ensures) (c .out-of-place .ensures) (c .before .is-set-up .ensures) (c .before .before .read .ensures)
+returns c =
+    let r = c .before .before in
+    let asked = r .before .before in
+    let fine = sym (asked .is-fine .ensures) ∙ r .before .if1 .taken in
+    fine-by-place _ _ fine (asked .before .reason-of .ensures) (c .out-of-place .ensures) (c .before .is-set-up .ensures) (r .read .ensures)
 
 returns-2 : tie.Need-returns-2
 returns-2 c = faulty-anywhere _ _ (sym (c .before .is-fine .ensures) ∙ c .if1 .left) (c .before .before .reason-of .ensures)

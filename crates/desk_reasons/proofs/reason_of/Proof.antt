@@ -1,12 +1,23 @@
 -- `reason_of` looks at the length of the line, at its first field, and then at the others.
 use Rattle.desk_lines.proofs.FieldLaws.{found-from}
-use Rattle.desk_lines.specs.Fields.{space}
+use Rattle.desk_lines.specs.Fields.{space, fieldEnd}
 use native.Mathlib.Omega.{arith}
-use mathlib.Core.Path.{sym, _∙_}
+use mathlib.Core.Path.{_≡_, _∙_}
 use Rattle.desk_reasons.proofs.WalkLaws.{line-is-blank, line-is-long, no-letter-first, letter-first}
 use borrow.Author.Needs.{needs}
 use Rattle.desk_reasons.proofs.reason_of.Statement.{statement}
 use Rattle.desk_reasons.proofs.reason_of.Tie as tie
+
+-- Where the call began, once a space was looked for; and that search, once the letter is known.
+abbrev start : tie.After-find → tie.Start
+start f = f .before .before .before .before
+
+abbrev search-of : tie.After-letter-in → tie.After-find
+search-of l = l .before .before
+
+-- The search stops where the first field ends.
+stops : (f : tie.After-find) → f .find .result ≡ fieldEnd (start f .args .line .now) 0
+stops f = found-from space (start f .args .line .now) 0 (f .find .ensures .0)
 
 returns : tie.Need-returns
 returns c = line-is-blank _ (c .if1 .taken)
@@ -43,9 +54,11 @@ of-letter-requires c κs = search needs
 
 returns-3 : tie.Need-returns-3
 returns-3 c =
-    let a = c .before .before .before .before .before .before .before .before .before .args in
-    let ends = found-from space (a .line .now) 0 (c .before .before .before .before .before .find .ensures .0) in
-    no-letter-first (a .line .now) (c .before .before .before .before .before .before .before .if1 .left) (c .before .before .before .before .before .before .if2 .left) ends (c .before .before .before .letter-in .ensures) (c .before .before .if3 .taken) (c .of-letter .ensures)
+    let l = c .before .before .before in
+    let f = search-of l in
+    let line = start f .args .line .now in
+    let none = c .before .before .if3 .taken in
+    no-letter-first line (f .before .before .if1 .left) (f .before .if2 .left) (stops f) (l .letter-in .ensures) none (c .of-letter .ensures)
 
 add-of-fields : tie.Need-add-of-fields
 add-of-fields c = search needs
@@ -55,9 +68,10 @@ of-fields-requires c κs = search needs
 
 returns-4 : tie.Need-returns-4
 returns-4 c =
-    let a = c .before .before .before .before .before .before .before .before .args in
-    let ends = found-from space (a .line .now) 0 (c .before .before .before .before .find .ensures .0) in
-    c .of-fields .ensures ∙ letter-first (a .line .now) (c .before .before .before .before .before .before .if1 .left) (c .before .before .before .before .before .if2 .left) ends (c .before .before .letter-in .ensures) (c .before .if3 .left)
+    let l = c .before .before in
+    let f = search-of l in
+    let line = start f .args .line .now in
+    c .of-fields .ensures ∙ letter-first line (f .before .before .if1 .left) (f .before .if2 .left) (stops f) (l .letter-in .ensures) (c .before .if3 .left)
 
 pub reason-of-spec : {M : Type 1} → statement M
 reason-of-spec =

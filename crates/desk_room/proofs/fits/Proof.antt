@@ -1,6 +1,7 @@
 -- `fits` asks whether the size is accepted, and then for its words.
 use Rattle.settings.specs.Settings.{sizeRefusal}
-use mathlib.Core.Path.{sym, ap, _∙_}
+use mathlib.Core.Path.{_≡_, sym, ap, _∙_}
+use Rattle.desk_room.specs.Room.{sized}
 use Rattle.desk_room.proofs.RoomLaws.{refused-does-not-fit, fits-by-words}
 use borrow.Author.Needs.{needs}
 use Rattle.desk_room.proofs.fits.Statement.{statement}
@@ -15,7 +16,9 @@ size-refusal-requires c κs = search needs
 returns : tie.Need-returns
 returns c =
     let a = c .before .before .before .args in
-    refused-does-not-fit (a .keys) (a .words) (a .shards) (λ none. c .if1 .taken (c .before .size-refusal .ensures ∙ ap sizeRefusal (c .before .before .sized .ensures) ∙ none))
+    let is : c .before .size-refusal .result ≡ sizeRefusal (sized (a .keys) (a .shards)) =
+    c .before .size-refusal .ensures ∙ ap sizeRefusal (c .before .before .sized .ensures) in
+    refused-does-not-fit (a .keys) (a .words) (a .shards) (λ none. c .if1 .taken (is ∙ none))
 
 memory-words-requires : tie.Need-memory-words-requires
 memory-words-requires c κs = search needs

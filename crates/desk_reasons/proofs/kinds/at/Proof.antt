@@ -39,10 +39,19 @@ in-set-up-requires : tie.Need-in-set-up-requires
 in-set-up-requires c κs = search needs
 
 returns-6 : tie.Need-returns-6
-returns-6 c = let a = c .before .before .before .before .before .before .before .args in c .in-set-up .ensures ∙ kind-s (a .letter) (a .i) (c .before .if6 .taken)
+returns-6 c =
+    let a = c .before .before .before .before .before .before .before .args in
+    c .in-set-up .ensures ∙ kind-s (a .letter) (a .i) (c .before .if6 .taken)
 
 returns-7 : tie.Need-returns-7
-returns-7 c = let a = c .before .before .before .before .before .before .args in kind-of-other (a .letter) (a .i) (c .before .before .before .before .before .if1 .left) (c .before .before .before .before .if2 .left) (c .before .before .before .if3 .left) (c .before .before .if4 .left) (c .before .if5 .left) (c .if6 .left)
+returns-7 c =
+    let no-d = c .before in
+    let no-f = no-d .before in
+    let no-r = no-f .before in
+    let no-p = no-r .before in
+    let no-a = no-p .before in
+    let a = no-a .before .args in
+    kind-of-other (a .letter) (a .i) (no-a .if1 .left) (no-p .if2 .left) (no-r .if3 .left) (no-f .if4 .left) (no-d .if5 .left) (c .if6 .left)
 
 pub at-spec : {M : Type 1} → statement M
 at-spec =
