@@ -1,8 +1,6 @@
 // The desk: a line of standard input is a call of the limiter, and a line of standard output its answer, as document 01 gives them.
+use desk_feed::MEMORY_WORDS;
 use libc::STDIN_FILENO;
-
-// The words of the memory from which the store is lent its own.
-const MEMORY_WORDS: usize = 8192;
 
 // The bytes that are read at once, with those pending of a line that has not ended. The answers to so many lines have room in the output.
 const INPUT_BYTES: usize = 1024;

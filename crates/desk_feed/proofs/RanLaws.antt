@@ -17,7 +17,7 @@ use Rattle.desk_turns.proofs.RunLaws.{none-once-ended}
 use Rattle.desk_turns.proofs.CuttingLaws.{one-turn-more, turn-is-turned, every-cutting-stands-the-same}
 use Rattle.desk_feed.specs.declared.Ran.{Ran}
 use Rattle.desk_feed.specs.declared.Why.the-variants.{Input, Refused, Read, Write, LastWrite, Turns}
-use Rattle.desk_feed.specs.Ran.{standing, atStart, Short, TurnedTo, withLast, lastAnswered, AtEnd, RanFrom}
+use Rattle.desk_feed.specs.Ran.{standing, atStart, Short, TurnedTo, withLast, lastAnswered, mostTurns, AtEnd, RanFrom}
 
 -- How the loop stands at its head.
 pub record GoingOn (input₀ : List ℕ) (pending₀ : ℕ) (output₀ memory₀ : List ℕ) (f₀ : Feed) (input : List ℕ) (pending : ℕ) (output memory : List ℕ) (f : Feed)
@@ -26,6 +26,7 @@ pub record GoingOn (input₀ : List ℕ) (pending₀ : ℕ) (output₀ memory₀
   pub same-output : length output ≡ length output₀
   pub same-memory : length memory ≡ length memory₀
   pub few : pending ≤ longestLine + 1
+  pub counted : turns ≤ mostTurns
   pub more : hasEnded (f .stage) ≡ false
   pub far : TurnedTo (standing pending₀ input₀ f₀ memory₀) (length input₀) turns (standing pending input f memory)
 
@@ -76,7 +77,7 @@ module _ (input₀ : List ℕ) {from : Standing} {size turns pending end : ℕ} 
       rw same next-turned
 
   pub over-by-write : RanFrom from size (record { why = Write; feed = r .feed; turns = turns + 1 }) memory′
-  over-by-write = record { to = next; turned-to = next-turned; stands = stands-next; rightly = tt }
+  over-by-write = record { to = next; turned-to = next-turned; stands = stands-next; rightly = omega arith }
 
   pub over-by-line-1 : hasEnded (r .feed .stage) ≡ true → RanFrom from size (record { why = Refused; feed = r .feed; turns = turns + 1 }) memory′
   over-by-line-1 ended =
@@ -89,8 +90,8 @@ module _ (pending : ℕ) (input : List ℕ) (f : Feed) {from : Standing} {size t
   pub over-by-read : hasEnded (f .stage) ≡ false → RanFrom from size (record { why = Read; feed = f; turns = turns }) memory
   over-by-read more = record { to = standing pending input f memory; turned-to = far; stands = refl; rightly = more }
 
-  pub over-by-turns : hasEnded (f .stage) ≡ false → RanFrom from size (record { why = Turns; feed = f; turns = turns }) memory
-  over-by-turns more = record { to = standing pending input f memory; turned-to = far; stands = refl; rightly = more }
+  pub over-by-turns : hasEnded (f .stage) ≡ false → turns ≡ mostTurns → RanFrom from size (record { why = Turns; feed = f; turns = turns }) memory
+  over-by-turns more all = record { to = standing pending input f memory; turned-to = far; stands = refl; rightly = (more, all) }
 
   pub over-at-end : (input₁ : List ℕ) {r : Ran} {memory′ : List ℕ} → take pending input₁ ≡ take pending input
       → AtEnd (standing pending input₁ f memory) turns r memory′ → RanFrom from size r memory′

@@ -1,4 +1,5 @@
--- What wrong programs leave does not meet the contract of `go_on`: one that leaves the last line unanswered, and one that drops the bytes that are pending.
+-- What wrong programs leave does not meet the contract of `go_on`: one that leaves the last line unanswered, one that drops the bytes that are pending, and
+-- one that stops after its first read.
 use Prim.Native.Nat.{ℕ}
 use native.Mathlib.Omega.{arith}
 use mathlib.Core.Path.{_≡_, refl, sym, ap, _∙_}
@@ -13,12 +14,13 @@ use Rattle.desk_lines.specs.declared.Line.the-variants.{Malformed}
 use Rattle.desk_lines.specs.Lines.{longestLine, lineOfLetter, lineOfFields, lineOf}
 use Rattle.desk_answers.specs.declared.Stage.{Stage}
 use Rattle.desk_answers.specs.declared.Stage.the-variants.{First, Open, Ended}
+use Rattle.desk_turns.specs.declared.Feed.{Feed}
 use Rattle.desk_turns.specs.Run.{State, Standing, lineAnswered, linesAnswered, onFirst, cut, lastLine, keptOf, turnedOver, joined}
 use Rattle.desk_turns.proofs.RunLaws.{none-once-ended}
 use Rattle.desk_turns.proofs.CuttingLaws.{stands-from}
 use Rattle.desk_feed.specs.declared.Ran.{Ran}
 use Rattle.desk_feed.specs.declared.Why.{Why}
-use Rattle.desk_feed.specs.declared.Why.the-variants.{Input}
+use Rattle.desk_feed.specs.declared.Why.the-variants.{Input, Turns}
 use Rattle.desk_feed.specs.Ran.{withLast, lastAnswered, overAt, RanFrom}
 
 -- Before line 1, of which the byte `x` (120) is pending.
@@ -42,6 +44,11 @@ last-line-has-to-be-answered memory memory′ size put ran =
     let here : ran .to ≡ xPending memory = nothing-read (far .reads) (far .counted) (far .is-turned) in
     let numbers : _≡_ {A = ℕ} 0 1 = ap (λ (s : State). s .number) (ran .stands ∙ ap lastAnswered here) in
     omega (arith, numbers)
+
+-- No run is over for its turns after the first.
+pub reads-have-to-go-on : {from : Standing} {size : ℕ} {f : Feed} {memory′ : List ℕ}
+    → RanFrom from size (record { why = Turns; feed = f; turns = 1 }) memory′ → ⊥
+reads-have-to-go-on ran = omega (arith, ran .rightly .1)
 
 -- A line that begins with `x` is malformed, whatever follows; as line 1 it ends the run.
 x-is-no-letter : (fs : List (List ℕ)) → lineOfFields (Fields.onFirst 120 fs) ≡ Malformed

@@ -1,5 +1,5 @@
 -- How a run has gone, from wherever it stood: there are reads of which it stands turned over them.
-use Prim.Native.Nat.{ℕ, _≤_}
+use Prim.Native.Nat.{ℕ, _-_, _^_, _≤_, _<_}
 use mathlib.Core.Path.{_≡_}
 use mathlib.Core.Bool.{Bool, true, false, cond}
 use mathlib.Core.List.{List, [], _∷_}
@@ -53,20 +53,26 @@ lastAnswered s = linesAnswered (lastLine (s .pending)) (s .state) .after
 abbrev pub overAt : Why → Standing → State
 overAt why s = cond (withLast why) (lastAnswered s) (s .state)
 
--- A run is said to be over for its line 1 if that was not accepted, and for no other reason then, but for a write that failed.
-abbrev pub Rightly : Why → Stage → Type 0
-Rightly Refused stage = hasEnded stage ≡ true
-Rightly Input stage = hasEnded stage ≡ false
-Rightly Read stage = hasEnded stage ≡ false
-Rightly Turns stage = hasEnded stage ≡ false
-Rightly Write stage = Unit {0}
-Rightly LastWrite stage = Unit {0}
+-- The most turns that a run makes: the largest number that their counter holds.
+abbrev pub mostTurns : ℕ
+mostTurns = 2 ^ 64 - 1
+
+-- A run is said to be over for its line 1 if that was not accepted, and for no other reason then, but for a write that failed. It is said to be over for its
+-- turns once it has made the most of them, and for the write of a turn's answers once it has made a turn. The write of the last line's answer may fail
+-- whatever the stage is and however many turns were made.
+abbrev pub Rightly : Why → Stage → ℕ → Type 0
+Rightly Refused stage turns = hasEnded stage ≡ true
+Rightly Input stage turns = hasEnded stage ≡ false
+Rightly Read stage turns = hasEnded stage ≡ false
+Rightly Turns stage turns = (hasEnded stage ≡ false) × (turns ≡ mostTurns)
+Rightly Write stage turns = 0 < turns
+Rightly LastWrite stage turns = Unit {0}
 
 -- The end of the input: the last line is answered.
 pub record AtEnd (s : Standing) (turns : ℕ) (r : Ran) (memory′ : List ℕ) : Type 0 where
   pub last : withLast (r .why) ≡ true
   pub stands : stateOf (r .feed) memory′ ≡ lastAnswered s
-  pub rightly : Rightly (r .why) (r .feed .stage)
+  pub rightly : Rightly (r .why) (r .feed .stage) (r .turns)
   pub counted : r .turns ≡ turns
 
 -- A run that is over, from wherever it stood: it has turned some reads, and where the input has ended answered the last line.
@@ -74,4 +80,4 @@ pub record RanFrom (from : Standing) (size : ℕ) (r : Ran) (memory′ : List �
   pub to : Standing
   pub turned-to : TurnedTo from size (r .turns) to
   pub stands : stateOf (r .feed) memory′ ≡ overAt (r .why) to
-  pub rightly : Rightly (r .why) (r .feed .stage)
+  pub rightly : Rightly (r .why) (r .feed .stage) (r .turns)

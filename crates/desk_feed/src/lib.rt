@@ -12,6 +12,9 @@ use desk_reads::Got;
 use desk_turns::Feed;
 use libc::STDOUT_FILENO;
 
+// The words of the memory from which the store is lent its own.
+pub const MEMORY_WORDS: usize = 8192;
+
 // Why a run is over.
 pub enum Why {
     // The input has ended, and its last line is answered.

@@ -1,4 +1,5 @@
 pub mod FeedingLaws
+pub mod NoteLaws
 pub mod RunLaws
 pub mod Worked
 pub mod CuttingLaws

@@ -18,6 +18,12 @@ pub record State : Type 0 where
   pub number : ℕ
   pub memory : List ℕ
 
+-- Whether line 1 is to come.
+abbrev pub isFirst : Stage → Bool
+isFirst First = true
+isFirst (Open s) = false
+isFirst (Ended code) = false
+
 -- Whether the run has ended, so that no further line is answered.
 abbrev pub hasEnded : Stage → Bool
 hasEnded First = false

@@ -6,7 +6,7 @@ ghost use lib.ListN.{length};
 ghost use Rattle.desk_lines.specs.Printed.{longestPrinted};
 ghost use Rattle.desk_turns.specs.Feeding.{OneLine, WholeLines, OneTurn, LastLine, keptFrom, movedToStart};
 ghost use Rattle.desk_turns.specs.Feeding as Feeding;
-ghost use Rattle.desk_turns.specs.Run.{hasEnded};
+ghost use Rattle.desk_turns.specs.Run.{isFirst, hasEnded};
 use desk_answers::Stage;
 use desk_lines::LONGEST_LINE;
 use desk_lines::print;
@@ -111,7 +111,27 @@ fn answer_line(line: &[u8], output: &mut [u8], memory: &mut [u64], feed: Feed) -
     let stage = served.stage;
     let told = served.told;
     let put = print::line(output, feed.put, number, told.code, told.number);
+    note(feed, number, told.code, line);
     Feed { stage, number, put }
+}
+
+// Notes on standard error why a line was answered with 9, by how the run stood before it.
+fn note(feed: Feed, number: u64, code: u64, line: &[u8]) {
+    if code == 9 {
+        desk_notes::tell(number, is_first(feed), line);
+    }
+}
+
+// Whether line 1 is to come.
+fn is_first(feed: Feed) -> bool
+    ensures { λ r. ⌜ r ≡ isFirst (feed .stage) ⌝ }
+{
+    let stage = feed.stage;
+    match stage {
+        Stage::First => true,
+        Stage::Open(_) => false,
+        Stage::Ended(_) => false,
+    }
 }
 
 // Whether no further line is answered.

@@ -1,5 +1,6 @@
 // What the desk tells a person, all of it on standard error: standard output has the answers and nothing else.
 use desk_answers::Stage;
+use desk_feed::MEMORY_WORDS;
 use desk_feed::Ran;
 use desk_feed::Why;
 use libc::STDERR_FILENO;
@@ -7,6 +8,11 @@ use libc::STDERR_FILENO;
 // Writes words. A write that fails here has nobody to be told.
 fn say(words: &[u8]) {
     io::write_all(STDERR_FILENO, words);
+}
+
+// Writes a number.
+fn say_number(n: usize) {
+    io::print_decimal(STDERR_FILENO, n as u64);
 }
 
 // The line that sets the store up.
@@ -46,7 +52,19 @@ fn refused(stage: Stage) {
             settings_line();
             say(b"\n");
         }
+        if code == 15 {
+            room();
+        }
     }
+}
+
+// How many modems the program has room for.
+fn room() {
+    say(b"desk: room for ");
+    say_number(desk_room::room_for(MEMORY_WORDS, 1));
+    say(b" modems in one shard, ");
+    say_number(desk_room::room_for(MEMORY_WORDS, 64));
+    say(b" in 64\n");
 }
 
 // What a code tells.
@@ -75,6 +93,7 @@ pub fn help() {
     );
     lines();
     codes();
+    say(b"Standard error says why a line is answered with 9.\n");
     say(b"A line 1 that is not told 0 ends the run. So does a read or a write that fails.\n");
 }
 

@@ -1,7 +1,8 @@
 -- `go_on` keeps the lengths of its buffers, holds no more than a line's beginning, and has come from where it stood over one read more with each turn; it ends
 -- since it counts its turns.
 use Rattle.desk_feed.proofs.RanLaws.{GoingOn, none-turned, goes-on, over-by-write, over-by-line-1, over-by-read, over-by-turns, over-at-end}
-use mathlib.Core.Path.{refl, sym, _∙_}
+use Rattle.desk_feed.specs.Ran.{mostTurns}
+use mathlib.Core.Path.{_≡_, refl, sym, _∙_}
 use native.Mathlib.Omega.{arith}
 use Prim.Native.Nat.{_-_, _^_, _≤_}
 use lib.ListN.{length}
@@ -40,7 +41,7 @@ grown g = let r = g .before .before .before .before in rw (g .got .given .1) at 
 loop-holds : tie.Need-loop-holds Inv-loop μ-loop
 loop-holds c =
     let start′ = c .before .before .before in
-    record { same-input = refl; same-output = refl; same-memory = refl; few = start′ .pre .2; more = start′ .pre .3; far = none-turned _ _ }
+    record { same-input = refl; same-output = refl; same-memory = refl; few = start′ .pre .2; counted = omega arith; more = start′ .pre .3; far = none-turned _ _ }
 
 read-more-requires : tie.Need-read-more-requires Inv-loop μ-loop
 read-more-requires c κs = search needs
@@ -151,6 +152,7 @@ loop-again c =
       same-output = search needs;
       same-memory = search needs;
       few = omega (arith, t .turn .ensures .few);
+      counted = search needs;
       more = more;
       far = goes-on (loop′ .input) (loop′ .inv .far) (r .read-more .ensures .1) (grown (known t) .0) (omega arith) (t .turn .ensures) more;
     }
@@ -167,7 +169,8 @@ same-length-15 c = search needs
 returns-5 : tie.Need-returns-5 Inv-loop μ-loop
 returns-5 c =
     let loop′ = c .before .loop in
-    over-by-turns (loop′ .pending) (loop′ .input) (loop′ .feed) (loop′ .inv .far) (loop′ .inv .more)
+    let all : loop′ .turns ≡ mostTurns = omega (arith, c .loop-test .left, loop′ .inv .counted) in
+    over-by-turns (loop′ .pending) (loop′ .input) (loop′ .feed) (loop′ .inv .far) (loop′ .inv .more) all
 
 pub go-on-spec : {M : Type 1} → statement M
 go-on-spec =

@@ -23,6 +23,9 @@ serve-requires c κs = search needs
 line-requires : tie.Need-line-requires
 line-requires c κs = search needs
 
+note-requires : tie.Need-note-requires
+note-requires c κs = search needs
+
 same-length : tie.Need-same-length
 same-length c = search needs
 
@@ -31,11 +34,11 @@ same-length-2 c = search needs
 
 returns : tie.Need-returns
 returns c =
-    let s = c .before .before .before .before .before .before .before in
+    let s = c .before .before .before .before .before .before .before .before in
     let n = numbered s in
     let a = start n .args in
     let gave = rw (s .before .before .read .ensures) at (s .serve .ensures) in
-    let prints = c .before .before .line .ensures in
+    let prints = c .before .before .before .line .ensures in
     line-is-one (a .feed) (a .line .now) (a .memory .now) (a .output .now) (start n .pre) (n .wrapping-add-u64 .ensures) gave prints
 
 pub answer-line-spec : {M : Type 1} → statement M
@@ -46,6 +49,7 @@ answer-line-spec =
     read-requires
     serve-requires
     line-requires
+    note-requires
     same-length
     same-length-2
     returns)

@@ -1,0 +1,33 @@
+-- `at_end` has a case for each kind.
+use borrow.Author.Needs.{needs}
+use Rattle.desk_reasons.proofs.at_end.Statement.{statement}
+use Rattle.desk_reasons.proofs.at_end.Tie as tie
+
+enum-told : tie.Need-enum-told
+enum-told c = search needs
+
+enum-told-2 : tie.Need-enum-told-2
+enum-told-2 c = search needs
+
+add-t4 : tie.Need-add-t4
+add-t4 c = search needs
+
+enum-told-3 : tie.Need-enum-told-3
+enum-told-3 c = search needs
+
+add-t6 : tie.Need-add-t6
+add-t6 c = search needs
+
+returns : tie.Need-returns
+returns c = search needs
+
+returns-2 : tie.Need-returns-2
+returns-2 c = rw (c .enum-told2 .given .1)
+
+returns-3 : tie.Need-returns-3
+returns-3 c = rw (c .enum-told3 .given .1)
+
+pub at-end-spec : {M : Type 1} → statement M
+at-end-spec =
+    tie.close
+    (tie.spec enum-told enum-told-2 add-t4 enum-told-3 add-t6 returns returns-2 returns-3)
