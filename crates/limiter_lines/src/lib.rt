@@ -1,10 +1,11 @@
-// Desk lines for callers in C and Rust: a function for each kind of call, which writes its line into a lent buffer. The number told is how
-// many bytes the line has, LF counted. A buffer that is shorter is refused as 13, told as code 23, and no byte of it changes.
+// Desk lines for callers in C and Rust: a function for each kind of call, which writes its line into a lent buffer. The number told is the
+// line's length in bytes, LF counted. A buffer that is shorter is refused as 13, told as code 23, and no byte of it changes.
+// It is a separate crate so that it becomes a separate object: a program that writes no desk line links none of it.
 ghost use mathlib.Core.Path.{_≡_};
 ghost use Rattle.rows.specs.Outcome.{outcome};
 ghost use Rattle.units.specs.Units.{nanosOf};
 ghost use Rattle.desk_writer.specs.declared.Call.the-variants.{Try, Peek, Reserve, Refund, Remove};
-ghost use Rattle.limiter.specs.Lines.{requestOf, lineTold, toldWritten};
+ghost use Rattle.limiter_lines.specs.Lines.{requestOf, lineTold, toldWritten};
 use desk_lines::Request;
 use desk_writer::Call;
 use desk_writer::Written;

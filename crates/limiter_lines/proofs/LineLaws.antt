@@ -8,7 +8,7 @@ use Rattle.perkey.specs.declared.codes.Told.{Told}
 use Rattle.desk_writer.specs.declared.Call.{Call}
 use Rattle.desk_writer.specs.declared.Written.{Written}
 use Rattle.desk_writer.specs.Writer.{written}
-use Rattle.limiter.specs.Lines.{lineTold, toldWritten}
+use Rattle.limiter_lines.specs.Lines.{lineTold, toldWritten}
 use borrow.Author.Tests.{eq-eqb, ne-eqb}
 
 pub line-is-told : (w : Written) → w .number ≡ 0 → record { code = 0; number = w .size; moment = 0 } ≡ lineTold w

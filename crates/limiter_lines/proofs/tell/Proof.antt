@@ -1,8 +1,8 @@
--- `lines::tell` goes by the number.
-use Rattle.limiter.proofs.LineLaws.{line-is-told, refusal-is-told}
+-- `tell` goes by the number.
+use Rattle.limiter_lines.proofs.LineLaws.{line-is-told, refusal-is-told}
 use borrow.Author.Needs.{needs}
-use Rattle.limiter.proofs.lines.tell.Statement.{statement}
-use Rattle.limiter.proofs.lines.tell.Tie as tie
+use Rattle.limiter_lines.proofs.tell.Statement.{statement}
+use Rattle.limiter_lines.proofs.tell.Tie as tie
 
 returns : tie.Need-returns
 returns c = line-is-told _ (c .if1 .taken)

@@ -1,9 +1,9 @@
 -- `limiter_line_refund` tells what the writer gives for a refund.
 use Rattle.desk_writer.specs.declared.Call.the-variants.{Refund}
-use Rattle.limiter.proofs.LineLaws.{written-is-told}
+use Rattle.limiter_lines.proofs.LineLaws.{written-is-told}
 use borrow.Author.Needs.{needs}
-use Rattle.limiter.proofs.lines.limiter_line_refund.Statement.{statement}
-use Rattle.limiter.proofs.lines.limiter_line_refund.Tie as tie
+use Rattle.limiter_lines.proofs.limiter_line_refund.Statement.{statement}
+use Rattle.limiter_lines.proofs.limiter_line_refund.Tie as tie
 
 write-requires : tie.Need-write-requires
 write-requires c κs = search needs

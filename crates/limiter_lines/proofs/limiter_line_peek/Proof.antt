@@ -1,10 +1,10 @@
 -- `limiter_line_peek` tells what the writer gives for a peek.
 use Rattle.desk_writer.specs.declared.Call.the-variants.{Peek}
-use Rattle.limiter.specs.Lines.{requestOf}
-use Rattle.limiter.proofs.LineLaws.{written-is-told}
+use Rattle.limiter_lines.specs.Lines.{requestOf}
+use Rattle.limiter_lines.proofs.LineLaws.{written-is-told}
 use borrow.Author.Needs.{needs}
-use Rattle.limiter.proofs.lines.limiter_line_peek.Statement.{statement}
-use Rattle.limiter.proofs.lines.limiter_line_peek.Tie as tie
+use Rattle.limiter_lines.proofs.limiter_line_peek.Statement.{statement}
+use Rattle.limiter_lines.proofs.limiter_line_peek.Tie as tie
 
 request-requires : tie.Need-request-requires
 request-requires c κs = search needs

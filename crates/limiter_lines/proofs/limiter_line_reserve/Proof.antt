@@ -1,11 +1,11 @@
 -- `limiter_line_reserve` tells what the writer gives for a reservation.
 use Rattle.desk_writer.specs.declared.Call.the-variants.{Reserve}
 use Rattle.units.specs.Units.{nanosOf}
-use Rattle.limiter.specs.Lines.{requestOf}
-use Rattle.limiter.proofs.LineLaws.{written-is-told}
+use Rattle.limiter_lines.specs.Lines.{requestOf}
+use Rattle.limiter_lines.proofs.LineLaws.{written-is-told}
 use borrow.Author.Needs.{needs}
-use Rattle.limiter.proofs.lines.limiter_line_reserve.Statement.{statement}
-use Rattle.limiter.proofs.lines.limiter_line_reserve.Tie as tie
+use Rattle.limiter_lines.proofs.limiter_line_reserve.Statement.{statement}
+use Rattle.limiter_lines.proofs.limiter_line_reserve.Tie as tie
 
 request-requires : tie.Need-request-requires
 request-requires c κs = search needs
