@@ -3,16 +3,21 @@ use Prim.Native.Nat.{ℕ, _+_, _≤_}
 use native.Mathlib.Omega.{arith}
 use mathlib.Core.Path.{_≡_}
 use mathlib.Core.List.{List, [], _∷_}
+use lib.Dec.{leb}
 use lib.ListN.{length}
+use Rattle.arith.proofs.Cases.{by-test}
+use Rattle.rows.specs.Outcome.{outcome}
+use Rattle.rows.proofs.OutcomeLaws.{answer-is}
 use Rattle.decimal.proofs.DecimalLaws.{digits-count}
 use Rattle.desk_lines.specs.declared.Request.{Request}
 use Rattle.desk_lines.specs.Lines.{most32}
 use Rattle.desk_writer.specs.declared.Call.{Call}
 use Rattle.desk_writer.specs.declared.Call.the-variants.{Try, Peek, Reserve, Refund, Remove}
+use Rattle.desk_writer.specs.declared.Written.{Written}
 use Rattle.desk_writer.specs.Writer.{field, spaced, requestNumbers, numbersOf, writtenLine, written, requestFits, Fits, longestWritten}
 use Rattle.desk_writer.proofs.SizeLaws.{spaced-none-size, spaced-size, spaced-append-size, line-size}
 use Rattle.desk_writer.proofs.ShortestLaws.{few-digits-below}
-use borrow.Author.Tests.{le-leb}
+use borrow.Author.Tests.{le-leb, leb-true}
 
 -- A number has at most 20 digits, a cost at most 10. Each has a space in front.
 number-size-within : (n : ℕ) → length (field n) ≤ 21
@@ -56,3 +61,14 @@ unfolding written
 longest-buffer-is-not-refused call buffer fits room =
     let line : length (writtenLine call) ≤ length buffer = omega (arith, written-line-has-at-most-76-bytes call fits) in
     rw (le-leb (length (writtenLine call)) (length buffer) line)
+
+-- The length that is told is within the buffer, written or refused.
+size-within : (call : Call) (buffer : List ℕ) → written call buffer .answer .size ≤ length buffer
+unfolding written
+size-within call buffer =
+    by-test (leb (length (writtenLine call)) (length buffer))
+    (λ t. rw t (leb-true (length (writtenLine call)) (length buffer) t))
+    (λ t. rw t (omega arith))
+
+pub told-size-within : (call : Call) (buffer : List ℕ) {w : Written} {bytes : List ℕ} → outcome w bytes ≡ written call buffer → w .size ≤ length buffer
+told-size-within call buffer gave = rw (answer-is gave) (size-within call buffer)
