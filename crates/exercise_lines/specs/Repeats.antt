@@ -19,8 +19,8 @@ use Rattle.desk_writer.specs.declared.Call.the-variants.{Try, Peek, Reserve, Re
 use Rattle.exercise_lines.specs.declared.Repeat.{Repeat}
 use Rattle.exercise_lines.specs.declared.Repeat.the-variants.{Calls, Other, TooFar}
 
--- The call at a place, the first one having place 0: for the modem that many after the first one, and that many spacings later. The numbers of a definition have
--- no width.
+-- The call at a place, where the first one has place 0: it is for the modem that many after the first one, and that many spacings later.
+-- The numbers of a definition have no width.
 abbrev pub requestOn : ℕ → ℕ → Request → Request
 requestOn spacing place q = record { at = nanosOf (q .at .0 + place * spacing); key = q .key + place; cost = q .cost }
 
@@ -66,8 +66,8 @@ ofParts (number.Some n) (number.Some m) l = ofLine n m l
 abbrev pub mostLines : ℕ
 mostLines = 65536
 
--- A line of at least two bytes, whatever these are: the fields after them are the count and the spacing, with a space behind each. The other bytes are a line of
--- the desk.
+-- A line of at least two bytes, whatever these are: the fields after them are the count and the spacing, with a space behind each.
+-- The other bytes are a line of the desk.
 abbrev pub spacingAt : List ℕ → ℕ
 spacingAt bytes = fieldEnd bytes 2 + 1
 

@@ -20,5 +20,6 @@ unfolding lineTold
 refusal-is-told w other = rw (ne-eqb (w .number) 0 other)
 
 -- A line that the writer gave, told.
-pub written-is-told : (call : Call) (buffer : List ℕ) {w : Written} {t : Told} {bytes : List ℕ} → outcome w bytes ≡ written call buffer → t ≡ lineTold w → outcome t bytes ≡ toldWritten call buffer
+pub written-is-told : (call : Call) (buffer : List ℕ) {w : Written} {t : Told} {bytes : List ℕ}
+    → outcome w bytes ≡ written call buffer → t ≡ lineTold w → outcome t bytes ≡ toldWritten call buffer
 written-is-told call buffer gave told = rw (told, answer-is gave, after-is gave)

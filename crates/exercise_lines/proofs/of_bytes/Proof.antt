@@ -83,7 +83,9 @@ returns-3 c =
     let e = n .before .before in
     let g = e .before in
     let h = g .before in
-    of-all-parts _ (count-ends (h .before)) (h .if1 .left) (spacing-ends g) (e .if2 .left) (c .of-parts .ensures) (n .number .ensures) (m .number2 .ensures) (c .before .read .ensures)
+    let count = n .number .ensures in
+    let spacing = m .number2 .ensures in
+    of-all-parts _ (count-ends (h .before)) (h .if1 .left) (spacing-ends g) (e .if2 .left) (c .of-parts .ensures) count spacing (c .before .read .ensures)
 
 pub of-bytes-spec : {M : Type 1} → statement M
 of-bytes-spec =

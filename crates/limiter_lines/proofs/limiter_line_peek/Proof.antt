@@ -22,7 +22,8 @@ returns : tie.Need-returns
 returns c =
     let w = c .before .before .before in
     let a = w .before .before .before .before .args in
-    written-is-told (Peek (requestOf (a .at) (a .key) (a .cost))) (a .out .now) (rw (w .before .before .request .ensures) at (w .write .ensures)) (c .tell .ensures)
+    let call = Peek (requestOf (a .at) (a .key) (a .cost)) in
+    written-is-told call (a .out .now) (rw (w .before .before .request .ensures) at (w .write .ensures)) (c .tell .ensures)
 
 pub limiter-line-peek-spec : {M : Type 1} → statement M
 limiter-line-peek-spec =

@@ -23,7 +23,8 @@ returns : tie.Need-returns
 returns c =
     let w = c .before .before .before in
     let a = w .before .before .before .before .args in
-    written-is-told (Reserve (requestOf (a .at) (a .key) (a .cost)) (nanosOf (a .max-wait))) (a .out .now) (rw (w .before .before .request .ensures) at (w .write .ensures)) (c .tell .ensures)
+    let call = Reserve (requestOf (a .at) (a .key) (a .cost)) (nanosOf (a .max-wait)) in
+    written-is-told call (a .out .now) (rw (w .before .before .request .ensures) at (w .write .ensures)) (c .tell .ensures)
 
 pub limiter-line-reserve-spec : {M : Type 1} → statement M
 limiter-line-reserve-spec =
