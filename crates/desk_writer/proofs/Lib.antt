@@ -1,4 +1,6 @@
-pub mod WritingLaws
-pub mod ReadBackLaws
+pub mod SizeLaws
 pub mod ShortestLaws
+pub mod LongestLaws
+pub mod ReadBackLaws
+pub mod WritingLaws
 pub mod Worked

@@ -24,8 +24,9 @@ use Rattle.desk_lines.specs.Printed.{lineFeed}
 use Rattle.desk_lines.proofs.FieldLaws.{digit-is-no-space}
 use Rattle.desk_writer.specs.declared.Call.{Call}
 use Rattle.desk_writer.specs.declared.Call.the-variants.{Try, Peek, Reserve, Refund, Remove}
-use Rattle.desk_writer.specs.Writer.{field, spaced, requestNumbers, letterOf, numbersOf, bytesOf, lineOf, written, asRead, requestFits, Fits}
-use Rattle.desk_writer.proofs.WritingLaws.{spaced-none-size, spaced-size, field-size-within}
+use Rattle.desk_writer.specs.Writer.{field, spaced, requestNumbers, letterOf, numbersOf, bytesOf, writtenLine, written, asRead, requestFits, Fits}
+use Rattle.desk_writer.proofs.SizeLaws.{line-size}
+use Rattle.desk_writer.proofs.LongestLaws.{written-line-has-at-most-76-bytes}
 use borrow.Author.Tests.{le-leb, lt-leb, ne-eqb}
 
 -- Digits in front of bytes whose first field is empty are that field.
@@ -77,26 +78,15 @@ letter-is-no-space (Reserve q w) = refl
 letter-is-no-space (Refund key cost) = refl
 letter-is-no-space (Remove key) = refl
 
--- A line has at most four numbers, so it is not too long for the reader.
-spaced-within : (ns : List ℕ) → length (spaced ns) ≤ 21 * length ns
-spaced-within [] = omega (arith, spaced-none-size)
-spaced-within (n ∷ ns) = omega (arith, spaced-size n ns, field-size-within n, spaced-within ns)
-
-few-numbers : (call : Call) → length (numbersOf call) ≤ 4
-few-numbers (Try q) = omega arith
-few-numbers (Peek q) = omega arith
-few-numbers (Reserve q w) = omega arith
-few-numbers (Refund key cost) = omega arith
-few-numbers (Remove key) = omega arith
-
-bytes-within : (call : Call) → length (bytesOf call) ≤ longestLine
-bytes-within call = omega (arith, spaced-within (numbersOf call), few-numbers call)
+-- A line has at most 76 bytes, so it is not too long for the reader.
+bytes-within : (call : Call) → Fits call → length (bytesOf call) ≤ longestLine
+bytes-within call fits = omega (arith, line-size call, written-line-has-at-most-76-bytes call fits)
 
 -- The theorem: reading a written line, without its LF, gives the call again.
 pub written-line-reads-back : (call : Call) → Fits call → reader.lineOf (bytesOf call) ≡ asRead call
 unfolding reader.lineOf
 written-line-reads-back call fits =
-    rw (le-leb (length (bytesOf call)) longestLine (bytes-within call), letter-is-a-field (letterOf call) (numbersOf call) (letter-is-no-space call))
+    rw (le-leb (length (bytesOf call)) longestLine (bytes-within call fits), letter-is-a-field (letterOf call) (numbersOf call) (letter-is-no-space call))
     (fields-read-back call fits)
 
 -- No byte before the LF is an LF, so the reader takes the line as one, whatever follows it.
@@ -136,16 +126,16 @@ written-line-ends-at-its-first-lf call more =
 
 -- What a buffer holds after a call of the writer: the line, and the bytes past it as they were; where the buffer is too short, all bytes as they were.
 module _ (call : Call) (buffer : List ℕ) where
-  pub buffer-begins-with-the-line : length (lineOf call) ≤ length buffer → take (length (lineOf call)) (written call buffer .after) ≡ lineOf call
+  pub buffer-begins-with-the-line : length (writtenLine call) ≤ length buffer → take (length (writtenLine call)) (written call buffer .after) ≡ writtenLine call
   unfolding written
   buffer-begins-with-the-line room =
-      rw (le-leb (length (lineOf call)) (length buffer) room) (take-append-seam (lineOf call) (drop (length (lineOf call)) buffer))
+      rw (le-leb (length (writtenLine call)) (length buffer) room) (take-append-seam (writtenLine call) (drop (length (writtenLine call)) buffer))
 
-  pub bytes-past-the-line-stay : length (lineOf call) ≤ length buffer → drop (length (lineOf call)) (written call buffer .after) ≡ drop (length (lineOf call)) buffer
+  pub bytes-past-the-line-stay : length (writtenLine call) ≤ length buffer → drop (length (writtenLine call)) (written call buffer .after) ≡ drop (length (writtenLine call)) buffer
   unfolding written
   bytes-past-the-line-stay room =
-      rw (le-leb (length (lineOf call)) (length buffer) room) (drop-append-seam (lineOf call) (drop (length (lineOf call)) buffer))
+      rw (le-leb (length (writtenLine call)) (length buffer) room) (drop-append-seam (writtenLine call) (drop (length (writtenLine call)) buffer))
 
-  pub refusal-changes-no-byte : length buffer < length (lineOf call) → written call buffer ≡ outcome (record { number = 13; size = 0 }) buffer
+  pub refusal-changes-no-byte : length buffer < length (writtenLine call) → written call buffer ≡ outcome (record { number = 13; size = 0 }) buffer
   unfolding written
-  refusal-changes-no-byte short = rw (lt-leb (length (lineOf call)) (length buffer) short)
+  refusal-changes-no-byte short = rw (lt-leb (length (writtenLine call)) (length buffer) short)

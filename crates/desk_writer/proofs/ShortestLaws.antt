@@ -23,8 +23,8 @@ use Rattle.desk_lines.specs.Lines as reader
 use Rattle.desk_lines.specs.Printed.{lineFeed}
 use Rattle.desk_writer.specs.declared.Call.{Call}
 use Rattle.desk_writer.specs.declared.Call.the-variants.{Try, Peek, Reserve, Refund, Remove}
-use Rattle.desk_writer.specs.Writer.{field, spaced, requestNumbers, numbersOf, bytesOf, lineOf, asRead}
-use Rattle.desk_writer.proofs.WritingLaws.{spaced-none-size, spaced-size, spaced-append-size}
+use Rattle.desk_writer.specs.Writer.{field, spaced, requestNumbers, numbersOf, bytesOf, writtenLine, asRead}
+use Rattle.desk_writer.proofs.SizeLaws.{spaced-none-size, spaced-size, spaced-append-size}
 use borrow.Author.Tests.{leb-true}
 
 -- So many digits make a number below that power of ten.
@@ -44,7 +44,7 @@ digits-fit n k (b ∷ bs) fits digits =
         (λ below. absurd (true≢false (sym (rw below at one))))
 
 -- A number below a power of ten has no more digits than that.
-few-digits-below : (all n k : ℕ) → 1 ≤ k → n < 10 ^ k → length (digitsFrom all n) ≤ k
+pub few-digits-below : (all n k : ℕ) → 1 ≤ k → n < 10 ^ k → length (digitsFrom all n) ≤ k
 unfolding digitsFrom
 few-digits-below zero n k some fits = omega arith
 few-digits-below (suc all) n zero some fits = absurd (omega arith)
@@ -215,7 +215,7 @@ bytes-need bs =
     (λ t. rw t (omega arith))
 
 -- The theorem: of all lines read as a call and ended by LF, the written one is the shortest.
-pub written-line-is-shortest : (call : Call) (bs : List ℕ) → reader.lineOf bs ≡ asRead call → length (lineOf call) ≤ length (bs ++ (lineFeed ∷ []))
+pub written-line-is-shortest : (call : Call) (bs : List ℕ) → reader.lineOf bs ≡ asRead call → length (writtenLine call) ≤ length (bs ++ (lineFeed ∷ []))
 written-line-is-shortest call bs is =
     omega (
       arith,

@@ -17,53 +17,31 @@ use Rattle.desk_lines.specs.declared.Request.{Request}
 use Rattle.desk_writer.specs.declared.Call.{Call}
 use Rattle.desk_writer.specs.declared.Call.the-variants.{Try, Peek, Reserve, Refund, Remove}
 use Rattle.desk_writer.specs.declared.Written.{Written}
-use Rattle.desk_writer.specs.Writer.{field, spaced, requestNumbers, numbersOf, bytesOf, lineOf, tooShort, written}
-use borrow.Author.Tests.{le-leb, lt-leb}
+use Rattle.desk_writer.specs.Writer.{field, spaced, requestNumbers, numbersOf, bytesOf, writtenLine, tooShort, written}
+use Rattle.desk_writer.proofs.SizeLaws.{spaced-none-size, spaced-size, spaced-append, spaced-append-size, line-size}
+use borrow.Author.Tests.{le-leb}
 
--- Numbers in a row, one part after another.
-pub spaced-append : (ms ns : List ℕ) → spaced (ms ++ ns) ≡ spaced ms ++ spaced ns
-unfolding spaced
-spaced-append [] ns = refl
-spaced-append (m ∷ ms) ns = ap (λ (bs : List ℕ). field m ++ bs) (spaced-append ms ns) ∙ sym (append-assoc (field m) (spaced ms) (spaced ns))
-
+-- One number in a row is its field.
 spaced-one : (n : ℕ) → spaced (n ∷ []) ≡ field n
 unfolding spaced
 spaced-one n = append-nil (field n)
 
--- How many bytes they have.
-pub spaced-none-size : length (spaced []) ≡ 0
-unfolding spaced
-spaced-none-size = refl
-
-pub spaced-size : (n : ℕ) (ns : List ℕ) → length (spaced (n ∷ ns)) ≡ length (field n) + length (spaced ns)
-unfolding spaced
-spaced-size n ns = length-append (field n) (spaced ns)
-
-pub spaced-append-size : (ms ns : List ℕ) → length (spaced (ms ++ ns)) ≡ length (spaced ms) + length (spaced ns)
-spaced-append-size ms ns = ap length (spaced-append ms ns) ∙ length-append (spaced ms) (spaced ns)
-
-pub field-size-within : (n : ℕ) → length (field n) ≤ 21
-field-size-within n = omega (arith, digits-count n)
-
-pub line-size : (call : Call) → length (lineOf call) ≡ 2 + length (spaced (numbersOf call))
-line-size call = omega (arith, length-append (bytesOf call) (lineFeed ∷ []))
-
--- The same by the kind of the call.
-pub try-size : (q : Request) {r : ℕ} → r ≡ length (spaced (requestNumbers q)) → 2 + r ≡ length (lineOf (Try q))
+-- How many bytes a line has, by the kind of the call.
+pub try-size : (q : Request) {r : ℕ} → r ≡ length (spaced (requestNumbers q)) → 2 + r ≡ length (writtenLine (Try q))
 try-size q is = omega (arith, is, line-size (Try q))
 
-pub peek-size : (q : Request) {r : ℕ} → r ≡ length (spaced (requestNumbers q)) → 2 + r ≡ length (lineOf (Peek q))
+pub peek-size : (q : Request) {r : ℕ} → r ≡ length (spaced (requestNumbers q)) → 2 + r ≡ length (writtenLine (Peek q))
 peek-size q is = omega (arith, is, line-size (Peek q))
 
-pub reserve-size : (q : Request) (w : Nanos) {r s : ℕ} → r ≡ length (spaced (requestNumbers q)) → s ≡ length (field (w .0)) → 2 + r + s ≡ length (lineOf (Reserve q w))
+pub reserve-size : (q : Request) (w : Nanos) {r s : ℕ} → r ≡ length (spaced (requestNumbers q)) → s ≡ length (field (w .0)) → 2 + r + s ≡ length (writtenLine (Reserve q w))
 reserve-size q w is then =
     omega (arith, is, then, line-size (Reserve q w), spaced-append-size (requestNumbers q) (w .0 ∷ []), spaced-size (w .0) [], spaced-none-size)
 
-pub refund-size : (key cost : ℕ) {r s : ℕ} → r ≡ length (field key) → s ≡ length (field cost) → 2 + r + s ≡ length (lineOf (Refund key cost))
+pub refund-size : (key cost : ℕ) {r s : ℕ} → r ≡ length (field key) → s ≡ length (field cost) → 2 + r + s ≡ length (writtenLine (Refund key cost))
 refund-size key cost is then =
     omega (arith, is, then, line-size (Refund key cost), spaced-size key (cost ∷ []), spaced-size cost [], spaced-none-size)
 
-pub remove-size : (key : ℕ) {r : ℕ} → r ≡ length (field key) → 2 + r ≡ length (lineOf (Remove key))
+pub remove-size : (key : ℕ) {r : ℕ} → r ≡ length (field key) → 2 + r ≡ length (writtenLine (Remove key))
 remove-size key is = omega (arith, is, line-size (Remove key), spaced-size key [], spaced-none-size)
 
 -- The letter alone.
@@ -87,16 +65,12 @@ module _ (letter : ℕ) (ms : List ℕ) (n : ℕ) (bytes : List ℕ) {place : �
       let all : spaced ms ++ field n ≡ spaced (ms ++ (n ∷ [])) = ap (λ (bs : List ℕ). spaced ms ++ bs) (sym (spaced-one n)) ∙ sym (spaced-append ms (n ∷ [])) in
       written-after (letter ∷ spaced ms) (field n) 0 bytes gave then ∙ ap (λ (bs : List ℕ). writtenOver (letter ∷ bs) 0 bytes) all
 
--- The two answers of the writer.
+-- The line that the writer stored is the definition's.
 module _ (call : Call) (buffer : List ℕ) where
-  pub refused-is-written : length buffer < length (lineOf call) → outcome (record { number = tooShort; size = 0 }) buffer ≡ written call buffer
-  unfolding written
-  refused-is-written short = rw (lt-leb (length (lineOf call)) (length buffer) short)
-
-  pub line-is-written : {size place : ℕ} {bytes : List ℕ} → length (lineOf call) ≤ length buffer → size ≡ length (lineOf call)
+  pub line-is-written : {size place : ℕ} {bytes : List ℕ} → length (writtenLine call) ≤ length buffer → size ≡ length (writtenLine call)
       → outcome place bytes ≡ writtenOver (bytesOf call) 0 buffer → outcome (record { number = 0; size = size }) (set bytes place lineFeed) ≡ written call buffer
   unfolding written
   line-is-written {size} {place} {bytes} room is-size gave =
-      let all : outcome (place + 1) (set bytes place lineFeed) ≡ writtenOver (lineOf call) 0 buffer = written-after (bytesOf call) (lineFeed ∷ []) 0 buffer gave refl in
-      let left : set bytes place lineFeed ≡ lineOf call ++ drop (length (lineOf call)) buffer = after-is all ∙ rw zero-add at (sets-eq (lineOf call) buffer 0 (rw zero-add room)) in
-      rw (le-leb (length (lineOf call)) (length buffer) room, is-size) (ap (outcome (record { number = 0; size = length (lineOf call) })) left)
+      let all : outcome (place + 1) (set bytes place lineFeed) ≡ writtenOver (writtenLine call) 0 buffer = written-after (bytesOf call) (lineFeed ∷ []) 0 buffer gave refl in
+      let left : set bytes place lineFeed ≡ writtenLine call ++ drop (length (writtenLine call)) buffer = after-is all ∙ rw zero-add at (sets-eq (writtenLine call) buffer 0 (rw zero-add room)) in
+      rw (le-leb (length (writtenLine call)) (length buffer) room, is-size) (ap (outcome (record { number = 0; size = length (writtenLine call) })) left)

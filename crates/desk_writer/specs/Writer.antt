@@ -48,8 +48,12 @@ numbersOf (Remove k) = k ∷ []
 abbrev pub bytesOf : Call → List ℕ
 bytesOf call = letterOf call ∷ spaced (numbersOf call)
 
-abbrev pub lineOf : Call → List ℕ
-lineOf call = bytesOf call ++ (lineFeed ∷ [])
+abbrev pub writtenLine : Call → List ℕ
+writtenLine call = bytesOf call ++ (lineFeed ∷ [])
+
+-- The most bytes that a line has, with its LF.
+abbrev pub longestWritten : ℕ
+longestWritten = 76
 
 -- The number of the refusal.
 abbrev pub tooShort : ℕ
@@ -59,8 +63,8 @@ tooShort = 13
 -- they were.
 unfoldable pub written : Call → List ℕ → Outcome Written (List ℕ)
 written call buffer =
-    cond (leb (length (lineOf call)) (length buffer))
-    (outcome (record { number = 0; size = length (lineOf call) }) (lineOf call ++ drop (length (lineOf call)) buffer))
+    cond (leb (length (writtenLine call)) (length buffer))
+    (outcome (record { number = 0; size = length (writtenLine call) }) (writtenLine call ++ drop (length (writtenLine call)) buffer))
     (outcome (record { number = tooShort; size = 0 }) buffer)
 
 -- The line of the reader that a call is.

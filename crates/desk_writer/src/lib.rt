@@ -1,12 +1,12 @@
 // Desk lines written from calls: the bytes that the desk program reads as a call, LF at the end, stored in a lent buffer.
 ghost use mathlib.Core.Path.{_≡_};
 ghost use mathlib.Core.List.{[], _∷_};
-ghost use Prim.Native.Nat.{_+_, _≤_};
-ghost use lib.ListN.{length};
+ghost use Prim.Native.Nat.{_+_, _≤_, _<_};
+ghost use lib.ListN.{length, set};
 ghost use Rattle.rows.specs.Outcome.{outcome};
-ghost use Rattle.desk_lines.specs.Printed.{writtenOver};
+ghost use Rattle.desk_lines.specs.Printed.{lineFeed, writtenOver};
 ghost use Rattle.desk_writer.specs.declared.Call.the-variants.{Reserve, Refund, Remove};
-ghost use Rattle.desk_writer.specs.Writer.{field, spaced, requestNumbers, bytesOf, lineOf, written};
+ghost use Rattle.desk_writer.specs.Writer.{field, spaced, requestNumbers, bytesOf, writtenLine, written};
 use desk_lines::Request;
 use units::Nanos;
 
@@ -28,6 +28,9 @@ pub struct Written {
     pub size: usize,
 }
 
+// The most bytes that a line has, with its LF. A buffer of this length is never refused (`longest-buffer-is-not-refused`).
+pub const LONGEST_WRITTEN: usize = 76;
+
 // The refusal of a buffer that is shorter than the line.
 pub const TOO_SHORT: u64 = 13;
 
@@ -43,13 +46,21 @@ pub fn write(call: Call, out: &mut [u8]) -> Written
         };
     }
     let end = put(out, call);
-    out[end] = b'\n';
+    put_end(out, end);
     Written { number: 0, size }
+}
+
+// Stores the LF at the place after a call's bytes, and no other byte.
+fn put_end(out: &mut [u8], end: usize)
+    requires { ⌜ end < length (now out) ⌝ }
+    ensures { λ _. ⌜ now (out .exit) ≡ set (now (out .entry)) end lineFeed ⌝ }
+{
+    out[end] = b'\n';
 }
 
 // How many bytes a call's line has, with its LF.
 pub fn size(call: Call) -> usize
-    ensures { λ r. ⌜ r ≡ length (lineOf call) ⌝ }
+    ensures { λ r. ⌜ r ≡ length (writtenLine call) ⌝ }
 {
     match call {
         Call::Try(request) => 2 + request_size(request),

@@ -1,155 +1,207 @@
 // Exercises for the desk: a line that the desk reads is copied, and a line `v COUNT SPACING CALL` is written as COUNT lines of that call, for one modem after
-// another and at moments SPACING apart. Any other line is told on standard error: its number and the code 9.
-use decimal::OptionNumber;
+// another and at moments SPACING apart. What is wrong with another line is told on standard error, with its number, and nothing is written for it.
+ghost use mathlib.Core.Path.{_≡_};
+ghost use mathlib.Core.Bool.{true};
+ghost use Prim.Native.Nat.{_-_, _<_};
+ghost use lib.ListN.{length};
+ghost use Rattle.exercise_lines.specs.Repeats.{within64};
+ghost use Rattle.exercise.specs.Described.{Inside, stepAfter};
 use desk_lines::Line;
-use desk_lines::Request;
+use desk_reads::Got;
 use desk_writer::Call;
+use desk_writer::LONGEST_WRITTEN;
+use exercise_lines::Repeat;
 use libc::STDERR_FILENO;
-use libc::STDIN_FILENO;
 use libc::STDOUT_FILENO;
-use units::Nanos;
 
-// The largest number of lines that a village may have.
-const MOST_LINES: u64 = 65536;
-
-// The bytes of the longest line that is written.
-const LONGEST_WRITTEN: usize = 76;
-
-// The description is read whole. One that fills the buffer may be cut, and nothing is written for it.
-fn main() {
-    let mut text = io::large_buffer();
-    let size = io::read_full(STDIN_FILENO, &mut text);
-    if size == text.len() {
-        io::write_all(
-            STDERR_FILENO,
-            b"exercise: the description has more than 65535 bytes, and nothing is written\n",
-        );
-        return;
-    }
-    lines(&text[..size]);
+// What was read of the description.
+enum Described {
+    // All of it, with its length in bytes.
+    Whole(usize),
+    // It fills the buffer, so it may be cut.
+    TooLong,
+    // A read failed.
+    Failed,
 }
 
-// Goes through the lines. The end of the input ends a line that has begun.
-fn lines(text: &[u8]) {
+// Where the reading stands after a read.
+enum Step {
+    // The bytes that are read so far. There may be more.
+    More(usize),
+    Over(Described),
+}
+
+// The description is read whole before a line is written. For one that is cut nothing is written.
+fn main() {
+    if 1 < os::arg_count() {
+        help();
+        return;
+    }
+    let mut text = io::large_buffer();
+    let described = read_all(&mut text);
+    finish(&text, described);
+}
+
+// Reads to the end of the input. The loop counts its turns since a proved loop has to end, up to a number that no run reaches.
+fn read_all(text: &mut [u8]) -> Described
+    requires { ⌜ 0 < length (now text) ⌝ }
+    ensures { λ r. ⌜ Inside (length (now (text .entry))) r ⌝ }
+{
+    let mut size: usize = 0;
+    let mut turns: u64 = 0;
+    while turns < u64::MAX {
+        let got = desk_reads::read_more(text, size);
+        let step = after(got, size, text.len());
+        match step {
+            Step::More(end) => {
+                size = end;
+            }
+            Step::Over(described) => {
+                return described;
+            }
+        }
+        turns += 1;
+    }
+    Described::Failed
+}
+
+// Where the reading stands after a read, with the bytes that were read before it and those that there is room for.
+fn after(got: Got, size: usize, room: usize) -> Step
+    ensures { λ r. ⌜ r ≡ stepAfter got size room ⌝ }
+{
+    match got {
+        Got::More(end) => {
+            if end < room {
+                return Step::More(end);
+            }
+            Step::Over(Described::TooLong)
+        }
+        Got::End => Step::Over(Described::Whole(size)),
+        Got::Failed => Step::Over(Described::Failed),
+    }
+}
+
+// Writes the lines of a description that was read whole. Of any other it tells what is wrong.
+fn finish(text: &[u8], described: Described)
+    requires { ⌜ Inside (length (now text)) described ⌝ }
+{
+    match described {
+        Described::Whole(size) => all_lines(&text[0..size]),
+        Described::TooLong => {
+            say(b"exercise: the description has more than 65535 bytes, and nothing is written\n");
+        }
+        Described::Failed => os::fail(b"exercise: a read failed, and nothing is written"),
+    }
+}
+
+// Goes through the lines up to a write that fails.
+fn all_lines(text: &[u8]) {
+    if !lines(text) {
+        os::fail(b"exercise: a write failed, and the run ends");
+    }
+}
+
+// Writes what each line stands for. Whether all of it was written. The end of the input ends a line that has begun.
+fn lines(text: &[u8]) -> bool {
     let mut at: usize = 0;
     let mut number: u64 = 0;
     while at < text.len() {
         let stop = bytes::scan::find(text, at, text.len(), b'\n');
         number = std::num::wrapping_add_u64(number, 1);
-        one_line(&text[at..stop], number);
+        if !one_line(&text[at..stop], number) {
+            return false;
+        }
         at = stop + 1;
     }
+    true
 }
 
-// Copies a line of the desk. Another may be a village.
-fn one_line(line: &[u8], number: u64) {
+// Copies a line of the desk. Another may be a `v` line.
+fn one_line(line: &[u8], number: u64) -> bool {
     let read = desk_lines::read(line);
     match read {
-        Line::Malformed => village_line(line, number),
-        _ => {
-            io::write_all(STDOUT_FILENO, line);
-            io::write_all(STDOUT_FILENO, b"\n");
-        }
+        Line::Malformed => other_line(line, number),
+        _ => copied(line),
     }
 }
 
-// A line that is no call of the desk: its number and the code of a malformed line.
-fn malformed(number: u64) {
-    io::print_decimal(STDERR_FILENO, number);
-    io::write_all(STDERR_FILENO, b" 9\n");
+fn copied(line: &[u8]) -> bool {
+    if io::write_all(STDOUT_FILENO, line) {
+        return io::write_all(STDOUT_FILENO, b"\n");
+    }
+    false
 }
 
-// `v`, a count and a spacing, and then a line of the desk.
-fn village_line(line: &[u8], number: u64) {
-    if line.len() < 2 {
-        return malformed(number);
-    }
-    if line[0] != b'v' {
-        return malformed(number);
-    }
-    if line[1] != b' ' {
-        return malformed(number);
-    }
-    let count_end = bytes::scan::find(line, 2, line.len(), b' ');
-    if count_end == line.len() {
-        return malformed(number);
-    }
-    let spacing_at = count_end + 1;
-    let spacing_end = bytes::scan::find(line, spacing_at, line.len(), b' ');
-    if spacing_end == line.len() {
-        return malformed(number);
-    }
-    let count = decimal::number(&line[2..count_end], MOST_LINES);
-    let spacing = decimal::number(&line[spacing_at..spacing_end], u64::MAX);
-    let call_at = spacing_end + 1;
-    let read = desk_lines::read(&line[call_at..]);
-    with_numbers(count, spacing, read, number);
-}
-
-// The village, if both numbers are numbers.
-fn with_numbers(count: OptionNumber, spacing: OptionNumber, read: Line, number: u64) {
-    match count {
-        OptionNumber::None => malformed(number),
-        OptionNumber::Some(many) => match spacing {
-            OptionNumber::None => malformed(number),
-            OptionNumber::Some(apart) => of_line(read, many, apart, number),
-        },
-    }
-}
-
-// The village of a call. Settings are no call.
-fn of_line(read: Line, count: u64, spacing: u64, number: u64) {
+// Writes the lines of a `v` line. Of any other line it tells what is wrong.
+fn other_line(line: &[u8], number: u64) -> bool {
+    let read = exercise_lines::read(line);
     match read {
-        Line::Try(request) => village(Call::Try(request), count, spacing),
-        Line::Peek(request) => village(Call::Peek(request), count, spacing),
-        Line::Reserve(request, max_wait) => {
-            village(Call::Reserve(request, max_wait), count, spacing)
+        Repeat::Calls(call, count, spacing) => repeated(call, count, spacing),
+        Repeat::Other => {
+            wrong(number, b" is neither a line of the desk nor a v line\n");
+            true
         }
-        Line::Refund(key, cost) => village(Call::Refund(key, cost), count, spacing),
-        Line::Remove(key) => village(Call::Remove(key), count, spacing),
-        Line::SetUp(_) => malformed(number),
-        Line::Malformed => malformed(number),
+        Repeat::TooFar => {
+            wrong(
+                number,
+                b" goes past 64 bits in a moment or a modem's number, and nothing is written for it\n",
+            );
+            true
+        }
     }
 }
 
-// Writes the lines of a village.
-fn village(first: Call, count: u64, spacing: u64) {
-    let mut call = first;
-    let mut written: u64 = 0;
-    while written < count {
-        write_line(call);
-        call = next(call, spacing);
-        written += 1;
+// Writes the lines of a call, for one modem after another.
+fn repeated(call: Call, count: u64, spacing: u64) -> bool
+    requires { ⌜ within64 spacing (count - 1) call ≡ true ⌝ }
+{
+    let mut place: u64 = 0;
+    while place < count {
+        if !write_line(exercise_lines::call_on(call, spacing, place)) {
+            return false;
+        }
+        place += 1;
     }
+    true
 }
 
-// The same call for the next modem, so much later. Past 64 bits numbers begin again at 0.
-fn next(call: Call, spacing: u64) -> Call {
-    match call {
-        Call::Try(request) => Call::Try(later(request, spacing)),
-        Call::Peek(request) => Call::Peek(later(request, spacing)),
-        Call::Reserve(request, max_wait) => Call::Reserve(later(request, spacing), max_wait),
-        Call::Refund(key, cost) => Call::Refund(std::num::wrapping_add_u64(key, 1), cost),
-        Call::Remove(key) => Call::Remove(std::num::wrapping_add_u64(key, 1)),
-    }
-}
-
-// The same request for the next modem, so much later.
-fn later(request: Request, spacing: u64) -> Request {
-    let at = request.at;
-    Request {
-        at: Nanos(std::num::wrapping_add_u64(at.0, spacing)),
-        key: std::num::wrapping_add_u64(request.key, 1),
-        cost: request.cost,
-    }
-}
-
-// Writes a call's line.
-fn write_line(call: Call) {
+// Writes a call's line. It has room, since no line has more bytes.
+fn write_line(call: Call) -> bool {
     let mut out: [u8; LONGEST_WRITTEN] = [0; LONGEST_WRITTEN];
     let written = desk_writer::write(call, &mut out);
     let size = written.size;
-    if size <= LONGEST_WRITTEN {
-        io::write_all(STDOUT_FILENO, &out[0..size]);
-    }
+    io::write_all(STDOUT_FILENO, &out[0..size])
+}
+
+// Tells words on standard error. A write that fails here has nobody to be told.
+fn say(words: &[u8]) {
+    io::write_all(STDERR_FILENO, words);
+}
+
+// Tells what is wrong with a line.
+fn wrong(number: u64, words: &[u8]) {
+    say(b"exercise: line ");
+    io::print_decimal(STDERR_FILENO, number);
+    say(words);
+}
+
+// How to use the program.
+fn help() {
+    say(b"exercise reads lines from standard input, and writes lines for the desk.\n\n");
+    say(b"  a line of the desk          is copied; desk --help tells these lines\n");
+    say(
+        b"  v count spacing call        is written as count lines of the call, for one modem after another,\n",
+    );
+    say(
+        b"                              at moments spacing nanoseconds apart; the call is a line of the desk, but not s\n\n",
+    );
+    say(
+        b"For example v 3 1000000000 a 0 7 1 is written as a 0 7 1, a 1000000000 8 1 and a 2000000000 9 1.\n",
+    );
+    say(
+        b"The count is at most 65536. The input has at most 65535 bytes. What is wrong with a line is told here,\n",
+    );
+    say(
+        b"with its number, and nothing is written for it. A read or a write that fails ends the run.\n",
+    );
 }

@@ -1,4 +1,4 @@
-// The limiter for callers in C and Rust: the nine operations on plain numbers and lent words, the number of words to lend, a hash for keys, and desk lines (`lines`).
+// The limiter for callers in C and Rust: the nine operations on plain numbers and lent words, the number of words to lend, and a hash for keys.
 // Whatever a caller gives, a call ends and answers. What each operation does is the rule of `perkey` that its contract names; its reply is told as numbers.
 ghost use mathlib.Core.Path.{_≡_};
 ghost use Rattle.rows.specs.Outcome.{outcome};
@@ -21,8 +21,6 @@ use settings::rate::OptionTokens;
 use settings::rate::Rate;
 use shard::Identity;
 use units::Nanos;
-
-mod lines;
 
 // The version of the interface: bindings/c/limiter.h and bindings/rust have the same.
 const MAJOR: u32 = 0;

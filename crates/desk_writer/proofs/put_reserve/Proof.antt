@@ -1,5 +1,6 @@
 -- `put_reserve` stores three numbers, and then the longest wait.
-use Rattle.desk_writer.proofs.WritingLaws.{spaced-append-size, room-for-next, next-is-written}
+use Rattle.desk_writer.proofs.SizeLaws.{spaced-append-size}
+use Rattle.desk_writer.proofs.WritingLaws.{room-for-next, next-is-written}
 use Rattle.desk_writer.specs.Writer.{requestNumbers}
 use mathlib.Core.List.{[], _∷_}
 use native.Mathlib.Omega.{arith}

@@ -1,7 +1,7 @@
 -- `request_size` adds up three fields.
 use native.Mathlib.Omega.{arith}
 use mathlib.Core.List.{[], _∷_}
-use Rattle.desk_writer.proofs.WritingLaws.{spaced-none-size, spaced-size}
+use Rattle.desk_writer.proofs.SizeLaws.{spaced-none-size, spaced-size}
 use borrow.Author.Needs.{needs}
 use Rattle.desk_writer.proofs.request_size.Statement.{statement}
 use Rattle.desk_writer.proofs.request_size.Tie as tie

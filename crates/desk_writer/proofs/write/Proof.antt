@@ -1,9 +1,10 @@
-use Rattle.desk_writer.proofs.WritingLaws.{line-size, refused-is-written, line-is-written}
-use Rattle.rows.proofs.OutcomeLaws.{answer-is}
-use lib.ListN.{length-set}
-use mathlib.Core.Path.{_∙_}
-use native.Mathlib.Omega.{arith}
 -- `write` measures the line, and stores it where it has room.
+use native.Mathlib.Omega.{arith}
+use mathlib.Core.Path.{sym}
+use Rattle.rows.proofs.OutcomeLaws.{answer-is}
+use Rattle.desk_writer.proofs.SizeLaws.{line-size}
+use Rattle.desk_writer.proofs.ReadBackLaws.{refusal-changes-no-byte}
+use Rattle.desk_writer.proofs.WritingLaws.{line-is-written}
 use borrow.Author.Needs.{needs}
 use Rattle.desk_writer.proofs.write.Statement.{statement}
 use Rattle.desk_writer.proofs.write.Tie as tie
@@ -12,24 +13,28 @@ size-requires : tie.Need-size-requires
 size-requires c κs = search needs
 
 returns : tie.Need-returns
-returns c = refused-is-written _ _ (omega arith)
+returns c = sym (refusal-changes-no-byte _ _ (omega arith))
 
 put-requires : tie.Need-put-requires
 put-requires c κs = omega (arith, line-size (c .before .before .before .before .args .call))
 
-slice-write-out : tie.Need-slice-write-out
-slice-write-out c =
-    let put′ = c .before .before .put in
-    omega (arith, line-size (c .before .before .before .before .before .before .before .args .call), answer-is (put′ .ensures), put′ .kept .0)
+put-end-requires : tie.Need-put-end-requires
+put-end-requires c κs =
+    let p = c .before .before .before in
+    let call′ = p .before .before .before .before .before .args .call in
+    omega (arith, line-size call′, answer-is (p .put .ensures), p .put .kept .0)
 
 same-length : tie.Need-same-length
 same-length c = search needs
 
 returns-2 : tie.Need-returns-2
 returns-2 c =
-    let args′ = c .before .before .before .before .before .before .before .args in
-    line-is-written (args′ .call) (args′ .out .now) (omega arith) (c .before .before .before .before .before .size .ensures) (c .before .before .put .ensures)
+    let e = c .before .before in
+    let p = e .before .before .before .before in
+    let s = p .before .before .before in
+    let a = s .before .before .args in
+    rw (e .put-end .ensures) (line-is-written (a .call) (a .out .now) (omega arith) (s .size .ensures) (p .put .ensures))
 
 pub write-spec : {M : Type 1} → statement M
 write-spec =
-    tie.close (tie.spec size-requires returns put-requires slice-write-out same-length returns-2)
+    tie.close (tie.spec size-requires returns put-requires put-end-requires same-length returns-2)

@@ -32,6 +32,9 @@ part-one-line-end c = search needs
 one-line-requires : tie.Need-one-line-requires Inv-loop μ-loop
 one-line-requires c κs = search needs
 
+returns : tie.Need-returns Inv-loop μ-loop
+returns c = search needs
+
 add-at : tie.Need-add-at Inv-loop μ-loop
 add-at c = search needs
 
@@ -41,8 +44,8 @@ loop-less c = search needs
 loop-again : tie.Need-loop-again Inv-loop μ-loop
 loop-again c = search needs
 
-returns : tie.Need-returns Inv-loop μ-loop
-returns c = search needs
+returns-2 : tie.Need-returns-2 Inv-loop μ-loop
+returns-2 c = search needs
 
 pub lines-spec : {M : Type 1} → statement M
 lines-spec =
@@ -57,7 +60,8 @@ lines-spec =
     part-one-line-start
     part-one-line-end
     one-line-requires
+    returns
     add-at
     loop-less
     loop-again
-    returns)
+    returns-2)
