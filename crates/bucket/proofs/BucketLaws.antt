@@ -1,4 +1,5 @@
 -- The bucket's arithmetic: what fits 64 bits at an accepted rate, each case of a definition with a test, and how a shortfall falls.
+-- The worked examples are imported so that they are checked first: a wrong definition is then refused for a wrong number, before any law that quotes it.
 use Prim.Native.Nat.{ℕ, _+_, _*_, _-_, _/_, _≤_, _<_, _^_}
 use mathlib.Core.Path.{_≡_, refl, ap, sym, _∙_}
 use mathlib.Core.Bool.{true}
@@ -16,6 +17,7 @@ use Rattle.bucket.specs.declared.BucketDecision.the-variants.{Allowed, D
 use Rattle.bucket.specs.Bucket.{Accepted, partsOf, fullParts, mostShortfall, readShortfall, shortfallAt, availableAt, fullAt, lackFor, grown, waitAt}
 use Rattle.bucket.specs.Bucket.{recoveryOf, recoveryAt, dueAfter, dueAt, spent, longestWait, asked, refunded}
 use Rattle.bucket.specs.declared.Due.{Due}
+use Rattle.bucket.proofs.Worked as Worked
 
 -- At an accepted rate a full bucket has less than 2^62 parts, so the most shortfall is below 2^63: every sum of the bucket fits 64 bits.
 pub full-parts-most : {c : BucketConfig} → Accepted c → fullParts c ≤ 2 ^ 62 - 2 ^ 46

@@ -1,4 +1,4 @@
+pub mod Worked
 pub mod BucketLaws
 pub mod DebtLaws
 pub mod ToldLaws
-pub mod Worked

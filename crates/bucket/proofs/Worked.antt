@@ -5,7 +5,10 @@ use Rattle.arith.specs.Arith.{ceilDiv}
 use Rattle.units.specs.declared.Nanos.{Nanos}
 use Rattle.bucket.specs.declared.BucketConfig.{BucketConfig}
 use Rattle.bucket.specs.declared.BucketCore.{BucketCore}
-use Rattle.bucket.specs.Bucket.{shortfallAt, availableAt, fresh, grown, waitAt, dueAt, recoveryAt, spent}
+use Rattle.bucket.specs.declared.BucketDecision.the-variants.{Allowed, Denied}
+use Rattle.bucket.specs.declared.BucketOutcome.{BucketOutcome}
+use Rattle.bucket.specs.declared.Request.the-variants.{Acquire, Reserve}
+use Rattle.bucket.specs.Bucket.{shortfallAt, availableAt, fresh, grown, waitAt, dueAfter, dueAt, recoveryAt, spent, asked}
 use Rattle.bucket.specs.Debt.{takenOut, lacking, restored}
 
 -- A rate whose fresh buckets are full, and such a bucket that spends at moment 0.
@@ -31,6 +34,26 @@ missing-rounded-up = refl
 -- 2 tokens a second, up to 4: after all 4 are spent the next is there in half a second.
 abbrev twoPerSecond : BucketConfig
 twoPerSecond = rate 2 1000000000 4
+
+-- A try for it then is told the first moment at which a try is granted: a nanosecond before it a try is denied.
+abbrev empty : BucketCore
+empty = spender twoPerSecond 4
+
+abbrev told : Nanos
+told = dueAt twoPerSecond empty 1 start .moment
+
+abbrev beforeTold : Nanos
+beforeTold = record { 0 = told .0 - 1 }
+
+pub denied-before-the-told-moment :
+    asked twoPerSecond Acquire empty 1 beforeTold ≡ record { decision = Denied (dueAfter beforeTold (record { 0 = 1 })); bucket = empty }
+unfolding ceilDiv shortfallAt grown waitAt asked
+denied-before-the-told-moment = refl
+
+pub granted-at-the-told-moment :
+    asked twoPerSecond Acquire empty 1 told ≡ record { decision = Allowed (dueAfter told (record { 0 = 0 })); bucket = spent twoPerSecond empty 1 told }
+unfolding ceilDiv shortfallAt grown waitAt asked
+granted-at-the-told-moment = refl
 
 pub half-a-second-for-one : waitAt twoPerSecond (spender twoPerSecond 4) 1 start ≡ 500000000
 unfolding ceilDiv shortfallAt grown waitAt
@@ -58,6 +81,20 @@ ahead cost = spent twoPerSecond (fresh twoPerSecond tenSeconds) cost tenSeconds
 pub set-back-by-two-seconds : dueAt twoPerSecond (ahead 4) 1 setBack ≡ record { wait = record { 0 = 2500000000 }; moment = record { 0 = 10500000000 } }
 unfolding ceilDiv shortfallAt grown waitAt
 set-back-by-two-seconds = refl
+
+-- A reservation's longest wait is compared with these 2.5 s. So one that waits 2 s at most is denied, though half a second is enough for its token.
+abbrev reserved : ℕ → BucketOutcome
+reserved longest = asked twoPerSecond (Reserve (record { 0 = longest })) (ahead 4) 1 setBack
+
+pub two-seconds-are-not-enough :
+    reserved 2000000000 ≡ record { decision = Denied (dueAfter setBack (record { 0 = 2500000000 })); bucket = ahead 4 }
+unfolding ceilDiv shortfallAt grown waitAt asked
+two-seconds-are-not-enough = refl
+
+pub two-and-a-half-seconds-are-enough :
+    reserved 2500000000 ≡ record { decision = Allowed (dueAfter setBack (record { 0 = 2500000000 })); bucket = spent twoPerSecond (ahead 4) 1 setBack }
+unfolding ceilDiv shortfallAt grown waitAt asked
+two-and-a-half-seconds-are-enough = refl
 
 pub due-when-it-was-due : dueAt twoPerSecond (ahead 4) 1 tenSeconds ≡ record { wait = record { 0 = 500000000 }; moment = record { 0 = 10500000000 } }
 unfolding ceilDiv shortfallAt grown waitAt

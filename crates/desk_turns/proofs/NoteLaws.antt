@@ -9,9 +9,10 @@ use lib.ListN.{length, take}
 use borrow.Author.Tests.{ne-eqb}
 use Rattle.arith.proofs.Cases.{by-test}
 use Rattle.settings.specs.declared.decision.Decision.the-variants.{Acquired, Retry, Impossible}
-use Rattle.perkey.specs.declared.Reply.{Reply}
-use Rattle.perkey.specs.declared.Reply.the-variants.{Tried, Reserved, Nothing, Done, Count, Refused}
-use Rattle.perkey.specs.Rules as Rules
+use Rattle.rules.specs.declared.Reply.{Reply}
+use Rattle.rules.specs.declared.Reply.the-variants.{Tried, Reserved, Nothing, Done, Count, Refused}
+use Rattle.rules.specs.Replies as Replies
+use Rattle.rules.specs.Rules as Rules
 use Rattle.desk_lines.specs.declared.Line.{Line}
 use Rattle.desk_lines.specs.declared.Line.the-variants.{SetUp, Try, Peek, Reserve, Refund, Remove, Malformed}
 use Rattle.desk_lines.specs.Lines.{lineOf}
@@ -23,7 +24,7 @@ use Rattle.desk_answers.specs.Desk.{identityOf, storeSize, served}
 use Rattle.desk_turns.specs.Run.{isFirst, hasEnded}
 
 -- No reply of the limiter has the code 9.
-no-reply-is-9 : (r : Reply) → eqb (Rules.codeOf r) 9 ≡ false
+no-reply-is-9 : (r : Reply) → eqb (Replies.codeOf r) 9 ≡ false
 no-reply-is-9 (Tried (Acquired due)) = refl
 no-reply-is-9 (Tried (Retry due)) = refl
 no-reply-is-9 (Tried Impossible) = refl

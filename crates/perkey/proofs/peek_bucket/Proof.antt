@@ -1,6 +1,7 @@
 -- `peek_bucket` goes by the cost, as the rule does, and else tells when the key's bucket has the cost: that of its slot, or that with which it would come in.
 use Prim.Native.Nat.{_≤_}
 use mathlib.Core.Path.{_≡_, sym, _∙_}
+use native.Mathlib.Omega.{arith}
 use Rattle.bucket.specs.declared.BucketCore.{BucketCore}
 use Rattle.bucket.specs.declared.Due.{Due}
 use Rattle.bucket.specs.Bucket.{Accepted, dueAt}
@@ -10,6 +11,7 @@ use Rattle.shard_map.specs.Model.{Sound}
 use Rattle.store.specs.Memory.{Placed, shardIn}
 use Rattle.store.proofs.LendingLaws.{found-place-below}
 use Rattle.settings.specs.declared.Limit.the-variants.{Open}
+use Rattle.settings.specs.Rate.{burstOf}
 use Rattle.rules.specs.declared.Reply.{Reply}
 use Rattle.rules.specs.Asks.{dueReply, peekedIn}
 use Rattle.perkey.proofs.PeekLaws.{peek-of-too-much, viewed-due-is-told}
@@ -35,11 +37,13 @@ found b = b .before .before .before .before
 abbrev missed : tie.After-returning-bucket → tie.After-position
 missed b = b .before .before .before
 
--- The cost may be asked of a bucket, once the place is asked for.
+-- Once the place is asked for: the cost is at most the burst, so it may be asked of a bucket.
+within : (p : tie.After-position) → start (made p) .args .cost ≤ made p .config .result .capacity
+within p = omega (arith, p .before .if1 .left)
+
 may-be-asked : (p : tie.After-position) → let a = start (made p) .args in
     Accepted (made p .config .result) × (a .cost ≤ made p .config .result .capacity)
-may-be-asked p =
-    (viewed (made p) .2, p .before .if1 .left)
+may-be-asked p = (viewed (made p) .2, within p)
 
 -- What is answered by the bucket viewed, by its due and its reply.
 told-of : (p : tie.After-position) {bucket : BucketCore} {due : Due} {told : Reply} → let k = made p in let a = start k .args in
@@ -48,8 +52,8 @@ told-of : (p : tie.After-position) {bucket : BucketCore} {due : Due} {told : Rep
 told-of p is-bucket is-due is-reply =
     let k = made p in
     let a = start k .args in
-    let within = rw (k .config .ensures) at (p .before .if1 .left) in
-    viewed-due-is-told (a .rate) (a .at) (a .cost) (a .id) (shardIn (a .part) (a .ws .now)) within (k .config .ensures) is-bucket is-due is-reply
+    let few : a .cost ≤ burstOf (a .rate) = omega (arith, rw (k .config .ensures) at (p .before .if1 .left)) in
+    viewed-due-is-told (a .rate) (a .at) (a .cost) (a .id) (shardIn (a .part) (a .ws .now)) few (k .config .ensures) is-bucket is-due is-reply
 
 config-requires : tie.Need-config-requires
 config-requires c κs = search needs
