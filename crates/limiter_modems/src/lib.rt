@@ -10,8 +10,8 @@ ghost use Rattle.limiter.specs.Exported.{settingsOf};
 ghost use Rattle.limiter_modems.specs.IdentityTold.{identityTold};
 use limiter::LimiterSettings;
 use limiter::settings_of;
-use rules::codes::Told;
 use modems::Identified;
+use rules::codes::Told;
 use units::Nanos;
 
 // The identity of a modem as numbers: the code 0, and the hash and the key of its address; or the code of a refusal, 0 and 0.

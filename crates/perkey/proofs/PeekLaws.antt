@@ -7,7 +7,9 @@ use Rattle.bucket.specs.declared.BucketConfig.{BucketConfig}
 use Rattle.bucket.specs.declared.BucketCore.{BucketCore}
 use Rattle.bucket.specs.declared.Due.{Due}
 use Rattle.bucket.specs.Bucket.{dueAt}
-use Rattle.settings.specs.declared.Limit.the-variants.{Open}
+use Rattle.settings.specs.declared.Limit.the-variants.{Closed, Open}
+use Rattle.settings.specs.declared.Settings.{Settings}
+use Rattle.settings.specs.declared.decision.Decision.{Decision}
 use Rattle.settings.specs.declared.decision.Decision.the-variants.{Acquired, Retry, Impossible}
 use Rattle.settings.specs.declared.rate.Rate.{Rate}
 use Rattle.settings.specs.Rate.{burstOf, configOf}
@@ -16,7 +18,8 @@ use Rattle.shard.specs.declared.Identity.{Identity}
 use Rattle.shard.specs.Model as OneShard
 use Rattle.rules.specs.declared.Reply.{Reply}
 use Rattle.rules.specs.declared.Reply.the-variants.{Tried}
-use Rattle.rules.specs.Asks.{dueReply, peekedIn}
+use Rattle.rows.specs.Outcome.{outcome}
+use Rattle.rules.specs.Asks.{looks, peeks, closed, dueReply, peekedIn, inItsShard}
 
 -- When a bucket that is looked at has the cost.
 module _ (due : Due) where
@@ -41,3 +44,9 @@ module _ (rate : Rate) (at : Nanos) (cost : ℕ) (id : Identity) (own : Shard) w
   viewed-due-is-told within is-config is-bucket is-due is-reply =
       let dues = rw (is-bucket, is-config) at is-due in
       rw (le-ltb _ _ within) (is-reply ∙ ap dueReply dues)
+
+-- A peek on a closed limiter leaves the shard as it is.
+pub closed-peek : (s : Settings) (id : Identity) (at : Nanos) (cost : ℕ) (own : Shard) {decision : Decision} → s .limit ≡ Closed → decision ≡ closed at cost
+    → inItsShard s id (looks (peeks at cost)) own ≡ outcome (Tried decision) own
+unfolding peekedIn
+closed-peek s id at cost own is-limit is = rw (is-limit, is)

@@ -74,25 +74,44 @@ pub fn reserve(
     }
 }
 
-// What the key's own bucket would answer to a try, taking nothing. It says nothing of space.
+// What the key's own bucket would answer to a try, taking nothing. It says nothing of space. A peek and a refund ask first whether there is a rate, as requests
+// do, so that all that follows is compiled for a limiter that has one (docs/DECISIONS.md).
 pub fn peek(settings: Settings, ws: &[u64], at: Nanos, id: Identity, cost: u32) -> Reply
     ensures { λ r. ⌜ outcome r (now (ws .exit)) ≡ Rules.peek settings at id cost (now (ws .entry)) ⌝ }
 {
     let limit = settings.limit;
-    match lending::lend_for(settings, ws, id.hash, refusals::moment_refusal(at)) {
-        Lending::Refused(refusal) => Reply::Refused(refusal),
-        Lending::Lent(part) => peek_in(limit, ws, part, at, id, cost),
+    match limit {
+        Limit::Closed => {
+            let late = refusals::moment_refusal(at);
+            let told = Reply::Tried(rules::closed(at, cost));
+            rules::unless_refused(
+                settings.refusal(),
+                settings.shape(),
+                ws,
+                id.hash,
+                late,
+                told,
+            )
+        }
+        Limit::Open(rate) => peek_open(settings, rate, ws, at, id, cost),
     }
 }
 
-// A peek that is not refused.
-fn peek_in(limit: Limit, ws: &[u64], part: Part, at: Nanos, id: Identity, cost: u32) -> Reply
-    requires { ⌜ Placed part (now ws) × Sound (shardIn part (now ws)) × (limitRefusal limit ≡ 0) ⌝ }
-    ensures { λ r. ⌜ r ≡ Asks.peekedIn limit at cost id (shardIn part (now (ws .entry))) ⌝ }
+// A peek on a limiter that has a rate.
+fn peek_open(
+    settings: Settings,
+    rate: Rate,
+    ws: &[u64],
+    at: Nanos,
+    id: Identity,
+    cost: u32,
+) -> Reply
+    requires { ⌜ settings .limit ≡ Open rate ⌝ }
+    ensures { λ r. ⌜ outcome r (now (ws .exit)) ≡ Rules.peek settings at id cost (now (ws .entry)) ⌝ }
 {
-    match limit {
-        Limit::Closed => Reply::Tried(rules::closed(at, cost)),
-        Limit::Open(rate) => peek_bucket(rate, ws, part, at, id, cost),
+    match lending::lend_for(settings, ws, id.hash, refusals::moment_refusal(at)) {
+        Lending::Refused(refusal) => Reply::Refused(refusal),
+        Lending::Lent(part) => peek_bucket(rate, ws, part, at, id, cost),
     }
 }
 
@@ -160,21 +179,32 @@ pub fn refund(settings: Settings, ws: &mut [u64], id: Identity, cost: u32) -> Re
     ensures { λ r. ⌜ outcome r (now (ws .exit)) ≡ Rules.refund settings id cost (now (ws .entry)) ⌝ }
 {
     let limit = settings.limit;
+    match limit {
+        Limit::Closed => {
+            let told = Reply::Nothing;
+            rules::unless_refused(settings.refusal(), settings.shape(), ws, id.hash, 0, told)
+        }
+        Limit::Open(rate) => refund_open(settings, rate, ws, id, cost),
+    }
+}
+
+// A refund on a limiter that has a rate.
+fn refund_open(settings: Settings, rate: Rate, ws: &mut [u64], id: Identity, cost: u32) -> Reply
+    requires { ⌜ settings .limit ≡ Open rate ⌝ }
+    ensures { λ r. ⌜ outcome r (now (ws .exit)) ≡ Rules.refund settings id cost (now (ws .entry)) ⌝ }
+{
     match lending::lend_for(settings, ws, id.hash, 0) {
         Lending::Refused(refusal) => Reply::Refused(refusal),
-        Lending::Lent(part) => give_back(limit, ws, part, id, cost),
+        Lending::Lent(part) => give_back(rate, ws, part, id, cost),
     }
 }
 
 // A refund that is not refused.
-fn give_back(limit: Limit, ws: &mut [u64], part: Part, id: Identity, cost: u32) -> Reply
-    requires { ⌜ Placed part (now ws) × Sound (shardIn part (now ws)) × (limitRefusal limit ≡ 0) ⌝ }
-    ensures { λ r. ⌜ outcome r (now (ws .exit)) ≡ inPart part (now (ws .entry)) (Asks.undoneIn (refunds cost) limit id (shardIn part (now (ws .entry)))) ⌝ }
+fn give_back(rate: Rate, ws: &mut [u64], part: Part, id: Identity, cost: u32) -> Reply
+    requires { ⌜ Placed part (now ws) × Sound (shardIn part (now ws)) × Accepted (configOf rate) ⌝ }
+    ensures { λ r. ⌜ outcome r (now (ws .exit)) ≡ inPart part (now (ws .entry)) (Asks.undoneIn (refunds cost) (Open rate) id (shardIn part (now (ws .entry)))) ⌝ }
 {
-    match limit {
-        Limit::Closed => Reply::Nothing,
-        Limit::Open(rate) => known_reply(store::refund(ws, part, rate.config(), id, cost)),
-    }
+    known_reply(store::refund(ws, part, rate.config(), id, cost))
 }
 
 // Forgets a key, if it is known.

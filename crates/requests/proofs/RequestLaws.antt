@@ -14,7 +14,8 @@ use Rattle.settings.specs.declared.Limit.the-variants.{Closed, Open}
 use Rattle.settings.specs.declared.Settings.{Settings}
 use Rattle.settings.specs.declared.rate.Rate.{Rate}
 use Rattle.settings.specs.Rate.{burstOf}
-use Rattle.settings.specs.Settings.{firstRefusal, shapeOf}
+use Rattle.settings.specs.declared.Shape.{Shape}
+use Rattle.settings.specs.Settings.{firstRefusal, settingsRefusal, shapeOf}
 use Rattle.settings.proofs.RateLaws.{accepted-rate}
 use Rattle.settings.proofs.SettingsLaws.{accepted-parts}
 use Rattle.shard.specs.declared.Identity.{Identity}
@@ -24,15 +25,13 @@ use Rattle.shard.proofs.ModelLaws.{ask-with-slot, ask-without-slot}
 use Rattle.shard_map.specs.Model.{Sound, placeOf}
 use Rattle.store.specs.declared.Part.{Part}
 use Rattle.store.specs.Memory.{Placed, partOf, shardIn, shardAt, inPart, inShard}
-use Rattle.store.specs.Refusals.{keyedRefusal}
+use Rattle.store.specs.Refusals.{shapeRefusal}
 use Rattle.store.proofs.LendingLaws.{found-place-below, accepted-part}
 use Rattle.store.proofs.RefusalLaws.{Accepted}
 use Rattle.rules.specs.declared.Reply.{Reply}
 use Rattle.rules.specs.Asks.{requests, furtherTo, Manner, mannerOf, closedTo, tooMuch, atOnce, replyTo, toldAs, policyOf, askedIn}
 use Rattle.rules.specs.Rules.{unlessRefused, askedOf}
-use Rattle.rules.proofs.KeyedLaws.{ask-not-refused, not-refused-is-asked, refused-is-numbered, in-shard-unchanged}
-use Rattle.rules.proofs.RefusedLaws.{unless-refused-accepts, unless-refused-refuses}
-use Rattle.arith.proofs.Cases.{by-eq}
+use Rattle.rules.proofs.KeyedLaws.{ask-not-refused, not-refused-is-asked, in-shard-unchanged, unchanged-is-told}
 use Rattle.requests.specs.code.Attempts.{ruleTo, refusalTo}
 
 -- A request that is not refused does what it asks in the shard of its key.
@@ -40,17 +39,13 @@ pub asked-is-ruled : (r : Request) (s : Settings) (at : Nanos) (id : Identity) (
     → refusalTo r s at id ws ≡ 0 → o ≡ askedOf (shapeOf s) s id (requests r at cost) ws → o ≡ ruleTo r s at id cost ws
 asked-is-ruled r s at id cost ws none gave = gave ∙ sym (not-refused-is-asked s id (requests r at cost) ws none)
 
--- A request that leaves its shard as it is: on a closed limiter, of more than a full bucket, and of nothing.
+-- A request that leaves its shard as it is: of more than a full bucket, and of nothing.
 module _ (r : Request) (s : Settings) (at : Nanos) (id : Identity) (cost : ℕ) (ws : List ℕ) (none : refusalTo r s at id ws ≡ 0) where
   abbrev manner : Manner
   manner = mannerOf r
 
   accepted : Accepted s (id .hash) ws
   accepted = ask-not-refused s id (requests r at cost) ws none .0
-
-  pub closed-is-told : {reply : Reply} → s .limit ≡ Closed → reply ≡ closedTo manner at cost → outcome reply ws ≡ ruleTo r s at id cost ws
-  unfolding askedIn
-  closed-is-told is-limit is = asked-is-ruled r s at id cost ws none (rw (is, is-limit) (sym (in-shard-unchanged s (id .hash) ws accepted (closedTo manner at cost))))
 
   module _ {rate : Rate} (is-limit : s .limit ≡ Open rate) where
     pub too-much-is-told : burstOf rate < cost → outcome (tooMuch manner) ws ≡ ruleTo r s at id cost ws
@@ -65,15 +60,13 @@ module _ (r : Request) (s : Settings) (at : Nanos) (id : Identity) (cost : ℕ) 
         (rw (is-told, is-limit, le-ltb _ _ within, eq-eqb _ _ no-cost) (sym (in-shard-unchanged s (id .hash) ws accepted (atOnce manner at))))
 
 -- On a closed limiter: the number, else what is told there.
-pub closed-request-is-told : (r : Request) (s : Settings) (at : Nanos) (id : Identity) (cost : ℕ) (ws : List ℕ) {further : ℕ} {reply : Reply} {o : Outcome Reply (List ℕ)}
-    → s .limit ≡ Closed → reply ≡ closedTo (mannerOf r) at cost → further ≡ furtherTo r at
-    → o ≡ unlessRefused (firstRefusal (keyedRefusal s (id .hash) ws) further) ws (outcome reply ws) → o ≡ ruleTo r s at id cost ws
-closed-request-is-told r s at id cost ws {reply = reply} is-limit is-reply is-further gave =
-    let number : ℕ = refusalTo r s at id ws in
-    (rw is-further at gave)
-    ∙ by-eq number 0
-    (λ none. unless-refused-accepts number ws (outcome reply ws) none ∙ closed-is-told r s at id cost ws none is-limit is-reply)
-    (λ some. unless-refused-refuses number ws (outcome reply ws) some ∙ sym (refused-is-numbered s id (requests r at cost) ws some))
+pub closed-request-is-told : (r : Request) (s : Settings) (at : Nanos) (id : Identity) (cost : ℕ) (ws : List ℕ) {refusal further : ℕ} {shape : Shape} {reply : Reply}
+    {o : Outcome Reply (List ℕ)} → s .limit ≡ Closed → reply ≡ closedTo (mannerOf r) at cost
+    → refusal ≡ settingsRefusal s → shape ≡ shapeOf s → further ≡ furtherTo r at
+    → o ≡ unlessRefused (firstRefusal refusal (firstRefusal (shapeRefusal shape (id .hash) ws) further)) ws (outcome reply ws) → o ≡ ruleTo r s at id cost ws
+unfolding askedIn
+closed-request-is-told r s at id cost ws {reply = reply} is-limit is-reply is-refusal is-shape is-further gave =
+    unchanged-is-told s id (requests r at cost) ws reply (rw (is-limit, is-reply)) is-refusal is-shape is-further gave
 
 -- A request at a rate, for some tokens that a full bucket holds, that is not refused by number.
 pub record Asking (s : Settings) (id : Identity) (cost : ℕ) (ws : List ℕ) (rate : Rate) (part′ : Part) : Type 0 where

@@ -10,7 +10,6 @@ ghost use Rattle.store.specs.Memory.{partOf};
 ghost use Rattle.store.specs.Refusals.{keyedRefusal, momentRefusal, waitRefusal};
 ghost use Rattle.rules.specs.Asks as Asks;
 ghost use Rattle.rules.specs.Asks.{furtherTo, mannerOf, asTry, asReservation};
-ghost use Rattle.rules.specs.Rules.{unlessRefused};
 ghost use Rattle.requests.specs.code.Attempts.{LeftFor, NewKey, attempted, refusalTo, ruleTo};
 use bucket::BucketDecision;
 use bucket::Request;
@@ -59,7 +58,15 @@ pub fn attempt_try(
         Limit::Closed => {
             let late = refusals::moment_refusal(at);
             let told = Reply::Tried(rules::closed(at, cost));
-            Attempt::Answered(unless_refused(settings, ws, id.hash, late, told))
+            let reply = rules::unless_refused(
+                settings.refusal(),
+                settings.shape(),
+                ws,
+                id.hash,
+                late,
+                told,
+            );
+            Attempt::Answered(reply)
         }
         Limit::Open(rate) => try_open(settings, rate, ws, at, id, cost),
     }
@@ -140,7 +147,15 @@ pub fn attempt_reserve(
         Limit::Closed => {
             let further = reserve_further(at, max_wait);
             let told = Reply::Nothing;
-            Attempt::Answered(unless_refused(settings, ws, id.hash, further, told))
+            let reply = rules::unless_refused(
+                settings.refusal(),
+                settings.shape(),
+                ws,
+                id.hash,
+                further,
+                told,
+            );
+            Attempt::Answered(reply)
         }
         Limit::Open(rate) => reserve_open(settings, rate, ws, at, id, cost, max_wait),
     }
@@ -311,17 +326,6 @@ fn reserve_reply(decision: BucketDecision) -> Reply
     match decision {
         BucketDecision::Allowed(due) => Reply::Reserved(due),
         BucketDecision::Denied(_) => Reply::Nothing,
-    }
-}
-
-// A closed limiter's reply to a request: the number by which the request is refused, else `told`. `further` is the number for its other arguments.
-fn unless_refused(settings: Settings, ws: &[u64], hash: u64, further: u32, told: Reply) -> Reply
-    ensures { λ r. ⌜ outcome r (now (ws .exit)) ≡
-        unlessRefused (firstRefusal (keyedRefusal settings hash (now (ws .entry))) further) (now (ws .entry)) (outcome told (now (ws .entry))) ⌝ }
-{
-    match lending::lend_for(settings, ws, hash, further) {
-        Lending::Refused(refusal) => Reply::Refused(refusal),
-        Lending::Lent(_) => told,
     }
 }
 

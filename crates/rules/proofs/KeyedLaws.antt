@@ -10,7 +10,8 @@ use Rattle.bucket.specs.declared.Request.{Request}
 use Rattle.bucket.specs.declared.Request.the-variants.{Acquire, Reserve}
 use Rattle.bucket.specs.Bucket.{longestWait}
 use Rattle.settings.specs.declared.Settings.{Settings}
-use Rattle.settings.specs.Settings.{limitRefusal, shapeOf}
+use Rattle.settings.specs.declared.Shape.{Shape}
+use Rattle.settings.specs.Settings.{firstRefusal, settingsRefusal, limitRefusal, shapeOf, capOf}
 use Rattle.settings.proofs.SettingsLaws.{accepted-parts, neither-refuses}
 use Rattle.shard_map.specs.Model.{Sound}
 use Rattle.shard.specs.declared.Identity.{Identity}
@@ -18,15 +19,15 @@ use Rattle.store.specs.declared.Part.{Part}
 use Rattle.store.specs.declared.lending.Lending.{Lending}
 use Rattle.store.specs.declared.lending.Lending.the-variants as Lending
 use Rattle.store.specs.Lending.{lentUnless}
-use Rattle.store.specs.Memory.{Placed, partOf, shardIn, shardAt, inPart, inShard}
-use Rattle.store.specs.Refusals.{latestMoment, longestMaxWait, keyedRefusal, momentRefusal, waitRefusal}
+use Rattle.store.specs.Memory.{Placed, partOf, shardIn, shardAt, inPart, inShard, memoryWords}
+use Rattle.store.specs.Refusals.{latestMoment, longestMaxWait, memoryRefusal, countRefusal, shapeRefusal, keyedRefusal, momentRefusal, waitRefusal}
 use Rattle.store.proofs.LendingLaws.{lent-part, accepted-part, in-part-unchanged}
 use Rattle.store.proofs.MemoryLaws.{part-placed}
-use Rattle.store.proofs.RefusalLaws.{Accepted, keyed-not-refused, moment-not-refused, wait-not-refused}
+use Rattle.store.proofs.RefusalLaws.{Accepted, keyed-not-refused, moment-not-refused, wait-not-refused, refusals-in-a-row}
 use Rattle.rules.specs.declared.Reply.{Reply}
 use Rattle.rules.specs.declared.Reply.the-variants.{Refused}
 use Rattle.rules.specs.Asks.{Look, Ask, looks, furtherTo, furtherOf, lookedIn, inItsShard}
-use Rattle.rules.specs.Rules.{askRefusal, askedOf, keyedRuleIn, keyedRule}
+use Rattle.rules.specs.Rules.{unlessRefused, askRefusal, askedOf, keyedRuleIn, keyedRule}
 use Rattle.rules.proofs.RefusedLaws.{unless-refused-accepts, unless-refused-refuses, unlent-is-refused}
 
 -- What a call that is not refused may count on: accepted settings, memory of the right length, a sound shard; nor is what it asks refused.
@@ -87,3 +88,28 @@ pub lent-look-is-told : (s : Settings) (id : Identity) (l : Look) (ws : List ℕ
 lent-look-is-told s id l ws is gave answered =
     let placed = lent-may-be-asked s id (looks l) ws is gave .0 in
     lent-is-told s id (looks l) ws is gave (rw answered (sym (in-part-unchanged placed _)))
+
+-- A call on a key that leaves its shard as it is, as the code of a closed limiter comes to it: by the settings, then by the memory of their shape, then by the
+-- call's other arguments.
+keyed-number : (s : Settings) (hash : ℕ) (ws : List ℕ) (further : ℕ)
+    → firstRefusal (settingsRefusal s) (firstRefusal (shapeRefusal (shapeOf s) hash ws) further) ≡ firstRefusal (keyedRefusal s hash ws) further
+keyed-number s hash ws further =
+    let counts = countRefusal (capOf s) (shardAt s hash ws) in
+    let memory = memoryRefusal (memoryWords s) ws in
+    sym (refusals-in-a-row (settingsRefusal s) (firstRefusal memory counts) further)
+    ∙ ap (λ (n : ℕ). firstRefusal n further) (sym (refusals-in-a-row (settingsRefusal s) memory counts))
+
+module _ (s : Settings) (id : Identity) (ask : Ask) (ws : List ℕ) {refusal further : ℕ} {shape : Shape} (told : Reply) where
+  pub unchanged-is-told : {o : Outcome Reply (List ℕ)} → inItsShard s id ask (shardAt s (id .hash) ws) ≡ outcome told (shardAt s (id .hash) ws)
+      → refusal ≡ settingsRefusal s → shape ≡ shapeOf s → further ≡ furtherOf ask
+      → o ≡ unlessRefused (firstRefusal refusal (firstRefusal (shapeRefusal shape (id .hash) ws) further)) ws (outcome told ws) → o ≡ keyedRule s id ask ws
+  unchanged-is-told stays is-refusal is-shape is-further gave =
+      let number : ℕ = askRefusal s id ask ws in
+      (rw (is-refusal, is-shape, is-further, keyed-number s (id .hash) ws (furtherOf ask)) at gave)
+      ∙ by-eq number 0
+      (λ none.
+      unless-refused-accepts number ws (outcome told ws) none
+      ∙ sym (in-shard-unchanged s (id .hash) ws (ask-not-refused s id ask ws none .0) told)
+      ∙ ap (inShard s (id .hash) ws) (sym stays)
+      ∙ sym (not-refused-is-asked s id ask ws none))
+      (λ some. unless-refused-refuses number ws (outcome told ws) some ∙ sym (refused-is-numbered s id ask ws some))

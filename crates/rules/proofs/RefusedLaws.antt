@@ -14,7 +14,7 @@ use Rattle.store.specs.declared.lending.Lending.{Lending}
 use Rattle.store.specs.declared.lending.Lending.the-variants as Lending
 use Rattle.store.specs.Lending.{lentUnless}
 use Rattle.store.specs.Refusals.{setUpRefusal}
-use Rattle.store.proofs.LendingLaws.{refused-number, lent-part}
+use Rattle.store.proofs.LendingLaws.{refused-number}
 use Rattle.store.proofs.RefusalLaws.{set-up-not-refused}
 use Rattle.rules.specs.declared.Reply.{Reply}
 use Rattle.rules.specs.declared.Reply.the-variants.{Done, Refused}
@@ -34,12 +34,20 @@ module _ (refusal : ℕ) (ws : List ℕ) (accepted : Outcome Reply (List ℕ)) w
   pub number-is-told : {told : ℕ} → told ≡ refusal → (told ≡ 0 → ⊥) → outcome (Refused told) ws ≡ unlessRefused refusal ws accepted
   number-is-told is some = rw is (sym (unless-refused-refuses (λ none. some (is ∙ none))))
 
-  module _ {lending : Lending} (part′ : Part) (is : lending ≡ lentUnless refusal part′) where
-    pub unlent-is-refused : {told : ℕ} → lending ≡ Lending.Refused told → outcome (Refused told) ws ≡ unlessRefused refusal ws accepted
-    unlent-is-refused gave = let number = refused-number refusal part′ is gave in number-is-told (number .0) (number .1)
+  pub unlent-is-refused : {lending : Lending} (part′ : Part) → lending ≡ lentUnless refusal part′ → {told : ℕ} → lending ≡ Lending.Refused told
+      → outcome (Refused told) ws ≡ unlessRefused refusal ws accepted
+  unlent-is-refused part′ is gave = let number = refused-number refusal part′ is gave in number-is-told (number .0) (number .1)
 
-    pub lent-is-accepted : {p : Part} → lending ≡ Lending.Lent p → accepted ≡ unlessRefused refusal ws accepted
-    lent-is-accepted gave = sym (unless-refused-accepts (lent-part refusal part′ is gave .0))
+-- Of two numbers, as the code comes to them: the first that is not 0 is told, and where both are 0 the call is accepted.
+module _ (first second : ℕ) (ws : List ℕ) (accepted : Outcome Reply (List ℕ)) where
+  pub first-number-is-told : (first ≡ 0 → ⊥) → outcome (Refused first) ws ≡ unlessRefused (firstRefusal first second) ws accepted
+  first-number-is-told some = rw (first-refusal-stands first second some) (sym (unless-refused-refuses first ws accepted some))
+
+  pub second-number-is-told : {told : ℕ} → first ≡ 0 → told ≡ second → (told ≡ 0 → ⊥) → outcome (Refused told) ws ≡ unlessRefused (firstRefusal first second) ws accepted
+  second-number-is-told none is some = rw (no-refusal-hands-on first second none) (number-is-told second ws accepted is some)
+
+  pub neither-refuses-is-told : first ≡ 0 → second ≡ 0 → accepted ≡ unlessRefused (firstRefusal first second) ws accepted
+  neither-refuses-is-told none no-other = sym (unless-refused-accepts (firstRefusal first second) ws accepted (no-refusal-hands-on first second none ∙ no-other))
 
 -- A refusal within a refusal is the first of the two.
 pub first-of-two-refuses : (first second : ℕ) (ws : List ℕ) (accepted : Outcome Reply (List ℕ))

@@ -1,8 +1,15 @@
-// What an operation answers, and what a closed limiter answers to a try or a peek. The definitions of this crate are the rules of all operations.
+// What an operation answers, and what a closed limiter answers. The definitions of this crate are the rules of all operations.
 ghost use mathlib.Core.Path.{_≡_};
+ghost use Rattle.rows.specs.Outcome.{outcome};
+ghost use Rattle.settings.specs.Settings.{ShapeOfAccepted, firstRefusal};
+ghost use Rattle.store.specs.Refusals.{shapeRefusal};
 ghost use Rattle.rules.specs.Asks as Asks;
+ghost use Rattle.rules.specs.Rules.{unlessRefused};
 use bucket::Due;
+use settings::Shape;
 use settings::decision::Decision;
+use store::lending;
+use store::lending::Lending;
 use units::Nanos;
 
 pub mod codes;
@@ -38,5 +45,28 @@ pub fn closed(at: Nanos, cost: u32) -> Decision
         Decision::Acquired(due_now(at))
     } else {
         Decision::Impossible
+    }
+}
+
+// A closed limiter's reply to a call on a key: the number by which the call is refused, else `told`. `refusal` and `shape` are those of the settings, `further` is
+// the number for the call's other arguments.
+pub fn unless_refused(
+    refusal: u32,
+    shape: Shape,
+    ws: &[u64],
+    hash: u64,
+    further: u32,
+    told: Reply,
+) -> Reply
+    requires { ⌜ (refusal ≡ 0 → ShapeOfAccepted shape) ⌝ }
+    ensures { λ r. ⌜ outcome r (now (ws .exit)) ≡
+        unlessRefused (firstRefusal refusal (firstRefusal (shapeRefusal shape hash (now (ws .entry))) further)) (now (ws .entry)) (outcome told (now (ws .entry))) ⌝ }
+{
+    if refusal != 0 {
+        return Reply::Refused(refusal);
+    }
+    match lending::lend(shape, ws, hash, further) {
+        Lending::Refused(refusal) => Reply::Refused(refusal),
+        Lending::Lent(_) => told,
     }
 }

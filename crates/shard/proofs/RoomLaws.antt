@@ -27,6 +27,7 @@ use Rattle.evict.specs.declared.Room.the-variants.{Made, Refused}
 use Rattle.evict.specs.Evict.{minRefusalWait, evicted}
 use Rattle.evict.proofs.CaseLaws.{made-is-no-refusal, never-refused-is-made, evict-sound, evict-made-leaves-room}
 use Rattle.evict.proofs.RefusalLaws.{evict-refusal}
+use Rattle.evict.proofs.RoomLaws.{evict-same-room}
 use Rattle.evict.proofs.KeptLaws.{evict-keeps-shortage}
 use Rattle.shard.specs.declared.Policy.{Policy}
 use Rattle.shard.specs.Model.{idleLimitIn, sweptIdle, swept, makeRoom}

@@ -1,61 +1,61 @@
-use Rattle.rules.proofs.KeyedLaws.{unlent-is-told, lent-may-be-asked, lent-limit-accepted, lent-look-is-told}
-use Rattle.rules.specs.Asks.{peeks, looks}
+-- `peek` gives a closed limiter's answer, unless the call is refused, and what `peek_open` answers where there is a rate.
+use mathlib.Core.Path.{sym, _∙_}
+use Rattle.store.proofs.LendingLaws.{accepted-shape}
+use Rattle.rules.specs.Asks.{looks, peeks}
+use Rattle.rules.proofs.KeyedLaws.{unchanged-is-told}
+use Rattle.perkey.proofs.PeekLaws.{closed-peek}
 use borrow.Author.Needs.{needs}
 use Rattle.perkey.proofs.peek.Statement.{statement}
 use Rattle.perkey.proofs.peek.Tie as tie
-use Rattle.perkey.proofs.peek.Reads as reads
-use Rattle.perkey.proofs.peek.Lts as lts
-use Rattle.perkey.proofs.peek_in.Reads as peek-in-reads
-use Rattle.store.proofs.lending.lend_for.Reads as lend-for-reads
-use Rattle.store.proofs.refusals.moment_refusal.Reads as moment-refusal-reads
 
--- src/lib.rt:82:52
+enum-told : tie.Need-enum-told
+enum-told c = search needs
+
 moment-refusal-requires : tie.Need-moment-refusal-requires
 moment-refusal-requires c κs = search needs
 
--- src/lib.rt:82:11
-lend-for-requires : tie.Need-lend-for-requires
-lend-for-requires c κs = search needs
+closed-requires : tie.Need-closed-requires
+closed-requires c κs = search needs
 
--- src/lib.rt:83:26
-enum-known-refusal : tie.Need-enum-known-refusal
-enum-known-refusal c = search needs
+refusal-requires : tie.Need-refusal-requires
+refusal-requires c κs = search needs
 
--- src/lib.rt:84:23
-enum-known-part : tie.Need-enum-known-part
-enum-known-part c = search needs
+shape-requires : tie.Need-shape-requires
+shape-requires c κs = search needs
 
--- src/lib.rt:84:32
-peek-in-requires : tie.Need-peek-in-requires
-peek-in-requires c κs =
-    let part′ = c .before .part in
-    let a = c .before .before .before .before .before .before .args in
-    let lent = rw (c .before .before .before .before .moment-refusal .ensures) at (c .before .before .before .lend-for .ensures) in
-    let may = lent-may-be-asked (a .settings) (a .id) (looks (peeks (a .at) (a .cost))) (a .ws .now) lent (part′ .given .1) in
-    (may .0, may .1, lent-limit-accepted (a .settings) (a .id) (looks (peeks (a .at) (a .cost))) (a .ws .now) lent (part′ .given .1))
+unless-refused-requires : tie.Need-unless-refused-requires
+unless-refused-requires c κs =
+    let r = c .before in
+    λ none. accepted-shape (r .before .before .before .before .before .before .args .settings) (sym (r .refusal .ensures) ∙ none) (c .shape .ensures)
 
--- src/lib.rt:78:1
+enum-known-limit : tie.Need-enum-known-limit
+enum-known-limit c = search needs
+
+peek-open-requires : tie.Need-peek-open-requires
+peek-open-requires c κs = c .before .limit .given .1
+
 returns : tie.Need-returns
 returns c =
-    let a = c .before .before .before .before .before .before .args in
-    let lent = rw (c .before .before .before .before .moment-refusal .ensures) at (c .before .before .before .lend-for .ensures) in
-    unlent-is-told (a .settings) (a .id) (looks (peeks (a .at) (a .cost))) (a .ws .now) lent (c .before .refusal .given .1)
+    let r = c .before .before in
+    let a = r .before .before .before .before .before .before .args in
+    let stays = closed-peek (a .settings) (a .id) (a .at) (a .cost) _ (r .before .before .before .enum-told .given .1) (r .before .closed .ensures) in
+    unchanged-is-told (a .settings) (a .id) (looks (peeks (a .at) (a .cost))) (a .ws .now) _ stays (r .refusal .ensures) (c .before .shape .ensures)
+    (r .before .before .moment-refusal .ensures) (c .unless-refused .ensures)
 
--- src/lib.rt:78:1
 returns-2 : tie.Need-returns-2
-returns-2 c =
-    let a = c .before .before .before .before .before .before .before .args in
-    let lent = rw (c .before .before .before .before .before .moment-refusal .ensures) at (c .before .before .before .before .lend-for .ensures) in
-    lent-look-is-told (a .settings) (a .id) (peeks (a .at) (a .cost)) (a .ws .now) lent (c .before .before .part .given .1) (c .peek-in .ensures)
+returns-2 c = c .peek-open .ensures
 
 pub peek-spec : {M : Type 1} → statement M
 peek-spec =
     tie.close
     (tie.spec
+    enum-told
     moment-refusal-requires
-    lend-for-requires
-    enum-known-refusal
-    enum-known-part
-    peek-in-requires
+    closed-requires
+    refusal-requires
+    shape-requires
+    unless-refused-requires
+    enum-known-limit
+    peek-open-requires
     returns
     returns-2)

@@ -1,62 +1,60 @@
-use Rattle.rules.proofs.KeyedLaws.{unlent-is-told, lent-may-be-asked, lent-limit-accepted, lent-is-told}
+-- `refund` gives a closed limiter's answer, unless the call is refused, and what `refund_open` answers where there is a rate.
+use mathlib.Core.Path.{refl, sym, _∙_}
+use Rattle.store.proofs.LendingLaws.{accepted-shape}
 use Rattle.rules.specs.Asks.{undoes, refunds}
+use Rattle.rules.proofs.KeyedLaws.{unchanged-is-told}
+use Rattle.perkey.proofs.KnownLaws.{closed-refund}
 use borrow.Author.Needs.{needs}
 use Rattle.perkey.proofs.refund.Statement.{statement}
 use Rattle.perkey.proofs.refund.Tie as tie
-use Rattle.perkey.proofs.refund.Reads as reads
-use Rattle.perkey.proofs.refund.Lts as lts
-use Rattle.perkey.proofs.give_back.Reads as give-back-reads
-use Rattle.store.proofs.lending.lend_for.Reads as lend-for-reads
 
--- src/lib.rt:163:11
-lend-for-requires : tie.Need-lend-for-requires
-lend-for-requires c κs = search needs
+enum-told : tie.Need-enum-told
+enum-told c = search needs
 
--- src/lib.rt:164:26
-enum-known-refusal : tie.Need-enum-known-refusal
-enum-known-refusal c = search needs
+refusal-requires : tie.Need-refusal-requires
+refusal-requires c κs = search needs
 
--- src/lib.rt:165:23
-enum-known-part : tie.Need-enum-known-part
-enum-known-part c = search needs
+shape-requires : tie.Need-shape-requires
+shape-requires c κs = search needs
 
--- src/lib.rt:165:32
-give-back-requires : tie.Need-give-back-requires
-give-back-requires c κs =
-    let lend-for′ = c .before .before .before .before .lend-for in
-    let part′ = c .before .before .part in
-    let a = c .before .before .before .before .before .before .before .args in
-    let may = lent-may-be-asked (a .settings) (a .id) (undoes (refunds (a .cost))) (a .ws .now) (lend-for′ .ensures) (part′ .given .1) in
-    (may .0, may .1, lent-limit-accepted (a .settings) (a .id) (undoes (refunds (a .cost))) (a .ws .now) (lend-for′ .ensures) (part′ .given .1))
+unless-refused-requires : tie.Need-unless-refused-requires
+unless-refused-requires c κs =
+    let r = c .before .before in
+    λ none. accepted-shape (r .before .before .before .before .args .settings) (sym (r .refusal .ensures) ∙ none) (c .before .shape .ensures)
 
--- src/lib.rt:159:1
+enum-known-limit : tie.Need-enum-known-limit
+enum-known-limit c = search needs
+
+refund-open-requires : tie.Need-refund-open-requires
+refund-open-requires c κs = c .before .before .limit .given .1
+
 same-length : tie.Need-same-length
 same-length c = search needs
 
--- src/lib.rt:159:1
 returns : tie.Need-returns
 returns c =
-    let a = c .before .before .before .before .before .before .args in
-    unlent-is-told (a .settings) (a .id) (undoes (refunds (a .cost))) (a .ws .now) (c .before .before .before .lend-for .ensures) (c .before .refusal .given .1)
+    let r = c .before .before .before in
+    let a = r .before .before .before .before .args in
+    let stays = closed-refund (a .settings) (a .id) (a .cost) _ (r .before .enum-told .given .1) in
+    unchanged-is-told (a .settings) (a .id) (undoes (refunds (a .cost))) (a .ws .now) _ stays (r .refusal .ensures) (c .before .before .shape .ensures)
+    refl (c .unless-refused .ensures)
 
--- src/lib.rt:159:1
 same-length-2 : tie.Need-same-length-2
 same-length-2 c = search needs
 
--- src/lib.rt:159:1
 returns-2 : tie.Need-returns-2
-returns-2 c =
-    let a = c .before .before .before .before .before .before .before .before .before .before .args in
-    lent-is-told (a .settings) (a .id) (undoes (refunds (a .cost))) (a .ws .now) (c .before .before .before .before .before .before .before .lend-for .ensures) (c .before .before .before .before .before .part .given .1) (c .before .before .give-back .ensures)
+returns-2 c = c .before .before .refund-open .ensures
 
 pub refund-spec : {M : Type 1} → statement M
 refund-spec =
     tie.close
     (tie.spec
-    lend-for-requires
-    enum-known-refusal
-    enum-known-part
-    give-back-requires
+    enum-told
+    refusal-requires
+    shape-requires
+    unless-refused-requires
+    enum-known-limit
+    refund-open-requires
     same-length
     returns
     same-length-2

@@ -1,6 +1,7 @@
 -- `attempt_reserve` tells nothing on a closed limiter, unless the call is refused, and comes to what `reserve_open` comes to where there is a rate.
-use mathlib.Core.Path.{refl}
+use mathlib.Core.Path.{refl, sym, _∙_}
 use Rattle.bucket.specs.declared.Request.the-variants.{Reserve}
+use Rattle.store.proofs.LendingLaws.{accepted-shape}
 use Rattle.requests.proofs.RequestLaws.{closed-request-is-told}
 use Rattle.requests.proofs.AttemptLaws.{closed-is-answered}
 use borrow.Author.Needs.{needs}
@@ -13,8 +14,16 @@ enum-told c = search needs
 reserve-further-requires : tie.Need-reserve-further-requires
 reserve-further-requires c κs = search needs
 
+refusal-requires : tie.Need-refusal-requires
+refusal-requires c κs = search needs
+
+shape-requires : tie.Need-shape-requires
+shape-requires c κs = search needs
+
 unless-refused-requires : tie.Need-unless-refused-requires
-unless-refused-requires c κs = search needs
+unless-refused-requires c κs =
+    let r = c .before .before in
+    λ none. accepted-shape (r .before .before .before .before .before .args .settings) (sym (r .refusal .ensures) ∙ none) (c .before .shape .ensures)
 
 enum-known-limit : tie.Need-enum-known-limit
 enum-known-limit c = search needs
@@ -27,11 +36,12 @@ same-length c = search needs
 
 returns : tie.Need-returns
 returns c =
-    let f = c .before .before in
+    let r = c .before .before .before in
+    let f = r .before in
     let a = f .before .before .before .before .args in
     let ruled =
     closed-request-is-told (Reserve (a .max-wait)) (a .settings) (a .at) (a .id) (a .cost) (a .ws .now) (f .before .enum-told .given .1) refl
-    (f .reserve-further .ensures) (c .unless-refused .ensures) in
+    (r .refusal .ensures) (c .before .before .shape .ensures) (f .reserve-further .ensures) (c .unless-refused .ensures) in
     closed-is-answered (Reserve (a .max-wait)) (a .settings) (a .at) (a .id) (a .cost) (a .ws .now) (f .before .enum-told .given .1) ruled
 
 same-length-2 : tie.Need-same-length-2
@@ -46,6 +56,8 @@ attempt-reserve-spec =
     (tie.spec
     enum-told
     reserve-further-requires
+    refusal-requires
+    shape-requires
     unless-refused-requires
     enum-known-limit
     reserve-open-requires

@@ -1,6 +1,7 @@
 -- `attempt_try` tells a closed limiter's answer, unless the call is refused, and comes to what `try_open` comes to where there is a rate.
-use mathlib.Core.Path.{ap}
+use mathlib.Core.Path.{sym, ap, _∙_}
 use Rattle.bucket.specs.declared.Request.the-variants.{Acquire}
+use Rattle.store.proofs.LendingLaws.{accepted-shape}
 use Rattle.settings.specs.declared.decision.Decision.{Decision}
 use Rattle.rules.specs.declared.Reply.the-variants.{Tried}
 use Rattle.requests.proofs.RequestLaws.{closed-request-is-told}
@@ -18,8 +19,16 @@ moment-refusal-requires c κs = search needs
 closed-requires : tie.Need-closed-requires
 closed-requires c κs = search needs
 
+refusal-requires : tie.Need-refusal-requires
+refusal-requires c κs = search needs
+
+shape-requires : tie.Need-shape-requires
+shape-requires c κs = search needs
+
 unless-refused-requires : tie.Need-unless-refused-requires
-unless-refused-requires c κs = search needs
+unless-refused-requires c κs =
+    let r = c .before .before in
+    λ none. accepted-shape (r .before .before .before .before .before .before .args .settings) (sym (r .refusal .ensures) ∙ none) (c .before .shape .ensures)
 
 enum-known-limit : tie.Need-enum-known-limit
 enum-known-limit c = search needs
@@ -32,13 +41,13 @@ same-length c = search needs
 
 returns : tie.Need-returns
 returns c =
-    let k = c .before .before in
-    let m = k .before in
+    let r = c .before .before .before in
+    let m = r .before .before in
     let a = m .before .before .before .before .args in
-    let closed = ap (λ (d : Decision). Tried d) (k .closed .ensures) in
+    let closed = ap (λ (d : Decision). Tried d) (r .before .closed .ensures) in
     let ruled =
     closed-request-is-told Acquire (a .settings) (a .at) (a .id) (a .cost) (a .ws .now) (m .before .enum-told .given .1) closed
-    (m .moment-refusal .ensures) (c .unless-refused .ensures) in
+    (r .refusal .ensures) (c .before .before .shape .ensures) (m .moment-refusal .ensures) (c .unless-refused .ensures) in
     closed-is-answered Acquire (a .settings) (a .at) (a .id) (a .cost) (a .ws .now) (m .before .enum-told .given .1) ruled
 
 same-length-2 : tie.Need-same-length-2
@@ -54,6 +63,8 @@ attempt-try-spec =
     enum-told
     moment-refusal-requires
     closed-requires
+    refusal-requires
+    shape-requires
     unless-refused-requires
     enum-known-limit
     try-open-requires
