@@ -50,3 +50,8 @@ pub closed-peek : (s : Settings) (id : Identity) (at : Nanos) (cost : ℕ) (own 
     → inItsShard s id (looks (peeks at cost)) own ≡ outcome (Tried decision) own
 unfolding peekedIn
 closed-peek s id at cost own is-limit is = rw (is-limit, is)
+
+-- A peek at the rate that the settings have.
+pub peek-by-limit : (s : Settings) (at : Nanos) (cost : ℕ) (id : Identity) (own : Shard) {rate : Rate} {reply : Reply} → s .limit ≡ Open rate
+    → reply ≡ peekedIn (Open rate) at cost id own → reply ≡ peekedIn (s .limit) at cost id own
+peek-by-limit s at cost id own is-limit told = rw is-limit told

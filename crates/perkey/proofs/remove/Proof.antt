@@ -1,57 +1,55 @@
-use Rattle.perkey.proofs.KnownLaws.{key-is-told}
+-- `remove` answers the refusal, else whether the store knew the key in its shard.
+use Rattle.rules.specs.Asks.{Ask, undoes, removes}
 use Rattle.rules.proofs.KeyedLaws.{unlent-is-told, lent-may-be-asked, lent-is-told}
-use Rattle.rules.specs.Asks.{undoes, removes}
+use Rattle.perkey.proofs.KnownLaws.{key-is-told}
 use borrow.Author.Needs.{needs}
 use Rattle.perkey.proofs.remove.Statement.{statement}
 use Rattle.perkey.proofs.remove.Tie as tie
-use Rattle.perkey.proofs.remove.Reads as reads
-use Rattle.perkey.proofs.remove.Lts as lts
-use Rattle.perkey.proofs.known_reply.Reads as known-reply-reads
-use Rattle.store.proofs.lending.lend_for.Reads as lend-for-reads
-use Rattle.store.proofs.remove.Reads as remove-reads
 
--- src/lib.rt:184:11
+-- What is asked; where the call began, as seen once `lend_for` has answered.
+abbrev ask : Ask
+ask = undoes removes
+
+abbrev start : tie.After-lend-for → tie.Start
+start l = l .before .before .before
+
 lend-for-requires : tie.Need-lend-for-requires
 lend-for-requires c κs = search needs
 
--- src/lib.rt:185:26
 enum-known-refusal : tie.Need-enum-known-refusal
 enum-known-refusal c = search needs
 
--- src/lib.rt:186:23
 enum-known-part : tie.Need-enum-known-part
 enum-known-part c = search needs
 
--- src/lib.rt:186:44
 remove-requires : tie.Need-remove-requires
 remove-requires c κs =
-    let a = c .before .before .before .before .before .before .before .args in
-    lent-may-be-asked (a .settings) (a .id) (undoes removes) (a .ws .now) (c .before .before .before .before .lend-for .ensures) (c .before .before .part .given .1)
+    let l = c .before .before .before .before in
+    let a = start l .args in
+    lent-may-be-asked (a .settings) (a .id) ask (a .ws .now) (l .lend-for .ensures) (c .before .before .part .given .1)
 
--- src/lib.rt:186:32
 known-reply-requires : tie.Need-known-reply-requires
 known-reply-requires c κs = search needs
 
--- src/lib.rt:181:1
 same-length : tie.Need-same-length
 same-length c = search needs
 
--- src/lib.rt:181:1
 returns : tie.Need-returns
 returns c =
-    let a = c .before .before .before .before .before .before .args in
-    unlent-is-told (a .settings) (a .id) (undoes removes) (a .ws .now) (c .before .before .before .lend-for .ensures) (c .before .refusal .given .1)
+    let l = c .before .before .before in
+    let a = start l .args in
+    unlent-is-told (a .settings) (a .id) ask (a .ws .now) (l .lend-for .ensures) (c .before .refusal .given .1)
 
--- src/lib.rt:181:1
 same-length-2 : tie.Need-same-length-2
 same-length-2 c = search needs
 
--- src/lib.rt:181:1
 returns-2 : tie.Need-returns-2
 returns-2 c =
-    let a = c .before .before .before .before .before .before .before .before .before .before .before .args in
+    let p = c .before .before .before .before .before .before in
+    let l = p .before .before in
+    let a = start l .args in
     let removed = key-is-told (c .before .before .before .remove .ensures) (c .known-reply .ensures) in
-    lent-is-told (a .settings) (a .id) (undoes removes) (a .ws .now) (c .before .before .before .before .before .before .before .before .lend-for .ensures) (c .before .before .before .before .before .before .part .given .1) removed
+    lent-is-told (a .settings) (a .id) ask (a .ws .now) (l .lend-for .ensures) (p .part .given .1) removed
 
 pub remove-spec : {M : Type 1} → statement M
 remove-spec =
