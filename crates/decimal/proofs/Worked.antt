@@ -11,7 +11,8 @@ unfolding isDigit allDigits decimalFrom numberOf
 zeros-in-front = refl
 
 -- "18446744073709551615", the most of 64 bits
-pub most-of-64-bits : numberOf (2 ^ 64 - 1) (49 ∷ 56 ∷ 52 ∷ 52 ∷ 54 ∷ 55 ∷ 52 ∷ 52 ∷ 48 ∷ 55 ∷ 51 ∷ 55 ∷ 48 ∷ 57 ∷ 53 ∷ 53 ∷ 49 ∷ 54 ∷ 49 ∷ 53 ∷ []) ≡ Some (2 ^ 64 - 1)
+pub most-of-64-bits : numberOf (2 ^ 64 - 1) (49 ∷ 56 ∷ 52 ∷ 52 ∷ 54 ∷ 55 ∷ 52 ∷ 52 ∷ 48 ∷ 55 ∷ 51 ∷ 55 ∷ 48 ∷ 57 ∷ 53 ∷ 53 ∷ 49 ∷ 54 ∷ 49 ∷ 53 ∷ [])
+    ≡ Some (2 ^ 64 - 1)
 unfolding isDigit allDigits decimalFrom numberOf
 most-of-64-bits = refl
 
@@ -26,7 +27,8 @@ unfolding isDigit allDigits decimalFrom numberOf
 past-32-bits = refl
 
 -- 21 zeros
-pub twenty-one-digits : numberOf (2 ^ 64 - 1) (48 ∷ 48 ∷ 48 ∷ 48 ∷ 48 ∷ 48 ∷ 48 ∷ 48 ∷ 48 ∷ 48 ∷ 48 ∷ 48 ∷ 48 ∷ 48 ∷ 48 ∷ 48 ∷ 48 ∷ 48 ∷ 48 ∷ 48 ∷ 48 ∷ []) ≡ None
+pub twenty-one-digits : numberOf (2 ^ 64 - 1) (48 ∷ 48 ∷ 48 ∷ 48 ∷ 48 ∷ 48 ∷ 48 ∷ 48 ∷ 48 ∷ 48 ∷ 48 ∷ 48 ∷ 48 ∷ 48 ∷ 48 ∷ 48 ∷ 48 ∷ 48 ∷ 48 ∷ 48 ∷ 48 ∷ [])
+    ≡ None
 unfolding isDigit allDigits decimalFrom numberOf
 twenty-one-digits = refl
 

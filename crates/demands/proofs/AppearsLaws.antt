@@ -120,7 +120,8 @@ module _ {S N : Type 0} (terms : Terms S N) {A P C : ℕ} (B : LineBound A P C) 
   unnamed-gives-nothing (keyed s n ask) reply g e = unnamed-ask-gives-nothing B k (terms .identity n) ask reply g e
   unnamed-gives-nothing (whole s what) reply g e = refl
 
-  uncalled-gives-nothing : (c : Call S N) (ws : List ℕ) (g : B .History) → calls terms k (ruled terms c ws) ≡ false → given B terms k c (rules terms c ws .answer) g ≡ g
+  uncalled-gives-nothing : (c : Call S N) (ws : List ℕ) (g : B .History) → calls terms k (ruled terms c ws) ≡ false
+      → given B terms k c (rules terms c ws .answer) g ≡ g
   unfolding calls
   uncalled-gives-nothing c ws g e =
       by-test (accepted terms (ruled terms c ws))

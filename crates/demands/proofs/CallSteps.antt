@@ -83,7 +83,8 @@ module _ (s : Settings) (rate : Rate) (k : Identity) (B : BoundOf (configOf rate
       by-eq (id .hash) (k .hash)
       (λ hash.
       rw (own-call k id next g hash (alone hash))
-      (operation-stands s rate k B (id .hash) n ws v o room stamps next (λ same b. own hash (alone hash) b) (λ apart. absurd (apart (ap (shardOf s) (sym hash))))))
+      (operation-stands s rate k B (id .hash) n ws v o room stamps next (λ same b. own hash (alone hash) b)
+      (λ apart. absurd (apart (ap (shardOf s) (sym hash))))))
       (λ differs.
       rw (other-hash k id next g differs)
       (operation-stands s rate k B (id .hash) n ws v o room stamps g
@@ -91,7 +92,8 @@ module _ (s : Settings) (rate : Rate) (k : Identity) (B : BoundOf (configOf rate
 
   -- A request of any kind, put to the store.
   module _ (r : Request) (at : Nanos) (id : Identity) (cost : ℕ) (ws : List ℕ) (g : B .History) (early : at .0 ≤ 2 ^ 62)
-      (patient : longestWait r ≤ 2 ^ 46) (accepted : Store.Accepted s (id .hash) ws) (alone : id .hash ≡ k .hash → id .key ≡ k .key) (v : Stands (at .0) ws g) where
+      (patient : longestWait r ≤ 2 ^ 46) (accepted : Store.Accepted s (id .hash) ws) (alone : id .hash ≡ k .hash → id .key ≡ k .key)
+      (v : Stands (at .0) ws g) where
     sound : Shard.Sound (shardAt s (id .hash) ws)
     sound = accepted .sound
 
@@ -107,7 +109,8 @@ module _ (s : Settings) (rate : Rate) (k : Identity) (B : BoundOf (configOf rate
         (keyed-stands id (at .0) ws v answered (ask-same-room shard sound (policyOf s rate) id r cost at)
         (ask-keeps-stamps (policyOf s rate) id r cost at shard a sound) alone _
         (λ hash key b.
-        own-request (policyOf s rate) id r cost at shard a early never sound (rw hash (v .complete)) (rw hash (v .past)) B (k .hash) (k .key) hash key least most patient b)
+        own-request (policyOf s rate) id r cost at shard a early never sound (rw hash (v .complete)) (rw hash (v .past)) B (k .hash)
+        (k .key) hash key least most patient b)
         (λ differs. other-request (policyOf s rate) id r cost at shard a early never sound (k .hash) (k .key) differs))
 
     -- A grant of no tokens keeps the bound.
@@ -136,7 +139,8 @@ module _ (s : Settings) (rate : Rate) (k : Identity) (B : BoundOf (configOf rate
         by-le cost (burstOf rate)
         (λ most. by-eq cost 0
         (λ zero.
-        rw (le-ltb (burstOf rate) cost most, eq-eqb cost 0 zero, same (atOnce (mannerOf r) at), at-once-grants B (mannerOf r) at cost g) (nothing-granted-stands zero))
+        rw (le-ltb (burstOf rate) cost most, eq-eqb cost 0 zero, same (atOnce (mannerOf r) at), at-once-grants B (mannerOf r) at cost g)
+        (nothing-granted-stands zero))
         (λ some. rw (le-ltb (burstOf rate) cost most, ne-eqb cost 0 some) (request-stands (omega (arith, some)) most)))
         (λ more.
         rw (lt-ltb (burstOf rate) cost more, same (tooMuch (mannerOf r)), too-much-grants-nothing B (mannerOf r) at cost g, same-either-way k id g) v)
@@ -168,7 +172,8 @@ module _ (s : Settings) (rate : Rate) (k : Identity) (B : BoundOf (configOf rate
 
   -- What is asked of a key, where it is not refused: the settings are those of set-up, time does not fall, the key shares no hash with the key in question, and
   -- what that key spent is undone only as the bound allows.
-  module _ (rated : s .limit ≡ Open rate) (id : Identity) (n : ℕ) (ws : List ℕ) (g : B .History) (v : Stands n ws g) (alone : id .hash ≡ k .hash → id .key ≡ k .key)
+  module _ (rated : s .limit ≡ Open rate) (id : Identity) (n : ℕ) (ws : List ℕ) (g : B .History) (v : Stands n ws g)
+      (alone : id .hash ≡ k .hash → id .key ≡ k .key)
       (accepted : Store.Accepted s (id .hash) ws) where
     abbrev own : Shard.Shard
     own = shardAt s (id .hash) ws

@@ -1,5 +1,5 @@
--- Code that is as the contracts of its operations tell meets demand 2, and so demand 3: in lists that mix calls by key, calls by address and looks at the length; and
--- so in lists of calls by key alone.
+-- Code that is as the contracts of its operations tell meets demand 2, and so demand 3: in lists that mix calls by key, calls by address and looks at the
+-- length; and so in lists of calls by key alone.
 use Prim.Native.Nat.{ℕ}
 use mathlib.Core.Path.{_≡_, refl, sym, _∙_}
 use mathlib.Core.Bool.{true, false≢true}

@@ -27,7 +27,8 @@ use Rattle.rules.specs.Calls.{try, reserve, Terms, byKey, Every}
 use Rattle.perkey.specs.Edges.{twoPerSecond, limited, keyOf}
 use Rattle.rules.specs.Widths.{settingsFit, lendable}
 use Rattle.demands.specs.Demands as Demands
-use Rattle.demands.specs.ByKey.{Call, Implementation, rules, Answered, replies, accepted, SameSettings, TimesNeverFall, Agree, NoSharedHash, NeverRefundedOrRemoved, tokensUsable, answering, Demand2, WindowAdding, OwnBucket, fits, allFit}
+use Rattle.demands.specs.ByKey.{Call, Implementation, rules, Answered, replies, accepted, SameSettings, TimesNeverFall, Agree, NoSharedHash}
+use Rattle.demands.specs.ByKey.{NeverRefundedOrRemoved, tokensUsable, answering, Demand2, WindowAdding, OwnBucket, fits, allFit}
 use Rattle.demands.specs.Demands.{ownReply}
 use Rattle.store.specs.Memory.{memoryWords}
 
@@ -87,8 +88,8 @@ abbrev pub callsOn : Settings → List (Settings → Call) → List Call
 callsOn s [] = []
 callsOn s (c ∷ cs) = c s ∷ callsOn s cs
 
--- A try for one token at moment 0 after some calls, from some words, at two tokens a second and up to four. An implementation misdecides it: the rules accept it,
--- the modem holds a slot or a debt in the words that they made, and the reply is not that of its bucket.
+-- A try for one token at moment 0 after some calls, from some words, at two tokens a second and up to four. An implementation misdecides it: the rules accept
+-- it, the modem holds a slot or a debt in the words that they made, and the reply is not that of its bucket.
 module _ {S N : Type 0} (terms : Terms S N) where
   pub record MisdecidesFrom (ws : List ℕ) (f : Calls.Implementation S N) (s : S) (cs : List (Calls.Call S N)) (n : N) : Type 0 where
     pub rated : terms .settings s .limit ≡ Open twoPerSecond
@@ -172,7 +173,8 @@ pub overgranting-breaks-the-window : {moments : ℕ} {f : Implementation} {rate 
 overgranting-breaks-the-window {moments} {f} {rate} {keys} {xs} {key} {moment} shown window =
     let s : Settings = storeFor rate keys in
     let ws : List ℕ = fresh s in
-    let fair = window s rate (memory s) (shown .settings) (shown .lent) refl refl (shown .set-up) (reservations s xs) (shown .fit) (have-same-settings f s xs ws ws) (have-rising-times f s xs ws ws)
+    let fair = window s rate (memory s) (shown .settings) (shown .lent) refl refl (shown .set-up) (reservations s xs) (shown .fit)
+    (have-same-settings f s xs ws ws) (have-rising-times f s xs ws ws)
     (have-no-shared-hash f s xs ws ws) in
     let bound = fair (keyOf key) (never-return f s (keyOf key) xs ws ws) moment moment (omega arith) in
     omega (arith, bound, ltb-true (partsAllowed moments rate moment) (partsGranted f rate keys xs key moment) (shown .over))

@@ -156,7 +156,8 @@ module _ (A P C : ℕ) (k : Identity) (t u : ℕ) (gs : List Grant) where
   ask-within id (undoes removes) reply = omega arith
 
 module _ {S N : Type 0} (terms : Terms S N) (A P C : ℕ) (k : Identity) (t u : ℕ) where
-  given-within : (c : Call S N) (reply : Reply) (gs : List Grant) → within t u (given (windowBound A P C) terms k c reply gs) ≡ tokensOf terms k t u c reply + within t u gs
+  given-within : (c : Call S N) (reply : Reply) (gs : List Grant)
+      → within t u (given (windowBound A P C) terms k c reply gs) ≡ tokensOf terms k t u c reply + within t u gs
   given-within (keyed s n ask) reply gs = ask-within A P C k t u gs (terms .identity n) ask reply
   given-within (whole s what) reply gs = omega arith
 

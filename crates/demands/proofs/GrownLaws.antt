@@ -1,5 +1,5 @@
--- What every call keeps, a grown store has. So in its shards lookup finds each slot and each debt: none holds more items than it has room for, lookup misses none,
--- and no two slots are of one key. Their indexes are exact. Whether a call of the store is refused follows from the call alone, and a clear is accepted.
+-- What every call keeps, a grown store has. So in its shards lookup finds each slot and each debt: none holds more items than it has room for, lookup misses
+-- none, and no two slots are of one key. Their indexes are exact. Whether a call of the store is refused follows from the call alone, and a clear is accepted.
 use Prim.Native.Nat.{ℕ, zero, suc, _*_, _/_, _%_, _≤_, _<_, _^_}
 use native.Mathlib.Omega.{arith}
 use native.Mathlib.Nat.{mul-div-cancel, mod-eq-of-lt, max-le}
@@ -149,7 +149,8 @@ module _ (s : Settings) (ws : List ℕ) (memory : SoundMemory s ws) where
   -- A clear is accepted.
   pub clear-is-accepted : clear s ws .answer ≡ Done
   unfolding setUpIn
-  clear-is-accepted = ap (λ (o : Outcome Reply (List ℕ)). o .answer) (unless-refused-accepts (setUpRefusal s ws) ws (outcome Done (replicate (memoryWords s) 0)) settings-and-length-are-not-refused)
+  clear-is-accepted = ap (λ (o : Outcome Reply (List ℕ)). o .answer)
+      (unless-refused-accepts (setUpRefusal s ws) ws (outcome Done (replicate (memoryWords s) 0)) settings-and-length-are-not-refused)
 
 module _ {S N : Type 0} (terms : Terms S N) where
   refusal-is-the-calls-own : (c : Call S N) (ws : List ℕ) → SoundMemory (settingsOf terms c) ws → refusalOf terms c ws ≡ refusedAs terms c

@@ -126,7 +126,8 @@ pub right-by-key-alone-fails-demand2 : Demands.Demand2 byName (Demands.answering
 right-by-key-alone-fails-demand2 demand = right-by-key-alone-fails-demand3 (demand2-gives-demand3 byName (names-fit (λ s. s) settingsFit) _ demand)
 
 -- It is right by key: where every call of a list names a key, it answers as the rules do.
-pub right-by-key-is-right-by-key : (s : Settings) (id : Identity) (ask : Ask) (ws : List ℕ) → rightByKeyAlone (keyed s (key id) ask) ws ≡ Calls.rules byName (keyed s (key id) ask) ws
+pub right-by-key-is-right-by-key : (s : Settings) (id : Identity) (ask : Ask) (ws : List ℕ)
+    → rightByKeyAlone (keyed s (key id) ask) ws ≡ Calls.rules byName (keyed s (key id) ask) ws
 right-by-key-is-right-by-key s id ask ws = refl
 
 -- No moment told: a grant at moment 1 is told with moment 0. The moments of request 1 shut this out, and so does demand 2. The window does not speak of the

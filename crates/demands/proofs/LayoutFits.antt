@@ -68,7 +68,13 @@ unfolding Debts.ledger
 ledger-read-fits cap ws room every =
     let f = table-read-fits DebtFits Debts.debtOf _ cap _ ws debt-read-fits room every in
     record {
-      debts = record { count = f .head _; room = f .room; items = f .items; finding = index-read-fits (drop (placesFor cap) _) (every-left Word (placesFor cap) _ (f .rest)) };
+      debts = record {
+        count = f .head _;
+        room = f .room;
+        items = f .items;
+        finding = index-read-fits (drop (placesFor cap) _)
+            (every-left Word (placesFor cap) _ (f .rest));
+      };
       cursor = f .head _;
       others = every-taken Word (placesFor cap) _ (f .rest);
     }
@@ -117,6 +123,7 @@ unfolding wordsOf
 shard-words-fit s f =
     let slots = items-written-fit SlotFits slotWords slot-words-fit (s .slots .places) (f .slots .items) in
     let l : Ledger = withOthers (s .ledger) (indexWords (s .slots .finding)) in
-    let fits : LedgerFits l = record { debts = f .ledger .debts; cursor = f .ledger .cursor; others = index-words-fit (s .slots .finding) (f .slots .finding) } in
+    let fits : LedgerFits l =
+    record { debts = f .ledger .debts; cursor = f .ledger .cursor; others = index-words-fit (s .slots .finding) (f .slots .finding) } in
     let both = every-joined Word (unrow (map slotWords (s .slots .places))) (Debts.wordsOf l) slots (ledger-words-fit l fits) in
     (f .slots .count, (f .hand, (f .sweep, both)))

@@ -16,7 +16,8 @@ use Rattle.ledger.specs.declared.Choice.{Choice}
 use Rattle.ledger.specs.declared.Choice.the-variants.{Settled, Soonest}
 use Rattle.ledger.specs.declared.Recorded.{Recorded}
 use Rattle.ledger.specs.declared.Recorded.the-variants.{Done, NoRoom}
-use Rattle.ledger.specs.Model.{Ledger, Sound, noDebt, debtItems, capOf, debtAt, settledBy, hasSettled, cursorOf, withCursor, withDebt, placeOf, removeAt, append, taken, roundOf, sweep}
+use Rattle.ledger.specs.Model.{Ledger, Sound, noDebt, debtItems, capOf, debtAt, settledBy, hasSettled, cursorOf, withCursor, withDebt, placeOf, removeAt}
+use Rattle.ledger.specs.Model.{append, taken, roundOf, sweep}
 use Rattle.ledger.specs.Model.{sooner, scanFrom, scan, dropChosen, makeRoom, joined, recordedAt, recorded, paidDown}
 use Rattle.ledger.proofs.StepLaws.{removal-count, found-owes, taken-cases, paid-cases}
 use Rattle.ledger.proofs.RecordLaws.{chosen, scan-chooses-held, done-is-no-refusal}
@@ -98,7 +99,8 @@ record RoomFits (o : Outcome Recorded Ledger) : Type 0 where
   after : LedgerFits (o .after)
   next : o .answer ≡ Done → Word (o .after .debts .count + 1)
 
-dropped-fits : (at : Nanos) (forget : Bool) (l : Ledger) (choice : Choice) → chosen choice < l .debts .count → LedgerFits l → RoomFits (dropChosen at forget l choice)
+dropped-fits : (at : Nanos) (forget : Bool) (l : Ledger) (choice : Choice) → chosen choice < l .debts .count → LedgerFits l
+    → RoomFits (dropChosen at forget l choice)
 unfolding dropChosen
 dropped-fits at forget l choice held f = go choice held
   where

@@ -30,7 +30,8 @@ use Rattle.store.proofs.MemoryLaws.{same-room-sized, in-shard-length}
 use Rattle.store.proofs.RefusalLaws.{Accepted}
 use Rattle.rules.specs.declared.Reply.{Reply}
 use Rattle.rules.specs.declared.Reply.the-variants.{Nothing}
-use Rattle.rules.specs.Asks.{Ask, requests, looks, undoes, Undo, refunds, removes, furtherOf, mannerOf, replyTo, toldAs, policyOf, knownReply, askedIn, undoneIn, inItsShard}
+use Rattle.rules.specs.Asks.{Ask, requests, looks, undoes, Undo, refunds, removes, furtherOf, mannerOf, replyTo, toldAs, policyOf, knownReply, askedIn}
+use Rattle.rules.specs.Asks.{undoneIn, inItsShard}
 use Rattle.rules.specs.Rules.{setUp}
 use Rattle.rules.specs.Widths.{fits64, keyFits, lendable}
 use Rattle.rules.specs.Calls.{Call, keyed, whole, len, Terms, rules, fits, Every}

@@ -24,7 +24,8 @@ use Rattle.store.proofs.RefusalLaws.{moment-not-refused}
 use Rattle.rules.specs.declared.Reply.{Reply}
 use Rattle.rules.specs.declared.Reply.the-variants.{Tried, Reserved, Nothing, Done, Count, Refused}
 use Rattle.rules.specs.Replies.{momentOf, ofGrant, decides, knows}
-use Rattle.rules.specs.Asks.{peeks, tokens, Undo, Ask, requests, looks, undoes, asTry, asReservation, mannerOf, furtherOf, policyOf, replyTo, askedIn, inItsShard}
+use Rattle.rules.specs.Asks.{peeks, tokens, Undo, Ask, requests, looks, undoes, asTry, asReservation, mannerOf, furtherOf, policyOf, replyTo, askedIn}
+use Rattle.rules.specs.Asks.{inItsShard}
 use Rattle.rules.specs.Calls.{Call, keyed, whole, len, Terms, rules, Answered, replies, Every}
 use Rattle.rules.proofs.KeyedLaws.{ask-not-refused, request-in-time}
 use Rattle.rules.proofs.KindLaws.{OfKind, acquired, retried, impossible, known, unknown, asks-are-answered-in-kind}
@@ -63,7 +64,8 @@ reservation-tells longest (Open rate) s at id cost own early patient =
 
 -- What is asked of a key and not refused.
 ask-tells : (s : Settings) (id : Identity) (ask : Ask) (own : Shard) → furtherOf ask ≡ 0 → askTells ask (inItsShard s id ask own .answer)
-ask-tells s id (requests Acquire at cost) own none = try-tells (request-in-time Acquire at none .0) (asks-are-answered-in-kind s id (requests Acquire at cost) own)
+ask-tells s id (requests Acquire at cost) own none =
+    try-tells (request-in-time Acquire at none .0) (asks-are-answered-in-kind s id (requests Acquire at cost) own)
 ask-tells s id (requests (Reserve longest) at cost) own none =
     let timely = request-in-time (Reserve longest) at none in
     reservation-tells longest (s .limit) s at id cost own (timely .0) (timely .1)

@@ -1,5 +1,5 @@
--- A call on a key that is not refused works in its key's shard alone, and there it does what `inItsShard` says. That gives the same where slots and debts are found
--- in place order.
+-- A call on a key that is not refused works in its key's shard alone, and there it does what `inItsShard` says. That gives the same where slots and debts are
+-- found in place order.
 use Prim.Native.Nat.{ℕ}
 use mathlib.Core.Path.{_≡_, refl, ap}
 use mathlib.Core.Bool.{Bool, true, false, cond}
@@ -27,12 +27,13 @@ use Rattle.store.proofs.MemoryLaws.{same-room-sized, shard-at-sized, in-shard-l
 use Rattle.store.proofs.RefusalLaws.{Accepted}
 use Rattle.rules.specs.declared.Reply.{Reply}
 use Rattle.rules.specs.declared.Reply.the-variants.{Nothing}
-use Rattle.rules.specs.Asks.{Look, peeks, tokens, Undo, refunds, removes, Ask, requests, looks, undoes, mannerOf, tooMuch, atOnce, replyTo, knownReply, policyOf, toldAs}
+use Rattle.rules.specs.Asks.{Look, peeks, tokens, Undo, refunds, removes, Ask, requests, looks, undoes, mannerOf, tooMuch, atOnce, replyTo, knownReply}
+use Rattle.rules.specs.Asks.{policyOf, toldAs}
 use Rattle.rules.specs.Asks.{askedIn, peekedIn, lookedIn, undoneIn, inItsShard}
 use Rattle.rules.specs.Rules.{askedOf}
 
--- What a call gives on words is what an operation gives in the shard of a hash: its answer, and the shard that it leaves. The other shards stay as they are, and
--- the memory keeps its length.
+-- What a call gives on words is what an operation gives in the shard of a hash: its answer, and the shard that it leaves. The other shards stay as they are,
+-- and the memory keeps its length.
 pub record WorksInOneShard (s : Settings) (hash : ℕ) (ws : List ℕ) (gives : Outcome Reply (List ℕ)) (operation : Outcome Reply Shard) : Type 0 where
   pub size : length (gives .after) ≡ memoryWords s
   pub answer : gives .answer ≡ operation .answer

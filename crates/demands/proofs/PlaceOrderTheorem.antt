@@ -41,7 +41,8 @@ abbrev pub SamePlaces : Settings → List ℕ → Shards → Type 0
 SamePlaces s ws shards = (hash : ℕ) → inPlaceOrder (shardAt s hash ws) ≡ shards (shardOf s hash)
 
 -- The same by the numbers of the shards.
-same-by-number : (s : Settings) (ws : List ℕ) (shards : Shards) → SamePlaces s ws shards → (i : ℕ) → i < shardCount s → inPlaceOrder (shardNumbered s i ws) ≡ shards i
+same-by-number : (s : Settings) (ws : List ℕ) (shards : Shards) → SamePlaces s ws shards → (i : ℕ) → i < shardCount s
+    → inPlaceOrder (shardNumbered s i ws) ≡ shards i
 same-by-number s ws shards places i below =
     let is = every-shard-has-a-hash s i below in
     ap (λ (j : ℕ). inPlaceOrder (shardNumbered s j ws)) (sym is) ∙ places (i * 2 ^ 40) ∙ ap shards is
@@ -125,7 +126,8 @@ module _ {S N : Type 0} (terms : Terms S N) where
     run-same (t ∷ ts) ws shards memory places all =
         let first = turn-same t ws shards memory places (all .0) in
         let rest =
-        run-same ts (byRules terms s t ws .after) (stepWithoutIndexes terms s t shards .after) (turn-keeps-sound t ws memory (all .0)) (first .shards) (all .1) in
+        run-same ts (byRules terms s t ws .after) (stepWithoutIndexes terms s t shards .after) (turn-keeps-sound t ws memory (all .0)) (first .shards)
+        (all .1) in
         record { answer = rw (first .answer, rest .answer); shards = rest .shards }
 
     -- It leaves a grown store. A call that is refused leaves the words as they are.
@@ -171,7 +173,8 @@ module _ {S N : Type 0} (terms : Terms S N) where
   one-more-of-store s [] t all last = (last, tt)
   one-more-of-store s (first ∷ ts) t all last = (all .0, one-more-of-store s ts t (all .1) last)
 
-  one-turn-longer : {s : Settings} {ws : List ℕ} → LeftByTurns terms s ws → (t : Turn S N) → OfStore terms s t → LeftByTurns terms s (byRules terms s t ws .after)
+  one-turn-longer : {s : Settings} {ws : List ℕ} → LeftByTurns terms s ws → (t : Turn S N) → OfStore terms s t
+      → LeftByTurns terms s (byRules terms s t ws .after)
   one-turn-longer {s} r t last = record {
     before = r .before;
     done = r .done;
@@ -187,7 +190,8 @@ module _ {S N : Type 0} (terms : Terms S N) where
   grown-is-a-run (cleared ws grown done) = one-turn-longer (grown-is-a-run grown) clears tt
   grown-is-a-run (called c ws grown same taken) = one-turn-longer (grown-is-a-run grown) (calls c) same
 
--- So it is with every limiter that meets demand 2: code as the contracts tell, and the exports. In a turn by a limiter a clear writes the settings as set-up did.
+-- So it is with every limiter that meets demand 2: code as the contracts tell, and the exports. In a turn by a limiter a clear writes the settings as set-up
+-- did.
 abbrev pub byLimiter : {S N : Type 0} → Limiter S N → S → Turn S N → List ℕ → Outcome Reply (List ℕ)
 byLimiter l written (calls c) ws = l .answers c ws
 byLimiter l written clears ws = l .clears written ws
@@ -202,7 +206,8 @@ module _ {S N : Type 0} (terms : Terms S N) (names : NamesFit terms) (l : Limite
   turn-alike (calls c) ws fits′ lent = equal .answers c ws fits′ lent
   turn-alike clears ws fits′ lent = equal .clears written ws fit lent
 
-  turn-leaves-lendable : (t : Turn S N) (ws : List ℕ) → TurnFits terms t → lendable ws ≡ true → lendable (byRules terms (terms .settings written) t ws .after) ≡ true
+  turn-leaves-lendable : (t : Turn S N) (ws : List ℕ) → TurnFits terms t → lendable ws ≡ true
+      → lendable (byRules terms (terms .settings written) t ws .after) ≡ true
   turn-leaves-lendable (calls c) ws fits′ lent = rules-leave-words-lendable terms names c ws fits′ lent
   turn-leaves-lendable clears ws fits′ lent = set-up-leaves-words-lendable (terms .settings written) ws lent
 

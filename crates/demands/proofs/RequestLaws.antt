@@ -88,8 +88,15 @@ module _ (c : BucketConfig) (h k : ℕ) (at : Nanos) (s : Shard) (u : Sound s) {
       let lacks : HoldsAt c B at (shortfallAt c (slot .bucket) at) g = rw (r .bucket) holds in
       let hash : slot .hash ≡ h = r .hash ∙ f .hash in
       record {
-        one = omega (arith, all .single, count-stored h k s i slot u (f .below), weight-own h k (slotAt s i) (f .hash) (f .key), weight-own h k slot hash (r .key ∙ f .key));
-        bound = holds-of-more c B at (omega (arith, all .all, shortage-stored c h at s i slot u (f .below), short-own c h at (slotAt s i) (f .hash), short-own c h at slot hash)) lacks;
+        one = omega (
+          arith,
+          all .single,
+          count-stored h k s i slot u (f .below),
+          weight-own h k (slotAt s i) (f .hash) (f .key),
+          weight-own h k slot hash (r .key ∙ f .key),
+        );
+        bound = holds-of-more c B at
+            (omega (arith, all .all, shortage-stored c h at s i slot u (f .below), short-own c h at (slotAt s i) (f .hash), short-own c h at slot hash)) lacks;
       }
 
 module _ (c : BucketConfig) (h k : ℕ) (at : Nanos) (s : Shard) (u : Sound s) where
@@ -153,12 +160,14 @@ module _ (p : Policy) (id : Identity) (request : Request) (cost : ℕ) (at : Nan
 
       go : {o : Outcome BucketDecision Shard} → Asking p id request cost at s o → Keeps c h k at s (o .after)
       go (slot-asked i slot e f r) = other-slot-changed c h k at s u r f other
-      go (key-joins e made) = keeps-trans c h k at s (roomFor p id at s .after) _ kept (other-slot-inserted c h k at (roomFor p id at s .after) _ (room-for-slot made) other)
+      go (key-joins e made) =
+          keeps-trans c h k at s (roomFor p id at s .after) _ kept (other-slot-inserted c h k at (roomFor p id at s .after) _ (room-for-slot made) other)
       go (no-space wait e no-debt told) = room-keeps-shortage p at s u a early never h k
 
   -- The key's own request: its slot is asked, or it comes in with the bucket that its debt left it; then that slot is all there is of the hash, and what it
   -- lacks bounds what happened.
-  own-request-of-identity : Complete s → StampsBy (at .0) s → (B : BoundOf (p .config)) {g : B .History} → 1 ≤ cost → cost ≤ p .config .capacity → longestWait request ≤ 2 ^ 46
+  own-request-of-identity : Complete s → StampsBy (at .0) s → (B : BoundOf (p .config)) {g : B .History} → 1 ≤ cost → cost ≤ p .config .capacity
+      → longestWait request ≤ 2 ^ 46
       → Invariant (p .config) B (id .hash) (id .key) at s g
       → Invariant (p .config) B (id .hash) (id .key) at (withOrInsert p id request cost at s .after)
       (decisionAdds B at cost (withOrInsert p id request cost at s .answer) g)
@@ -187,11 +196,13 @@ module _ (p : Policy) (id : Identity) (request : Request) (cost : ℕ) (at : Nan
       go (key-joins e made) =
           let gone : OwnDebtTaken c h k at s u debt = own-debt-taken c h k at s u complete e (v .one) in
           own-slot-inserted c h k at (roomFor p id at s .after) _ (room-for-slot made) B refl refl (omega (arith, room-loses-nothing h k .fewer, gone .none))
-          (asked-bounds (returning c at (debt .answer)) (returning-stamp c at (debt .answer) a) (omega (arith, gone .all, returning-lacks-the-debt c at a (debt .answer))))
+          (asked-bounds (returning c at (debt .answer)) (returning-stamp c at (debt .answer) a)
+          (omega (arith, gone .all, returning-lacks-the-debt c at a (debt .answer))))
       go (no-space wait e no-debt told) = invariant-keeps c B h k at s _ (room-keeps-shortage p at s u a early never h k) v
 
 -- The same, for a key whose hash and key are known by an equation.
-pub own-request : (p : Policy) (id : Identity) (request : Request) (cost : ℕ) (at : Nanos) (s : Shard) → Accepted (p .config) → at .0 ≤ 2 ^ 62 → p .«forget_debt» ≡ false
+pub own-request : (p : Policy) (id : Identity) (request : Request) (cost : ℕ) (at : Nanos) (s : Shard) → Accepted (p .config) → at .0 ≤ 2 ^ 62
+    → p .«forget_debt» ≡ false
     → Sound s → Complete s → StampsBy (at .0) s → (B : BoundOf (p .config)) (h k : ℕ) → id .hash ≡ h → id .key ≡ k → 1 ≤ cost → cost ≤ p .config .capacity
     → longestWait request ≤ 2 ^ 46 → {g : B .History}
     → Invariant (p .config) B h k at s g

@@ -52,7 +52,8 @@ module _ {S N : Type 0} (terms : Terms S N) (s : Settings) (rate : Rate) (k : Id
       }
 
   -- The whole list, call by call.
-  run : (cs : List (Call S N)) (n : ℕ) (ws : List ℕ) (g : B .History) → SameSettings terms s (replies terms (rules terms) cs ws ws) → TimesNeverFall terms n (replies terms (rules terms) cs ws ws)
+  run : (cs : List (Call S N)) (n : ℕ) (ws : List ℕ) (g : B .History) → SameSettings terms s (replies terms (rules terms) cs ws ws)
+      → TimesNeverFall terms n (replies terms (rules terms) cs ws ws)
       → Every (Alone terms k) (replies terms (rules terms) cs ws ws) → AlwaysAsAllowed terms B k (replies terms (rules terms) cs ws ws) → Stands n ws g
       → HoldsBySomeLine B (happened B terms k (replies terms (rules terms) cs ws ws) g)
   unfolding replies TimesNeverFall happened
@@ -61,14 +62,16 @@ module _ {S N : Type 0} (terms : Terms S N) (s : Settings) (rate : Rate) (k : Id
       let fair : accepted terms (ruled terms c ws) ≡ true → Fair s rate k B a never terms rated n c = λ taken.
       record { settings = same .0 taken; later = rw taken at (rising .0); alone = alone .0 taken; undone = undone .0 taken } in
       let next = call-stands s rate k B a never terms rated n ws g v c fair in
-      run cs (clock terms n (ruled terms c ws)) (rules terms c ws .after) (given B terms k c (rules terms c ws .answer) g) (same .1) (rising .1) (alone .1) (undone .1) next
+      run cs (clock terms n (ruled terms c ws)) (rules terms c ws .after) (given B terms k c (rules terms c ws .answer) g) (same .1) (rising .1) (alone .1)
+      (undone .1) next
 
   -- From a fresh memory. Nothing happens to a key that no accepted call names; of any other it holds that no accepted call names another key of its hash.
   module _ (cs : List (Call S N)) where
     abbrev answered : List (Answered S N)
     answered = replies terms (rules terms) cs (replicate (memoryWords s) 0) (replicate (memoryWords s) 0)
 
-    pub bound-holds-from-fresh : SameSettings terms s answered → TimesNeverFall terms 0 answered → NoSharedHash terms answered → AlwaysAsAllowed terms B k answered
+    pub bound-holds-from-fresh : SameSettings terms s answered → TimesNeverFall terms 0 answered → NoSharedHash terms answered
+        → AlwaysAsAllowed terms B k answered
         → HoldsBySomeLine B (happened B terms k answered (B .start))
     bound-holds-from-fresh same rising apart undone =
         by-test (appears terms k answered)

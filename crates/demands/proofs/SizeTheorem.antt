@@ -1,5 +1,5 @@
--- Settings that were accepted when there could be 4,096 keys have the shape that they had, so as many words; and at that shape the rules of every call give what
--- they give now. This says that the rules know the number of shards through the shape alone, and no more: the rules of before are not in it.
+-- Settings that were accepted when there could be 4,096 keys have the shape that they had, so as many words; and at that shape the rules of every call give
+-- what they give now. This says that the rules know the number of shards through the shape alone, and no more: the rules of before are not in it.
 use Prim.Native.Nat.{ℕ}
 use mathlib.Core.Path.{_≡_, ap, _∙_}
 use mathlib.Core.Bool.{true}
@@ -25,7 +25,8 @@ module _ {S N : Type 0} (terms : Terms S N) where
   answers-by-shape : (c : Call S N) (ws : List ℕ) → Before.settingsRefusal (settingsOf terms c) ≡ 0 → rules terms c ws ≡ rulesIn terms Before.shapeOf c ws
   answers-by-shape (keyed s n ask) ws accepted =
       let settings = terms .settings s in
-      ap (λ (shape : Shape). unlessRefused (terms .refusal n) ws (keyedRuleIn shape settings (terms .identity n) ask ws)) (accepted-before-is-as-before settings accepted .shape)
+      ap (λ (shape : Shape). unlessRefused (terms .refusal n) ws (keyedRuleIn shape settings (terms .identity n) ask ws))
+      (accepted-before-is-as-before settings accepted .shape)
   answers-by-shape (whole s len) ws accepted =
       let settings = terms .settings s in
       ap (λ (shape : Shape). lenIn shape settings ws) (accepted-before-is-as-before settings accepted .shape)

@@ -34,7 +34,8 @@ use Rattle.shard.specs.declared.Identity.{Identity}
 use Rattle.shard.specs.declared.Policy.{Policy}
 use Rattle.shard.specs.Model.{returning, makeRoom, withOrInsert, refunded, removed}
 use Rattle.shard.proofs.RoomLaws.{room-keeps, room-made-leaves-room}
-use Rattle.shard.proofs.ShardLaws.{debtTaken, roomFor, debt-taken-sound, Asking, slot-asked, key-joins, no-space, ask-cases, Refunding, slot-refunded, debt-paid}
+use Rattle.shard.proofs.ShardLaws.{debtTaken, roomFor, debt-taken-sound, Asking, slot-asked, key-joins, no-space, ask-cases, Refunding, slot-refunded}
+use Rattle.shard.proofs.ShardLaws.{debt-paid}
 use Rattle.shard.proofs.ShardLaws.{refund-cases, Removing, slot-removed, no-slot, remove-cases}
 
 -- No slot that is held has a stamp after the moment.
@@ -73,11 +74,14 @@ module _ (n : ℕ) where
       (λ e. rw (e, item-stored slotItems (s .slots) p slot inside) new)
       (λ other. rw (item-stored-other slotItems (s .slots) p slot i other) (past i below))
 
-  sweep-idle-keeps-stamps : (c : BucketConfig) (at : Nanos) (limit : Millis) (looks : ℕ) (s : Shard) → Sound s → StampsBy n s → StampsBy n (sweepIdle c at limit looks s)
+  sweep-idle-keeps-stamps : (c : BucketConfig) (at : Nanos) (limit : Millis) (looks : ℕ) (s : Shard) → Sound s → StampsBy n s
+      → StampsBy n (sweepIdle c at limit looks s)
   unfolding sweepIdle
-  sweep-idle-keeps-stamps c at limit looks s u past = stamps-come-from (sweep-comes-from slotItems _ (reclaimable c at limit) looks (roundOf s) (slots-sound s u)) past
+  sweep-idle-keeps-stamps c at limit looks s u past =
+      stamps-come-from (sweep-comes-from slotItems _ (reclaimable c at limit) looks (roundOf s) (slots-sound s u)) past
 
-  evict-keeps-stamps : (c : BucketConfig) (at : Nanos) (forget : Bool) (s : Shard) → Sound s → 0 < s .slots .count → StampsBy n s → StampsBy n (evicted c at forget s .after)
+  evict-keeps-stamps : (c : BucketConfig) (at : Nanos) (forget : Bool) (s : Shard) → Sound s → 0 < s .slots .count → StampsBy n s
+      → StampsBy n (evicted c at forget s .after)
   evict-keeps-stamps c at forget s u some past =
       evict-keeps-slots c at forget s u some (HeldStampsBy n)
       (record {
@@ -94,7 +98,8 @@ module _ (n : ℕ) where
       past
 
 -- A bucket that is asked keeps its stamp, or has the later of it and the moment; one that comes in has the moment.
-asked-stamp : (c : BucketConfig) (request : Request) (b : BucketCore) (cost : ℕ) (at : Nanos) → b .stamp .0 ≤ at .0 → asked c request b cost at .bucket .stamp .0 ≤ at .0
+asked-stamp : (c : BucketConfig) (request : Request) (b : BucketCore) (cost : ℕ) (at : Nanos) → b .stamp .0 ≤ at .0
+    → asked c request b cost at .bucket .stamp .0 ≤ at .0
 asked-stamp c request b cost at past =
     by-le (waitAt c b cost at) (longestWait request)
     (λ soon. rw (granted-within-longest c request b cost at soon) (omega arith))
@@ -119,7 +124,8 @@ ask-keeps-stamps p id request cost at s a u past = go (ask-cases p id request co
     go (key-joins e made) =
         let v : Sound (debtTaken id s) = debt-taken-sound id s u in
         let owed : OptionNanos = Ledger.taken (s .ledger) (id .hash) .answer in
-        insert-keeps-stamps (at .0) (roomFor p id at s .after) (newSlot (id .hash) (id .key) (asked c request (returning c at owed) cost at .bucket) (millisOf at))
+        insert-keeps-stamps (at .0) (roomFor p id at s .after)
+        (newSlot (id .hash) (id .key) (asked c request (returning c at owed) cost at .bucket) (millisOf at))
         (room-made-leaves-room p at (debtTaken id s) v made)
         (asked-stamp c request (returning c at owed) cost at (returning-stamp c at owed a)) (room-keeps-stamps (at .0) p at (debtTaken id s) v past)
     go (no-space due e no-debt told) = room-keeps-stamps (at .0) p at s u past

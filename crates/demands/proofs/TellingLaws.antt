@@ -21,7 +21,8 @@ use Rattle.rules.specs.Asks.{requests, looks, undoes, Manner, asTry, asReservat
 use Rattle.rules.specs.Rules.{setUp}
 use Rattle.rules.specs.Calls as Calls
 use Rattle.rules.specs.Calls.{keyed, whole, byKey, Every}
-use Rattle.demands.specs.ByKey.{Call, Implementation, rules, Answered, replies, accepted, TimesNeverFall, NoSharedHash, tokensOf, tokensUsable, decidedBy, answering, Window, Demand3}
+use Rattle.demands.specs.ByKey.{Call, Implementation, rules, Answered, replies, accepted, TimesNeverFall, NoSharedHash, tokensOf, tokensUsable, decidedBy}
+use Rattle.demands.specs.ByKey.{answering, Window, Demand3}
 use Rattle.demands.specs.Demands.{usable, usableFrom}
 use Rattle.demands.specs.Demands as Demands
 use Rattle.demands.specs.Impostors.{telling, invented, inventedLength, turnedAwayUnless, turnsNewcomersAway}
@@ -88,7 +89,8 @@ module _ (told : Call → List ℕ → Reply) (cautious : (c : Call) (ws : List 
   tells-every-holder (c ∷ cs) ws every = (cautious c ws .tells-holders (every .0), tells-every-holder cs (rules c ws .after) (every .1))
 
   telling-meets-demand3 : Demand3 (answering (telling told))
-  telling-meets-demand3 = record { window = telling-keeps-the-window; own-bucket = λ ws cs _ _. tells-every-holder cs ws (rules-decide-by-own-bucket byKey ws cs) }
+  telling-meets-demand3 =
+      record { window = telling-keeps-the-window; own-bucket = λ ws cs _ _. tells-every-holder cs ws (rules-decide-by-own-bucket byKey ws cs) }
 
 -- The rules' reply is cautious.
 ruled-is-cautious : (c : Call) (ws : List ℕ) → Cautious c ws (rules c ws .answer)
@@ -104,7 +106,10 @@ newcomers-turned-away-cautiously (keyed s id (requests r at cost)) ws =
     by-test (holds id (shardAt s (id .hash) ws))
     (λ h. rw h (ruled-is-cautious (keyed s id (requests r at cost)) ws))
     (λ h. rw h (record {
-      grants-no-more = λ k t u. omega (arith, denial-is-no-grant (mannerOf r) (λ wait. usable k t u id (usableFrom (mannerOf r) at wait) cost) (dueAfter at (record { 0 = minRefusalWait })));
+      grants-no-more = λ k t u. omega (
+        arith,
+        denial-is-no-grant (mannerOf r) (λ wait. usable k t u id (usableFrom (mannerOf r) at wait) cost) (dueAfter at (record { 0 = minRefusalWait })),
+      );
       tells-holders = λ d _ _ _ _ _ holding. absurd (true≢false (sym holding ∙ h));
     }))
 newcomers-turned-away-cautiously (keyed s id (looks l)) ws = ruled-is-cautious (keyed s id (looks l)) ws

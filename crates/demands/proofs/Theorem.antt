@@ -54,7 +54,8 @@ set-up-done s ws done′ =
     })
     (λ some.
     let told : Refused (setUpRefusal s ws) ≡ Done =
-    ap (λ (o : Outcome Reply (List ℕ)). o .answer) (sym (unless-refused-refuses (setUpRefusal s ws) ws (outcome Done (replicate (memoryWords s) 0)) some)) ∙ done′ in
+    ap (λ (o : Outcome Reply (List ℕ)). o .answer) (sym (unless-refused-refuses (setUpRefusal s ws) ws (outcome Done (replicate (memoryWords s) 0)) some))
+    ∙ done′ in
     let z : _≡_ {A = ℕ} 0 1 = cc in absurd (omega arith))
 
 -- The window over a list from a fresh memory: the bound of the window holds of the grants to the key, and their sums are the tokens that demand 3 counts.
@@ -76,12 +77,14 @@ module _ {S N : Type 0} (terms : Terms S N) (s : Settings) (rate : Rate) (k : Id
       let grants = bound-holds-from-fresh terms s rate k window a never rated cs same rising apart (never-undone not-undone) in
       let counted : within t u (happened window terms k answered []) ≡ tokensUsable terms k t u answered =
       omega (arith, happened-within terms (rate .amount) (rate .period .0) (burstOf rate) k t u answered []) in
-      window-from-bound (rate .amount) (rate .period .0) (burstOf rate) (tokensUsable terms k t u answered) t u le (rw counted at (grants .holds .window t u le))
+      window-from-bound (rate .amount) (rate .period .0) (burstOf rate) (tokensUsable terms k t u answered) t u le
+      (rw counted at (grants .holds .window t u le))
 
 module _ {S N : Type 0} (terms : Terms S N) where
   -- The first part, for settings, calls and words of any numbers.
   pub rules-stay-within-the-window : (s : Settings) (rate : Rate) (ws : List ℕ) → s .limit ≡ Open rate → s .eviction .«when_full» ≡ RefuseNew
-      → setUp s ws .answer ≡ Done → (cs : List (Call S N)) → WithinWindow terms 1 s rate (replies terms (rules terms) cs (setUp s ws .after) (setUp s ws .after))
+      → setUp s ws .answer ≡ Done → (cs : List (Call S N))
+      → WithinWindow terms 1 s rate (replies terms (rules terms) cs (setUp s ws .after) (setUp s ws .after))
   rules-stay-within-the-window s rate ws rated refuses done′ cs same rising apart k not-undone t u le =
       let up = set-up-done s ws done′ in
       let a : Accepted (configOf rate) = accepted-rate rate (rw rated at (accepted-parts s (up .settings) .0)) in

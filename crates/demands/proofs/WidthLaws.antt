@@ -18,7 +18,8 @@ module _ {S N : Type 0} (terms : Terms S N) (s : S) (n : N) (ask : Ask) (fit : f
   ask-is-offered = both-true (terms .settingsFit s && terms .nameFits n) (terms .offers n ask) named .1
 
   pub name-of-call-fits : terms .nameFits n ≡ true
-  name-of-call-fits = both-true (terms .settingsFit s) (terms .nameFits n) (both-true (terms .settingsFit s && terms .nameFits n) (terms .offers n ask) named .0) .1
+  name-of-call-fits =
+      both-true (terms .settingsFit s) (terms .nameFits n) (both-true (terms .settingsFit s && terms .nameFits n) (terms .offers n ask) named .0) .1
 
 -- A name that code can be given, and that is not refused, means a hash and a key that fit their widths.
 abbrev pub NamesFit : {S N : Type 0} → Terms S N → Type 0

@@ -1,5 +1,5 @@
--- A run worked out, of the kind that `grown-store-is-as-without-indexes` is about. The store has one shard of two places, so its indexes have four. Keys 7 and 3
--- have one home there, place 3. Two calls are refused, and a removal moves the other key in its index and among the slots.
+-- A run worked out, of the kind that `grown-store-is-as-without-indexes` is about. The store has one shard of two places, so its indexes have four. Keys 7 and
+-- 3 have one home there, place 3. Two calls are refused, and a removal moves the other key in its index and among the slots.
 use Prim.Native.Nat.{_+_}
 use mathlib.Core.Path.{_≡_, refl}
 use mathlib.Core.List.{List, [], _∷_, _++_}

@@ -89,7 +89,8 @@ module _ (κs : Lfts 2) (ptr bytesPtr : ℕ × ℕ) (name bytesName : ℕ) where
   atMoment s ws at bytes more = (s, (lentAt ptr name ws, (at, (lentAt bytesPtr bytesName bytes, more))))
 
   pub record AddressContracts (l : Limiter Settings Name) : Type 0 where
-    pub tries : (s : Settings) (at : Nanos) (bytes : List ℕ) (cost : ℕ) (ws : List ℕ) → fits byName (try s at (address bytes) cost) ≡ true → lendable ws ≡ true →
+    pub tries : (s : Settings) (at : Nanos) (bytes : List ℕ) (cost : ℕ) (ws : List ℕ) → fits byName (try s at (address bytes) cost) ≡ true
+        → lendable ws ≡ true →
         let o = l .answers (try s at (address bytes) cost) ws in
         ModemTry.Asked κs (atMoment s ws at bytes (cost, tt)) →
         ModemTry.Learnt κs (atMoment s ws at bytes (cost, tt)) (o .answer) (atMoment s (o .after) at bytes (cost, tt))
@@ -98,7 +99,8 @@ module _ (κs : Lfts 2) (ptr bytesPtr : ℕ × ℕ) (name bytesName : ℕ) where
         let o = l .answers (reserve s at (address bytes) cost longest) ws in
         ModemReserve.Asked κs (atMoment s ws at bytes (cost, (longest, tt))) →
         ModemReserve.Learnt κs (atMoment s ws at bytes (cost, (longest, tt))) (o .answer) (atMoment s (o .after) at bytes (cost, (longest, tt)))
-    pub peeks : (s : Settings) (at : Nanos) (bytes : List ℕ) (cost : ℕ) (ws : List ℕ) → fits byName (peek s at (address bytes) cost) ≡ true → lendable ws ≡ true →
+    pub peeks : (s : Settings) (at : Nanos) (bytes : List ℕ) (cost : ℕ) (ws : List ℕ) → fits byName (peek s at (address bytes) cost) ≡ true
+        → lendable ws ≡ true →
         let o = l .answers (peek s at (address bytes) cost) ws in
         ModemPeek.Asked κs (atMoment s ws at bytes (cost, tt)) →
         ModemPeek.Learnt κs (atMoment s ws at bytes (cost, tt)) (o .answer) (atMoment s (o .after) at bytes (cost, tt))

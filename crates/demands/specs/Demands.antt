@@ -26,12 +26,14 @@
 -- Then it is answered as that slot's bucket answers it, or a fresh bucket in that debt:                   ByOwnBucket, ownReply
 -- never for lack of space.
 --
--- Both claims are over any terms: they hold of lists in which every call names a key (`byKey` of `rules`), of lists in which every call names an address (`byAddress` of `modems`), of
--- lists that mix both (`byName` of `modems`), and of lists whose calls also write their settings as the numbers of a C struct, each in its own way (`exported`).
+-- Both claims are over any terms: they hold of lists in which every call names a key (`byKey` of `rules`), of lists in which every call names an address
+-- (`byAddress` of `modems`), of lists that mix both (`byName` of `modems`), and of lists whose calls also write their settings as the numbers of a C struct,
+-- each in its own way (`exported`).
 --
 -- Theorems, in proofs/:
 -- * `rules-meet-demand3`: the rules meet it. `demand2-gives-demand3`: so does every limiter that meets demand 2.
--- * `contracts-meet-demand2`, `contracts-meet-demand3`: so does code that is as the contracts of `perkey` and `modems` tell its callers, in lists that mix both.
+-- * `contracts-meet-demand2`, `contracts-meet-demand3`: so does code that is as the contracts of `perkey` and `modems` tell its callers, in lists that mix
+-- both.
 -- * `exports-meet-demand2`: what C and Rust call gives the rules' replies as numbers. `exports-meet-demand3`: so their callers have a limiter that meets it.
 -- * `window-adding-none-is-false-of-the-rules`: the + 1 cannot be left out.
 -- * `demand2-tells-moments`, `told-moments-count-alike`: the tokens that the window counts are those counted by the moments that grants tell (Moments).
@@ -140,7 +142,8 @@ module _ {S N : Type 0} (terms : Terms S N) where
       (t u : ℕ) → t ≤ u →
       tokensUsable k t u answered * rate .period .0 ≤ burstOf rate * rate .period .0 + (u - t + added) * rate .amount
 
-  -- Every list does that starts from a fresh store, with a rate set, under RefuseNew: from the words that the limiter's set-up leaves where the rules accept it.
+  -- Every list does that starts from a fresh store, with a rate set, under RefuseNew: from the words that the limiter's set-up leaves where the rules accept
+  -- it.
   abbrev pub WindowAdding : ℕ → Limiter S N → Type 0
   WindowAdding added l =
       (s : S) (rate : Rate) (ws : List ℕ) → terms .settingsFit s ≡ true → lendable ws ≡ true →

@@ -1,6 +1,6 @@
--- The limiter as C and Rust call it: the nine operations that `limiter` exports on plain numbers, the five that `limiter_modems` exports on numbers and the bytes
--- of an address, demand 2 of them, and the limiter that a caller has in them, who reads replies from their numbers. Each call of a list writes its settings as
--- numbers of its own.
+-- The limiter as C and Rust call it: the nine operations that `limiter` exports on plain numbers, the five that `limiter_modems` exports on numbers and the
+-- bytes of an address, demand 2 of them, and the limiter that a caller has in them, who reads replies from their numbers. Each call of a list writes its
+-- settings as numbers of its own.
 use Prim.Native.Nat.{ℕ, _-_}
 use mathlib.Core.Path.{_≡_}
 use mathlib.Core.Bool.{Bool, true, cond, _&&_}
@@ -72,7 +72,8 @@ numbersFit n =
 abbrev pub exported : Terms LimiterSettings Name
 exported = namedIn settingsOf numbersFit
 
--- The export by which a call is made, with the call's own numbers. There is none for the tokens of an address, and no list has such a call (`offers` of `rules`).
+-- The export by which a call is made, with the call's own numbers. There is none for the tokens of an address, and no list has such a call: it
+-- does not fit (`offers` of `rules`).
 abbrev noExport : Gives
 noExport ws = outcome (toldOf Nothing) ws
 
@@ -199,7 +200,8 @@ module _ (κs : Lfts 2) (ptr bytesPtr : ℕ × ℕ) (name bytesName : ℕ) where
         fits exported (reserve n at (address bytes) cost longest) ≡ true → lendable ws ≡ true →
         let o = e .modem-reserve n (at .0) bytes cost (longest .0) ws in
         ModemReserve.Asked κs (atMomentOnAddress n ws at bytes (cost, (longest .0, tt))) →
-        ModemReserve.Learnt κs (atMomentOnAddress n ws at bytes (cost, (longest .0, tt))) (o .answer) (atMomentOnAddress n (o .after) at bytes (cost, (longest .0, tt)))
+        ModemReserve.Learnt κs (atMomentOnAddress n ws at bytes (cost, (longest .0, tt))) (o .answer)
+        (atMomentOnAddress n (o .after) at bytes (cost, (longest .0, tt)))
     pub peeks : (n : LimiterSettings) (at : Nanos) (bytes : List ℕ) (cost : ℕ) (ws : List ℕ) →
         fits exported (peek n at (address bytes) cost) ≡ true → lendable ws ≡ true →
         let o = e .modem-peek n (at .0) bytes cost ws in

@@ -13,7 +13,8 @@ module _ {S N : Type 0} (terms : Terms S N) where
   pub data Grown (s : Settings) : List ℕ → Type 0 where
     set-up : (ws : List ℕ) → setUp s ws .answer ≡ Done → Grown s (setUp s ws .after)
     cleared : (ws : List ℕ) → Grown s ws → clear s ws .answer ≡ Done → Grown s (clear s ws .after)
-    called : (c : Call S N) (ws : List ℕ) → Grown s ws → settingsOf terms c ≡ s → numbered (rules terms c ws .answer) ≡ false → Grown s (rules terms c ws .after)
+    called : (c : Call S N) (ws : List ℕ) → Grown s ws → settingsOf terms c ≡ s → numbered (rules terms c ws .answer) ≡ false
+        → Grown s (rules terms c ws .after)
 
   -- A property that every fresh store has and every accepted call keeps. Clear leaves what set-up leaves.
   pub record KeptByCalls (s : Settings) (P : List ℕ → Type 0) : Type 0 where

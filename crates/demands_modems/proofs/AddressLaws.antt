@@ -74,7 +74,8 @@ module _ (k : List ℕ) (t u : ℕ) where
       rw (same, ap hashOf is, ap keyOf is, eq-eqb (hashOf k) (hashOf k) refl, eq-eqb (keyOf k) (keyOf k) refl) (omega arith))
       (λ other. rw other (omega arith))
 
-  ask-tokens-le : (bytes : List ℕ) (ask : Ask) (reply : Reply) → askTokens k t u bytes ask reply ≤ Demands.askTokens (identityOf k) t u (identityOf bytes) ask reply
+  ask-tokens-le : (bytes : List ℕ) (ask : Ask) (reply : Reply)
+      → askTokens k t u bytes ask reply ≤ Demands.askTokens (identityOf k) t u (identityOf bytes) ask reply
   ask-tokens-le bytes (requests r at cost) reply = grant-le _ _ (λ wait. usable-le bytes (Demands.usableFrom (mannerOf r) at wait) cost) reply
   ask-tokens-le bytes (looks l) reply = omega arith
   ask-tokens-le bytes (undoes undo) reply = omega arith
@@ -151,7 +152,8 @@ module _ {S : Type 0} (means : S → Settings) (fit : S → Bool) where
     tokens-le (keyed s bytes ask) reply = ask-tokens-le k t u bytes ask reply
     tokens-le (whole s what) reply = omega arith
 
-    pub tokens-among-the-identitys : (answered : List (Answered S (List ℕ))) → tokensUsable k t u answered ≤ Demands.tokensUsable terms (identityOf k) t u answered
+    pub tokens-among-the-identitys : (answered : List (Answered S (List ℕ)))
+        → tokensUsable k t u answered ≤ Demands.tokensUsable terms (identityOf k) t u answered
     unfolding tokensUsable Demands.tokensUsable
     tokens-among-the-identitys [] = omega arith
     tokens-among-the-identitys (a ∷ rest) = omega (arith, tokens-among-the-identitys rest, tokens-le (a .call) (a .reply))

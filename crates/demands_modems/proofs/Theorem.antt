@@ -32,7 +32,8 @@ use Rattle.demands.proofs.Theorem.{rules-stay-within-the-window, rules-meet-dem
 use Rattle.demands.proofs.CodeTheorem.{contracts-meet-demand2}
 use Rattle.demands.proofs.ExportTheorem.{callers-have-demand2}
 use Rattle.demands_modems.specs.AddressDemands.{tokensUsable, addressed, WithinWindow, AddressWindow, AddressDemand3}
-use Rattle.demands_modems.proofs.AddressLaws.{IsAddress, Kept, rules-keep, no-shared-hash, never-refunded-or-removed, tokens-among-the-identitys, no-address-no-tokens}
+use Rattle.demands_modems.proofs.AddressLaws.{IsAddress, Kept, rules-keep, no-shared-hash, never-refunded-or-removed, tokens-among-the-identitys}
+use Rattle.demands_modems.proofs.AddressLaws.{no-address-no-tokens}
 
 module _ {S : Type 0} (means : S → Settings) (fit : S → Bool) where
   abbrev terms : Calls.Terms S (List ℕ)
@@ -45,7 +46,8 @@ module _ {S : Type 0} (means : S → Settings) (fit : S → Bool) where
       by-eq (length k) addressBytes
       (λ six. by-test (areBytes k)
       (λ bytes.
-      let most = below same rising (no-shared-hash means fit answered apart) (identityOf k) (never-refunded-or-removed means fit k (six, bytes) answered kept never) t u le in
+      let most = below same rising (no-shared-hash means fit answered apart) (identityOf k)
+      (never-refunded-or-removed means fit k (six, bytes) answered kept never) t u le in
       let fewer = mul-le-mul-right (rate .period .0) (tokens-among-the-identitys means fit k t u answered) in
       omega (arith, most, fewer))
       (λ no-bytes. nothing (λ is. true≢false (sym (is .1) ∙ no-bytes))))
@@ -103,7 +105,8 @@ module _ (κs : Lfts 1) (κs₂ : Lfts 2) (ptr bytesPtr : ℕ × ℕ) (name byte
   -- Code as the contracts tell.
   pub contracts-meet-address-demand3 : (l : Limiter Settings Name) → Contracts κs κs₂ ptr bytesPtr name bytesName l
       → AddressDemand3 (λ s. s) settingsFit (onAddresses (λ s. s) settingsFit l)
-  contracts-meet-address-demand3 l c = named-demand2-gives-address-demand3 (λ s. s) settingsFit l (contracts-meet-demand2 κs κs₂ ptr bytesPtr name bytesName l c)
+  contracts-meet-address-demand3 l c =
+      named-demand2-gives-address-demand3 (λ s. s) settingsFit l (contracts-meet-demand2 κs κs₂ ptr bytesPtr name bytesName l c)
 
   -- The exports that C and Rust call.
   pub exports-meet-address-demand3 : (e : Exports) → ExportContracts κs κs₂ ptr bytesPtr name bytesName e

@@ -51,14 +51,16 @@ module _ (s : Settings) where
   size-fits words = none-fits (eqb (sizeRefusal s) 0) (min-le-right (memoryWords s) words)
 
 -- Other words have come back in the place of the store's, with an answer: that is the call on the store.
-pub lent-answered : {A : Type 0} {a : A} {size : ℕ} (s : Settings) (memory ys : List ℕ) (call : List ℕ → Outcome A (List ℕ)) → size ≡ storeSize s (length memory)
+pub lent-answered : {A : Type 0} {a : A} {size : ℕ} (s : Settings) (memory ys : List ℕ) (call : List ℕ → Outcome A (List ℕ))
+    → size ≡ storeSize s (length memory)
     → outcome a ys ≡ call (take (size - 0) memory) → outcome a (putMid 0 (size - 0) memory ys) ≡ inStore s call memory
 lent-answered {size = size} s memory ys call is gave =
     let whole : size - 0 ≡ storeSize s (length memory) = omega (arith, is) in
     rw whole (ap (λ (o : Outcome _ (List ℕ)). outcome (o .answer) (o .after ++ drop (storeSize s (length memory)) memory)) (rw whole at gave))
 
 -- What a line was told, and how the run stands then: after the first line, and after another.
-pub first-served : (s : Settings) {t : Told} {stage : Stage} {memory : List ℕ} {o : Outcome Told (List ℕ)} → outcome t memory ≡ o → stage ≡ stageAfter s (t .code)
+pub first-served : (s : Settings) {t : Told} {stage : Stage} {memory : List ℕ} {o : Outcome Told (List ℕ)} → outcome t memory ≡ o
+    → stage ≡ stageAfter s (t .code)
     → outcome (record { told = t; stage = stage }) memory ≡ servedFirst s o
 first-served s gave is = rw is (ap (servedFirst s) gave)
 

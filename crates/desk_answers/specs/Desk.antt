@@ -87,7 +87,7 @@ abbrev pub servedNext : Settings → Outcome Told (List ℕ) → Outcome Served 
 servedNext s o = outcome (record { told = o .answer; stage = Open s }) (o .after)
 
 -- Every line, by how the run stands: what it is told, how the run stands then, and the memory after it. Once the run has ended no line is answered
--- any more (`linesAnswered` of desk_turns), so the last case is never used.
+-- any more (`linesAnswered` of `desk_turns`), so the last case is never used.
 abbrev pub served : Stage → Line → List ℕ → Outcome Served (List ℕ)
 served First line memory = opened line memory
 served (Open s) line memory = servedNext s (inStore s (answered s line) memory)

@@ -54,7 +54,8 @@ ended-answers-none : (s : Standing) → hasEnded (s .state .stage) ≡ true → 
 ended-answers-none s ended = ap (λ (o : Outcome (List ℕ) State). o .after) (none-once-ended (lastLine (s .pending)) (s .state) ended)
 
 -- A turn after a read, which leaves the bytes that are pending.
-module _ (input₀ : List ℕ) {from : Standing} {size turns pending end : ℕ} {f : Feed} {input memory output : List ℕ} {r : Turned} {input′ memory′ output′ : List ℕ}
+module _ (input₀ : List ℕ) {from : Standing} {size turns pending end : ℕ} {f : Feed} {input memory output : List ℕ} {r : Turned}
+    {input′ memory′ output′ : List ℕ}
     (far : TurnedTo from size turns (standing pending input₀ f memory)) (stays : take pending input ≡ take pending input₀) (within : pending ≤ end)
     (fits : length input ≤ size)
     (one : OneTurn f end input memory output r input′ memory′ output′) where

@@ -48,9 +48,11 @@ taken-after most gave same = gave ∙ ap (λ (r : Reading). taken most r) same
 
 module _ (line : List ℕ) (rest : Rest) where
   -- A moment, a key and a cost.
-  pub request-taken : (at key cost : NumberRead) → numberAt line at ≡ taken most64 (readingAt line rest) → numberAt line key ≡ taken most64 (readingAt line (at .rest))
+  pub request-taken : (at key cost : NumberRead) → numberAt line at ≡ taken most64 (readingAt line rest)
+      → numberAt line key ≡ taken most64 (readingAt line (at .rest))
       → numberAt line cost ≡ taken most32 (readingAt line (key .rest))
-      → record { value = record { at = nanosOf (at .value); key = key .value; cost = cost .value }; rest = readingAt line (cost .rest) } ≡ takenRequest (readingAt line rest)
+      → record { value = record { at = nanosOf (at .value); key = key .value; cost = cost .value }; rest = readingAt line (cost .rest) }
+      ≡ takenRequest (readingAt line rest)
   request-taken at key cost e₁ e₂ e₃ =
       let e₂′ = taken-after most64 e₂ (restOf e₁) in
       let e₃′ = taken-after most32 e₃ (restOf e₂′) in
@@ -183,7 +185,8 @@ module _ (line : List ℕ) where
     first-length = segment-length 0 (fieldEnd line 0) line (omega (arith, field-ends-inside line 0 (omega arith)))
 
     pub no-letter : (fieldEnd line 0 ≡ 1 → ⊥) → Malformed ≡ lineOf line
-    no-letter other = sym (line-of-first ∙ other-first (segment 0 (fieldEnd line 0) line) (fieldsFrom line (fieldEnd line 0 + 1)) (λ one. other (sym first-length ∙ one)))
+    no-letter other =
+        sym (line-of-first ∙ other-first (segment 0 (fieldEnd line 0) line) (fieldsFrom line (fieldEnd line 0 + 1)) (λ one. other (sym first-length ∙ one)))
 
     pub letter-inside : fieldEnd line 0 ≡ 1 → 0 < length line
     letter-inside one = omega (arith, one, field-ends-inside line 0 (omega arith))

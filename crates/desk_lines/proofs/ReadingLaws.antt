@@ -36,7 +36,8 @@ module _ (line : List ℕ) (rest : Rest) where
   reading-ended : rest .good ≡ true → length line < rest .at → readingAt line rest ≡ left []
   reading-ended good past = reading-good good ∙ ap left (none-left line (rest .at) past)
 
-  reading-inside : rest .good ≡ true → rest .at ≤ length line → readingAt line rest ≡ left (fieldAt line (rest .at) ∷ fieldsFrom line (fieldEnd line (rest .at) + 1))
+  reading-inside : rest .good ≡ true → rest .at ≤ length line
+      → readingAt line rest ≡ left (fieldAt line (rest .at) ∷ fieldsFrom line (fieldEnd line (rest .at) + 1))
   reading-inside good inside = reading-good good ∙ ap left (first-field line (rest .at) inside)
 
 -- A field that was a number or not, as the code has it and as the definition has it.
@@ -146,7 +147,8 @@ module _ (line : List ℕ) (rest : Rest) (dash : dashNext (readingAt line rest) 
       rw (reading-inside line rest dash-is-good within, next) (reading-good line (record { at = rest .at + 2; good = true }) refl) in
       rw dash (λ j. record { value = nanos.None; rest = then j })
 
-pub idle-of-number : (line : List ℕ) (rest : Rest) (n : NumberRead) → dashNext (readingAt line rest) ≡ false → numberAt line n ≡ taken most64 (readingAt line rest)
+pub idle-of-number : (line : List ℕ) (rest : Rest) (n : NumberRead) → dashNext (readingAt line rest) ≡ false
+    → numberAt line n ≡ taken most64 (readingAt line rest)
     → record { value = nanos.Some (nanosOf (n .value)); rest = readingAt line (n .rest) } ≡ takenIdle (readingAt line rest)
 idle-of-number line rest n none gave = rw none (ap idleTime gave)
 

@@ -28,7 +28,8 @@ twoKeys = record {
 }
 
 -- "s 2 1000000000 4 4 2 1 - 0"
-pub settings-line : lineOf (115 ∷ 32 ∷ 50 ∷ 32 ∷ 49 ∷ 48 ∷ 48 ∷ 48 ∷ 48 ∷ 48 ∷ 48 ∷ 48 ∷ 48 ∷ 48 ∷ 32 ∷ 52 ∷ 32 ∷ 52 ∷ 32 ∷ 50 ∷ 32 ∷ 49 ∷ 32 ∷ 45 ∷ 32 ∷ 48 ∷ []) ≡ SetUp twoKeys
+pub settings-line : lineOf
+    (115 ∷ 32 ∷ 50 ∷ 32 ∷ 49 ∷ 48 ∷ 48 ∷ 48 ∷ 48 ∷ 48 ∷ 48 ∷ 48 ∷ 48 ∷ 48 ∷ 32 ∷ 52 ∷ 32 ∷ 52 ∷ 32 ∷ 50 ∷ 32 ∷ 49 ∷ 32 ∷ 45 ∷ 32 ∷ 48 ∷ []) ≡ SetUp twoKeys
 unfolding fields taken isDash whenFullOf lineOfLetter lineOf isDigit allDigits decimalFrom numberOf
 settings-line = refl
 
@@ -43,7 +44,8 @@ unfolding fields taken isDash whenFullOf lineOfLetter lineOf isDigit allDigits d
 peek-line = refl
 
 -- "r 500000000 7 3 1000000000"
-pub reserve-line : lineOf (114 ∷ 32 ∷ 53 ∷ 48 ∷ 48 ∷ 48 ∷ 48 ∷ 48 ∷ 48 ∷ 48 ∷ 48 ∷ 32 ∷ 55 ∷ 32 ∷ 51 ∷ 32 ∷ 49 ∷ 48 ∷ 48 ∷ 48 ∷ 48 ∷ 48 ∷ 48 ∷ 48 ∷ 48 ∷ 48 ∷ [])
+pub reserve-line : lineOf
+    (114 ∷ 32 ∷ 53 ∷ 48 ∷ 48 ∷ 48 ∷ 48 ∷ 48 ∷ 48 ∷ 48 ∷ 48 ∷ 32 ∷ 55 ∷ 32 ∷ 51 ∷ 32 ∷ 49 ∷ 48 ∷ 48 ∷ 48 ∷ 48 ∷ 48 ∷ 48 ∷ 48 ∷ 48 ∷ 48 ∷ [])
     ≡ Reserve (request 500000000 7 3) (nanosOf 1000000000)
 unfolding fields taken isDash whenFullOf lineOfLetter lineOf isDigit allDigits decimalFrom numberOf
 reserve-line = refl
@@ -84,17 +86,20 @@ unfolding fields taken isDash whenFullOf lineOfLetter lineOf isDigit allDigits d
 cost-of-33-bits = refl
 
 -- "d 000000000000000000001"
-pub twenty-one-digits : lineOf (100 ∷ 32 ∷ 48 ∷ 48 ∷ 48 ∷ 48 ∷ 48 ∷ 48 ∷ 48 ∷ 48 ∷ 48 ∷ 48 ∷ 48 ∷ 48 ∷ 48 ∷ 48 ∷ 48 ∷ 48 ∷ 48 ∷ 48 ∷ 48 ∷ 48 ∷ 49 ∷ []) ≡ Malformed
+pub twenty-one-digits : lineOf (100 ∷ 32 ∷ 48 ∷ 48 ∷ 48 ∷ 48 ∷ 48 ∷ 48 ∷ 48 ∷ 48 ∷ 48 ∷ 48 ∷ 48 ∷ 48 ∷ 48 ∷ 48 ∷ 48 ∷ 48 ∷ 48 ∷ 48 ∷ 48 ∷ 48 ∷ 49 ∷ [])
+    ≡ Malformed
 unfolding fields taken isDash whenFullOf lineOfLetter lineOf isDigit allDigits decimalFrom numberOf
 twenty-one-digits = refl
 
 -- "s 2 1000000000 4 4 2 1 - 2"
-pub rule-2 : lineOf (115 ∷ 32 ∷ 50 ∷ 32 ∷ 49 ∷ 48 ∷ 48 ∷ 48 ∷ 48 ∷ 48 ∷ 48 ∷ 48 ∷ 48 ∷ 48 ∷ 32 ∷ 52 ∷ 32 ∷ 52 ∷ 32 ∷ 50 ∷ 32 ∷ 49 ∷ 32 ∷ 45 ∷ 32 ∷ 50 ∷ []) ≡ Malformed
+pub rule-2 : lineOf (115 ∷ 32 ∷ 50 ∷ 32 ∷ 49 ∷ 48 ∷ 48 ∷ 48 ∷ 48 ∷ 48 ∷ 48 ∷ 48 ∷ 48 ∷ 48 ∷ 32 ∷ 52 ∷ 32 ∷ 52 ∷ 32 ∷ 50 ∷ 32 ∷ 49 ∷ 32 ∷ 45 ∷ 32 ∷ 50 ∷ [])
+    ≡ Malformed
 unfolding fields taken isDash whenFullOf lineOfLetter lineOf isDigit allDigits decimalFrom numberOf
 rule-2 = refl
 
 -- "s 2 1000000000 - 4 2 1 - 0"
-pub dash-for-a-burst : lineOf (115 ∷ 32 ∷ 50 ∷ 32 ∷ 49 ∷ 48 ∷ 48 ∷ 48 ∷ 48 ∷ 48 ∷ 48 ∷ 48 ∷ 48 ∷ 48 ∷ 32 ∷ 45 ∷ 32 ∷ 52 ∷ 32 ∷ 50 ∷ 32 ∷ 49 ∷ 32 ∷ 45 ∷ 32 ∷ 48 ∷ []) ≡ Malformed
+pub dash-for-a-burst : lineOf
+    (115 ∷ 32 ∷ 50 ∷ 32 ∷ 49 ∷ 48 ∷ 48 ∷ 48 ∷ 48 ∷ 48 ∷ 48 ∷ 48 ∷ 48 ∷ 48 ∷ 32 ∷ 45 ∷ 32 ∷ 52 ∷ 32 ∷ 50 ∷ 32 ∷ 49 ∷ 32 ∷ 45 ∷ 32 ∷ 48 ∷ []) ≡ Malformed
 unfolding fields taken isDash whenFullOf lineOfLetter lineOf isDigit allDigits decimalFrom numberOf
 dash-for-a-burst = refl
 

@@ -1,5 +1,5 @@
--- The lines of the desk program: which call a line's bytes are, or that they are malformed, whichever line it is. That `s` is the first line and no other is the
--- rule of desk_answers (`opened`, `answered`).
+-- The lines of the desk program: which call a line's bytes are, or that they are malformed, whichever line it is. That `s` is the first line and no other is
+-- the rule of `desk_answers` (`opened` of `desk_answers`, `answered` of `desk_answers`).
 use Prim.Native.Nat.{ℕ, _-_, _^_}
 use mathlib.Core.Bool.{Bool, true, false, cond}
 use mathlib.Core.List.{List, [], _∷_}

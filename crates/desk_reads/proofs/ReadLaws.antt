@@ -22,7 +22,8 @@ pub is-no-interrupt : (error : ℤ) → (ofZ w32 error ≡ 4 → ⊥) → isInte
 is-no-interrupt (pos e) other = ne-eqb e 4 other
 is-no-interrupt (negsuc e) other = refl
 
-pub brings-none-yet : (answer error : ℤ) (pending count : ℕ) → ltZ answer (pos 0) ≡ true → isInterrupt error ≡ true → More pending ≡ broughtBy answer error pending count
+pub brings-none-yet : (answer error : ℤ) (pending count : ℕ) → ltZ answer (pos 0) ≡ true → isInterrupt error ≡ true
+    → More pending ≡ broughtBy answer error pending count
 unfolding broughtBy
 brings-none-yet (pos k) error pending count negative is = absurd (omega (arith, ltb-true k 0 negative))
 brings-none-yet (negsuc k) error pending count negative is = rw is
@@ -37,7 +38,8 @@ unfolding broughtBy
 is-at-end (pos k) error pending count counts none = rw (eq-eqb count 0 none)
 is-at-end (negsuc k) error pending count counts none = absurd (true≢false counts)
 
-pub brings-more : (answer error : ℤ) (pending count : ℕ) → ltZ answer (pos 0) ≡ false → (count ≡ 0 → ⊥) → More (pending + count) ≡ broughtBy answer error pending count
+pub brings-more : (answer error : ℤ) (pending count : ℕ) → ltZ answer (pos 0) ≡ false → (count ≡ 0 → ⊥)
+    → More (pending + count) ≡ broughtBy answer error pending count
 unfolding broughtBy
 brings-more (pos k) error pending count counts some = rw (ne-eqb count 0 some)
 brings-more (negsuc k) error pending count counts some = absurd (true≢false counts)

@@ -41,7 +41,8 @@ no-feed-on b (line ∷ lines) rest other none = none
 no-feed-in-rest : (bs : List ℕ) → NoFeed (cut bs .rest)
 unfolding cut
 no-feed-in-rest [] = tt
-no-feed-in-rest (b ∷ bs) = by-test (eqb b lineFeed) (λ feed. rw feed (no-feed-in-rest bs)) (λ other. rw other (no-feed-on b (cut bs .lines) (cut bs .rest) other (no-feed-in-rest bs)))
+no-feed-in-rest (b ∷ bs) =
+    by-test (eqb b lineFeed) (λ feed. rw feed (no-feed-in-rest bs)) (λ other. rw other (no-feed-on b (cut bs .lines) (cut bs .rest) other (no-feed-in-rest bs)))
 
 -- Bytes without a line feed in front of others come before the first line of those.
 abbrev onto : List ℕ → List (List ℕ) → List ℕ → Cut
@@ -52,17 +53,20 @@ onto-nothing : (lines : List (List ℕ)) (rest : List ℕ) → record { lines = 
 onto-nothing [] rest = refl
 onto-nothing (line ∷ lines) rest = refl
 
-onto-further : (b : ℕ) (front : List ℕ) (lines : List (List ℕ)) (rest : List ℕ) → onFirst b (onto front lines rest .lines) (onto front lines rest .rest) ≡ onto (b ∷ front) lines rest
+onto-further : (b : ℕ) (front : List ℕ) (lines : List (List ℕ)) (rest : List ℕ)
+    → onFirst b (onto front lines rest .lines) (onto front lines rest .rest) ≡ onto (b ∷ front) lines rest
 onto-further b front [] rest = refl
 onto-further b front (line ∷ lines) rest = refl
 
 cut-onto : (front bs : List ℕ) → NoFeed front → cut (front ++ bs) ≡ onto front (cut bs .lines) (cut bs .rest)
 unfolding cut
 cut-onto [] bs none = onto-nothing (cut bs .lines) (cut bs .rest)
-cut-onto (b ∷ front) bs none = rw (none .0) (ap (λ (c : Cut). onFirst b (c .lines) (c .rest)) (cut-onto front bs (none .1)) ∙ onto-further b front (cut bs .lines) (cut bs .rest))
+cut-onto (b ∷ front) bs none =
+    rw (none .0) (ap (λ (c : Cut). onFirst b (c .lines) (c .rest)) (cut-onto front bs (none .1)) ∙ onto-further b front (cut bs .lines) (cut bs .rest))
 
 -- The lines of bytes with others after them: those that end among the first, and those of what is left and the others.
-first-is-longer : (b : ℕ) (lines : List (List ℕ)) (rest : List ℕ) → onFirst b lines rest .lines ++ lastLine (onFirst b lines rest .rest) ≡ Fields.onFirst b (lines ++ lastLine rest)
+first-is-longer : (b : ℕ) (lines : List (List ℕ)) (rest : List ℕ)
+    → onFirst b lines rest .lines ++ lastLine (onFirst b lines rest .rest) ≡ Fields.onFirst b (lines ++ lastLine rest)
 first-is-longer b [] [] = refl
 first-is-longer b [] (c ∷ rest) = refl
 first-is-longer b (line ∷ lines) rest = refl
@@ -86,7 +90,8 @@ lines-in-parts [] more = refl
 lines-in-parts (b ∷ bs) more =
     by-test (eqb b lineFeed)
     (λ feed. one-feed-more b (bs ++ more) feed ∙ rw feed (ap (λ (l : List (List ℕ)). [] ∷ l) (lines-in-parts bs more)))
-    (λ other. one-byte-more b (bs ++ more) other ∙ rw other (ap (Fields.onFirst b) (lines-in-parts bs more) ∙ byte-on-both b (cut bs .lines) (cut bs .rest) more other))
+    (λ other. one-byte-more b (bs ++ more) other
+    ∙ rw other (ap (Fields.onFirst b) (lines-in-parts bs more) ∙ byte-on-both b (cut bs .lines) (cut bs .rest) more other))
 
 -- What is kept of a line's beginning is as good as all of it: for the answer of the line, and for what is kept next.
 kept-again : (n : ℕ) (bs more : List ℕ) → take n (take n bs ++ more) ≡ take n (bs ++ more)
@@ -105,9 +110,11 @@ module _ (line other : List ℕ) (same : lineOf line ≡ lineOf other) where
 
 last-by-kept : (rest : List ℕ) (s : State) → linesAnswered (lastLine (keptOf rest)) s ≡ linesAnswered (lastLine rest) s
 last-by-kept [] s = refl
-last-by-kept (b ∷ bs) s = same-first-same-answers (keptOf (b ∷ bs)) (b ∷ bs) (rw (append-nil (keptOf (b ∷ bs)), append-nil (b ∷ bs)) at (kept-is-enough (b ∷ bs) [])) [] s
+last-by-kept (b ∷ bs) s =
+    same-first-same-answers (keptOf (b ∷ bs)) (b ∷ bs) (rw (append-nil (keptOf (b ∷ bs)), append-nil (b ∷ bs)) at (kept-is-enough (b ∷ bs) [])) [] s
 
-answers-by-kept : (rest : List ℕ) (lines : List (List ℕ)) (end : List ℕ) (s : State) → linesAnswered (onto (keptOf rest) lines end .lines) s ≡ linesAnswered (onto rest lines end .lines) s
+answers-by-kept : (rest : List ℕ) (lines : List (List ℕ)) (end : List ℕ) (s : State)
+    → linesAnswered (onto (keptOf rest) lines end .lines) s ≡ linesAnswered (onto rest lines end .lines) s
 answers-by-kept rest [] end s = refl
 answers-by-kept rest (line ∷ lines) end s = same-first-same-answers (keptOf rest ++ line) (rest ++ line) (kept-is-enough rest line) lines s
 
@@ -118,11 +125,13 @@ kept-by-kept rest (line ∷ lines) end = refl
 module _ (rest : List ℕ) (none : NoFeed rest) (read : List ℕ) where
   turn-answers-all : (s : State) → linesAnswered (cut (keptOf rest ++ read) .lines) s ≡ linesAnswered (cut (rest ++ read) .lines) s
   turn-answers-all s =
-      rw (cut-onto (keptOf rest) read (no-feed-in-part (longestLine + 1) rest none), cut-onto rest read none) (answers-by-kept rest (cut read .lines) (cut read .rest) s)
+      rw (cut-onto (keptOf rest) read (no-feed-in-part (longestLine + 1) rest none), cut-onto rest read none)
+      (answers-by-kept rest (cut read .lines) (cut read .rest) s)
 
   turn-keeps-enough : keptOf (cut (keptOf rest ++ read) .rest) ≡ keptOf (cut (rest ++ read) .rest)
   turn-keeps-enough =
-      rw (cut-onto (keptOf rest) read (no-feed-in-part (longestLine + 1) rest none), cut-onto rest read none) (kept-by-kept rest (cut read .lines) (cut read .rest))
+      rw (cut-onto (keptOf rest) read (no-feed-in-part (longestLine + 1) rest none), cut-onto rest read none)
+      (kept-by-kept rest (cut read .lines) (cut read .rest))
 
 -- Lines and others after them.
 abbrev after : List ℕ → Outcome (List ℕ) State → Outcome (List ℕ) State
@@ -146,10 +155,12 @@ rest-is-last rest none = rw (cut-onto rest [] none, append-nil rest)
 
 module _ (rest : List ℕ) (none : NoFeed rest) (read : List ℕ) (reads : List (List ℕ)) (s : State) where
   parts-follow : let o = linesAnswered (cut (rest ++ read) .lines) s in
-      o .answer ++ linesAnswered (linesOf (cut (rest ++ read) .rest ++ joined reads)) (o .after) .answer ≡ linesAnswered (linesOf (rest ++ (read ++ joined reads))) s .answer
+      o .answer ++ linesAnswered (linesOf (cut (rest ++ read) .rest ++ joined reads)) (o .after) .answer
+      ≡ linesAnswered (linesOf (rest ++ (read ++ joined reads))) s .answer
   parts-follow =
       let whole = sym (lines-in-parts (rest ++ read) (joined reads)) ∙ ap linesOf (append-assoc rest read (joined reads)) in
-      sym (ap (λ (o : Outcome (List ℕ) State). o .answer) (answered-in-parts (cut (rest ++ read) .lines) (linesOf (cut (rest ++ read) .rest ++ joined reads)) s))
+      sym (ap (λ (o : Outcome (List ℕ) State). o .answer)
+      (answered-in-parts (cut (rest ++ read) .lines) (linesOf (cut (rest ++ read) .rest ++ joined reads)) s))
       ∙ ap (λ (lines : List (List ℕ)). linesAnswered lines s .answer) whole
 
 printed-from : (rest : List ℕ) → NoFeed rest → (reads : List (List ℕ)) (s : State)
@@ -160,21 +171,26 @@ printed-from rest none (read ∷ reads) s =
     let o = linesAnswered (cut (rest ++ read) .lines) s in
     by-test (hasEnded (s .stage)) (λ ended. rw (ended, none-once-ended (linesOf (rest ++ (read ++ joined reads))) s ended))
     (λ goes-on. rw (goes-on, turn-answers-all rest none read s, turn-keeps-enough rest none read)
-    (ap (λ (l : List ℕ). o .answer ++ l) (printed-from (cut (rest ++ read) .rest) (no-feed-in-rest (rest ++ read)) reads (o .after)) ∙ parts-follow rest none read reads s))
+    (ap (λ (l : List ℕ). o .answer ++ l) (printed-from (cut (rest ++ read) .rest) (no-feed-in-rest (rest ++ read)) reads (o .after))
+    ∙ parts-follow rest none read reads s))
 
 -- For every cutting of an input into reads the turns print what is printed for the input's lines.
 pub every-cutting-prints-the-same : (reads : List (List ℕ)) (memory : List ℕ)
-    → printedInTurns reads (record { pending = []; state = record { stage = First; number = 0; memory = memory } }) ≡ printedAll First 0 (linesOf (joined reads)) memory
+    → printedInTurns reads (record { pending = []; state = record { stage = First; number = 0; memory = memory } })
+    ≡ printedAll First 0 (linesOf (joined reads)) memory
 every-cutting-prints-the-same reads memory = printed-from [] tt reads (record { stage = First; number = 0; memory = memory })
 
 -- What the contract of `turn` says of the buffers is a turn: the bytes that were pending, and after them those that were read.
 pub turn-is-turned : {f : Feed} {end : ℕ} {input memory output : List ℕ} {r : Turned} {input′ memory′ output′ : List ℕ} (pending : ℕ) → pending ≤ end
-    → OneTurn f end input memory output r input′ memory′ output′ → let t = turned (segment pending (end - pending) input) (record { pending = take pending input; state = stateOf f memory }) in
-    (take (r .feed .put) output′ ≡ t .answer) × (stateOf (r .feed) memory′ ≡ t .after .state) × (hasEnded (r .feed .stage) ≡ false → take (r .pending) input′ ≡ t .after .pending)
+    → OneTurn f end input memory output r input′ memory′ output′ → let t =
+    turned (segment pending (end - pending) input) (record { pending = take pending input; state = stateOf f memory }) in
+    (take (r .feed .put) output′ ≡ t .answer) × (stateOf (r .feed) memory′ ≡ t .after .state)
+    × (hasEnded (r .feed .stage) ≡ false → take (r .pending) input′ ≡ t .after .pending)
 unfolding turned
 turn-is-turned {end = end} {input = input} pending within one =
     let place : pending + (end - pending) ≡ end = omega (arith, within) in
-    let whole : take pending input ++ segment pending (end - pending) input ≡ take end input = sym (take-add pending (end - pending) input) ∙ ap (λ (k : ℕ). take k input) place in
+    let whole : take pending input ++ segment pending (end - pending) input ≡ take end input =
+    sym (take-add pending (end - pending) input) ∙ ap (λ (k : ℕ). take k input) place in
     rw whole (answer-is (one .answers), after-is (one .answers), one .keeps)
 
 -- One read more.

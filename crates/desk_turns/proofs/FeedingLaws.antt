@@ -37,7 +37,8 @@ printed-short number code wait =
     )
 
 -- Bytes written after those that stand printed.
-pub written-on : (new : List ℕ) (put : ℕ) (output : List ℕ) {put′ : ℕ} {output′ : List ℕ} → put + length new ≤ length output → outcome put′ output′ ≡ writtenOver new put output
+pub written-on : (new : List ℕ) (put : ℕ) (output : List ℕ) {put′ : ℕ} {output′ : List ℕ} → put + length new ≤ length output
+    → outcome put′ output′ ≡ writtenOver new put output
     → take put′ output′ ≡ take put output ++ new
 written-on new put output fits gave =
     let front : length (take put output ++ new) ≡ put + length new =
@@ -61,14 +62,20 @@ same-further place place′ xs ys zs near less far =
     far ∙ (rw there at again)
 
 -- A line was served and its answer printed: it is answered.
-line-is-answered : (f : Feed) (line memory output : List ℕ) {number put′ : ℕ} {told : Served} {memory′ output′ : List ℕ} → f .put + longestPrinted ≤ length output
+line-is-answered : (f : Feed) (line memory output : List ℕ) {number put′ : ℕ} {told : Served} {memory′ output′ : List ℕ}
+    → f .put + longestPrinted ≤ length output
     → number ≡ (f .number + 1) % 2 ^ 64 → outcome told memory′ ≡ served (f .stage) (lineOf line) memory
     → outcome put′ output′ ≡ writtenOver (printed number (told .told .code) (told .told .number)) (f .put) output
     → fed (record { stage = told .stage; number = number; put = put′ }) memory′ output′ ≡ andThen (fed f memory output) (lineAnswered line)
 unfolding lineAnswered
 line-is-answered f line memory output {number} {told = told} room counts gave prints =
     let new = printed number (told .told .code) (told .told .number) in
-    rw (written-on new (f .put) output (omega (arith, room, printed-short number (told .told .code) (told .told .number))) prints, counts, answer-is gave, after-is gave)
+    rw (
+      written-on new (f .put) output (omega (arith, room, printed-short number (told .told .code) (told .told .number))) prints,
+      counts,
+      answer-is gave,
+      after-is gave,
+    )
 
 pub line-is-one : (f : Feed) (line memory output : List ℕ) {number put′ : ℕ} {told : Served} {memory′ output′ : List ℕ}
     → f .put + longestPrinted ≤ length output → number ≡ (f .number + 1) % 2 ^ 64 → outcome told memory′ ≡ served (f .stage) (lineOf line) memory
@@ -93,9 +100,11 @@ pub record Underway (f₀ : Feed) (bytes memory₀ output₀ : List ℕ) (f : Fe
 pub none-yet : (f : Feed) (bytes memory output : List ℕ) → Underway f bytes memory output f 0 memory output
 none-yet f bytes memory output = record { answers = refl; leaves = refl; beyond = refl }
 
-module _ {f₀ : Feed} {bytes memory₀ output₀ : List ℕ} {f : Feed} {at : ℕ} {memory output : List ℕ} (far : Underway f₀ bytes memory₀ output₀ f at memory output) where
+module _ {f₀ : Feed} {bytes memory₀ output₀ : List ℕ} {f : Feed} {at : ℕ} {memory output : List ℕ}
+    (far : Underway f₀ bytes memory₀ output₀ f at memory output) where
   -- No line feed is left.
-  pub none-left : length bytes ≤ at + indexOf lineFeed (drop at bytes) → fed f memory output ≡ andThen (fed f₀ memory₀ output₀) (linesAnswered (cut bytes .lines))
+  pub none-left : length bytes ≤ at + indexOf lineFeed (drop at bytes)
+      → fed f memory output ≡ andThen (fed f₀ memory₀ output₀) (linesAnswered (cut bytes .lines))
   none-left none =
       let whole = no-feed (drop at bytes) (omega (arith, none, length-drop at bytes)) in
       sym (nothing-follows (fed f memory output)) ∙ rw whole at (far .answers)
@@ -106,9 +115,11 @@ module _ {f₀ : Feed} {bytes memory₀ output₀ : List ℕ} {f : Feed} {at : �
       rw whole at (far .leaves)
 
   -- The next line was answered: the others come after what is printed then.
-  module _ {stop : ℕ} {o : Outcome (List ℕ) State} (goes-on : hasEnded (f .stage) ≡ false) (found : stop ≡ at + indexOf lineFeed (drop at bytes)) (inside : stop < length bytes)
+  module _ {stop : ℕ} {o : Outcome (List ℕ) State} (goes-on : hasEnded (f .stage) ≡ false) (found : stop ≡ at + indexOf lineFeed (drop at bytes))
+      (inside : stop < length bytes)
       (is-answered : o ≡ andThen (fed f memory output) (lineAnswered (segment at (stop - at) bytes))) where
-    parted : cut (drop at bytes) ≡ record { lines = segment at (stop - at) bytes ∷ cut (drop (stop + 1) bytes) .lines; rest = cut (drop (stop + 1) bytes) .rest }
+    parted : cut (drop at bytes)
+        ≡ record { lines = segment at (stop - at) bytes ∷ cut (drop (stop + 1) bytes) .lines; rest = cut (drop (stop + 1) bytes) .rest }
     parted =
         let rest = drop at bytes in
         let i = indexOf lineFeed rest in
@@ -129,7 +140,8 @@ module _ {f₀ : Feed} {bytes memory₀ output₀ : List ℕ} {f : Feed} {at : �
     none-follow ended = sym (ended-is-all o (cut (drop (stop + 1) bytes) .lines) ended) ∙ others-follow
 
 -- The last line: none where nothing is pending, else what is pending.
-pub no-last-line : (f : Feed) (pending : ℕ) (input memory output : List ℕ) → pending ≡ 0 → fed (unprinted f) memory output ≡ linesAnswered (lastLine (take pending input)) (stateOf f memory)
+pub no-last-line : (f : Feed) (pending : ℕ) (input memory output : List ℕ) → pending ≡ 0
+    → fed (unprinted f) memory output ≡ linesAnswered (lastLine (take pending input)) (stateOf f memory)
 unfolding linesAnswered
 no-last-line f pending input memory output none = rw none
 
@@ -137,8 +149,10 @@ begun-is-last : (line : List ℕ) → 0 < length line → lastLine line ≡ line
 begun-is-last [] begun = absurd (omega (arith, begun))
 begun-is-last (b ∷ bs) begun = refl
 
-pub last-is-answered : (f : Feed) (pending : ℕ) (input memory output : List ℕ) {o : Outcome (List ℕ) State} → (pending ≡ 0 → ⊥) → pending ≤ length input → hasEnded (f .stage) ≡ false
-    → o ≡ andThen (fed (unprinted f) memory output) (lineAnswered (take (pending - 0) input)) → o ≡ linesAnswered (lastLine (take pending input)) (stateOf f memory)
+pub last-is-answered : (f : Feed) (pending : ℕ) (input memory output : List ℕ) {o : Outcome (List ℕ) State} → (pending ≡ 0 → ⊥) → pending ≤ length input
+    → hasEnded (f .stage) ≡ false
+    → o ≡ andThen (fed (unprinted f) memory output) (lineAnswered (take (pending - 0) input))
+    → o ≡ linesAnswered (lastLine (take pending input)) (stateOf f memory)
 unfolding linesAnswered
 last-is-answered f pending input memory output some inside goes-on is-answered =
     let same : pending - 0 ≡ pending = omega arith in
@@ -181,7 +195,8 @@ pub drop-take : (from end : ℕ) (l : List ℕ) → from ≤ end → drop from (
 drop-take zero end l within = let same : end - 0 ≡ end = omega arith in rw same
 drop-take (suc from) zero l within = absurd (omega (arith, within))
 drop-take (suc from) (suc end) [] within = sym (take-nil (suc end - suc from))
-drop-take (suc from) (suc end) (x ∷ l) within = let less : suc end - suc from ≡ end - from = omega arith in rw less (drop-take from end l (omega (arith, within)))
+drop-take (suc from) (suc end) (x ∷ l) within =
+    let less : suc end - suc from ≡ end - from = omega arith in rw less (drop-take from end l (omega (arith, within)))
 
 -- What is kept at the start of the input is enough of what is left.
 pub rest-is-kept : (from end : ℕ) (input : List ℕ) → from ≤ end → end ≤ length input
@@ -195,8 +210,10 @@ rest-is-kept from end input within inside =
     subst (λ (k : ℕ). take k (movedToStart from n input) ≡ take n rest) front (take-paste input 0 rest n (omega arith) enough) in
     moved ∙ by-le (end - from) (longestLine + 1)
     (λ short. let same : n ≡ end - from = omega (arith, short) in
-    rw (same, drop-take from end input within) (sym (take-all (longestLine + 1) (take (end - from) rest) (omega (arith, short, length-take (end - from) rest)))))
-    (λ long. let same : n ≡ longestLine + 1 = omega (arith, long) in rw (same, drop-take from end input within) (sym (take-take (longestLine + 1) (end - from) rest (omega (arith, long)))))
+    rw (same, drop-take from end input within)
+    (sym (take-all (longestLine + 1) (take (end - from) rest) (omega (arith, short, length-take (end - from) rest)))))
+    (λ long. let same : n ≡ longestLine + 1 = omega (arith, long) in
+    rw (same, drop-take from end input within) (sym (take-take (longestLine + 1) (end - from) rest (omega (arith, long)))))
 
 -- What is moved to the start stands over as many bytes, and those further on are as they were.
 beyond-moved : (from n : ℕ) (input : List ℕ) → from + n ≤ length input → SameFrom n input (movedToStart from n input)
@@ -207,7 +224,8 @@ beyond-moved from n input inside =
 
 -- A turn: nothing stood printed before it, and what is left is kept.
 module _ (end : ℕ) (input : List ℕ) where
-  pub turn-answers : (f : Feed) (memory output : List ℕ) {o : Outcome (List ℕ) State} → o ≡ andThen (fed (unprinted f) memory output) (linesAnswered (cut (take (end - 0) input) .lines))
+  pub turn-answers : (f : Feed) (memory output : List ℕ) {o : Outcome (List ℕ) State}
+      → o ≡ andThen (fed (unprinted f) memory output) (linesAnswered (cut (take (end - 0) input) .lines))
       → o ≡ linesAnswered (cut (take end input) .lines) (stateOf f memory)
   turn-answers f memory output answers = let same : end - 0 ≡ end = omega arith in rw same at answers
 

@@ -22,7 +22,8 @@ lineThen line c = record { lines = line ∷ c .lines; rest = c .rest }
 abbrev cutByte : Bool → ℕ → Cut → Cut
 cutByte isFeed b c = cond isFeed (lineThen [] c) (onFirst b (c .lines) (c .rest))
 
-begun-further : (isFeed : Bool) (b : ℕ) (bs : List ℕ) → suc (length bs) ≤ indexAfter isFeed (indexOf lineFeed bs) → (length bs ≤ indexOf lineFeed bs → cut bs ≡ begun bs)
+begun-further : (isFeed : Bool) (b : ℕ) (bs : List ℕ) → suc (length bs) ≤ indexAfter isFeed (indexOf lineFeed bs)
+    → (length bs ≤ indexOf lineFeed bs → cut bs ≡ begun bs)
     → cutByte isFeed b (cut bs) ≡ begun (b ∷ bs)
 unfolding indexAfter
 begun-further true b bs none tail = absurd (omega (arith, none))
@@ -36,7 +37,8 @@ no-feed (b ∷ bs) none = begun-further (eqb b lineFeed) b bs none (no-feed bs)
 -- Bytes with a line feed are a line that ends at the first, and those after it.
 cut-further : (isFeed : Bool) (b : ℕ) (bs : List ℕ) → indexAfter isFeed (indexOf lineFeed bs) < suc (length bs)
     → (indexOf lineFeed bs < length bs → cut bs ≡ lineThen (take (indexOf lineFeed bs) bs) (cut (drop (suc (indexOf lineFeed bs)) bs)))
-    → cutByte isFeed b (cut bs) ≡ lineThen (take (indexAfter isFeed (indexOf lineFeed bs)) (b ∷ bs)) (cut (drop (suc (indexAfter isFeed (indexOf lineFeed bs))) (b ∷ bs)))
+    → cutByte isFeed b (cut bs)
+    ≡ lineThen (take (indexAfter isFeed (indexOf lineFeed bs)) (b ∷ bs)) (cut (drop (suc (indexAfter isFeed (indexOf lineFeed bs))) (b ∷ bs)))
 unfolding indexAfter
 cut-further true b bs inside tail = refl
 cut-further false b bs inside tail = ap (λ (c : Cut). cutByte false b c) (tail (omega (arith, inside)))

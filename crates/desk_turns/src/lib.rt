@@ -41,7 +41,8 @@ pub fn turn(
     feed: Feed,
 ) -> Turned
     requires { ⌜ (end ≤ length (now input)) × (longestPrinted * end ≤ length (now output)) × (hasEnded (feed .stage) ≡ false) ⌝ }
-    ensures { λ r. ⌜ OneTurn feed end (now (input .entry)) (now (memory .entry)) (now (output .entry)) r (now (input .exit)) (now (memory .exit)) (now (output .exit)) ⌝ }
+    ensures { λ r. ⌜ OneTurn feed end (now (input .entry)) (now (memory .entry)) (now (output .entry)) r (now (input .exit)) (now (memory .exit))
+        (now (output .exit)) ⌝ }
 {
     let lines = whole_lines(&input[0..end], output, memory, unprinted(feed));
     let pending = keep_rest(input, lines.at, end);

@@ -42,7 +42,8 @@ digits-are-a-field (d ∷ ds) bs fs digits rest =
 spaced-fields : (ns : List ℕ) → fields (spaced ns) ≡ [] ∷ map digitsOf ns
 unfolding fields spaced
 spaced-fields [] = refl
-spaced-fields (n ∷ ns) = ap (λ (fs : List (List ℕ)). [] ∷ fs) (digits-are-a-field (digitsOf n) (spaced ns) (map digitsOf ns) (digits-are-digits 20 n) (spaced-fields ns))
+spaced-fields (n ∷ ns) =
+    ap (λ (fs : List (List ℕ)). [] ∷ fs) (digits-are-a-field (digitsOf n) (spaced ns) (map digitsOf ns) (digits-are-digits 20 n) (spaced-fields ns))
 
 letter-is-a-field : (letter : ℕ) (ns : List ℕ) → eqb letter space ≡ false → fields (letter ∷ spaced ns) ≡ (letter ∷ []) ∷ map digitsOf ns
 unfolding fields
@@ -53,7 +54,8 @@ number-is-taken : (most n : ℕ) (fs : List (List ℕ)) → most < 2 ^ 64 → n 
 unfolding taken
 number-is-taken most n fs narrow within = rw (digits-read-back n (omega arith) most within)
 
-request-is-taken : (q : Request) (fs : List (List ℕ)) → requestFits q → takenRequest (left (map digitsOf (requestNumbers q) ++ fs)) ≡ record { value = q; rest = left fs }
+request-is-taken : (q : Request) (fs : List (List ℕ)) → requestFits q
+    → takenRequest (left (map digitsOf (requestNumbers q) ++ fs)) ≡ record { value = q; rest = left fs }
 request-is-taken q fs fits =
     let now-taken = number-is-taken most64 (q .at .0) (digitsOf (q .key) ∷ digitsOf (q .cost) ∷ fs) (omega arith) (fits .0) in
     let key-taken = number-is-taken most64 (q .key) (digitsOf (q .cost) ∷ fs) (omega arith) (fits .1 .0) in
@@ -65,7 +67,8 @@ unfolding lineOfLetter
 fields-read-back (Try q) fits = ap (λ (t : Taken Request). finished (t .rest) (line.Try (t .value))) (request-is-taken q [] fits)
 fields-read-back (Peek q) fits = ap (λ (t : Taken Request). finished (t .rest) (line.Peek (t .value))) (request-is-taken q [] fits)
 fields-read-back (Reserve q w) fits =
-    let then : Taken Request → Line = λ t. let longest = taken most64 (t .rest) in finished (longest .rest) (line.Reserve (t .value) (nanosOf (longest .value))) in
+    let then : Taken Request → Line =
+    λ t. let longest = taken most64 (t .rest) in finished (longest .rest) (line.Reserve (t .value) (nanosOf (longest .value))) in
     ap then (request-is-taken q (digitsOf (w .0) ∷ []) (fits .0)) ∙ rw (number-is-taken most64 (w .0) [] (omega arith) (fits .1))
 fields-read-back (Refund key cost) fits =
     rw (number-is-taken most64 key (digitsOf cost ∷ []) (omega arith) (fits .0), number-is-taken most32 cost [] (omega arith) (fits .1))
@@ -107,7 +110,8 @@ unfolding indexOf indexAfter spaced
 spaced-have-no-lf [] bs = omega arith
 spaced-have-no-lf (n ∷ ns) bs =
     let apart = append-assoc (digitsOf n) (spaced ns) bs in
-    rw apart (omega (arith, digits-have-no-lf (digitsOf n) (spaced ns ++ bs) (digits-are-digits 20 n), spaced-have-no-lf ns bs, length-append (digitsOf n) (spaced ns)))
+    rw apart (omega
+    (arith, digits-have-no-lf (digitsOf n) (spaced ns ++ bs) (digits-are-digits 20 n), spaced-have-no-lf ns bs, length-append (digitsOf n) (spaced ns)))
 
 letter-is-no-lf : (call : Call) → eqb (letterOf call) lineFeed ≡ false
 letter-is-no-lf (Try q) = refl
@@ -131,7 +135,8 @@ module _ (call : Call) (buffer : List ℕ) where
   buffer-begins-with-the-line room =
       rw (le-leb (length (writtenLine call)) (length buffer) room) (take-append-seam (writtenLine call) (drop (length (writtenLine call)) buffer))
 
-  pub bytes-past-the-line-stay : length (writtenLine call) ≤ length buffer → drop (length (writtenLine call)) (written call buffer .after) ≡ drop (length (writtenLine call)) buffer
+  pub bytes-past-the-line-stay : length (writtenLine call) ≤ length buffer
+      → drop (length (writtenLine call)) (written call buffer .after) ≡ drop (length (writtenLine call)) buffer
   unfolding written
   bytes-past-the-line-stay room =
       rw (le-leb (length (writtenLine call)) (length buffer) room) (drop-append-seam (writtenLine call) (drop (length (writtenLine call)) buffer))

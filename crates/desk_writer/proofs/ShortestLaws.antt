@@ -52,7 +52,11 @@ few-digits-below (suc all) n (suc k) some fits =
     by-le 10 n
     (λ many. let tenth : n / 10 < 10 ^ k = omega (arith, pow-suc 10 k) in
     rw (more-digits all n many)
-    (omega (arith, length-append (digitsFrom all (n / 10)) ((48 + n % 10) ∷ []), few-digits-below all (n / 10) k (some-left k (n / 10) tenth (omega arith)) tenth)))
+    (omega (
+      arith,
+      length-append (digitsFrom all (n / 10)) ((48 + n % 10) ∷ []),
+      few-digits-below all (n / 10) k (some-left k (n / 10) tenth (omega arith)) tenth,
+    )))
     (λ few. rw (one-digit all n few) (omega arith))
 
 -- The bytes of fields, with one more for each.
@@ -82,7 +86,8 @@ number-is-shortest most f fs =
     (λ t. by-test (leb (length f) 20)
     (λ u. by-test (allDigits f)
     (λ v. by-test (leb (decimalFrom 0 f) most)
-    (λ w. rw (t, u, v, w) (λ good. omega (arith, few-digits-below 20 (decimalFrom 0 f) (length f) (leb-true 1 (length f) t) (rw zero-add at (digits-fit 0 0 f (omega arith) v)))))
+    (λ w. rw (t, u, v, w)
+    (λ good. omega (arith, few-digits-below 20 (decimalFrom 0 f) (length f) (leb-true 1 (length f) t) (rw zero-add at (digits-fit 0 0 f (omega arith) v)))))
     (λ w. rw (t, u, v, w) (λ bad. absurd (true≢false (sym bad)))))
     (λ v. rw (t, u, v) (λ bad. absurd (true≢false (sym bad)))))
     (λ u. rw (t, u) (λ bad. absurd (true≢false (sym bad)))))
@@ -94,7 +99,8 @@ taken-is-shortest most failed bad = absurd (true≢false (sym bad))
 taken-is-shortest most (left []) bad = absurd (true≢false (sym bad))
 taken-is-shortest most (left (f ∷ fs)) good = record { good = refl; within = number-is-shortest most f fs good }
 
-request-is-shortest : (r : Reading) → isGood (takenRequest r .rest) ≡ true → Shortest r (takenRequest r .rest) (length (spaced (requestNumbers (takenRequest r .value))))
+request-is-shortest : (r : Reading) → isGood (takenRequest r .rest) ≡ true
+    → Shortest r (takenRequest r .rest) (length (spaced (requestNumbers (takenRequest r .value))))
 request-is-shortest r good =
     let now = taken most64 r in
     let key = taken most64 (now .rest) in
@@ -194,7 +200,8 @@ module _ (r : Reading) where
 fields-size : (bs : List ℕ) → sizes (fields bs) ≡ suc (length bs)
 unfolding fields sizes
 fields-size [] = omega arith
-fields-size (b ∷ bs) = by-test (eqb b space) (λ t. rw t (omega (arith, fields-size bs))) (λ t. rw t (on-first-size (fields bs) (omega (arith, fields-size bs)) ∙ ap suc (fields-size bs)))
+fields-size (b ∷ bs) = by-test (eqb b space) (λ t. rw t (omega (arith, fields-size bs)))
+    (λ t. rw t (on-first-size (fields bs) (omega (arith, fields-size bs)) ∙ ap suc (fields-size bs)))
   where
     on-first-size : (fs : List (List ℕ)) → 1 ≤ sizes fs → sizes (onFirst b fs) ≡ suc (sizes fs)
     on-first-size [] some = absurd (omega arith)

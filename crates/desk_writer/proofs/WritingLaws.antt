@@ -33,7 +33,8 @@ try-size q is = omega (arith, is, line-size (Try q))
 pub peek-size : (q : Request) {r : ℕ} → r ≡ length (spaced (requestNumbers q)) → 2 + r ≡ length (writtenLine (Peek q))
 peek-size q is = omega (arith, is, line-size (Peek q))
 
-pub reserve-size : (q : Request) (w : Nanos) {r s : ℕ} → r ≡ length (spaced (requestNumbers q)) → s ≡ length (field (w .0)) → 2 + r + s ≡ length (writtenLine (Reserve q w))
+pub reserve-size : (q : Request) (w : Nanos) {r s : ℕ} → r ≡ length (spaced (requestNumbers q)) → s ≡ length (field (w .0))
+    → 2 + r + s ≡ length (writtenLine (Reserve q w))
 reserve-size q w is then =
     omega (arith, is, then, line-size (Reserve q w), spaced-append-size (requestNumbers q) (w .0 ∷ []), spaced-size (w .0) [], spaced-none-size)
 
@@ -50,11 +51,13 @@ unfolding spaced
 letter-is-written letter bytes = refl
 
 -- A space and then the digits are a field.
-pub field-is-written : (at n : ℕ) (bytes : List ℕ) {o : Outcome ℕ (List ℕ)} → o ≡ writtenOver (digitsOf n) (at + 1) (set bytes at 32) → o ≡ writtenOver (field n) at bytes
+pub field-is-written : (at n : ℕ) (bytes : List ℕ) {o : Outcome ℕ (List ℕ)} → o ≡ writtenOver (digitsOf n) (at + 1) (set bytes at 32)
+    → o ≡ writtenOver (field n) at bytes
 field-is-written at n bytes gave = written-after (32 ∷ []) (digitsOf n) at bytes refl gave
 
 -- Some numbers of a line are stored, and the next one is n: there is room for it where there is room for the line, and with it one number more is stored.
-module _ (letter : ℕ) (ms : List ℕ) (n : ℕ) (bytes : List ℕ) {place : ℕ} {bytes′ : List ℕ} (gave : outcome place bytes′ ≡ writtenOver (letter ∷ spaced ms) 0 bytes) where
+module _ (letter : ℕ) (ms : List ℕ) (n : ℕ) (bytes : List ℕ) {place : ℕ} {bytes′ : List ℕ}
+    (gave : outcome place bytes′ ≡ writtenOver (letter ∷ spaced ms) 0 bytes) where
   pub room-for-next : (ns : List ℕ) → length (letter ∷ spaced (ms ++ (n ∷ ns))) ≤ length bytes → place + length (field n) ≤ length bytes′
   room-for-next ns room =
       let same : length bytes′ ≡ length bytes = ap length (after-is gave) ∙ length-sets bytes 0 (letter ∷ spaced ms) in
@@ -68,9 +71,12 @@ module _ (letter : ℕ) (ms : List ℕ) (n : ℕ) (bytes : List ℕ) {place : �
 -- The line that the writer stored is the definition's.
 module _ (call : Call) (buffer : List ℕ) where
   pub line-is-written : {size place : ℕ} {bytes : List ℕ} → length (writtenLine call) ≤ length buffer → size ≡ length (writtenLine call)
-      → outcome place bytes ≡ writtenOver (bytesOf call) 0 buffer → outcome (record { number = 0; size = size }) (set bytes place lineFeed) ≡ written call buffer
+      → outcome place bytes ≡ writtenOver (bytesOf call) 0 buffer
+      → outcome (record { number = 0; size = size }) (set bytes place lineFeed) ≡ written call buffer
   unfolding written
   line-is-written {size} {place} {bytes} room is-size gave =
-      let all : outcome (place + 1) (set bytes place lineFeed) ≡ writtenOver (writtenLine call) 0 buffer = written-after (bytesOf call) (lineFeed ∷ []) 0 buffer gave refl in
-      let left : set bytes place lineFeed ≡ writtenLine call ++ drop (length (writtenLine call)) buffer = after-is all ∙ rw zero-add at (sets-eq (writtenLine call) buffer 0 (rw zero-add room)) in
+      let all : outcome (place + 1) (set bytes place lineFeed) ≡ writtenOver (writtenLine call) 0 buffer =
+      written-after (bytesOf call) (lineFeed ∷ []) 0 buffer gave refl in
+      let left : set bytes place lineFeed ≡ writtenLine call ++ drop (length (writtenLine call)) buffer =
+      after-is all ∙ rw zero-add at (sets-eq (writtenLine call) buffer 0 (rw zero-add room)) in
       rw (le-leb (length (writtenLine call)) (length buffer) room, is-size) (ap (outcome (record { number = 0; size = length (writtenLine call) })) left)

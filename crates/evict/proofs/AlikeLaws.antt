@@ -16,7 +16,8 @@ use Rattle.shard_map.specs.Model.{Shard, slotAt, handOf}
 use Rattle.shard_map.proofs.AlikeLaws.{View, AlikeShards, slot-alike, hand-alike, hand-moved-alike, ledger-alike, change-alike, removal-alike}
 use Rattle.evict.specs.declared.Victim.{Victim}
 use Rattle.evict.specs.declared.Victim.the-variants.{Free, Owing}
-use Rattle.evict.specs.Evict.{Notes, nothingNoted, noted, looked, goesAtOnce, Walked, walkFrom, walked, victimOf, evictAt, debtLeft, afterRecording, evictVictim, evicted}
+use Rattle.evict.specs.Evict.{Notes, nothingNoted, noted, looked, goesAtOnce, Walked, walkFrom, walked, victimOf, evictAt, debtLeft, afterRecording}
+use Rattle.evict.specs.Evict.{evictVictim, evicted}
 use Rattle.evict.proofs.CaseLaws.{debtRecorded}
 
 -- Walks that ended at one place and noted the same.
@@ -49,7 +50,8 @@ module _ (v : View) (c : BucketConfig) (at : Nanos) where
   walk-alike : {s t : Shard} → AlikeShards v s t → AlikeWalks v (walked c at s) (walked c at t)
   unfolding walked
   walk-alike {s} {t} like =
-      subst (λ (n : ℕ). AlikeWalks v (walked c at s) (walkFrom c at (min clockScan n) t nothingNoted)) (v .ways .count (like .slots)) (walkFrom-alike _ like refl)
+      subst (λ (n : ℕ). AlikeWalks v (walked c at s) (walkFrom c at (min clockScan n) t nothingNoted)) (v .ways .count (like .slots))
+      (walkFrom-alike _ like refl)
 
 -- A slot goes; one that owes goes once its debt is recorded.
 evict-at-alike : (v : View) {s t : Shard} → AlikeShards v s t → (p : ℕ) → AlikeShards v (evictAt s p) (evictAt t p)
@@ -60,7 +62,8 @@ module _ (v : View) (c : BucketConfig) (at : Nanos) (forget : Bool) where
   recording-alike {s} {t} like p =
       let slot = v .reads (slot-alike v like {p = p} refl) in
       let debt : debtLeft c at (slotAt s p) ≡ debtLeft c at (slotAt t p) = rw (slot .hash, slot .bucket) in
-      subst (λ (d : Debt). SameOutcome (v .Ledgers) (debtRecorded c at forget s p) (recorded (t .ledger) d at forget)) debt (v .ledgers .records (like .ledger) _ at forget)
+      subst (λ (d : Debt). SameOutcome (v .Ledgers) (debtRecorded c at forget s p) (recorded (t .ledger) d at forget)) debt
+      (v .ledgers .records (like .ledger) _ at forget)
 
   after-recording-alike : {s t : Shard} {l m : Ledger} → AlikeShards v s t → v .Ledgers l m → (p soonest : ℕ) (r : Recorded)
       → SameOutcome (AlikeShards v) (afterRecording at s p soonest l r) (afterRecording at t p soonest m r)

@@ -45,7 +45,8 @@ module _ {c : BucketConfig} (a : Accepted c) (at : Nanos) (w : Awaited) (b : Buc
       let one : Awaited = record { least = min (w .least) s; later = w .later } in
       let below : s < 2 ^ 63 = omega (arith, shortfall-most c b at, most-shortfall-fits a) in
       let both : min (recoveryOf c (min (w .least) s)) (w .later) ≡ soonestIn c one = soonest-of-both c one (λ e. omega arith) in
-      let split : recoveryOf c (min (w .least) s) ≡ min (recoveryOf c (w .least)) (recoveryOf c s) = ceilDiv-of-smaller (w .least) s (c .amount) (a .amount-least) in
+      let split : recoveryOf c (min (w .least) s) ≡ min (recoveryOf c (w .least)) (recoveryOf c s) =
+      ceilDiv-of-smaller (w .least) s (c .amount) (a .amount-least) in
       let same : recoveryOf c s ≡ recoveryAt c b at = recovery-from-the-stamp-on b at a passed in
       rw (← awaits-its-shortfall c at w b passed)
       (by-eq (w .least) lastWord

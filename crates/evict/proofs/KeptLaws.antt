@@ -21,7 +21,8 @@ use Rattle.ledger.specs.Model as Ledger
 use Rattle.ledger.proofs.KeptLaws.{weigh, owed, one, weigh-own, weigh-other, record-adds-at-most, record-keeps-unsettled, refusal-keeps}
 use Rattle.shard_map.specs.Model.{Shard, Sound, slotAt, withLedger}
 use Rattle.shard_map.proofs.StepLaws.{removal-ledger}
-use Rattle.shard_map.proofs.KeptLaws.{weight, short, unpaid, overAll, Keeps, keeps-trans, weight-of-hash, short-own, short-other, count-removed, shortage-removed}
+use Rattle.shard_map.proofs.KeptLaws.{weight, short, unpaid, overAll, Keeps, keeps-trans, weight-of-hash, short-own, short-other, count-removed}
+use Rattle.shard_map.proofs.KeptLaws.{shortage-removed}
 use Rattle.shard_map.proofs.KeptLaws.{unpaid-settled, full-slot-loses-nothing}
 use Rattle.evict.specs.Evict.{walked, debtLeft, evictAt, evicted}
 use Rattle.evict.proofs.WalkLaws.{Remarked, remarked-slots}
@@ -65,7 +66,8 @@ module _ (c : BucketConfig) (h k : ℕ) where
   debt-holds-as-much at slot a early =
       let d : Debt = debtLeft c at slot in
       by-eq (slot .hash) h
-      (λ own. omega (arith, weigh-own h (unpaid c at) d own, short-own c h at slot own, debt-lasts c (slot .bucket) at a early, shortfall-most c (slot .bucket) at))
+      (λ own. omega
+      (arith, weigh-own h (unpaid c at) d own, short-own c h at slot own, debt-lasts c (slot .bucket) at a early, shortfall-most c (slot .bucket) at))
       (λ other. omega (arith, short-other c h at slot other))
 
   -- A slot goes once its debt is recorded, where debts may not be forgotten; and a recording that is refused changes nothing.
@@ -77,9 +79,15 @@ module _ (c : BucketConfig) (h k : ℕ) where
       let l : Ledger.Ledger = debtRecorded c at forget s p .after in
       let v : Sound (withLedger s l) = debt-recorded-sound c at forget s p u in
       record {
-        fewer = omega (arith, count-removed h k (withLedger s l) p v below, record-adds-at-most h one (s .ledger) (u .ledger) d at forget done, debt-counts-no-more at slot);
+        fewer = omega (
+          arith,
+          count-removed h k (withLedger s l) p v below,
+          record-adds-at-most h one (s .ledger) (u .ledger) d at forget done,
+          debt-counts-no-more at slot,
+        );
         more = λ single.
-            let alone : owed h one (s .ledger) + weigh h one d ≤ 1 = omega (arith, count-removed h k s p u below, ap (owed h one) (removal-ledger s p), debt-counts-no-more at slot) in
+            let alone : owed h one (s .ledger) + weigh h one d ≤ 1 =
+            omega (arith, count-removed h k s p u below, ap (owed h one) (removal-ledger s p), debt-counts-no-more at slot) in
             omega (
               arith,
               shortage-removed c h at (withLedger s l) p v below,

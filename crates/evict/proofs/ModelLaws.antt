@@ -99,7 +99,8 @@ module _ {cap : ℕ} {ws ws′ : List ℕ} (intact : Intact cap ws) (same : leng
   pub after-record : {r : Recorded} (d : Debt) (at : Nanos) (forget : Bool)
       → outcome r (shard cap ws′) ≡ inLedger (shard cap ws) (Ledger.recorded (shard cap ws .ledger) d at forget) → StillLent cap ws ws′
   after-record d at forget gave = record {
-    intact = intact-after-answer intact same gave (ledger-sound (shard cap ws) _ (intact .sound) (recorded-sound (shard cap ws .ledger) d at forget (intact .sound .ledger)));
+    intact = intact-after-answer intact same gave
+        (ledger-sound (shard cap ws) _ (intact .sound) (recorded-sound (shard cap ws .ledger) d at forget (intact .sound .ledger)));
     count = ap (λ s. s .slots .count) (after-is gave);
   }
 

@@ -33,7 +33,8 @@ module _ {c : BucketConfig} {at : Nanos} {forget : Bool} {Q : Shard → Type 0} 
       let next : Q (looked s (handOf s)) = steps .looks s u some q in
       by-test (goesAtOnce c at (slotAt s (handOf s)))
       (λ goes. rw (goes, walkFrom) next)
-      (λ stays. rw (stays, walkFrom) (walkFrom-keeps left (looked s (handOf s)) (noted c at w (handOf s) (slotAt s (handOf s))) (look-same-room s u some .sound) some next))
+      (λ stays. rw (stays, walkFrom)
+      (walkFrom-keeps left (looked s (handOf s)) (noted c at w (handOf s) (slotAt s (handOf s))) (look-same-room s u some .sound) some next))
 
   pub evict-keeps : (s : Shard) → Sound s → 0 < s .slots .count → Q s → Q (evicted c at forget s .after)
   unfolding walked

@@ -43,11 +43,13 @@ pub remarked-bucket : (s t : Shard) → Remarked s t → (i : ℕ) → slotAt t 
 remarked-bucket s t r = remarked-slots s t r (λ slot. slot .bucket) (λ slot mark. refl)
 
 pub remarked-sound : (s t : Shard) → Remarked s t → Sound s → Sound t
-remarked-sound s t r u = record { room = omega (arith, r .cap, u .room); count-fits = omega (arith, r .cap, r .count, u .count-fits); ledger = rw (r .ledger) (u .ledger) }
+remarked-sound s t r u =
+    record { room = omega (arith, r .cap, u .room); count-fits = omega (arith, r .cap, r .count, u .count-fits); ledger = rw (r .ledger) (u .ledger) }
 
 pub remarked-complete : (s t : Shard) → Remarked s t → Held.Complete slotItems (s .slots) → Held.Complete slotItems (t .slots)
 remarked-complete s t r complete =
-    same-hashes-complete slotItems (s .slots) complete (t .slots) (r .finding) (r .count) (r .cap) (λ i below. remarked-slots s t r (λ slot. slot .hash) (λ slot mark. refl) i)
+    same-hashes-complete slotItems (s .slots) complete (t .slots) (r .finding) (r .count) (r .cap)
+    (λ i below. remarked-slots s t r (λ slot. slot .hash) (λ slot mark. refl) i)
 
 -- A look at a place changes nothing else.
 look-remarks : (s t : Shard) (p : ℕ) → Remarked s t → p < capOf t → Remarked s (looked t p)
@@ -131,7 +133,8 @@ module _ (c : BucketConfig) (at : Nanos) (s : Shard) where
   pub walk-kept : Sound s → 0 < s .slots .count → WalkKept c at s (walked c at s)
   unfolding walked
   walk-kept u some =
-      walkFrom-kept _ s nothingNoted u some (record { count = refl; cap = refl; sweep = refl; ledger = refl; finding = refl; slots = λ i. refl }) (record { full = tt; unmarked = tt })
+      walkFrom-kept _ s nothingNoted u some (record { count = refl; cap = refl; sweep = refl; ledger = refl; finding = refl; slots = λ i. refl })
+      (record { full = tt; unmarked = tt })
 
 -- A slot that is full before the walk is full after it.
 remarked-full : (c : BucketConfig) (at : Nanos) (s t : Shard) (p : ℕ) → Remarked s t → FullSlot c at s p → FullSlot c at t p
@@ -147,7 +150,8 @@ remarked-victim c at s t (Free p) r full = remarked-full c at s t p r full
 remarked-victim c at s t (Owing p) r below = omega (arith, r .count)
 
 -- So is the slot that a walk chooses.
-full-or-held : (c : BucketConfig) (at : Nanos) (s : Shard) (place : Place) (p : ℕ) → fullIfAny c at s place → p < s .slots .count → victimIs c at s (freeOr place p)
+full-or-held : (c : BucketConfig) (at : Nanos) (s : Shard) (place : Place) (p : ℕ) → fullIfAny c at s place → p < s .slots .count
+    → victimIs c at s (freeOr place p)
 full-or-held c at s (At q) p full below = full
 full-or-held c at s Nowhere p full below = below
 

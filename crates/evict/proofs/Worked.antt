@@ -55,7 +55,8 @@ first-looked-at-leaves-its-debt = refl
 
 -- Such a hand reads as the first place.
 hand-past-the-slots-reads-as-the-first :
-    evicted rate (moment 0) false (shard 2 3 0 (slot 1 0 0 0 ∷ slot 2 0 0 0 ∷ noSlot ∷ []) noDebts) ≡ outcome Made (shard 1 1 0 (slot 2 0 0 0 ∷ noSlot ∷ noSlot ∷ []) noDebts)
+    evicted rate (moment 0) false (shard 2 3 0 (slot 1 0 0 0 ∷ slot 2 0 0 0 ∷ noSlot ∷ []) noDebts)
+    ≡ outcome Made (shard 1 1 0 (slot 2 0 0 0 ∷ noSlot ∷ noSlot ∷ []) noDebts)
 unfolding evicted walked walkFrom noted shortfallAt removeAt removed
 hand-past-the-slots-reads-as-the-first = refl
 
@@ -72,27 +73,31 @@ abbrev twoSlots : ℕ → ℕ → ℕ → ℕ → ℕ → ℕ → Shard
 twoSlots one two mark hand cursor settles = shard 2 hand 0 (slot 1 one mark 0 ∷ slot 2 two mark 0 ∷ []) (ledger 1 cursor (owing 9 settles ∷ []))
 
 -- Both waits are a few nanoseconds; a millisecond is told.
-refusal-waits-a-millisecond : evicted rate (moment 0) false (twoSlots 8 4 1 0 0 3) ≡ outcome (Refused (dueAfter (moment 0) (moment 1000000))) (twoSlots 8 4 0 2 1 3)
+refusal-waits-a-millisecond : evicted rate (moment 0) false (twoSlots 8 4 1 0 0 3)
+    ≡ outcome (Refused (dueAfter (moment 0) (moment 1000000))) (twoSlots 8 4 0 2 1 3)
 unfolding evicted walked walkFrom noted shortfallAt grown waitAt ceilDiv Ledger.recorded Ledger.recordedAt
     Ledger.placeOf Ledger.makeRoom Ledger.scan Ledger.scanFrom Ledger.dropChosen lowestFrom
 refusal-waits-a-millisecond = refl
 
 -- The moment told is that of the call plus the wait told, after the floor of a millisecond.
 refusal-tells-the-moment-of-the-wait-told :
-    evicted rate (moment 2) false (twoSlots 12 8 1 0 0 5) ≡ outcome (Refused (record { wait = moment 1000000; moment = moment 1000002 })) (twoSlots 12 8 0 2 1 5)
+    evicted rate (moment 2) false (twoSlots 12 8 1 0 0 5)
+    ≡ outcome (Refused (record { wait = moment 1000000; moment = moment 1000002 })) (twoSlots 12 8 0 2 1 5)
 unfolding evicted walked walkFrom noted shortfallAt grown waitAt ceilDiv Ledger.recorded Ledger.recordedAt
     Ledger.placeOf Ledger.makeRoom Ledger.scan Ledger.scanFrom Ledger.dropChosen lowestFrom
 refusal-tells-the-moment-of-the-wait-told = refl
 
 -- The soonest recovery is 2 ms, that of the second slot, and the ledger's wait 3 ms; then the recovery is 3 ms and the ledger's wait 1.5 ms.
 refusal-waits-for-the-soonest-recovery :
-    evicted rate (moment 0) false (twoSlots 8000000 4000000 1 0 0 3000000) ≡ outcome (Refused (dueAfter (moment 0) (moment 2000000))) (twoSlots 8000000 4000000 0 2 1 3000000)
+    evicted rate (moment 0) false (twoSlots 8000000 4000000 1 0 0 3000000)
+    ≡ outcome (Refused (dueAfter (moment 0) (moment 2000000))) (twoSlots 8000000 4000000 0 2 1 3000000)
 unfolding evicted walked walkFrom noted shortfallAt grown waitAt ceilDiv Ledger.recorded Ledger.recordedAt
     Ledger.placeOf Ledger.makeRoom Ledger.scan Ledger.scanFrom Ledger.dropChosen lowestFrom
 refusal-waits-for-the-soonest-recovery = refl
 
 refusal-waits-for-the-ledger :
-    evicted rate (moment 0) false (twoSlots 8000000 6000000 1 0 0 1500000) ≡ outcome (Refused (dueAfter (moment 0) (moment 1500000))) (twoSlots 8000000 6000000 0 2 1 1500000)
+    evicted rate (moment 0) false (twoSlots 8000000 6000000 1 0 0 1500000)
+    ≡ outcome (Refused (dueAfter (moment 0) (moment 1500000))) (twoSlots 8000000 6000000 0 2 1 1500000)
 unfolding evicted walked walkFrom noted shortfallAt grown waitAt ceilDiv Ledger.recorded Ledger.recordedAt
     Ledger.placeOf Ledger.makeRoom Ledger.scan Ledger.scanFrom Ledger.dropChosen lowestFrom
 refusal-waits-for-the-ledger = refl

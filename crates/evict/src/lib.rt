@@ -36,8 +36,8 @@ pub enum Victim {
 }
 
 // How soon the slots recover that are not full. Of those whose stamp is not after the moment `least` is the least shortfall: the slot that has it recovers the
-// soonest of them. To work out how soon takes a division, and for these slots only a refusal makes it. Of the others, which a clock set back leaves, `later` is the soonest recovery.
-// Each is the largest number of 64 bits while there is no such slot.
+// soonest of them. To work out how soon takes a division, and for these slots only a refusal makes it. Of the others, which a clock set back leaves, `later` is
+// the soonest recovery. Each is the largest number of 64 bits while there is no such slot.
 pub struct Awaited {
     pub least: u64,
     pub later: u64,
@@ -176,7 +176,8 @@ fn goes_at_once(slot: Slot, config: BucketConfig, at: Nanos) -> bool
 // A look of the hand. It gives the slot as it is; then it clears the slot's mark and steps the hand on.
 fn hand_look(ws: &mut [u64], cap: usize, pos: usize) -> Slot
     requires { ⌜ Intact cap (now ws) × (pos < cap) ⌝ }
-    ensures { λ r. ⌜ outcome r (shard cap (now (ws .exit))) ≡ outcome (Model.slotAt (shard cap (now (ws .entry))) pos) (Evict.looked (shard cap (now (ws .entry))) pos) ⌝ }
+    ensures { λ r. ⌜ outcome r (shard cap (now (ws .exit)))
+        ≡ outcome (Model.slotAt (shard cap (now (ws .entry))) pos) (Evict.looked (shard cap (now (ws .entry))) pos) ⌝ }
 {
     let slot = shard_map::get(ws, cap, pos);
     words::clear_mark(ws, cap, pos);

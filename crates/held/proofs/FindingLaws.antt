@@ -18,7 +18,8 @@ use Rattle.index.proofs.ExactLaws.{exact-hash, add-exact, fresh-exact}
 use Rattle.index.proofs.RemoveLaws.{remove-exact}
 use Rattle.index.proofs.WordLaws.{Below, add-below, remove-below}
 use Rattle.index.proofs.FindLaws.{find-sound, find-nowhere, find-lowest}
-use Rattle.held.specs.Held.{Finding, inOrder, byIndex, Held, Sound, Items, foundBy, withAdded, withRemoved, itemAt, hashAt, position, appended, removed, stored}
+use Rattle.held.specs.Held.{Finding, inOrder, byIndex, Held, Sound, Items, foundBy, withAdded, withRemoved, itemAt, hashAt, position, appended, removed}
+use Rattle.held.specs.Held.{stored}
 use Rattle.held.specs.Held.{inPlaceOrder, Complete, in-order-is-complete, exact-is-complete}
 use Rattle.held.specs.Layout.{indexWords}
 use Rattle.held.proofs.HeldLaws.{item-stored, item-stored-other, item-appended, item-appended-other, item-moved, item-kept}

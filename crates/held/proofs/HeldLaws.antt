@@ -59,23 +59,27 @@ module _ {A : Type 0} (items : Items A) where
   removed-length h p = simp length-set
 
   pub removed-sound : (h : Held A) (p : ℕ) → Sound h → Sound (removed items h p)
-  removed-sound h p s = record { room = omega (arith, s .room, removed-length h p); count-fits = omega (arith, s .count-fits, removed-count h p, removed-length h p) }
+  removed-sound h p s =
+      record { room = omega (arith, s .room, removed-length h p); count-fits = omega (arith, s .count-fits, removed-count h p, removed-length h p) }
 
   -- The weights: a stored item changes its own, an appended one adds its own, a removed one takes its own away.
   pub total-stored : (w : A → ℕ) (h : Held A) (i : ℕ) (x : A) → Sound h → i < h .count
       → total items w (stored h i x) + w (itemAt items h i) ≡ total items w h + w x
   total-stored w h i x s b =
       rw (item-stored h i x (omega (arith, s .count-fits))) at
-      (sum-changed (h .count) (λ j. w (itemAt items (stored h i x) j)) (λ j. w (itemAt items h j)) i b (λ j below other. ap w (item-stored-other h i x j other)))
+      (sum-changed (h .count) (λ j. w (itemAt items (stored h i x) j)) (λ j. w (itemAt items h j)) i b
+      (λ j below other. ap w (item-stored-other h i x j other)))
 
   pub total-appended : (w : A → ℕ) (h : Held A) (x : A) → h .count < length (h .places)
       → total items w (appended items h x) ≡ total items w h + w x
   unfolding sum
   total-appended w h x b =
       rw (add-one, sum, item-appended h x b)
-      (ap (λ (n : ℕ). n + w x) (sum-same (h .count) (λ j. w (itemAt items (appended items h x) j)) (λ j. w (itemAt items h j)) (λ j below. ap w (item-appended-other h x j below))))
+      (ap (λ (n : ℕ). n + w x)
+      (sum-same (h .count) (λ j. w (itemAt items (appended items h x) j)) (λ j. w (itemAt items h j)) (λ j below. ap w (item-appended-other h x j below))))
 
-  total-but-last : (w : A → ℕ) (h : Held A) → 0 < h .count → sum (h .count - 1) (λ j. w (itemAt items h j)) + w (itemAt items h (h .count - 1)) ≡ total items w h
+  total-but-last : (w : A → ℕ) (h : Held A) → 0 < h .count
+      → sum (h .count - 1) (λ j. w (itemAt items h j)) + w (itemAt items h (h .count - 1)) ≡ total items w h
   unfolding sum
   total-but-last w h b = let e : h .count ≡ suc (h .count - 1) = omega arith in sym (ap (λ (n : ℕ). sum n (λ j. w (itemAt items h j))) e)
 
@@ -86,7 +90,12 @@ module _ {A : Type 0} (items : Items A) where
       let after : ℕ → ℕ = λ j. w (itemAt items (removed items h p) j) in
       rw (removed-count h p)
       (by-eq p (h .count - 1)
-      (λ last. omega (arith, total-but-last w h (omega arith), ap before last, sum-same (h .count - 1) after before (λ j below. ap w (item-kept h p j below (λ e. omega arith)))))
+      (λ last. omega (
+        arith,
+        total-but-last w h (omega arith),
+        ap before last,
+        sum-same (h .count - 1) after before (λ j below. ap w (item-kept h p j below (λ e. omega arith))),
+      ))
       (λ inner.
       let below : p < h .count - 1 = omega (arith, inner) in
       omega (

@@ -6,7 +6,8 @@ use mathlib.Core.List.{List, [], _++_, map}
 use native.Mathlib.Omega.{arith}
 use lib.Dec.{eqb}
 use lib.ListN.{length, getD, set, take, drop, length-map, take-append-drop}
-use lib.Seq.{sets, getD-set-same, getD-set-other, getD-take, getD-drop, take-set-lt, take-set-le, drop-set-lt, length-take-le, take-add, drop-drop, drop-at, drop-append-le}
+use lib.Seq.{sets, getD-set-same, getD-set-other, getD-take, getD-drop, take-set-lt, take-set-le, drop-set-lt, length-take-le, take-add, drop-drop, drop-at}
+use lib.Seq.{drop-append-le}
 use borrow.Author.Tests.{lt-ltb, le-ltb, eq-eqb, ne-eqb}
 use borrow.Rule.Slice.PartMut.{putMid}
 use Rattle.arith.proofs.Cases.{by-eq}
@@ -78,7 +79,8 @@ module _ {A : Type 0} (read : List ℕ → A) (w cap first : ℕ) where
       unfolding tableIn
       table-put i vs b k =
           let e = row-end w cap i b in
-          let row-put : map read (rows w cap (segment first (w * cap) (sets ws (first + w * i) vs))) ≡ set (map read (rows w cap (segment first (w * cap) ws))) i (read vs) =
+          let row-put : map read (rows w cap (segment first (w * cap) (sets ws (first + w * i) vs)))
+          ≡ set (map read (rows w cap (segment first (w * cap) ws))) i (read vs) =
           rw (segment-sets first (w * cap) ws (w * i) vs (omega arith))
           (record-put read w cap (segment first (w * cap) ws) i b vs k (omega (arith, segment-length first (w * cap) ws room))) in
           let front-kept = take-sets-above first ws (first + w * i) vs (omega arith) in
@@ -112,7 +114,8 @@ module _ {A : Type 0} (read : List ℕ → A) (w cap first : ℕ) where
 
       -- A part of the rest came back as other words, from word o of the rest on.
       pub table-part-put : (o n : ℕ) (ys : List ℕ) → first + w * cap + o + n ≤ length ws → length ys ≡ n
-          → tableIn read w cap first (putMid (first + w * cap + o) n ws ys) ≡ withRest (tableIn read w cap first ws) (putMid o n (tableIn read w cap first ws .rest) ys)
+          → tableIn read w cap first (putMid (first + w * cap + o) n ws ys)
+          ≡ withRest (tableIn read w cap first ws) (putMid o n (tableIn read w cap first ws .rest) ys)
       unfolding tableIn
       table-part-put o n ys inside same =
           let start : ℕ = first + w * cap + o in
@@ -123,7 +126,8 @@ module _ {A : Type 0} (read : List ℕ → A) (w cap first : ℕ) where
 
       -- The words before the rows, the items written as rows, and the rest are the words again. `write` gives an item's row back.
       pub table-words : (write : A → List ℕ) → ((row : List ℕ) → length row ≡ w → write (read row) ≡ row)
-          → tabulate first (tableIn read w cap first ws .head) ++ (unrow (map write (tableIn read w cap first ws .places)) ++ tableIn read w cap first ws .rest) ≡ ws
+          → tabulate first (tableIn read w cap first ws .head) ++ (unrow (map write (tableIn read w cap first ws .places)) ++ tableIn read w cap first ws .rest)
+          ≡ ws
       unfolding tableIn
       table-words write round =
           let all = segment-length first (w * cap) ws room in

@@ -23,7 +23,12 @@ module _ {A : Type 0} (write : A → List ℕ) (w : ℕ) (long : (x : A) → len
   unfolding rows unrow
   rows-of-written read back [] = refl
   rows-of-written read back (x ∷ items) =
-      rw (take-at (write x) (unrow (map write items)) w (long x), drop-at (write x) (unrow (map write items)) w (long x), back x, rows-of-written read back items)
+      rw (
+        take-at (write x) (unrow (map write items)) w (long x),
+        drop-at (write x) (unrow (map write items)) w (long x),
+        back x,
+        rows-of-written read back items,
+      )
 
   -- Items written between a head and a rest.
   module _ (items : List A) (head rest : List ℕ) {cap first : ℕ} (full : length items ≡ cap) (headed : length head ≡ first) where

@@ -21,7 +21,8 @@ module _ {A : Type 0} (items : Items A) (goes : A → Bool) where
     unfolding look lookAt
     look-goes some passes = rw (ne-eqb (r .items .count) 0 (omega arith), lookAt, passes)
 
-    pub look-stays : 0 < r .items .count → goes (itemAt items (r .items) (nextOf r)) ≡ false → record { items = r .items; next = nextOf r + 1 } ≡ look items goes r
+    pub look-stays : 0 < r .items .count → goes (itemAt items (r .items) (nextOf r)) ≡ false
+        → record { items = r .items; next = nextOf r + 1 } ≡ look items goes r
     unfolding look lookAt
     look-stays some fails = rw (ne-eqb (r .items .count) 0 (omega arith), lookAt, fails)
 
@@ -31,7 +32,8 @@ module _ {A : Type 0} (items : Items A) (goes : A → Bool) where
 
   -- A look leaves the round as it is, takes out an item that goes, or moves on by a place.
   look-cases : (Q : Round A → Type 0) (r : Round A) → Q r
-      → (nextOf r < r .items .count → goes (itemAt items (r .items) (nextOf r)) ≡ true → Q (record { items = removed items (r .items) (nextOf r); next = nextOf r }))
+      → (nextOf r < r .items .count → goes (itemAt items (r .items) (nextOf r)) ≡ true
+      → Q (record { items = removed items (r .items) (nextOf r); next = nextOf r }))
       → (nextOf r < r .items .count → Q (record { items = r .items; next = nextOf r + 1 })) → Q (look items goes r)
   unfolding look lookAt
   look-cases Q r same drops moves =
@@ -105,12 +107,14 @@ pub record ByLooks {S : Type 0} (Lent : List ℕ → Type 0) (view : List ℕ �
 
 -- A loop that makes the looks one by one: the words are lent, as long as at the start, and the looks left, made from here, give what all of them give from the
 -- start. Then its steps.
-pub record Sweeping {S : Type 0} (Lent : List ℕ → Type 0) (view : List ℕ → S) (all : ℕ → S → S) (budget : ℕ) (start : List ℕ) (left : ℕ) (ws : List ℕ) : Type 0 where
+pub record Sweeping {S : Type 0} (Lent : List ℕ → Type 0) (view : List ℕ → S) (all : ℕ → S → S) (budget : ℕ) (start : List ℕ) (left : ℕ)
+    (ws : List ℕ) : Type 0 where
   pub lent : Lent ws
   pub long : length ws ≡ length start
   pub same : all left (view ws) ≡ all budget (view start)
 
-pub sweep-begins : {S : Type 0} {Lent : List ℕ → Type 0} {view : List ℕ → S} {all : ℕ → S → S} {n : ℕ} {ws : List ℕ} → Lent ws → Sweeping Lent view all n ws n ws
+pub sweep-begins : {S : Type 0} {Lent : List ℕ → Type 0} {view : List ℕ → S} {all : ℕ → S → S} {n : ℕ} {ws : List ℕ} → Lent ws
+    → Sweeping Lent view all n ws n ws
 sweep-begins lent = record { lent = lent; long = refl; same = refl }
 
 module _ {S : Type 0} {Lent : List ℕ → Type 0} {view : List ℕ → S} {all : ℕ → S → S} {one : S → S} {count : S → ℕ} (looks : ByLooks Lent view all one count)

@@ -67,7 +67,8 @@ module _ {A I : Type 0} (items : Items A) (identity : A → I) where
   comes-from-refl h = same-identities h h refl (λ i below. refl)
 
   -- An item of the same identity is stored.
-  pub stored-comes-from : (h : Held A) (p : ℕ) (x : A) → p < length (h .places) → identity x ≡ identity (itemAt items h p) → ComesFrom items identity h (stored h p x)
+  pub stored-comes-from : (h : Held A) (p : ℕ) (x : A) → p < length (h .places) → identity x ≡ identity (itemAt items h p)
+      → ComesFrom items identity h (stored h p x)
   stored-comes-from h p x below same =
       same-identities h (stored h p x) refl (λ i inner.
       by-eq i p
@@ -136,7 +137,8 @@ module _ {A I : Type 0} (items : Items A) (identity : A → I) (h : Held A) wher
 
 module _ {A I : Type 0} (items : Items A) (identity : A → I) (h : Held A) (each : FindsEach items identity h) where
   -- Items are then found where they are found in place order, by a test that only items of one hash and of one identity pass.
-  pub found-in-place-order : (hash : ℕ) (key : I) (test : A → Bool) → ((x : A) → test x ≡ true → items .hash x ≡ hash) → ((x : A) → test x ≡ true → identity x ≡ key)
+  pub found-in-place-order : (hash : ℕ) (key : I) (test : A → Bool) → ((x : A) → test x ≡ true → items .hash x ≡ hash)
+      → ((x : A) → test x ≡ true → identity x ≡ key)
       → position items (inPlaceOrder h) hash test ≡ position items h hash test
   found-in-place-order hash key test own known =
       sym (position-in-place-order items h (each .complete) hash test own

@@ -54,10 +54,12 @@ pub absent : (w : ℕ) (ix : List ℕ) (j : ℕ) → j < length ix → copies w 
 absent w ix j h e s = let o = copies-at w ix j h s in omega arith
 
 -- A word is taken out of place q and put into a place that is empty then: every word has as many copies as before.
-pub copies-moved : (v : ℕ) (ix : List ℕ) (q z : ℕ) → q < length ix → z < length ix → at (set ix q 0) z ≡ 0 → copies v (set (set ix q 0) z (at ix q)) ≡ copies v ix
+pub copies-moved : (v : ℕ) (ix : List ℕ) (q z : ℕ) → q < length ix → z < length ix → at (set ix q 0) z ≡ 0
+    → copies v (set (set ix q 0) z (at ix q)) ≡ copies v ix
 copies-moved v ix q z hq hz e =
     let a = copies-set v ix q 0 hq in
-    let b : copies v (set (set ix q 0) z (at ix q)) + one 0 v ≡ copies v (set ix q 0) + one (at ix q) v = rw e at (copies-set v (set ix q 0) z (at ix q) (simp length-set hz)) in
+    let b : copies v (set (set ix q 0) z (at ix q)) + one 0 v ≡ copies v (set ix q 0) + one (at ix q) v =
+    rw e at (copies-set v (set ix q 0) z (at ix q) (simp length-set hz)) in
     omega arith
 
 -- A fresh index holds zeros alone.

@@ -1,5 +1,5 @@
--- Lookup by an index. On any words, what it finds is an item that passes and that a place on the walk names. With an exact index it finds an item that passes if
--- there is one. So it gives what a lookup by the lowest place gives, if no two items pass.
+-- Lookup by an index. On any words, what it finds is an item that passes and that a place on the walk names. With an exact index it finds an item that passes
+-- if there is one. So it gives what a lookup by the lowest place gives, if no two items pass.
 use Prim.Native.Nat.{ℕ, zero, suc, _+_, _-_, _%_, _≤_, _<_}
 use native.Mathlib.Omega.{arith}
 use mathlib.Core.Path.{_≡_, refl, sym, _∙_, ap}
@@ -48,7 +48,8 @@ record Led (n : ℕ) (test : ℕ → Bool) (ix : List ℕ) (p q left : ℕ) : Ty
 
 led : (n : ℕ) (test : ℕ → Bool) (ix : List ℕ) (p q left : ℕ) → named (at ix (walkFrom ix (hits n test) q left)) ≡ At p → Led n test ix p q left
 unfolding walkFrom
-led n test ix p q zero e = let past : at ix (length ix) ≡ 0 = List·getD-eq-default ix 0 (omega arith) in absurd (omega (arith, named-item (at ix (length ix)) p e))
+led n test ix p q zero e =
+    let past : at ix (length ix) ≡ 0 = List·getD-eq-default ix 0 (omega arith) in absurd (omega (arith, named-item (at ix (length ix)) p e))
 led n test ix p q (suc left) e =
     by-test (stops (hits n test) (at ix q))
     (λ s.
@@ -86,7 +87,8 @@ module _ {hash : ℕ → ℕ} {n : ℕ} {ix : List ℕ} (E : Exact hash n ix) (t
   empty-misses : at ix (walk ix (hits n test) h) ≡ 0 → (j : ℕ) → j < n → hash j ≡ h → test j ≡ true → ⊥
   empty-misses k j l own passes =
       let e = empty-place E in
-      let S : StopsAt ix (hits n test) (h % length ix) (walk ix (hits n test) h) = walk-stops ix (hits n test) h (e .place) (e .below) (empty-stops (hits n test) _ (e .is)) in
+      let S : StopsAt ix (hits n test) (h % length ix) (walk ix (hits n test) h) =
+      walk-stops ix (hits n test) h (e .place) (e .below) (empty-stops (hits n test) _ (e .is)) in
       let s = item-stands E j l in
       let x : ℕ = s .place in
       let item : at ix x - 1 ≡ j = omega (arith, s .is) in

@@ -20,7 +20,8 @@ use Rattle.index.proofs.StepLaws.{onward-below, add-again-length, add-a
 use Rattle.index.proofs.StepLaws.{vacate-none, vacate-used, vacate-length, remove-by, at-past}
 
 -- Word f of an item's row lies before the index.
-pub item-before : {index : Index} {n : ℕ} {ws : List ℕ} → Fits index n ws → (i f : ℕ) → i < n → f < index .width → index .first + index .width * i + f < index .base
+pub item-before : {index : Index} {n : ℕ} {ws : List ℕ} → Fits index n ws → (i f : ℕ) → i < n → f < index .width
+    → index .first + index .width * i + f < index .base
 item-before {index} {n} fits i f h inside =
     let m : index .width * (i + 1) ≤ index .width * n = mul-le-mul-left {m = i + 1} {n = n} (index .width) (omega arith) in
     omega (arith, fits .items)
@@ -124,7 +125,8 @@ pub set-length : (index : Index) (ws : List ℕ) (q v : ℕ) → index .base + i
 set-length index ws q v h = simp length-set (places-length index ws h)
 
 -- A first call left the places ix, and a second one goes on from there.
-module _ {index : Index} {n : ℕ} {ws ws₁ : List ℕ} (ix : List ℕ) (fits : Fits index n ws) (long : length ix ≡ index .size) (first : ws₁ ≡ withPlaces index ws ix) where
+module _ {index : Index} {n : ℕ} {ws ws₁ : List ℕ} (ix : List ℕ) (fits : Fits index n ws) (long : length ix ≡ index .size)
+    (first : ws₁ ≡ withPlaces index ws ix) where
   pub then-fits : Fits index n ws₁
   then-fits = rw first (fits-with index n ws ix fits long)
 
@@ -224,7 +226,8 @@ module _ {index : Index} {n : ℕ} {ws₀ : List ℕ} {from : ℕ} (fits : Fits 
         let ix : List ℕ = addAgain (hashOf index ws) n emptied word in
         let long : length ix ≡ index .size = add-again-length (hashOf index ws) n emptied word ∙ simp length-set len in
         let there = places-with index n ws ix (R .fits) long in
-        let agrees : ix ≡ addAgain (hashOf index ws₀) n emptied word = add-again-agrees (hashOf index ws) (hashOf index ws₀) n same-hash emptied word (omega arith) in
+        let agrees : ix ≡ addAgain (hashOf index ws₀) n emptied word =
+        add-again-agrees (hashOf index ws) (hashOf index ws₀) n same-hash emptied word (omega arith) in
         rw e (record {
           below = onward-below (index .size) q (R .below);
           fits = fits-with index n ws ix (R .fits) long;

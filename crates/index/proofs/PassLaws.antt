@@ -1,5 +1,5 @@
--- One turn of the pass in lent words: whether the item stays, fills the gap or is added by a walk, the words are those of the definition, and the pass knows what
--- it has to know at the next place.
+-- One turn of the pass in lent words: whether the item stays, fills the gap or is added by a walk, the words are those of the definition, and the pass knows
+-- what it has to know at the next place.
 use Prim.Native.Nat.{ℕ, _+_, _≤_, _<_, min}
 use mathlib.Core.Path.{_≡_, sym, _∙_, ap}
 use mathlib.Core.List.{List}
@@ -20,14 +20,17 @@ use Rattle.index.proofs.LayoutLaws.{places-length, same-places, set-len
 use Rattle.index.proofs.TrailLaws.{stays, stays-trail, fills, fills-trail, walks-trail, known-fits, run-below}
 
 -- A place that was emptied is empty.
-pub emptied-place : {index : Index} {n : ℕ} {ws ws₁ : List ℕ} (z : ℕ) → Fits index n ws → z < index .size → ws₁ ≡ withPlaces index ws (set (placesOf index ws) z 0)
+pub emptied-place : {index : Index} {n : ℕ} {ws ws₁ : List ℕ} (z : ℕ) → Fits index n ws → z < index .size
+    → ws₁ ≡ withPlaces index ws (set (placesOf index ws) z 0)
     → at (placesOf index ws₁) z ≡ 0
 emptied-place {index} {n} {ws} z fits hz e =
-    rw (then-places (set (placesOf index ws) z 0) fits (set-length index ws z 0 (fits .inside)) e) (at-stored (placesOf index ws) z 0 (rw (places-length index ws (fits .inside)) hz))
+    rw (then-places (set (placesOf index ws) z 0) fits (set-length index ws z 0 (fits .inside)) e)
+    (at-stored (placesOf index ws) z 0 (rw (places-length index ws (fits .inside)) hz))
 
 -- What one turn is given.
 abbrev pub Given : Index → ℕ → List ℕ → ℕ → ℕ → Pass → Type 0
-Given index n ws q word pass = Fits index n ws × (q < index .size) × (word ≡ at (placesOf index ws) q) × (0 < word) × Trail (index .size) (placesOf index ws) q pass
+Given index n ws q word pass =
+    Fits index n ws × (q < index .size) × (word ≡ at (placesOf index ws) q) × (0 < word) × Trail (index .size) (placesOf index ws) q pass
 
 module _ {index : Index} {n : ℕ} {ws : List ℕ} {q word : ℕ} {pass : Pass} (given : Given index n ws q word pass)
     {back : ℕ} (from : back ≡ fromHome (hashOf index ws) n (index .size) q word) where
@@ -68,13 +71,15 @@ module _ {index : Index} {n : ℕ} {ws : List ℕ} {q word : ℕ} {pass : Pass} 
   known-after-fits w known e = rw (e, from′) (known-fits hash n len below filled trail w)
 
   pass-stays : back ≤ pass .run
-      → (ws ≡ withPlaces index ws again) × Trail (index .size) ix (onward (index .size) q) (record { gap = pass .gap; run = pass .run + 1; known = min (pass .known + 1) (index .size) })
+      → (ws ≡ withPlaces index ws again)
+      × Trail (index .size) ix (onward (index .size) q) (record { gap = pass .gap; run = pass .run + 1; known = min (pass .known + 1) (index .size) })
   pass-stays near =
       let put = stays hash n len below filled trail (rw from′ at near) in
       (sym (same-places index ws) ∙ ap (withPlaces index ws) (sym (rw is put)), stays-trail hash n len below filled trail)
 
   pass-fills : pass .run < back → back ≤ pass .known → {ws₁ : List ℕ} → ws₁ ≡ withPlaces index ws (set (set ix q 0) (pass .gap) word)
-      → (ws₁ ≡ withPlaces index ws again) × Trail (index .size) (placesOf index ws₁) (onward (index .size) q) (record { gap = q; run = 0; known = min (pass .known + 1) (index .size) })
+      → (ws₁ ≡ withPlaces index ws again)
+      × Trail (index .size) (placesOf index ws₁) (onward (index .size) q) (record { gap = q; run = 0; known = min (pass .known + 1) (index .size) })
   pass-fills far near stored =
       let put = fills hash n len below filled trail (rw from′ at far) (rw from′ at near) in
       let there = then-places (set (set ix q 0) (pass .gap) word) fits (simp length-set len) stored in (

@@ -10,7 +10,8 @@ use borrow.Author.Tests.{ne-eqb, le-leb}
 use Rattle.arith.proofs.Cases.{by-le, by-eq}
 use Rattle.index.specs.Walk.{at, onward, walk, seek, add, addAgain, rehome}
 use Rattle.index.specs.Exact.{copies, Before, mid, low, high, OnWalk}
-use Rattle.index.proofs.CycleLaws.{Follows, on, back, onward-follows, follows-below, which-first, before-from-next, passes-arc-end, in-one-arc, not-in-both-arcs}
+use Rattle.index.proofs.CycleLaws.{Follows, on, back, onward-follows, follows-below, which-first, before-from-next, passes-arc-end, in-one-arc}
+use Rattle.index.proofs.CycleLaws.{not-in-both-arcs}
 use Rattle.index.proofs.CycleLaws.{not-before-itself, arc-gains-its-end, arc-grows, passes-other-arc, Reach, reach-none, reach-next, all-but-one}
 use Rattle.index.proofs.CopyLaws.{copies-at, copies-moved, at-stored, at-kept, used-kept}
 use Rattle.index.proofs.WalkLaws.{StopsAt, walk-stops, empty-stops, isEmpty, stops-empty, passed-used}
@@ -145,7 +146,8 @@ module _ (hash : ℕ → ℕ) (n size : ℕ) (p e : ℕ) (hp : p < size) (he : e
       (λ k. rw (rehome-empty hash n ix q (suc left) (omega arith) k) (record { len = len; same = λ v. refl; onWalk = pending-done hash size ix p q hq k P }))
       (λ k.
       let u : 0 < at ix q = omega arith in
-      let item : at ix q ≤ n = by-le (at ix q) n (λ l. l) (λ l. let o = copies-at (at ix q) ix q (rw len hq) refl in absurd (omega (arith, others (at ix q) l))) in
+      let item : at ix q ≤ n =
+      by-le (at ix q) n (λ l. l) (λ l. let o = copies-at (at ix q) ix q (rw len hq) refl in absurd (omega (arith, others (at ix q) l))) in
       let z : ℕ = target ix q in
       let len′ : length (set ix q 0) ≡ size = simp length-set len in
       let gap : at (set ix q 0) q ≡ 0 = at-stored ix q 0 (rw len hq) in

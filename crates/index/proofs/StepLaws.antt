@@ -276,7 +276,13 @@ module _ (n : ℕ) (test test′ : ℕ → Bool) (same : (i : ℕ) → i < n →
   find-from-agrees ix q (suc left) =
       let size = length ix in
       let rest = find-from-agrees ix (onward size q) left in
-      rw (find-look n test ix q (suc left) size refl (omega arith), find-look n test′ ix q (suc left) size refl (omega arith), probed-agrees (at ix q), suc-less left, rest)
+      rw (
+        find-look n test ix q (suc left) size refl (omega arith),
+        find-look n test′ ix q (suc left) size refl (omega arith),
+        probed-agrees (at ix q),
+        suc-less left,
+        rest,
+      )
 
   pub find-agrees : (ix : List ℕ) (h : ℕ) → find n test ix h ≡ find n test′ ix h
   unfolding find

@@ -178,7 +178,8 @@ module _ (hash : ℕ → ℕ) (n : ℕ) {size : ℕ} {ix : List ℕ} {q gap run 
   known-run y inside near other = known-used y inside (some-steps below y inside other) (omega (arith, trail .further)) (omega arith)
 
   -- The item was added again by a walk, and it left the gap empty, or there was no item: the places of the run are known.
-  left-trail : (ix′ : List ℕ) → at ix′ q ≡ 0 → ((y : ℕ) → 0 < at emptied y → 0 < at ix′ y) → Trail size ix′ (onward size q) (record { gap = q; run = 0; known = run + 1 })
+  left-trail : (ix′ : List ℕ) → at ix′ q ≡ 0 → ((y : ℕ) → 0 < at emptied y → 0 < at ix′ y)
+      → Trail size ix′ (onward size q) (record { gap = q; run = 0; known = run + 1 })
   left-trail ix′ free kept =
       left-empty (run + 1) below free (omega arith) (omega (arith, run-below)) (λ y inside few other. kept y (known-run y inside (omega arith) other))
 

@@ -1,5 +1,5 @@
--- What the words of an index are below. An item's number, plus 1, is at most the count, and every other word of a step stood there before: so a bound that is over
--- all words and over the count stays over all words. On any words.
+-- What the words of an index are below. An item's number, plus 1, is at most the count, and every other word of a step stood there before: so a bound that is
+-- over all words and over the count stays over all words. On any words.
 use Prim.Native.Nat.{ℕ, zero, suc, _+_, _-_, _≤_, _<_}
 use native.Mathlib.Omega.{arith}
 use mathlib.Core.Path.{_≡_, refl, _∙_}
@@ -9,7 +9,8 @@ use lib.Seq.{set-out}
 use Rattle.arith.proofs.Cases.{by-eq, by-le}
 use Rattle.index.specs.Walk.{at, onward, seek, add, addAgain, rehome, vacate, renumber, remove}
 use Rattle.index.proofs.CopyLaws.{at-stored, at-kept}
-use Rattle.index.proofs.StepLaws.{add-again-named, add-again-nothing, rehome-empty, rehome-over, rehome-on, vacate-none, vacate-used, renumber-in, renumber-none}
+use Rattle.index.proofs.StepLaws.{add-again-named, add-again-nothing, rehome-empty, rehome-over, rehome-on, vacate-none, vacate-used, renumber-in}
+use Rattle.index.proofs.StepLaws.{renumber-none}
 
 -- Every word is below a bound.
 abbrev pub Below : ℕ → List ℕ → Type 0

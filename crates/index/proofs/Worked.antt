@@ -19,8 +19,8 @@ any i = true
 abbrev item : ℕ → ℕ → Bool
 item i = eqb i
 
--- Four places. Item 0, of hash 6, fills its home, place 2. Item 1, of hash 2, finds it in use and fills the next place. Item 2, of hash 3, finds the last place in
--- use and goes round to the first.
+-- Four places. Item 0, of hash 6, fills its home, place 2. Item 1, of hash 2, finds it in use and fills the next place. Item 2, of hash 3, finds the last place
+-- in use and goes round to the first.
 added-items-fill-the-empty-places : add (add (add (replicate 4 0) 6 0) 2 1) 3 2 ≡ 3 ∷ 0 ∷ 1 ∷ 2 ∷ []
 unfolding onward walkFrom walk seek add
 added-items-fill-the-empty-places = refl
@@ -86,8 +86,8 @@ found-by-its-number-without-a-place : find 1 any (add (1 ∷ 9 ∷ []) 0 0) 0 �
 unfolding onward walkFrom walk findFrom find seek add
 found-by-its-number-without-a-place = refl
 
--- Items 0 and 1 have home 0, and item 2 home 1. Item 0 leaves: the two places after its own are emptied one by one and their items added again, one place nearer
--- their homes. Then the last item, number 2, is number 0.
+-- Items 0 and 1 have home 0, and item 2 home 1. Item 0 leaves: the two places after its own are emptied one by one and their items added again, one place
+-- nearer their homes. Then the last item, number 2, is number 0.
 places-after-it-are-added-again : remove (items (0 ∷ 6 ∷ 1 ∷ [])) 3 (1 ∷ 2 ∷ 3 ∷ 0 ∷ 0 ∷ 0 ∷ []) 0 ≡ 2 ∷ 1 ∷ 0 ∷ 0 ∷ 0 ∷ 0 ∷ []
 unfolding onward walkFrom walk seek add addAgain rehome vacate renumber remove
 places-after-it-are-added-again = refl

@@ -96,7 +96,8 @@ fn probe(ws: &[u64], index: Index, n: usize, hash: u64, key: u64, q: usize) -> P
 // The rest of a lookup, after a look at place `home` that found no reason to stop.
 fn find_on(ws: &[u64], index: Index, n: usize, hash: u64, key: u64, home: usize) -> Place
     requires { ⌜ Fits index n (now ws) × (home < index .size) ⌝ }
-    ensures { λ r. ⌜ r ≡ Walk.findFrom n (keyed index (now (ws .entry)) hash key) (placesOf index (now (ws .entry))) (Walk.onward (index .size) home) (index .size - 1) ⌝ }
+    ensures { λ r. ⌜ r
+        ≡ Walk.findFrom n (keyed index (now (ws .entry)) hash key) (placesOf index (now (ws .entry))) (Walk.onward (index .size) home) (index .size - 1) ⌝ }
 {
     let size = index.size;
     let mut q = places::onward(size, home);
@@ -145,7 +146,8 @@ pub fn add(ws: &mut [u64], index: Index, hash: u64, item: usize)
 // The item that a word names, if any, is added again.
 fn add_again(ws: &mut [u64], index: Index, n: usize, word: u64)
     requires { ⌜ Fits index n (now ws) × (0 < word) ⌝ }
-    ensures { λ _. ⌜ now (ws .exit) ≡ withPlaces index (now (ws .entry)) (Walk.addAgain (hashOf index (now (ws .entry))) n (placesOf index (now (ws .entry))) word) ⌝ }
+    ensures { λ _. ⌜ now (ws .exit)
+        ≡ withPlaces index (now (ws .entry)) (Walk.addAgain (hashOf index (now (ws .entry))) n (placesOf index (now (ws .entry))) word) ⌝ }
 {
     if word <= n as u64 {
         let i = (word - 1) as usize;
@@ -166,7 +168,8 @@ fn empty(ws: &mut [u64], index: Index, q: usize)
 // A place that holds a word is emptied, and the item that the word names, if any, is added again by its walk.
 fn rehome_one(ws: &mut [u64], index: Index, n: usize, q: usize, word: u64)
     requires { ⌜ Fits index n (now ws) × (q < index .size) × (0 < word) ⌝ }
-    ensures { λ _. ⌜ now (ws .exit) ≡ withPlaces index (now (ws .entry)) (Walk.addAgain (hashOf index (now (ws .entry))) n (set (placesOf index (now (ws .entry))) q 0) word) ⌝ }
+    ensures { λ _. ⌜ now (ws .exit)
+        ≡ withPlaces index (now (ws .entry)) (Walk.addAgain (hashOf index (now (ws .entry))) n (set (placesOf index (now (ws .entry))) q 0) word) ⌝ }
 {
     empty(ws, index, q);
     add_again(ws, index, n, word);
@@ -207,18 +210,21 @@ fn known_after(ws: &[u64], index: Index, gap: usize, back: usize, run: usize) ->
     back
 }
 
-// One of two numbers, by whether an item's home lies after the gap, so that it stays. The compiler makes no jump of it, which the processor would have to guess.
+// One of two numbers, by whether an item's home lies after the gap, so that it stays. The compiler makes no jump of it, which the processor would have to
+// guess.
 fn by_home(back: usize, run: usize, after: usize, before: usize) -> usize
     ensures { λ r. ⌜ r ≡ cond (leb back run) after before ⌝ }
 {
     if back <= run { after } else { before }
 }
 
-// A place in use is emptied and its item, if any, added again. If all places from the item's home on are known, no walk is needed: it comes back to its place if
-// its home lies after the gap, and else it fills the gap.
+// A place in use is emptied and its item, if any, added again. If all places from the item's home on are known, no walk is needed: it comes back to its place
+// if its home lies after the gap, and else it fills the gap.
 fn pass_one(ws: &mut [u64], index: Index, n: usize, q: usize, word: u64, pass: Pass) -> Pass
-    requires { ⌜ Fits index n (now ws) × (q < index .size) × (word ≡ Walk.at (placesOf index (now ws)) q) × (0 < word) × Trail (index .size) (placesOf index (now ws)) q pass ⌝ }
-    ensures { λ r. ⌜ (now (ws .exit) ≡ withPlaces index (now (ws .entry)) (Walk.addAgain (hashOf index (now (ws .entry))) n (set (placesOf index (now (ws .entry))) q 0) word)) × Trail (index .size) (placesOf index (now (ws .exit))) (Walk.onward (index .size) q) r ⌝ }
+    requires { ⌜ Fits index n (now ws) × (q < index .size) × (word ≡ Walk.at (placesOf index (now ws)) q) × (0 < word)
+        × Trail (index .size) (placesOf index (now ws)) q pass ⌝ }
+    ensures { λ r. ⌜ (now (ws .exit) ≡ withPlaces index (now (ws .entry)) (Walk.addAgain (hashOf index (now (ws .entry))) n
+        (set (placesOf index (now (ws .entry))) q 0) word)) × Trail (index .size) (placesOf index (now (ws .exit))) (Walk.onward (index .size) q) r ⌝ }
 {
     let gap = pass.gap;
     let run = pass.run;
@@ -243,7 +249,8 @@ fn pass_one(ws: &mut [u64], index: Index, n: usize, q: usize, word: u64, pass: P
 // place fewer than there are, so that it never comes back to z.
 fn rehome(ws: &mut [u64], index: Index, n: usize, z: usize)
     requires { ⌜ Fits index n (now ws) × (z < index .size) × (Walk.at (placesOf index (now ws)) z ≡ 0) ⌝ }
-    ensures { λ _. ⌜ now (ws .exit) ≡ withPlaces index (now (ws .entry)) (Walk.rehome (hashOf index (now (ws .entry))) n (placesOf index (now (ws .entry))) (Walk.onward (index .size) z) (index .size - 1)) ⌝ }
+    ensures { λ _. ⌜ now (ws .exit) ≡ withPlaces index (now (ws .entry))
+        (Walk.rehome (hashOf index (now (ws .entry))) n (placesOf index (now (ws .entry))) (Walk.onward (index .size) z) (index .size - 1)) ⌝ }
 {
     let size = index.size;
     let mut pass = Pass {
@@ -267,7 +274,8 @@ fn rehome(ws: &mut [u64], index: Index, n: usize, z: usize)
 // A place in use is emptied, and the items after it are added again. If the place is empty, or there is no such place, nothing changes.
 fn vacate(ws: &mut [u64], index: Index, n: usize, z: usize)
     requires { ⌜ Fits index n (now ws) ⌝ }
-    ensures { λ _. ⌜ now (ws .exit) ≡ withPlaces index (now (ws .entry)) (Walk.vacate (hashOf index (now (ws .entry))) n (placesOf index (now (ws .entry))) z) ⌝ }
+    ensures { λ _. ⌜ now (ws .exit)
+        ≡ withPlaces index (now (ws .entry)) (Walk.vacate (hashOf index (now (ws .entry))) n (placesOf index (now (ws .entry))) z) ⌝ }
 {
     if z < index.size {
         if word_at(ws, index, z) != 0 {
@@ -291,7 +299,8 @@ fn place_of(ws: &[u64], index: Index, n: usize, i: usize) -> usize
 // The last item gets the number r.
 fn renumber_last(ws: &mut [u64], index: Index, n: usize, r: usize)
     requires { ⌜ Fits index n (now ws) × (r < n) ⌝ }
-    ensures { λ _. ⌜ now (ws .exit) ≡ withPlaces index (now (ws .entry)) (Walk.renumber (placesOf index (now (ws .entry))) (hashOf index (now (ws .entry)) (n - 1)) (n - 1) r) ⌝ }
+    ensures { λ _. ⌜ now (ws .exit)
+        ≡ withPlaces index (now (ws .entry)) (Walk.renumber (placesOf index (now (ws .entry))) (hashOf index (now (ws .entry)) (n - 1)) (n - 1) r) ⌝ }
 {
     let last = n - 1;
     let hash = item_word(ws, index, n, last, HASH);
@@ -303,7 +312,8 @@ fn renumber_last(ws: &mut [u64], index: Index, n: usize, r: usize)
 // Item r leaves the index, and the last item gets its number. The caller moves the last item afterwards.
 pub fn remove(ws: &mut [u64], index: Index, n: usize, r: usize)
     requires { ⌜ Fits index n (now ws) × (r < n) ⌝ }
-    ensures { λ _. ⌜ now (ws .exit) ≡ withPlaces index (now (ws .entry)) (Walk.remove (hashOf index (now (ws .entry))) n (placesOf index (now (ws .entry))) r) ⌝ }
+    ensures { λ _. ⌜ now (ws .exit)
+        ≡ withPlaces index (now (ws .entry)) (Walk.remove (hashOf index (now (ws .entry))) n (placesOf index (now (ws .entry))) r) ⌝ }
 {
     let z = place_of(ws, index, n, r);
     vacate(ws, index, n, z);

@@ -20,7 +20,8 @@ use Rattle.held.proofs.HeldLaws.{total-stored, total-appended, total-removed}
 use Rattle.ledger.specs.declared.Debt.{Debt}
 use Rattle.ledger.specs.declared.Recorded.{Recorded}
 use Rattle.ledger.specs.declared.Recorded.the-variants.{Done, NoRoom}
-use Rattle.ledger.specs.Model.{Ledger, Sound, Complete, debtItems, capOf, debtAt, settlesAt, settledBy, withCursor, withDebt, owes, placeOf, removeAt, append, taken, roundOf, sweep}
+use Rattle.ledger.specs.Model.{Ledger, Sound, Complete, debtItems, capOf, debtAt, settlesAt, settledBy, withCursor, withDebt, owes, placeOf, removeAt}
+use Rattle.ledger.specs.Model.{append, taken, roundOf, sweep}
 use Rattle.ledger.specs.Model.{later, recorded, credit, paidDown}
 use Rattle.ledger.proofs.StepLaws.{removal-leaves-room, Owing, found-owes, nowhere-owes-none, taken-cases, paid-cases}
 use Rattle.ledger.proofs.StepLaws.{sooner-by}
@@ -71,7 +72,13 @@ module _ (h : ℕ) (value : ℕ → ℕ) where
   weigh-later x d same =
       let merged : Debt = later x (d .settles) in
       by-eq (x .hash) h
-      (λ own. omega (arith, value-later (merged .settles .0) (x .settles .0) (d .settles .0) (omega arith), weigh-own merged own, weigh-own x own, weigh-own d (sym same ∙ own)))
+      (λ own. omega (
+        arith,
+        value-later (merged .settles .0) (x .settles .0) (d .settles .0) (omega arith),
+        weigh-own merged own,
+        weigh-own x own,
+        weigh-own d (sym same ∙ own),
+      ))
       (λ other. omega (arith, weigh-other merged other))
 
   -- The steps: a debt that leaves takes its value away, one that joins adds its own, one that is changed changes its own. The cursor has no part in it.
@@ -83,7 +90,8 @@ module _ (h : ℕ) (value : ℕ → ℕ) where
   unfolding owed append
   owed-appended l d room = total-appended debtItems (weigh h value) (l .debts) d room
 
-  pub owed-stored : (l : Ledger) (p : ℕ) (d : Debt) → Sound l → p < l .debts .count → owed h value (withDebt l p d) + weigh h value (debtAt l p) ≡ owed h value l + weigh h value d
+  pub owed-stored : (l : Ledger) (p : ℕ) (d : Debt) → Sound l → p < l .debts .count
+      → owed h value (withDebt l p d) + weigh h value (debtAt l p) ≡ owed h value l + weigh h value d
   unfolding owed
   owed-stored l p d s below = total-stored debtItems (weigh h value) (l .debts) p d s below
 
@@ -125,16 +133,19 @@ weigh-by-another-value h f g a more d =
 pub owed-by-another-value : (h : ℕ) (f g : ℕ → ℕ) (a : ℕ) → ((s : ℕ) → f s ≤ g s + a) → (l : Ledger) → owed h f l ≤ owed h g l + a * owed h one l
 unfolding owed
 owed-by-another-value h f g a more l =
-    sum-le (l .debts .count) (λ i. weigh h f (debtAt l i)) (λ i. weigh h g (debtAt l i)) (λ i. weigh h one (debtAt l i)) a (λ i below. weigh-by-another-value h f g a more (debtAt l i))
+    sum-le (l .debts .count) (λ i. weigh h f (debtAt l i)) (λ i. weigh h g (debtAt l i)) (λ i. weigh h one (debtAt l i)) a
+    (λ i below. weigh-by-another-value h f g a more (debtAt l i))
 
 -- A sum of no debts: none of the hash is held, and whatever their value, nothing is owed.
 none-owed-none-held : (h : ℕ) (l : Ledger) → owed h one l ≡ 0 → (i : ℕ) → i < l .debts .count → debtAt l i .hash ≡ h → ⊥
 unfolding owed
-none-owed-none-held h l none i below own = omega (arith, weigh-own h one (debtAt l i) own, term-le-sum (l .debts .count) (λ j. weigh h one (debtAt l j)) i below)
+none-owed-none-held h l none i below own =
+    omega (arith, weigh-own h one (debtAt l i) own, term-le-sum (l .debts .count) (λ j. weigh h one (debtAt l j)) i below)
 
 pub none-owed-nothing-owed : (h : ℕ) (value : ℕ → ℕ) (l : Ledger) → owed h one l ≡ 0 → owed h value l ≡ 0
 unfolding owed
-none-owed-nothing-owed h value l none = sum-of-zeros (l .debts .count) (λ i. weigh h value (debtAt l i)) (λ i below. weigh-other h value (debtAt l i) (none-owed-none-held h l none i below))
+none-owed-nothing-owed h value l none =
+    sum-of-zeros (l .debts .count) (λ i. weigh h value (debtAt l i)) (λ i below. weigh-other h value (debtAt l i) (none-owed-none-held h l none i below))
 
 module _ (h : ℕ) (value : ℕ → ℕ) (l : Ledger) (s : Sound l) where
   -- The debt that lookup finds is taken out of the sum; it is of the hash that was asked for.
@@ -149,7 +160,8 @@ module _ (h : ℕ) (value : ℕ → ℕ) (l : Ledger) (s : Sound l) where
       omega (arith, owed-removed h value l p s (f .below), weigh-own h value (debtAt l p) (f .own), none-owed-nothing-owed h value (removeAt l p) alone)
 
   -- Recording adds at most the value of the debt, whether it joins, merges or takes another's place.
-  pub record-adds-at-most : (d : Debt) (at : Nanos) (forget : Bool) → recorded l d at forget .answer ≡ Done → owed h value (recorded l d at forget .after) ≤ owed h value l + weigh h value d
+  pub record-adds-at-most : (d : Debt) (at : Nanos) (forget : Bool) → recorded l d at forget .answer ≡ Done
+      → owed h value (recorded l d at forget .after) ≤ owed h value l + weigh h value d
   record-adds-at-most d at forget = go (record-cases l d at forget s)
     where
       go : {o : Outcome Recorded Ledger} → Recording l d at forget o → o .answer ≡ Done → owed h value (o .after) ≤ owed h value l + weigh h value d
@@ -162,7 +174,8 @@ module _ (h : ℕ) (value : ℕ → ℕ) (l : Ledger) (s : Sound l) where
 
   -- Where debts may not be forgotten, recording loses nothing that is unsettled: the sum grows by the debt's value. For a hash that already owes this
   -- need not hold (two moments become one), hence the bound on their number.
-  pub record-keeps-unsettled : (d : Debt) (at : Nanos) (forget : Bool) → forget ≡ false → SettledIsNothing at value → owed h one l + weigh h one d ≤ 1 → recorded l d at forget .answer ≡ Done
+  pub record-keeps-unsettled : (d : Debt) (at : Nanos) (forget : Bool) → forget ≡ false → SettledIsNothing at value → owed h one l + weigh h one d ≤ 1
+      → recorded l d at forget .answer ≡ Done
       → owed h value (recorded l d at forget .after) ≡ owed h value l + weigh h value d
   record-keeps-unsettled d at forget never nothing single = go (record-cases l d at forget s)
     where
@@ -174,13 +187,21 @@ module _ (h : ℕ) (value : ℕ → ℕ) (l : Ledger) (s : Sound l) where
           (λ own. absurd (omega (arith, weigh-own h one d own, weigh-own h one x (f .own ∙ own), owed-removed h one l p s (f .below))))
           (λ other.
           let foreign : x .hash ≡ h → ⊥ = λ own. other (sym (f .own) ∙ own) in
-          omega (arith, owed-stored h value l p (later x (d .settles)) s (f .below), weigh-other h value d other, weigh-other h value x foreign, weigh-other h value (later x (d .settles)) foreign))
+          omega (
+            arith,
+            owed-stored h value l p (later x (d .settles)) s (f .below),
+            weigh-other h value d other,
+            weigh-other h value x foreign,
+            weigh-other h value (later x (d .settles)) foreign,
+          ))
       go (joins new room) done = owed-appended h value l d room
-      go (replaces p c near new below settled) done = omega (arith, owed-replaced h value l c p d s below, weigh-settled h value at nothing (debtAt l p) (settled never))
+      go (replaces p c near new below settled) done =
+          omega (arith, owed-replaced h value l c p d s below, weigh-settled h value at nothing (debtAt l p) (settled never))
       go (refused p c near full below _ unsettled) done = done-is-no-refusal (sym done)
 
   -- A refusal changes no sum.
-  pub refusal-keeps : (d : Debt) (at : Nanos) (forget : Bool) (wait : Nanos) → recorded l d at forget .answer ≡ NoRoom wait → owed h value (recorded l d at forget .after) ≡ owed h value l
+  pub refusal-keeps : (d : Debt) (at : Nanos) (forget : Bool) (wait : Nanos) → recorded l d at forget .answer ≡ NoRoom wait
+      → owed h value (recorded l d at forget .after) ≡ owed h value l
   unfolding owed
   refusal-keeps d at forget wait told = ap (total debtItems (weigh h value)) (refusal l d at forget wait s told .debts)
 

@@ -18,7 +18,8 @@ use Rattle.held.proofs.LayoutLaws.{table-length, table-word, place-below, place
 use Rattle.held.proofs.IndexLaws.{table-with-places, Indexed}
 use Rattle.ledger.specs.declared.Debt.{Debt}
 use Rattle.ledger.specs.Model.{debtItems, capOf, debtAt, cursorOf, withCount, withCursor, withDebt, withFinding, withOthers}
-use Rattle.ledger.specs.Layout.{countAt, cursorAt, debtsAt, debtWidth, othersAt, indexAt, ledgerWords, debtIndex, debtOf, debtWords, ledgerOf, ledger, wordsOf, Intact}
+use Rattle.ledger.specs.Layout.{countAt, cursorAt, debtsAt, debtWidth, othersAt, indexAt, ledgerWords, debtIndex, debtOf, debtWords, ledgerOf, ledger}
+use Rattle.ledger.specs.Layout.{wordsOf, Intact}
 
 -- Whatever the words, the ledger in them has room for cap debts.
 pub cap-is : (cap : ℕ) (ws : List ℕ) → capOf (ledger cap ws) ≡ cap
@@ -27,8 +28,10 @@ cap-is cap ws = table-length debtOf debtWidth cap debtsAt ws
 
 -- The rest of a table of debts has two halves, the words that are not the ledger's own and the index. One half is put, and the other stays.
 module _ (cap : ℕ) (t : Table Debt) where
-  first-half-put : (ix : List ℕ) → length ix ≡ placesFor cap → ledgerOf cap (withRest t (putMid 0 (placesFor cap) (t .rest) ix)) ≡ withOthers (ledgerOf cap t) ix
-  first-half-put ix long = rw (take-at ix (drop (placesFor cap) (t .rest)) (placesFor cap) long, drop-at ix (drop (placesFor cap) (t .rest)) (placesFor cap) long)
+  first-half-put : (ix : List ℕ) → length ix ≡ placesFor cap
+      → ledgerOf cap (withRest t (putMid 0 (placesFor cap) (t .rest) ix)) ≡ withOthers (ledgerOf cap t) ix
+  first-half-put ix long =
+      rw (take-at ix (drop (placesFor cap) (t .rest)) (placesFor cap) long, drop-at ix (drop (placesFor cap) (t .rest)) (placesFor cap) long)
 
   second-half-put : length (t .rest) ≡ placesFor cap + placesFor cap → (ix : List ℕ) → length ix ≡ placesFor cap
       → ledgerOf cap (withRest t (putMid (placesFor cap) (placesFor cap) (t .rest) ix)) ≡ withFinding (ledgerOf cap t) (byIndex ix)

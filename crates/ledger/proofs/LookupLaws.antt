@@ -53,7 +53,8 @@ sum-of-lookup h l s complete single value = go (placeOf l h) refl
     go (At p) e = found-is-all h value l s p e single
     go Nowhere e = nowhere-owes-nothing h value l complete e
 
-pub lookup-by-sums : (h : ℕ) (l : Ledger) → Sound l → Complete l → (found : OptionNanos) → ((value : ℕ → ℕ) → owed h value l ≡ worth value found) → owedBy l h ≡ found
+pub lookup-by-sums : (h : ℕ) (l : Ledger) → Sound l → Complete l → (found : OptionNanos) → ((value : ℕ → ℕ) → owed h value l ≡ worth value found)
+    → owedBy l h ≡ found
 lookup-by-sums h l s complete found sums =
     let single : owed h one l ≤ 1 = omega (arith, sums one, worth-one found) in
     same-worth (owedBy l h) found (λ value. sym (sum-of-lookup h l s complete single value) ∙ sums value)
@@ -67,35 +68,46 @@ same-time-left-same-lookup : (h : ℕ) (at : Nanos) (l m : Ledger) → Sound l �
     → owed h (λ n. n - at .0) m ≡ owed h (λ n. n - at .0) l → (t : Nanos) → owedBy l h ≡ Some t → at .0 < t .0 → owedBy m h ≡ Some t
 same-time-left-same-lookup h at l m s t complete complete′ single single′ same moment found unsettled =
     unsettled-by-time-left at (owedBy m h) moment unsettled
-    (sym (sum-of-lookup h m t complete′ single′ (λ n. n - at .0)) ∙ same ∙ sum-of-lookup h l s complete single (λ n. n - at .0) ∙ ap (worth (λ n. n - at .0)) found)
+    (sym (sum-of-lookup h m t complete′ single′ (λ n. n - at .0)) ∙ same ∙ sum-of-lookup h l s complete single (λ n. n - at .0)
+    ∙ ap (worth (λ n. n - at .0)) found)
 
 module _ (l : Ledger) (s : Sound l) (complete : Complete l) (h : ℕ) (single : owed h one l ≤ 1) where
   -- After a sweep an unsettled debt is found as before.
   pub sweep-finds-unsettled : (at : Nanos) (n : ℕ) (t : Nanos) → owedBy l h ≡ Some t → at .0 < t .0 → owedBy (sweep at n l) h ≡ Some t
   sweep-finds-unsettled at n t found unsettled =
-      same-time-left-same-lookup h at l (sweep at n l) s (sweep-room at n l .sound s) complete (sweep-room at n l .complete s complete) single (omega (arith, sweep-never-adds h one at n l s))
+      same-time-left-same-lookup h at l (sweep at n l) s (sweep-room at n l .sound s) complete (sweep-room at n l .complete s complete) single
+      (omega (arith, sweep-never-adds h one at n l s))
       (sweep-keeps-unsettled h (λ m. m - at .0) at n l s (λ m settled. omega arith)) t found unsettled
 
   -- After a payment the debt settles so much sooner.
   pub paid-finds-sooner : (cost : ℕ) (c : BucketConfig) → owedBy (paidDown l h cost c .after) h ≡ paidOff (credit c cost) (owedBy l h)
   paid-finds-sooner cost c =
-      lookup-by-sums h (paidDown l h cost c .after) (paid-room l h cost c .sound s) (paid-room l h cost c .complete s complete) (paidOff (credit c cost) (owedBy l h))
+      lookup-by-sums h (paidDown l h cost c .after) (paid-room l h cost c .sound s) (paid-room l h cost c .complete s complete)
+      (paidOff (credit c cost) (owedBy l h))
       (λ value. paid-cases l h cost c (λ o. owed h value (o .after) ≡ worth value (paidOff (credit c cost) (owedBy l h)))
       (λ p e.
       let f : Owing l h p = found-owes l h p e in
       let x : Debt = sooner-by (credit c cost) (debtAt l p) in
       rw (← owed-where l h e)
-      (omega (arith, owed-stored h value l p x s (f .below), weigh-own h value (debtAt l p) (f .own), weigh-own h value x (f .own), found-is-all h value l s p e single)))
+      (omega (
+        arith,
+        owed-stored h value l p x s (f .below),
+        weigh-own h value (debtAt l p) (f .own),
+        weigh-own h value x (f .own),
+        found-is-all h value l s p e single,
+      )))
       (λ e. rw (← owed-where l h e) (nowhere-owes-nothing h value l complete e)))
 
 module _ (l : Ledger) (s : Sound l) (complete : Complete l) (d : Debt) (at : Nanos) (forget : Bool) (single : owed (d .hash) one l ≤ 1) where
   -- After a recording the hash owes until the later of the two moments.
-  pub recorded-finds-later : recorded l d at forget .answer ≡ Done → owedBy (recorded l d at forget .after) (d .hash) ≡ laterOf (d .settles) (owedBy l (d .hash))
+  pub recorded-finds-later : recorded l d at forget .answer ≡ Done
+      → owedBy (recorded l d at forget .after) (d .hash) ≡ laterOf (d .settles) (owedBy l (d .hash))
   recorded-finds-later done =
       lookup-by-sums (d .hash) (recorded l d at forget .after) (recorded-sound l d at forget s) (recorded-complete l d at forget s complete)
       (laterOf (d .settles) (owedBy l (d .hash))) (λ value. go value (record-cases l d at forget s) done)
     where
-      go : (value : ℕ → ℕ) {o : Outcome Recorded Ledger} → Recording l d at forget o → o .answer ≡ Done → owed (d .hash) value (o .after) ≡ worth value (laterOf (d .settles) (owedBy l (d .hash)))
+      go : (value : ℕ → ℕ) {o : Outcome Recorded Ledger} → Recording l d at forget o → o .answer ≡ Done
+          → owed (d .hash) value (o .after) ≡ worth value (laterOf (d .settles) (owedBy l (d .hash)))
       go value (merged p e) q =
           let f : Owing l (d .hash) p = found-owes l (d .hash) p e in
           let x : Debt = later (debtAt l p) (d .settles) in
@@ -110,7 +122,8 @@ module _ (l : Ledger) (s : Sound l) (complete : Complete l) (d : Debt) (at : Nan
             found-is-all (d .hash) value l s p e single,
           ))
       go value (joins new room) q =
-          rw (← owed-where l (d .hash) new) (omega (arith, owed-appended (d .hash) value l d room, weigh-own (d .hash) value d refl, nowhere-owes-nothing (d .hash) value l complete new))
+          rw (← owed-where l (d .hash) new)
+          (omega (arith, owed-appended (d .hash) value l d room, weigh-own (d .hash) value d refl, nowhere-owes-nothing (d .hash) value l complete new))
       go value (replaces p c near new below settled) q =
           rw (← owed-where l (d .hash) new)
           (omega (

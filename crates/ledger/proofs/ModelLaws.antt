@@ -26,8 +26,10 @@ use Rattle.ledger.specs.declared.Choice.{Choice}
 use Rattle.ledger.specs.declared.Choice.the-variants.{Settled, Soonest}
 use Rattle.ledger.specs.declared.Recorded.{Recorded}
 use Rattle.ledger.specs.declared.Recorded.the-variants.{Done, NoRoom}
-use Rattle.ledger.specs.Model.{Ledger, Sound, noDebt, debtItems, capOf, debtAt, settlesAt, settledBy, cursorOf, withCount, withCursor, withFinding, withDebt, owes, placeOf}
-use Rattle.ledger.specs.Model.{removeAt, append, takenAt, taken, roundOf, withRound, look, sweep, sooner, scanFrom, scan, dropChosen, makeRoom, joined, later, recordedAt}
+use Rattle.ledger.specs.Model.{Ledger, Sound, noDebt, debtItems, capOf, debtAt, settlesAt, settledBy, cursorOf, withCount, withCursor, withFinding}
+use Rattle.ledger.specs.Model.{withDebt, owes, placeOf}
+use Rattle.ledger.specs.Model.{removeAt, append, takenAt, taken, roundOf, withRound, look, sweep, sooner, scanFrom, scan, dropChosen, makeRoom, joined}
+use Rattle.ledger.specs.Model.{later, recordedAt}
 use Rattle.ledger.specs.Model.{recorded, credit, paidAt, paidDown}
 use Rattle.ledger.specs.Layout.{debtIndex, ledger, Intact}
 use Rattle.ledger.proofs.LayoutLaws.{cap-is, index-put, debts-indexed}
@@ -45,7 +47,8 @@ module _ (l : Ledger) where
   unnamed p = withFinding l (withoutItem debtItems (l .debts) p)
 
   pub remove-by-stores : (p : ℕ)
-      → withCount (withDebt (withDebt (unnamed p) p (debtAt (unnamed p) (l .debts .count - 1))) (l .debts .count - 1) noDebt) (l .debts .count - 1) ≡ removeAt l p
+      → withCount (withDebt (withDebt (unnamed p) p (debtAt (unnamed p) (l .debts .count - 1))) (l .debts .count - 1) noDebt) (l .debts .count - 1)
+      ≡ removeAt l p
   unfolding removeAt removed
   remove-by-stores p = refl
 
@@ -62,7 +65,8 @@ module _ {cap : ℕ} {ws : List ℕ} (intact : Intact cap ws) where
   pub debts-fit : Fits (debtIndex cap) (stands .debts .count) ws
   debts-fit = indexed-fits (debts-indexed intact)
 
-  pub found-in-index : (hash : ℕ) → Index.find (stands .debts .count) (keyed (debtIndex cap) ws hash hash) (placesOf (debtIndex cap) ws) hash ≡ placeOf stands hash
+  pub found-in-index : (hash : ℕ)
+      → Index.find (stands .debts .count) (keyed (debtIndex cap) ws hash hash) (placesOf (debtIndex cap) ws) hash ≡ placeOf stands hash
   unfolding placeOf
   found-in-index hash = indexed-find (debts-indexed intact) hash hash (owes hash) (λ d. tested-twice (owes hash d))
 
@@ -166,7 +170,8 @@ intact-below intact below = omega (arith, intact .sound .count-fits, intact-cap 
 
 pub intact-cursor : {cap c : ℕ} {ws : List ℕ} → Intact cap ws → 0 < ledger cap ws .debts .count → c ≡ cursorOf (ledger cap ws)
     → (c < ledger cap ws .debts .count) × (c < cap)
-intact-cursor {cap} {c} {ws} intact some is = let below : c < ledger cap ws .debts .count = rw is (cursor-below (ledger cap ws) some) in (below, intact-below intact below)
+intact-cursor {cap} {c} {ws} intact some is =
+    let below : c < ledger cap ws .debts .count = rw is (cursor-below (ledger cap ws) some) in (below, intact-below intact below)
 
 pub intact-sooner : {cap : ℕ} {ws : List ℕ} {best c : ℕ} → Intact cap ws → best < ledger cap ws .debts .count → c < ledger cap ws .debts .count
     → sooner (ledger cap ws) best c < ledger cap ws .debts .count
@@ -217,7 +222,8 @@ pub choice-held : {cap : ℕ} {ws : List ℕ} {choice known : Choice} → AfterS
 choice-held after is = rw is at (after .chosen-below)
 
 -- After room was made the words are still lent, and there is room for a debt.
-pub after-make-room : {cap : ℕ} {ws ws′ : List ℕ} {r : Recorded} (at : Nanos) (forget : Bool) → Intact cap ws → 0 < ledger cap ws .debts .count → length ws′ ≡ length ws
+pub after-make-room : {cap : ℕ} {ws ws′ : List ℕ} {r : Recorded} (at : Nanos) (forget : Bool) → Intact cap ws → 0 < ledger cap ws .debts .count
+    → length ws′ ≡ length ws
     → outcome r (ledger cap ws′) ≡ makeRoom at forget (ledger cap ws) → r ≡ Done → Intact cap ws′ × (ledger cap ws′ .debts .count < cap)
 after-make-room {cap} {ws} {ws′} at forget intact some same gave done =
     let free = make-room-makes-room (ledger cap ws) at forget some (intact .sound) (sym (answer-is gave) ∙ done) in

@@ -1,5 +1,5 @@
--- The steps of a ledger ask neither how its debts are found, once a place is known, nor for the words that are not its own. So no operation changes those words,
--- and with others in their place it gives the same answer and leaves the same debts and cursor.
+-- The steps of a ledger ask neither how its debts are found, once a place is known, nor for the words that are not its own. So no operation changes those
+-- words, and with others in their place it gives the same answer and leaves the same debts and cursor.
 use Prim.Native.Nat.{ℕ, zero, suc}
 use mathlib.Core.Path.{_≡_, refl, ap}
 use mathlib.Core.Bool.{Bool, true, false}
@@ -17,7 +17,8 @@ use Rattle.ledger.specs.declared.Choice.{Choice}
 use Rattle.ledger.specs.declared.Choice.the-variants.{Settled, Soonest}
 use Rattle.ledger.specs.declared.Recorded.{Recorded}
 use Rattle.ledger.specs.declared.Recorded.the-variants.{Done, NoRoom}
-use Rattle.ledger.specs.Model.{Ledger, capOf, hasSettled, cursorOf, withCursor, withOthers, placeOf, removeAt, append, owedAt, owedBy, takenAt, taken, sweep}
+use Rattle.ledger.specs.Model.{Ledger, capOf, hasSettled, cursorOf, withCursor, withOthers, placeOf, removeAt, append, owedAt, owedBy, takenAt, taken}
+use Rattle.ledger.specs.Model.{sweep}
 use Rattle.ledger.specs.Model.{sooner, scanFrom, scan, dropChosen, makeRoom, joined, recordedAt, recorded, credit, paidAt, paidDown}
 
 -- The same ledger with its finding and the other words changed; and what an operation gave, with that ledger.

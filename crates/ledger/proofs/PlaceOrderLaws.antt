@@ -27,7 +27,8 @@ sweep-in-place-order : (l : Ledger) (at : Nanos) (n : ℕ) → sweep at n (inPla
 unfolding sweep
 sweep-in-place-order l at n =
     let ways = found-otherwise-alike debtItems (λ x. inOrder) (λ x key i. refl) (λ x hash n p. refl) in
-    let swept = Alike.sweep-alike ways (settledBy at) (λ x y same. ap (settledBy at) same) n {r = roundOf l} {q = roundOf (inPlaceOrder l)} (record { items = refl; next = refl }) in
+    let swept = Alike.sweep-alike ways (settledBy at) (λ x y same. ap (settledBy at) same) n {r = roundOf l} {q = roundOf (inPlaceOrder l)}
+    (record { items = refl; next = refl }) in
     rw (swept .items, swept .next)
 
 -- Lookup, and what begins with a lookup, on a ledger in which it finds each debt.

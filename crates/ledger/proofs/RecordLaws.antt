@@ -17,15 +17,18 @@ use Rattle.ledger.specs.declared.Choice.{Choice}
 use Rattle.ledger.specs.declared.Choice.the-variants.{Settled, Soonest}
 use Rattle.ledger.specs.declared.Recorded.{Recorded}
 use Rattle.ledger.specs.declared.Recorded.the-variants.{Done, NoRoom}
-use Rattle.ledger.specs.Model.{Ledger, Sound, Complete, debtItems, capOf, debtAt, hasSettled, settlesAt, cursorOf, withCursor, withDebt, placeOf, removeAt, append, sooner}
+use Rattle.ledger.specs.Model.{Ledger, Sound, Complete, debtItems, capOf, debtAt, hasSettled, settlesAt, cursorOf, withCursor, withDebt, placeOf}
+use Rattle.ledger.specs.Model.{removeAt, append, sooner}
 use Rattle.ledger.specs.Model.{scanFrom, scan, dropChosen, makeRoom, joined, later, recordedAt, recorded}
 use Rattle.ledger.proofs.StepLaws.{cursor-below, found-owes, nowhere-owes-none, hashOf, FindsEach, SameRoom, same-room, same-room-trans, cursor-room}
 use Rattle.ledger.proofs.StepLaws.{removal-room, removal-leaves-room, change-room, append-room}
 
 -- What the looks at a full ledger come to: nothing but the cursor moves, not past the count, and the place told has a settled debt, or an unsettled one.
 data Scanned (at : Nanos) (l : Ledger) : Outcome Choice Ledger → Type 0 where
-  one-settled : (p c : ℕ) → c ≤ max (l .cursor) (l .debts .count) → p < l .debts .count → settlesAt l p .0 ≤ at .0 → Scanned at l (outcome (Settled p) (withCursor l c))
-  all-unsettled : (p c : ℕ) → c ≤ max (l .cursor) (l .debts .count) → p < l .debts .count → at .0 < settlesAt l p .0 → Scanned at l (outcome (Soonest p) (withCursor l c))
+  one-settled : (p c : ℕ) → c ≤ max (l .cursor) (l .debts .count) → p < l .debts .count → settlesAt l p .0 ≤ at .0
+      → Scanned at l (outcome (Settled p) (withCursor l c))
+  all-unsettled : (p c : ℕ) → c ≤ max (l .cursor) (l .debts .count) → p < l .debts .count → at .0 < settlesAt l p .0
+      → Scanned at l (outcome (Soonest p) (withCursor l c))
 
 -- The place of an unsettled debt that is held.
 record Unsettled (at : Nanos) (l : Ledger) (p : ℕ) : Type 0 where
@@ -45,7 +48,8 @@ scanFrom-cases at (suc left) l best u =
     by-test (hasSettled at l (cursorOf l))
     (λ t. rw (t, scanFrom) (one-settled (cursorOf l) (cursorOf l) (omega arith) below (leb-true _ _ t)))
     (λ t.
-    let next : Unsettled at l (sooner l best (cursorOf l)) = sooner-is-either l best (cursorOf l) (Unsettled at l) u (record { below = below; waits = leb-false _ _ t }) in
+    let next : Unsettled at l (sooner l best (cursorOf l)) =
+    sooner-is-either l best (cursorOf l) (Unsettled at l) u (record { below = below; waits = leb-false _ _ t }) in
     rw (t, scanFrom) (same-debts (omega arith) (scanFrom-cases at left (withCursor l _) _ (record { below = next .below; waits = next .waits }))))
   where
     same-debts : {c : ℕ} {o : Outcome Choice Ledger} → c ≤ l .debts .count → Scanned at (withCursor l c) o → Scanned at l o
@@ -128,7 +132,8 @@ module _ (l : Ledger) (at : Nanos) (forget : Bool) (some : 0 < l .debts .count) 
 pub data Recording (l : Ledger) (d : Debt) (at : Nanos) (forget : Bool) : Outcome Recorded Ledger → Type 0 where
   merged : (p : ℕ) → placeOf l (d .hash) ≡ At p → Recording l d at forget (outcome Done (withDebt l p (later (debtAt l p) (d .settles))))
   joins : placeOf l (d .hash) ≡ Nowhere → l .debts .count < capOf l → Recording l d at forget (outcome Done (append l d))
-  replaces : (p c : ℕ) → c ≤ max (l .cursor) (l .debts .count) → placeOf l (d .hash) ≡ Nowhere → p < l .debts .count → (forget ≡ false → settlesAt l p .0 ≤ at .0)
+  replaces : (p c : ℕ) → c ≤ max (l .cursor) (l .debts .count) → placeOf l (d .hash) ≡ Nowhere → p < l .debts .count
+      → (forget ≡ false → settlesAt l p .0 ≤ at .0)
       → Recording l d at forget (outcome Done (append (removeAt (withCursor l c) p) d))
   refused : (p c : ℕ) → c ≤ max (l .cursor) (l .debts .count) → capOf l ≤ l .debts .count → p < l .debts .count → forget ≡ false → at .0 < settlesAt l p .0
       → Recording l d at forget (outcome (NoRoom (record { 0 = settlesAt l p .0 - at .0 })) (withCursor l c))
@@ -147,7 +152,8 @@ record-cases l d at forget s = go (placeOf l (d .hash)) refl
     go Nowhere e =
         by-test (ltb (l .debts .count) (capOf l))
         (λ t. rw (t, recordedAt) (joins e (ltb-true _ _ t)))
-        (λ t. let full : capOf l ≤ l .debts .count = ltb-false _ _ t in rw (t, recordedAt) (full-cases l d at forget e full (room-cases l at forget (omega (arith, s .room)))))
+        (λ t. let full : capOf l ≤ l .debts .count = ltb-false _ _ t in
+        rw (t, recordedAt) (full-cases l d at forget e full (room-cases l at forget (omega (arith, s .room)))))
 
 -- What a recording leaves. A debt joins where none has its hash, and a removal brings no hash in.
 pub recorded-room : (l : Ledger) (d : Debt) (at : Nanos) (forget : Bool) → Sound l → SameRoom l (recorded l d at forget .after)
@@ -172,7 +178,8 @@ pub recorded-complete : (l : Ledger) (d : Debt) (at : Nanos) (forget : Bool) →
 recorded-complete l d at forget s complete = recorded-room l d at forget s .complete s complete
 
 -- A debt is recorded unless the ledger is full and nothing may be forgotten.
-record-succeeds : (l : Ledger) (d : Debt) (at : Nanos) (forget : Bool) → Sound l → (forget ≡ false → l .debts .count < capOf l) → recorded l d at forget .answer ≡ Done
+record-succeeds : (l : Ledger) (d : Debt) (at : Nanos) (forget : Bool) → Sound l → (forget ≡ false → l .debts .count < capOf l)
+    → recorded l d at forget .answer ≡ Done
 record-succeeds l d at forget s room = go (record-cases l d at forget s)
   where
     go : {o : Outcome Recorded Ledger} → Recording l d at forget o → o .answer ≡ Done

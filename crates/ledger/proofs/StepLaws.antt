@@ -143,7 +143,8 @@ taken-cases l h Q found none = go (placeOf l h) refl
     go Nowhere e = none e
 
 pub paid-cases : (l : Ledger) (h cost : ℕ) (c : BucketConfig) (Q : Outcome Bool Ledger → Type 0)
-    → ((p : ℕ) → placeOf l h ≡ At p → Q (outcome true (withDebt l p (sooner-by (credit c cost) (debtAt l p))))) → (placeOf l h ≡ Nowhere → Q (outcome false l)) → Q (paidDown l h cost c)
+    → ((p : ℕ) → placeOf l h ≡ At p → Q (outcome true (withDebt l p (sooner-by (credit c cost) (debtAt l p))))) → (placeOf l h ≡ Nowhere → Q (outcome false l))
+    → Q (paidDown l h cost c)
 unfolding paidDown
 paid-cases l h cost c Q found none = go (placeOf l h) refl
   where

@@ -51,7 +51,8 @@ found-by-the-index = refl
 
 -- Once the debt is taken out, its place in the index is empty.
 taken-out-of-the-index : taken indexedFive 5 .after .debts .finding ≡ byIndex (0 ∷ 0 ∷ [])
-unfolding taken placeOf removeAt removed Index.find Index.findFrom Index.walkFrom Index.onward Index.remove Index.vacate Index.renumber Index.seek Index.walk Index.rehome
+unfolding taken placeOf removeAt removed Index.find Index.findFrom Index.walkFrom Index.onward Index.remove Index.vacate Index.renumber Index.seek Index.walk
+    Index.rehome
 taken-out-of-the-index = refl
 
 -- Two looks from place 1 at moment 5: the settled debt there goes, the last one moves into the gap, is looked at next, and goes too.

@@ -24,8 +24,8 @@ debtsAt = 2
 abbrev pub debtWidth : ℕ
 debtWidth = 2
 
--- The word at which the words begin that are not the ledger's own: they are the index of the shard's slots. The word at which the index of the debts begins. The
--- words of a ledger with room for cap debts, the others among them.
+-- The word at which the words begin that are not the ledger's own: they are the index of the shard's slots. The word at which the index of the debts begins.
+-- The words of a ledger with room for cap debts, the others among them.
 abbrev pub othersAt : ℕ → ℕ
 othersAt cap = debtsAt + debtWidth * cap
 

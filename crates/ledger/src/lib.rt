@@ -58,7 +58,8 @@ pub fn position(ws: &[u64], cap: usize, hash: u64) -> Place
 // The index gets the debt of this hash that the caller will put at the place.
 fn add_to_index(ws: &mut [u64], cap: usize, hash: u64, pos: usize)
     requires { ⌜ Intact cap (now ws) × (pos < cap) ⌝ }
-    ensures { λ _. ⌜ ledger cap (now (ws .exit)) ≡ Model.withFinding (ledger cap (now (ws .entry))) (withAdded (ledger cap (now (ws .entry)) .debts .finding) hash pos) ⌝ }
+    ensures { λ _. ⌜ ledger cap (now (ws .exit))
+        ≡ Model.withFinding (ledger cap (now (ws .entry))) (withAdded (ledger cap (now (ws .entry)) .debts .finding) hash pos) ⌝ }
 {
     index::add(ws, words::index(cap), hash, pos);
 }
@@ -66,7 +67,8 @@ fn add_to_index(ws: &mut [u64], cap: usize, hash: u64, pos: usize)
 // The debt at a place leaves the index, and the last debt gets its number.
 fn remove_from_index(ws: &mut [u64], cap: usize, pos: usize)
     requires { ⌜ Intact cap (now ws) × (pos < ledger cap (now ws) .debts .count) ⌝ }
-    ensures { λ _. ⌜ ledger cap (now (ws .exit)) ≡ Model.withFinding (ledger cap (now (ws .entry))) (withoutItem Model.debtItems (ledger cap (now (ws .entry)) .debts) pos) ⌝ }
+    ensures { λ _. ⌜ ledger cap (now (ws .exit))
+        ≡ Model.withFinding (ledger cap (now (ws .entry))) (withoutItem Model.debtItems (ledger cap (now (ws .entry)) .debts) pos) ⌝ }
 {
     let count = words::count(ws, cap);
     index::remove(ws, words::index(cap), count, pos);
@@ -248,7 +250,8 @@ pub fn record(ws: &mut [u64], cap: usize, debt: Debt, at: Nanos, forget: bool) -
 // The debt at a place settles at the later of its moment and another.
 fn keep_later(ws: &mut [u64], cap: usize, pos: usize, settles: Nanos)
     requires { ⌜ Intact cap (now ws) × (pos < cap) ⌝ }
-    ensures { λ _. ⌜ ledger cap (now (ws .exit)) ≡ Model.withDebt (ledger cap (now (ws .entry))) pos (Model.later (Model.debtAt (ledger cap (now (ws .entry))) pos) settles) ⌝ }
+    ensures { λ _. ⌜ ledger cap (now (ws .exit))
+        ≡ Model.withDebt (ledger cap (now (ws .entry))) pos (Model.later (Model.debtAt (ledger cap (now (ws .entry))) pos) settles) ⌝ }
 {
     let held = words::load(ws, cap, pos);
     let held_settles = held.settles;

@@ -8,8 +8,8 @@ use crate::Debt;
 use index::Index;
 use units::Nanos;
 
-// Where a ledger's words lie, counted from its first: the count, the cursor, then the debts, each of its hash and the moment at which it settles. Past the debts
-// lie the words that are not the ledger's own, and past these the index of the debts.
+// Where a ledger's words lie, counted from its first: the count, the cursor, then the debts, each of its hash and the moment at which it settles. Past the
+// debts lie the words that are not the ledger's own, and past these the index of the debts.
 const COUNT: usize = 0;
 
 const CURSOR: usize = 1;

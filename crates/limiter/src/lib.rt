@@ -70,7 +70,8 @@ pub extern "C" fn limiter_try(
     key: u64,
     cost: u32,
 ) -> Told
-    ensures { λ r. ⌜ outcome r (now (ws .exit)) ≡ Replies.told (Rules.tryAcquire (settingsOf settings) (nanosOf at) (identityOf hash key) cost (now (ws .entry))) ⌝ }
+    ensures { λ r. ⌜ outcome r (now (ws .exit))
+        ≡ Replies.told (Rules.tryAcquire (settingsOf settings) (nanosOf at) (identityOf hash key) cost (now (ws .entry))) ⌝ }
 {
     match requests::attempt_try(
         settings_of(settings),

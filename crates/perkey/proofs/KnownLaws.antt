@@ -20,10 +20,12 @@ pub key-is-told : {answer known : Bool} {after ws′ : List ℕ} {told : Reply} 
 key-is-told gave is-reply = rw is-reply (ap (λ (o : Outcome Bool (List ℕ)). outcome (knownReply (o .answer)) (o .after)) gave)
 
 -- A refund on a closed limiter leaves the shard as it is.
-pub closed-refund : (s : Settings) (id : Identity) (cost : ℕ) (own : Shard) → s .limit ≡ Closed → inItsShard s id (undoes (refunds cost)) own ≡ outcome Nothing own
+pub closed-refund : (s : Settings) (id : Identity) (cost : ℕ) (own : Shard) → s .limit ≡ Closed
+    → inItsShard s id (undoes (refunds cost)) own ≡ outcome Nothing own
 closed-refund s id cost own is-limit = rw is-limit
 
 -- A refund at the rate that the settings have.
 pub refund-by-limit : (s : Settings) (id : Identity) (cost : ℕ) (part′ : Part) (ws : List ℕ) {rate : Rate} {o : Outcome Reply (List ℕ)} → s .limit ≡ Open rate
-    → o ≡ inPart part′ ws (undoneIn (refunds cost) (Open rate) id (shardIn part′ ws)) → o ≡ inPart part′ ws (undoneIn (refunds cost) (s .limit) id (shardIn part′ ws))
+    → o ≡ inPart part′ ws (undoneIn (refunds cost) (Open rate) id (shardIn part′ ws))
+    → o ≡ inPart part′ ws (undoneIn (refunds cost) (s .limit) id (shardIn part′ ws))
 refund-by-limit s id cost part′ ws is-limit told = rw is-limit told

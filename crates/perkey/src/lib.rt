@@ -202,7 +202,8 @@ fn refund_open(settings: Settings, rate: Rate, ws: &mut [u64], id: Identity, cos
 // A refund that is not refused.
 fn give_back(rate: Rate, ws: &mut [u64], part: Part, id: Identity, cost: u32) -> Reply
     requires { ⌜ Placed part (now ws) × Sound (shardIn part (now ws)) × Accepted (configOf rate) ⌝ }
-    ensures { λ r. ⌜ outcome r (now (ws .exit)) ≡ inPart part (now (ws .entry)) (Asks.undoneIn (refunds cost) (Open rate) id (shardIn part (now (ws .entry)))) ⌝ }
+    ensures { λ r. ⌜ outcome r (now (ws .exit))
+        ≡ inPart part (now (ws .entry)) (Asks.undoneIn (refunds cost) (Open rate) id (shardIn part (now (ws .entry)))) ⌝ }
 {
     known_reply(store::refund(ws, part, rate.config(), id, cost))
 }

@@ -60,7 +60,8 @@ module _ (r : Request) (s : Settings) (at : Nanos) (id : Identity) (cost : ℕ) 
         (rw (is-told, is-limit, le-ltb _ _ within, eq-eqb _ _ no-cost) (sym (in-shard-unchanged s (id .hash) ws accepted (atOnce manner at))))
 
 -- On a closed limiter: the number, else what is told there.
-pub closed-request-is-told : (r : Request) (s : Settings) (at : Nanos) (id : Identity) (cost : ℕ) (ws : List ℕ) {refusal further : ℕ} {shape : Shape} {reply : Reply}
+pub closed-request-is-told : (r : Request) (s : Settings) (at : Nanos) (id : Identity) (cost : ℕ) (ws : List ℕ) {refusal further : ℕ} {shape : Shape}
+    {reply : Reply}
     {o : Outcome Reply (List ℕ)} → s .limit ≡ Closed → reply ≡ closedTo (mannerOf r) at cost
     → refusal ≡ settingsRefusal s → shape ≡ shapeOf s → further ≡ furtherTo r at
     → o ≡ unlessRefused (firstRefusal refusal (firstRefusal (shapeRefusal shape (id .hash) ws) further)) ws (outcome reply ws) → o ≡ ruleTo r s at id cost ws

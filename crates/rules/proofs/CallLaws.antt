@@ -50,7 +50,8 @@ module _ {S N : Type 0} (terms : Terms S N) where
 
   rules-are : (c : Call S N) (ws : List ℕ) → rules terms c ws ≡ unlessRefused (refusalOf c ws) ws (ruleOf c ws)
   unfolding keyedRuleIn lenIn
-  rules-are (keyed s n ask) ws = first-of-two-refuses (terms .refusal n) (askRefusal (terms .settings s) (terms .identity n) ask ws) ws (ruleOf (keyed s n ask) ws)
+  rules-are (keyed s n ask) ws =
+      first-of-two-refuses (terms .refusal n) (askRefusal (terms .settings s) (terms .identity n) ask ws) ws (ruleOf (keyed s n ask) ws)
   rules-are (whole s len) ws = refl
 
   pub not-refused-is-ruled : (c : Call S N) (ws : List ℕ) → refusalOf c ws ≡ 0 → rules terms c ws ≡ ruleOf c ws

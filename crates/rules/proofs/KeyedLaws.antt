@@ -82,7 +82,8 @@ pub in-shard-unchanged : {A : Type 0} (s : Settings) (hash : ℕ) (ws : List ℕ
 in-shard-unchanged s hash ws accepted a = in-part-unchanged (part-placed s hash ws (accepted .set-up .size)) a
 
 -- So it is with a look, as the code comes to it.
-pub lent-look-is-told : (s : Settings) (id : Identity) (l : Look) (ws : List ℕ) {lending : Lending} → lending ≡ lentUnless (askRefusal s id (looks l) ws) (partOf s (id .hash))
+pub lent-look-is-told : (s : Settings) (id : Identity) (l : Look) (ws : List ℕ) {lending : Lending}
+    → lending ≡ lentUnless (askRefusal s id (looks l) ws) (partOf s (id .hash))
     → {part′ : Part} → lending ≡ Lending.Lent part′ → {reply : Reply} → reply ≡ lookedIn l (s .limit) id (shardIn part′ ws)
     → outcome reply ws ≡ keyedRule s id (looks l) ws
 lent-look-is-told s id l ws is gave answered =

@@ -106,7 +106,8 @@ undone-in-kind at (refunds cost) Closed id own = unknown
 undone-in-kind at (refunds cost) (Open rate) id own = key-is-known-or-not at (OneShard.refunded (configOf rate) id cost own .answer)
 undone-in-kind at removes limit id own = key-is-known-or-not at (OneShard.removed id own .answer)
 
-pub asks-are-answered-in-kind : (s : Settings) (id : Identity) (ask : Ask) (own : Shard) → OfKind (momentIn ask) (kindOfAsk ask) (inItsShard s id ask own .answer)
+pub asks-are-answered-in-kind : (s : Settings) (id : Identity) (ask : Ask) (own : Shard)
+    → OfKind (momentIn ask) (kindOfAsk ask) (inItsShard s id ask own .answer)
 asks-are-answered-in-kind s id (requests r at cost) own = asked-in-kind r (s .limit) s at id cost own
 asks-are-answered-in-kind s id (looks l) own = looked-in-kind l (s .limit) id own
 asks-are-answered-in-kind s id (undoes u) own = undone-in-kind _ u (s .limit) id own

@@ -43,11 +43,13 @@ module _ (first second : ℕ) (ws : List ℕ) (accepted : Outcome Reply (List �
   pub first-number-is-told : (first ≡ 0 → ⊥) → outcome (Refused first) ws ≡ unlessRefused (firstRefusal first second) ws accepted
   first-number-is-told some = rw (first-refusal-stands first second some) (sym (unless-refused-refuses first ws accepted some))
 
-  pub second-number-is-told : {told : ℕ} → first ≡ 0 → told ≡ second → (told ≡ 0 → ⊥) → outcome (Refused told) ws ≡ unlessRefused (firstRefusal first second) ws accepted
+  pub second-number-is-told : {told : ℕ} → first ≡ 0 → told ≡ second → (told ≡ 0 → ⊥)
+      → outcome (Refused told) ws ≡ unlessRefused (firstRefusal first second) ws accepted
   second-number-is-told none is some = rw (no-refusal-hands-on first second none) (number-is-told second ws accepted is some)
 
   pub neither-refuses-is-told : first ≡ 0 → second ≡ 0 → accepted ≡ unlessRefused (firstRefusal first second) ws accepted
-  neither-refuses-is-told none no-other = sym (unless-refused-accepts (firstRefusal first second) ws accepted (no-refusal-hands-on first second none ∙ no-other))
+  neither-refuses-is-told none no-other =
+      sym (unless-refused-accepts (firstRefusal first second) ws accepted (no-refusal-hands-on first second none ∙ no-other))
 
 -- A refusal within a refusal is the first of the two.
 pub first-of-two-refuses : (first second : ℕ) (ws : List ℕ) (accepted : Outcome Reply (List ℕ))

@@ -48,8 +48,8 @@ pub fn closed(at: Nanos, cost: u32) -> Decision
     }
 }
 
-// A closed limiter's reply to a call on a key: the number by which the call is refused, else `told`. `refusal` and `shape` are those of the settings, `further` is
-// the number for the call's other arguments.
+// A closed limiter's reply to a call on a key: the number by which the call is refused, else `told`. `refusal` and `shape` are those of the settings, `further`
+// is the number for the call's other arguments.
 pub fn unless_refused(
     refusal: u32,
     shape: Shape,
@@ -60,7 +60,8 @@ pub fn unless_refused(
 ) -> Reply
     requires { ⌜ (refusal ≡ 0 → ShapeOfAccepted shape) ⌝ }
     ensures { λ r. ⌜ outcome r (now (ws .exit)) ≡
-        unlessRefused (firstRefusal refusal (firstRefusal (shapeRefusal shape hash (now (ws .entry))) further)) (now (ws .entry)) (outcome told (now (ws .entry))) ⌝ }
+        unlessRefused (firstRefusal refusal (firstRefusal (shapeRefusal shape hash (now (ws .entry))) further)) (now (ws .entry))
+        (outcome told (now (ws .entry))) ⌝ }
 {
     if refusal != 0 {
         return Reply::Refused(refusal);

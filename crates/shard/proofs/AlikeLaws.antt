@@ -111,7 +111,11 @@ module _ (v : View) where
         go : (place : Place) → SameOutcome Like (refundedFrom c id cost s place) (refundedFrom c id cost t place)
         go (At i) =
             let slot = slot-alike v like {p = i} refl in
-            record { answer = refl; after = change-alike v like refl (v .refills slot (ap (λ (b : BucketCore). Bucket.refunded c b cost) (v .reads slot .bucket))) }
+            record {
+              answer = refl;
+              after = change-alike v like refl
+                  (v .refills slot (ap (λ (b : BucketCore). Bucket.refunded c b cost) (v .reads slot .bucket)));
+            }
         go Nowhere =
             let paid = v .ledgers .pays (like .ledger) (id .hash) cost c in
             record { answer = paid .answer; after = ledger-alike v like (paid .after) }

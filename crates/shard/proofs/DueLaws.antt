@@ -42,7 +42,8 @@ making-room-tells-its-moment p at s =
     (λ below. rw (lt-ltb _ _ below) room-made)
 
 module _ (p : Policy) (id : Identity) (request : Request) (cost : ℕ) (at : Nanos) where
-  room-tells-its-moment : (owed : OptionNanos) (s : Shard) {room : Room} → TellsRoom at room → TellsItsMoment request at (admitted p id request cost at owed s room .answer)
+  room-tells-its-moment : (owed : OptionNanos) (s : Shard) {room : Room} → TellsRoom at room
+      → TellsItsMoment request at (admitted p id request cost at owed s room .answer)
   room-tells-its-moment owed s room-made = bucket-tells-its-moment (p .config) request _ cost at
   room-tells-its-moment owed s (room-refused wait) = denied wait
 

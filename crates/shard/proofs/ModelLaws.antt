@@ -29,7 +29,8 @@ use Rattle.evict.specs.declared.Room.the-variants.{Made, Refused}
 use Rattle.evict.specs.Evict.{evicted}
 use Rattle.shard.specs.declared.Identity.{Identity}
 use Rattle.shard.specs.declared.Policy.{Policy}
-use Rattle.shard.specs.Model.{tracks, idleLimitIn, askedAt, withExisting, sweptIdle, swept, makeRoom, joined, admit, withOrInsert, hasDebt, refunded, removed}
+use Rattle.shard.specs.Model.{tracks, idleLimitIn, askedAt, withExisting, sweptIdle, swept, makeRoom, joined, admit, withOrInsert, hasDebt, refunded}
+use Rattle.shard.specs.Model.{removed}
 use Rattle.shard.proofs.RoomLaws.{swept-idle-sound, swept-sound, room-sound, room-made-leaves-room}
 use Rattle.shard.proofs.ShardLaws.{roomFor, debt-taken-sound, refused-took-nothing}
 

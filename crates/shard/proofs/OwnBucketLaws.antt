@@ -40,7 +40,8 @@ module _ (c : BucketConfig) (id : Identity) (at : Nanos) (s : Shard) where
   view-without-slot e = rw e
 
 -- A key without a slot holds something exactly where its hash owes.
-pub without-slot-holds-debt : (id : Identity) (s : Shard) → placeOf s (id .hash) (id .key) ≡ Nowhere → holds id s ≡ hasDebt (Ledger.owedBy (s .ledger) (id .hash))
+pub without-slot-holds-debt : (id : Identity) (s : Shard) → placeOf s (id .hash) (id .key) ≡ Nowhere
+    → holds id s ≡ hasDebt (Ledger.owedBy (s .ledger) (id .hash))
 unfolding holds
 without-slot-holds-debt id s e = rw e
 
@@ -79,6 +80,7 @@ module _ (p : Policy) (id : Identity) (request : Request) (cost : ℕ) (at : Nan
     space-refusal-waits-a-millisecond = space-refusal .room .least
 
 -- The bucket with which a key comes in lacks at least what its debt lacks.
-pub returning-lacks-the-debt : (c : BucketConfig) (at : Nanos) → Bucket.Accepted c → (owed : OptionNanos) → worth (unpaid c at) owed ≤ Bucket.shortfallAt c (returning c at owed) at
+pub returning-lacks-the-debt : (c : BucketConfig) (at : Nanos) → Bucket.Accepted c → (owed : OptionNanos)
+    → worth (unpaid c at) owed ≤ Bucket.shortfallAt c (returning c at owed) at
 returning-lacks-the-debt c at a nanos.None = omega arith
 returning-lacks-the-debt c at a (nanos.Some settles) = restored-lacks-the-debt c at settles a

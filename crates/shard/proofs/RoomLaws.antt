@@ -82,7 +82,8 @@ module _ (p : Policy) (at : Nanos) (s : Shard) (u : Sound s) where
       swept-keeps (λ t. (Ledger.capOf (t .ledger) ≡ Ledger.capOf (s .ledger)) × (t .ledger .debts .count ≤ s .ledger .debts .count))
       (record {
         idle = λ t limit v kept. rw (sweep-idle-ledger (p .config) at limit ttlSweep t) kept;
-        ledger = λ t v kept. (LedgerSteps.sweep-room at ledgerScan (t .ledger) .cap ∙ kept .0, omega (arith, kept .1, LedgerSteps.sweep-count at ledgerScan (t .ledger)));
+        ledger = λ t v kept.
+            (LedgerSteps.sweep-room at ledgerScan (t .ledger) .cap ∙ kept .0, omega (arith, kept .1, LedgerSteps.sweep-count at ledgerScan (t .ledger)));
       })
       (refl, omega arith)
 
@@ -111,7 +112,8 @@ module _ (p : Policy) (at : Nanos) (s : Shard) (u : Sound s) where
         idle = λ t limit v kept. keeps-trans c h k at s t (sweepIdle c at limit ttlSweep t) kept (sweep-idle-keeps-shortage c h k at limit ttlSweep t v);
         ledger = λ t v kept. keeps-trans c h k at s t (sweptLedger at t) kept (ledger-sweep-keeps-shortage c h k at ledgerScan t v);
       })
-      (λ t v some kept. keeps-trans c h k at s t (evicted c at (p .«forget_debt») t .after) kept (evict-keeps-shortage c h k at (p .«forget_debt») t a early v some never))
+      (λ t v some kept. keeps-trans c h k at s t (evicted c at (p .«forget_debt») t .after) kept
+      (evict-keeps-shortage c h k at (p .«forget_debt») t a early v some never))
       (keeps-refl c h k at s)
     where
       c : BucketConfig

@@ -26,7 +26,8 @@ use Rattle.ledger.proofs.StepLaws.{found-owes, taken-cases, taken-room, paid-ro
 use Rattle.ledger.proofs.LookupLaws.{taken-tells}
 use Rattle.shard_map.specs.Model.{Shard, Sound, slotItems, slotAt, withSlot, withLedger, inLedger, placeOf, removeAt}
 use Rattle.shard_map.proofs.StepLaws.{Holding, found-holds, ledger-sound}
-use Rattle.shard_map.proofs.RoomLaws.{identityOf, found-is-complete, SlotsFrom, nowhere-lacks, sweep-idle-slots-from, same-room-trans, ledger-same-room, same-room}
+use Rattle.shard_map.proofs.RoomLaws.{identityOf, found-is-complete, SlotsFrom, nowhere-lacks, sweep-idle-slots-from, same-room-trans, ledger-same-room}
+use Rattle.shard_map.proofs.RoomLaws.{same-room}
 use Rattle.shard_map.proofs.RoomLaws.{change-same-room, removal-same-room, idle-same-room, insert-same-room}
 pub use Rattle.shard_map.proofs.RoomLaws.{SameRoom}
 use Rattle.evict.specs.declared.Room.{Room}
@@ -35,7 +36,8 @@ use Rattle.evict.proofs.CaseLaws.{made-is-no-refusal}
 use Rattle.evict.proofs.RoomLaws.{evict-slots-from, evict-same-room}
 use Rattle.shard.specs.declared.Identity.{Identity}
 use Rattle.shard.specs.declared.Policy.{Policy}
-use Rattle.shard.specs.Model.{withExisting, makeRoom, joined, admitted, admit, askedFrom, withOrInsert, hasDebt, refundedFrom, refunded, removedFrom, removed}
+use Rattle.shard.specs.Model.{withExisting, makeRoom, joined, admitted, admit, askedFrom, withOrInsert, hasDebt, refundedFrom, refunded, removedFrom}
+use Rattle.shard.specs.Model.{removed}
 use Rattle.shard.proofs.RoomLaws.{room-keeps, room-made-leaves-room, room-below-ledger-cap-never-refuses}
 
 -- A slot of the same key, with a bucket that is given. Its mark and its last-seen may be any.
@@ -72,8 +74,10 @@ refused-took-nothing p id at s due u =
     taken-cases (s .ledger) (id .hash) (λ o. makeRoom p at (withLedger s (o .after)) .answer ≡ Refused due → o ≡ outcome nanos.None (s .ledger))
     (λ q e told.
     let l : Ledger.Ledger = Ledger.removeAt (s .ledger) q in
-    let below : l .debts .count < Ledger.capOf l = LedgerSteps.removal-leaves-room (s .ledger) q (u .ledger .count-fits) (found-owes (s .ledger) (id .hash) q e .below) in
-    let sound : Sound (withLedger s l) = ledger-sound s l u (LedgerSteps.removal-room (s .ledger) q (found-owes (s .ledger) (id .hash) q e .below) .sound (u .ledger)) in
+    let below : l .debts .count < Ledger.capOf l =
+    LedgerSteps.removal-leaves-room (s .ledger) q (u .ledger .count-fits) (found-owes (s .ledger) (id .hash) q e .below) in
+    let sound : Sound (withLedger s l) =
+    ledger-sound s l u (LedgerSteps.removal-room (s .ledger) q (found-owes (s .ledger) (id .hash) q e .below) .sound (u .ledger)) in
     made-is-no-refusal (sym (room-below-ledger-cap-never-refuses p at (withLedger s l) sound below) ∙ told))
     (λ e told. refl)
 
@@ -92,7 +96,8 @@ module _ (p : Policy) (id : Identity) (request : Request) (cost : ℕ) (at : Nan
       go Made made = key-joins e made
       go (Refused due) told =
           let nothing : Ledger.taken (s .ledger) (id .hash) ≡ outcome nanos.None (s .ledger) = refused-took-nothing p id at s due u told in
-          let no-debt : Ledger.owedBy (s .ledger) (id .hash) ≡ nanos.None = sym (taken-tells (s .ledger) (id .hash)) ∙ ap (λ (o : Outcome OptionNanos Ledger.Ledger). o .answer) nothing in
+          let no-debt : Ledger.owedBy (s .ledger) (id .hash) ≡ nanos.None =
+          sym (taken-tells (s .ledger) (id .hash)) ∙ ap (λ (o : Outcome OptionNanos Ledger.Ledger). o .answer) nothing in
           rw nothing (no-space due e no-debt (rw nothing at told))
 
   -- The cases of a request.
@@ -169,8 +174,10 @@ module _ (s : Shard) (u : Sound s) where
       go : {o : Outcome BucketDecision Shard} → Asking p id request cost at s o → SameRoom s (o .after)
       go (slot-asked i slot e f r) = change-same-room s u i slot (f .below) (r .hash) (r .key)
       go (key-joins new made) =
-          insert-same-room (same-room-trans (taken-same-room id) (room-same-room p at (debtTaken id s) v)) _ (room-made-leaves-room p at (debtTaken id s) v made)
-          (λ each. lacks-stays slotItems identityOf (room-slots-from p at (debtTaken id s) v) _ (nowhere-lacks s (found-is-complete each) (id .hash) (id .key) new))
+          insert-same-room (same-room-trans (taken-same-room id) (room-same-room p at (debtTaken id s) v)) _
+          (room-made-leaves-room p at (debtTaken id s) v made)
+          (λ each. lacks-stays slotItems identityOf (room-slots-from p at (debtTaken id s) v) _
+          (nowhere-lacks s (found-is-complete each) (id .hash) (id .key) new))
       go (no-space due e no-debt told) = room-same-room p at s u
 
   pub refund-same-room : (c : BucketConfig) (id : Identity) (cost : ℕ) → SameRoom s (refunded c id cost s .after)

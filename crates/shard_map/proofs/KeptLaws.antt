@@ -1,6 +1,6 @@
 -- Two sums over all that a shard has of one hash. `count` is how many items there are, where a slot of another key with the same hash counts as two: while
--- it is at most 1, the key's slot or its debt is all that there is. `shortage` is what they lack at a moment. A step that grants the key nothing never raises the
--- first and, while that is at most 1, never lowers the second: this is how no debt is lost. Layers above add up these laws and look at no place.
+-- it is at most 1, the key's slot or its debt is all that there is. `shortage` is what they lack at a moment. A step that grants the key nothing never raises
+-- the first and, while that is at most 1, never lowers the second: this is how no debt is lost. Layers above add up these laws and look at no place.
 use Prim.Native.Nat.{ℕ, _+_, _*_, _-_, _≤_, _<_, min}
 use mathlib.Core.Path.{_≡_, _∙_, ap}
 use mathlib.Core.Bool.{true, cond}
@@ -26,7 +26,8 @@ use Rattle.held.proofs.HeldLaws.{total-stored, total-appended, total-removed}
 use Rattle.slot.specs.declared.Slot.{Slot}
 use Rattle.ledger.specs.Model as Ledger
 use Rattle.ledger.proofs.KeptLaws.{weigh, owed, one, SettledIsNothing, sweep-never-adds, sweep-keeps-unsettled, owed-by-another-value, none-owed-nothing-owed}
-use Rattle.shard_map.specs.Model.{Shard, Sound, Complete, slotItems, capOf, slotAt, withSlot, withLedger, placeOf, removeAt, insert, reclaimable, roundOf, sweepIdle}
+use Rattle.shard_map.specs.Model.{Shard, Sound, Complete, slotItems, capOf, slotAt, withSlot, withLedger, placeOf, removeAt, insert, reclaimable, roundOf}
+use Rattle.shard_map.specs.Model.{sweepIdle}
 use Rattle.shard_map.proofs.StepLaws.{Holding, nowhere-holds-none, slots-sound, removal-ledger, reclaimable-is-full}
 
 -- What a slot counts for the identity (h, k), and what it lacks at a moment if its hash is h.
@@ -90,7 +91,8 @@ module _ (h : ℕ) (slotValue : Slot → ℕ) (debtValue : ℕ → ℕ) where
   unfolding removeAt
   all-removed s p u below = omega (arith, total-removed slotItems slotValue (s .slots) p (slots-sound s u) below)
 
-  all-inserted : (s : Shard) (slot : Slot) → s .slots .count < capOf s → overAll h slotValue debtValue (insert s slot) ≡ overAll h slotValue debtValue s + slotValue slot
+  all-inserted : (s : Shard) (slot : Slot) → s .slots .count < capOf s
+      → overAll h slotValue debtValue (insert s slot) ≡ overAll h slotValue debtValue s + slotValue slot
   unfolding insert
   all-inserted s slot room = omega (arith, total-appended slotItems slotValue (s .slots) slot room)
 
@@ -120,7 +122,8 @@ shortage-removed c h at = all-removed h (short c h at) (unpaid c at)
 pub count-inserted : (h k : ℕ) (s : Shard) (slot : Slot) → s .slots .count < capOf s → count h k (insert s slot) ≡ count h k s + weight h k slot
 count-inserted h k = all-inserted h (weight h k) one
 
-pub shortage-inserted : (c : BucketConfig) (h : ℕ) (at : Nanos) (s : Shard) (slot : Slot) → s .slots .count < capOf s → shortage c h at (insert s slot) ≡ shortage c h at s + short c h at slot
+pub shortage-inserted : (c : BucketConfig) (h : ℕ) (at : Nanos) (s : Shard) (slot : Slot) → s .slots .count < capOf s
+    → shortage c h at (insert s slot) ≡ shortage c h at s + short c h at slot
 shortage-inserted c h at = all-inserted h (short c h at) (unpaid c at)
 
 pub count-stored : (h k : ℕ) (s : Shard) (p : ℕ) (slot : Slot) → Sound s → p < s .slots .count
@@ -137,7 +140,8 @@ pub record Keeps (c : BucketConfig) (h k : ℕ) (at : Nanos) (s t : Shard) : Typ
   pub more : count h k s ≤ 1 → shortage c h at s ≤ shortage c h at t
 
 -- A fresh bucket put back into a debt lacks at least what the debt lacks.
-pub restored-lacks-the-debt : (c : BucketConfig) (at settles : Nanos) → Accepted c → unpaid c at (settles .0) ≤ shortfallAt c (restored c (fresh c at) at settles) at
+pub restored-lacks-the-debt : (c : BucketConfig) (at settles : Nanos) → Accepted c
+    → unpaid c at (settles .0) ≤ shortfallAt c (restored c (fresh c at) at settles) at
 unfolding shortfallAt
 restored-lacks-the-debt c at settles a =
     rw (restored-fresh at settles a, sub-self) (omega (arith, ceilDiv-reaches ((settles .0 - at .0) * c .amount) (c .period .0) (a .period-least)))
@@ -159,10 +163,12 @@ module _ (c : BucketConfig) (h k : ℕ) where
   keeps-refl at s = record { fewer = omega arith; more = λ single. omega arith }
 
   pub keeps-trans : (at : Nanos) (s t u : Shard) → Keeps c h k at s t → Keeps c h k at t u → Keeps c h k at s u
-  keeps-trans at s t u p q = record { fewer = omega (arith, p .fewer, q .fewer); more = λ single. omega (arith, p .more single, q .more (omega (arith, p .fewer))) }
+  keeps-trans at s t u p q =
+      record { fewer = omega (arith, p .fewer, q .fewer); more = λ single. omega (arith, p .more single, q .more (omega (arith, p .fewer))) }
 
   -- A full slot that leaves takes nothing with it.
-  pub full-slot-loses-nothing : (at : Nanos) (s : Shard) (p : ℕ) → Sound s → p < s .slots .count → shortfallAt c (slotAt s p .bucket) at ≡ 0 → Keeps c h k at s (removeAt s p)
+  pub full-slot-loses-nothing : (at : Nanos) (s : Shard) (p : ℕ) → Sound s → p < s .slots .count → shortfallAt c (slotAt s p .bucket) at ≡ 0
+      → Keeps c h k at s (removeAt s p)
   full-slot-loses-nothing at s p u below full = record {
     fewer = omega (arith, count-removed h k s p u below);
     more = λ single. omega (arith, shortage-removed c h at s p u below, short-full c h at (slotAt s p) full);
@@ -192,7 +198,14 @@ module _ (c : BucketConfig) (h k : ℕ) where
       let fall : ℕ = (m .0 - n .0) * c .amount in
       by-eq (slot .hash) h
       (λ own.
-      omega (arith, short-own c h n slot own, short-own c h m slot own, amount-between c n m le, shortfall-falls-slowly c (slot .bucket) n m le, mul-le-mul-left fall (weight-of-hash h k slot own)))
+      omega (
+        arith,
+        short-own c h n slot own,
+        short-own c h m slot own,
+        amount-between c n m le,
+        shortfall-falls-slowly c (slot .bucket) n m le,
+        mul-le-mul-left fall (weight-of-hash h k slot own),
+      ))
       (λ other. omega (arith, short-other c h n slot other))
 
   pub later-keeps-line : (n m : Nanos) (s : Shard) → n .0 ≤ m .0 → count h k s ≤ 1 → n .0 * c .amount + shortage c h n s ≤ m .0 * c .amount + shortage c h m s
@@ -200,7 +213,8 @@ module _ (c : BucketConfig) (h k : ℕ) where
       let fall : ℕ = (m .0 - n .0) * c .amount in
       omega (
         arith,
-        sum-le (s .slots .count) (λ i. short c h n (slotAt s i)) (λ i. short c h m (slotAt s i)) (λ i. weight h k (slotAt s i)) fall (λ i below. short-falls-slowly n m le (slotAt s i)),
+        sum-le (s .slots .count) (λ i. short c h n (slotAt s i)) (λ i. short c h m (slotAt s i)) (λ i. weight h k (slotAt s i)) fall
+            (λ i below. short-falls-slowly n m le (slotAt s i)),
         owed-by-another-value h (unpaid c n) (unpaid c m) fall (unpaid-falls-slowly c n m le) (s .ledger),
         mul-le-mul-left fall single,
         amount-between c n m le,
@@ -208,7 +222,8 @@ module _ (c : BucketConfig) (h k : ℕ) where
 
   -- Slots that count nothing: none has the hash, and they hold nothing.
   pub weightless-has-no-slot : (s : Shard) → overSlots (weight h k) s ≡ 0 → (i : ℕ) → i < s .slots .count → slotAt s i .hash ≡ h → ⊥
-  weightless-has-no-slot s none i below own = omega (arith, weight-of-hash h k (slotAt s i) own, term-le-sum (s .slots .count) (λ j. weight h k (slotAt s j)) i below)
+  weightless-has-no-slot s none i below own =
+      omega (arith, weight-of-hash h k (slotAt s i) own, term-le-sum (s .slots .count) (λ j. weight h k (slotAt s j)) i below)
 
   pub weightless-holds-nothing : (at : Nanos) (s : Shard) → overSlots (weight h k) s ≡ 0 → overSlots (short c h at) s ≡ 0
   weightless-holds-nothing at s none =
@@ -219,9 +234,14 @@ module _ (c : BucketConfig) (h k : ℕ) where
   nowhere-weighs-nothing s complete e single =
       sum-of-zeros (s .slots .count) (λ i. weight h k (slotAt s i))
       (λ i below. weight-other h k (slotAt s i) (λ own.
-      omega (arith, weight-shared h k (slotAt s i) own (nowhere-holds-none s complete h k e i below own), term-le-sum (s .slots .count) (λ j. weight h k (slotAt s j)) i below)))
+      omega (
+        arith,
+        weight-shared h k (slotAt s i) own (nowhere-holds-none s complete h k e i below own),
+        term-le-sum (s .slots .count) (λ j. weight h k (slotAt s j)) i below,
+      )))
 
-  pub nowhere-holds-the-debt : (at : Nanos) (s : Shard) → Complete s → placeOf s h k ≡ Nowhere → count h k s ≤ 1 → shortage c h at s ≡ owed h (unpaid c at) (s .ledger)
+  pub nowhere-holds-the-debt : (at : Nanos) (s : Shard) → Complete s → placeOf s h k ≡ Nowhere → count h k s ≤ 1
+      → shortage c h at s ≡ owed h (unpaid c at) (s .ledger)
   nowhere-holds-the-debt at s complete e single = omega (arith, weightless-holds-nothing at s (nowhere-weighs-nothing s complete e single))
 
   -- A slot of the key with a count of at most 1 is all that there is of the hash: the ledger owes it nothing, and what is held is the slot's shortfall.

@@ -16,7 +16,8 @@ use Rattle.held.specs.Layout.{Table, tableIn, withItem}
 use Rattle.rows.specs.Outcome.{Outcome, outcome}
 use Rattle.rows.proofs.SegmentLaws.{segment-length}
 use Rattle.rows.proofs.RowLaws.{segment-word, row-end, by-listed}
-use Rattle.held.proofs.LayoutLaws.{table-length, table-word, place-below, place-past, table-item, table-set-word, table-put, table-put-word, table-lent, table-words}
+use Rattle.held.proofs.LayoutLaws.{table-length, table-word, place-below, place-past, table-item, table-set-word, table-put, table-put-word, table-lent}
+use Rattle.held.proofs.LayoutLaws.{table-words}
 use Rattle.held.proofs.IndexLaws.{table-with-places, Indexed}
 use Rattle.slot.specs.declared.Slot.{Slot}
 use Rattle.slot.specs.Slot.{withMark}
@@ -155,8 +156,8 @@ slots-indexed {cap} {ws} intact =
       keys = λ row. refl;
     }
 
--- What holds of an operation of the ledger, whatever the words that are not the ledger's own: it tells the same; it leaves the same with those words, alone or with
--- an answer.
+-- What holds of an operation of the ledger, whatever the words that are not the ledger's own: it tells the same; it leaves the same with those words, alone or
+-- with an answer.
 abbrev Overlooks : {A : Type 0} → (Debts.Ledger → A) → Type 0
 Overlooks op = (l : Debts.Ledger) (ws : List ℕ) → op (Debts.withOthers l ws) ≡ op l
 
@@ -170,7 +171,8 @@ SparesAnswering op = (l : Debts.Ledger) (ws : List ℕ) → op (Debts.withOthers
 module _ (cap : ℕ) (ws : List ℕ) (size : length ws ≡ shardWords cap) {start : ℕ} (is : start ≡ ledgerStart cap) where
   pub ledger-lent : Ledger.ledger cap (segment start (length ws - start) ws) ≡ lentLedger (shard cap ws)
   unfolding shard tableIn
-  ledger-lent = rw is (ap (Ledger.ledger cap) (take-all (length ws - ledgerStart cap) (drop (ledgerStart cap) ws) (omega (arith, length-drop (ledgerStart cap) ws))))
+  ledger-lent =
+      rw is (ap (Ledger.ledger cap) (take-all (length ws - ledgerStart cap) (drop (ledgerStart cap) ws) (omega (arith, length-drop (ledgerStart cap) ws))))
 
   pub ledger-long : length (segment start (length ws - start) ws) ≡ Ledger.ledgerWords cap
   ledger-long = omega (arith, segment-length start (length ws - start) ws (omega arith))

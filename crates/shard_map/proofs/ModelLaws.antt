@@ -21,7 +21,8 @@ use Rattle.rows.proofs.OutcomeLaws.{after-is}
 use Rattle.slot.specs.declared.Slot.{Slot}
 use Rattle.slot.specs.Slot.{isKey}
 use Rattle.ledger.specs.Layout as LedgerLayout
-use Rattle.shard_map.specs.Model.{Shard, Sound, noSlot, slotItems, capOf, slotAt, withCount, withFinding, withSlot, withSweep, handOf, sweepOf, placeOf, removeAt}
+use Rattle.shard_map.specs.Model.{Shard, Sound, noSlot, slotItems, capOf, slotAt, withCount, withFinding, withSlot, withSweep, handOf, sweepOf, placeOf}
+use Rattle.shard_map.specs.Model.{removeAt}
 use Rattle.shard_map.specs.Model.{insert, reclaimable, roundOf, withRound, idleLook, sweepIdle}
 use Rattle.shard_map.specs.Layout.{ledgerStart, slotIndex, shard, Intact}
 use Rattle.shard_map.proofs.LayoutLaws.{cap-is, index-put, slots-indexed, ledger-lent, ledger-long}
@@ -39,7 +40,8 @@ intact-hand {cap} {ws} intact some = intact-below intact (hand-below (shard cap 
 
 pub intact-sweep : {cap p : ℕ} {ws : List ℕ} → Intact cap ws → 0 < shard cap ws .slots .count → p ≡ sweepOf (shard cap ws)
     → (p < shard cap ws .slots .count) × (p < cap)
-intact-sweep {cap} {p} {ws} intact some is = let below : p < shard cap ws .slots .count = rw is (sweep-below (shard cap ws) some) in (below, intact-below intact below)
+intact-sweep {cap} {p} {ws} intact some is =
+    let below : p < shard cap ws .slots .count = rw is (sweep-below (shard cap ws) some) in (below, intact-below intact below)
 
 -- The ledger's part of words that are lent is lent, in the form in which the code lends it.
 pub intact-ledger : {cap start : ℕ} {ws : List ℕ} → Intact cap ws → start ≡ ledgerStart cap → LedgerLayout.Intact cap (segment start (length ws - start) ws)
@@ -57,7 +59,8 @@ module _ {cap : ℕ} {ws ws′ : List ℕ} (intact : Intact cap ws) (same : leng
 -- Insertion and removal, store by store, as the code makes them: first in the index, then in the places, last the count.
 module _ (s : Shard) where
   pub insert-by-stores : (slot : Slot)
-      → withCount (withSlot (withFinding s (withAdded (s .slots .finding) (slot .hash) (s .slots .count))) (s .slots .count) slot) (s .slots .count + 1) ≡ insert s slot
+      → withCount (withSlot (withFinding s (withAdded (s .slots .finding) (slot .hash) (s .slots .count))) (s .slots .count) slot) (s .slots .count + 1)
+      ≡ insert s slot
   unfolding insert
   insert-by-stores slot = refl
 
@@ -65,7 +68,8 @@ module _ (s : Shard) where
   unnamed p = withFinding s (withoutItem slotItems (s .slots) p)
 
   pub remove-by-stores : (p : ℕ)
-      → withCount (withSlot (withSlot (unnamed p) p (slotAt (unnamed p) (s .slots .count - 1))) (s .slots .count - 1) noSlot) (s .slots .count - 1) ≡ removeAt s p
+      → withCount (withSlot (withSlot (unnamed p) p (slotAt (unnamed p) (s .slots .count - 1))) (s .slots .count - 1) noSlot) (s .slots .count - 1)
+      ≡ removeAt s p
   unfolding removeAt removed
   remove-by-stores p = refl
 
@@ -119,7 +123,8 @@ pub record StillLent (cap : ℕ) (ws ws′ : List ℕ) : Type 0 where
   pub intact : Intact cap ws′
   pub count : shard cap ws′ .slots .count ≡ shard cap ws .slots .count
 
-pub after-sweep : {cap : ℕ} {ws ws′ : List ℕ} → Intact cap ws → length ws′ ≡ length ws → (n : ℕ) → shard cap ws′ ≡ withSweep (shard cap ws) n → StillLent cap ws ws′
+pub after-sweep : {cap : ℕ} {ws ws′ : List ℕ} → Intact cap ws → length ws′ ≡ length ws → (n : ℕ) → shard cap ws′ ≡ withSweep (shard cap ws) n
+    → StillLent cap ws ws′
 after-sweep {cap} {ws} intact same n gave = record {
   intact = intact-after intact same gave (sweep-sound (shard cap ws) n (intact .sound));
   count = ap (λ s. s .slots .count) gave;

@@ -1,4 +1,5 @@
--- Lookup by an index changes nothing: where lookup finds each slot and each debt, every step gives what it gives where slots and debts are found in place order.
+-- Lookup by an index changes nothing: where lookup finds each slot and each debt, every step gives what it gives where slots and debts are found in place
+-- order.
 use Prim.Native.Nat.{ℕ}
 use mathlib.Core.Path.{_≡_, refl, sym}
 use Rattle.held.specs.Held as Held

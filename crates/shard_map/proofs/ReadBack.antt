@@ -18,10 +18,12 @@ use Rattle.ledger.specs.Layout as Ledger
 use Rattle.ledger.proofs.LayoutLaws as LedgerLaws
 use Rattle.ledger.proofs.ReadBack as LedgerBack
 use Rattle.shard_map.specs.Model.{Shard, Complete, slotItems, capOf, withFinding, withLedger}
-use Rattle.shard_map.specs.Layout.{countAt, handAt, sweepAt, slotsAt, slotWidth, slotOf, slotWords, ledgerStart, shardWords, slotIndex, shardWith, lentLedger, shardOf, shard, wordsOf}
+use Rattle.shard_map.specs.Layout.{countAt, handAt, sweepAt, slotsAt, slotWidth, slotOf, slotWords, ledgerStart, shardWords, slotIndex, shardWith}
+use Rattle.shard_map.specs.Layout.{lentLedger, shardOf, shard, wordsOf}
 use Rattle.shard_map.proofs.LayoutLaws.{cap-is, rest-length, finding-read}
 
--- A shard with room for cap slots and cap debts, each found by an index with two places for each of theirs, in which every word of the ledger is the ledger's own.
+-- A shard with room for cap slots and cap debts, each found by an index with two places for each of theirs, in which every word of the ledger is the ledger's
+-- own.
 pub record Sized (cap : ℕ) (s : Shard) : Type 0 where
   pub slots : capOf s ≡ cap
   pub slots-kind : kindOf (s .slots .finding) ≡ indexed (placesFor cap)
@@ -57,7 +59,8 @@ module _ (cap : ℕ) (s : Shard) (sized : Sized cap s) where
       let table : Table Slot = record { head = λ k. getD head k 0; places = s .slots .places; rest = rest } in
       ap (shardOf cap) (table-of-words slotWords slotWidth (λ slot. refl) (s .slots .places) head rest (sized .slots) refl slotOf (λ slot. refl))
       ∙ ap (shardWith table) lent
-      ∙ ap (λ (f : Finding). withLedger (withFinding s f) (withOthers (s .ledger) [])) (indexed-by-words (s .slots .finding) (placesFor cap) (sized .slots-kind))
+      ∙ ap (λ (f : Finding). withLedger (withFinding s f) (withOthers (s .ledger) []))
+      (indexed-by-words (s .slots .finding) (placesFor cap) (sized .slots-kind))
       ∙ ap (λ (ws : List ℕ). withLedger s (withOthers (s .ledger) ws)) (sym (drop-of-length-le (s .ledger .others) {i = 0} (omega (arith, sized .others))))
 
 -- Whatever the words, the ledger of the shard in them has room for cap debts; and words as long as a shard's have the shard's size.
@@ -109,6 +112,8 @@ zeros-complete cap ws room size zeros =
     let slots-room = cap-is cap ws in
     let debts-room = debt-cap-is cap ws in
     record {
-      slots = fresh-is-complete slotItems (shard cap ws .slots) (rw slots-room room) (empty .slots) (rw slots-room (ap byIndex (LedgerBack.zeros-others cap _ rest-zeros long)));
-      ledger = fresh-is-complete Debts.debtItems (shard cap ws .ledger .debts) (rw debts-room room) (empty .debts) (rw debts-room (LedgerBack.zeros-finding cap _ rest-zeros long));
+      slots = fresh-is-complete slotItems (shard cap ws .slots) (rw slots-room room) (empty .slots)
+          (rw slots-room (ap byIndex (LedgerBack.zeros-others cap _ rest-zeros long)));
+      ledger = fresh-is-complete Debts.debtItems (shard cap ws .ledger .debts) (rw debts-room room) (empty .debts)
+          (rw debts-room (LedgerBack.zeros-finding cap _ rest-zeros long));
     }

@@ -16,7 +16,8 @@ use Rattle.held.proofs.SingleLaws.{stored-finds-each, appended-finds-each, remo
 use Rattle.slot.specs.declared.Slot.{Slot}
 use Rattle.ledger.specs.Model as Ledger
 use Rattle.ledger.proofs.StepLaws as LedgerSteps
-use Rattle.shard_map.specs.Model.{Shard, Sound, Complete, slotItems, capOf, slotAt, withSlot, withHand, withLedger, placeOf, removeAt, insert, reclaimable, roundOf, sweepIdle}
+use Rattle.shard_map.specs.Model.{Shard, Sound, Complete, slotItems, capOf, slotAt, withSlot, withHand, withLedger, placeOf, removeAt, insert}
+use Rattle.shard_map.specs.Model.{reclaimable, roundOf, sweepIdle}
 use Rattle.shard_map.proofs.StepLaws.{nowhere-holds-none, slots-sound, sound-by-parts, change-sound, ledger-sound, sweep-idle-sound}
 
 -- What a slot is known by: its hash and its key.
@@ -107,7 +108,8 @@ module _ (s : Shard) (u : Sound s) where
   same-room = ledger-same-room (s .ledger) (LedgerSteps.same-room (s .ledger))
 
   -- A slot is changed, and keeps its hash and its key.
-  pub change-same-room : (i : ℕ) (slot : Slot) → i < s .slots .count → slot .hash ≡ slotAt s i .hash → slot .key ≡ slotAt s i .key → SameRoom s (withSlot s i slot)
+  pub change-same-room : (i : ℕ) (slot : Slot) → i < s .slots .count → slot .hash ≡ slotAt s i .hash → slot .key ≡ slotAt s i .key
+      → SameRoom s (withSlot s i slot)
   change-same-room i slot below hash key = record {
     sound = change-sound s i slot u;
     cap = simp length-set;
@@ -150,7 +152,8 @@ module _ (s : Shard) (u : Sound s) where
   }
 
 -- A slot comes where there is room, and no slot has its hash and its key.
-pub insert-same-room : {s t : Shard} → SameRoom s t → (slot : Slot) → t .slots .count < capOf t → (FindsEach s → Lacks slotItems identityOf (identityOf slot) (t .slots))
+pub insert-same-room : {s t : Shard} → SameRoom s t → (slot : Slot) → t .slots .count < capOf t
+    → (FindsEach s → Lacks slotItems identityOf (identityOf slot) (t .slots))
     → SameRoom s (insert t slot)
 unfolding insert
 insert-same-room {s} {t} before slot room lacks = record {

@@ -71,7 +71,8 @@ pub removal-ledger : (s : Shard) (p : ℕ) → removeAt s p .ledger ≡ s .ledge
 unfolding removeAt
 removal-ledger s p = refl
 
-pub removal-slots-complete : (s : Shard) (p : ℕ) → Sound s → p < s .slots .count → Held.Complete slotItems (s .slots) → Held.Complete slotItems (removeAt s p .slots)
+pub removal-slots-complete : (s : Shard) (p : ℕ) → Sound s → p < s .slots .count → Held.Complete slotItems (s .slots)
+    → Held.Complete slotItems (removeAt s p .slots)
 unfolding removeAt
 removal-slots-complete s p t below complete = removed-complete slotItems (s .slots) (slots-sound s t) complete p below
 
@@ -90,7 +91,8 @@ pub ledger-sound : (s : Shard) (l : Ledger.Ledger) → Sound s → Ledger.Sound 
 ledger-sound s l t u = sound-by-parts (withLedger s l) (slots-sound s t) u
 
 -- A slot that may be reclaimed has a full bucket.
-pub reclaimable-is-full : (c : BucketConfig) (at : Nanos) (limit : Millis) (slot : Slot) → reclaimable c at limit slot ≡ true → shortfallAt c (slot .bucket) at ≡ 0
+pub reclaimable-is-full : (c : BucketConfig) (at : Nanos) (limit : Millis) (slot : Slot) → reclaimable c at limit slot ≡ true
+    → shortfallAt c (slot .bucket) at ≡ 0
 reclaimable-is-full c at limit slot = by-test (expired slot (millisOf at) limit) (λ t. rw t (λ full. eqb-true _ _ full)) (λ t. rw t (λ e. cc))
 
 -- An idle sweep leaves a sound shard with the same ledger. So does a look, which is an idle sweep of one look.

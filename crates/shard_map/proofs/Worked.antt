@@ -1,5 +1,5 @@
--- A shard in its words, found by the index in them; and the sentences of document 01 on the idle sweep, each worked on a small shard in place order. There a slot's
--- hash and key are the same small number, its stamp is moment 0, and a free place is `noSlot`. Two parts come back each nanosecond.
+-- A shard in its words, found by the index in them; and the sentences of document 01 on the idle sweep, each worked on a small shard in place order. There a
+-- slot's hash and key are the same small number, its stamp is moment 0, and a free place is `noSlot`. Two parts come back each nanosecond.
 use Prim.Native.Nat.{ℕ, _+_}
 use mathlib.Core.Path.{_≡_, refl}
 use mathlib.Core.List.{List, [], _∷_}
@@ -33,7 +33,8 @@ ms n = record { 0 = n }
 
 -- A slot by its number, its shortfall, its mark and the millisecond of its last-seen.
 abbrev pub slot : ℕ → ℕ → ℕ → ℕ → Slot
-slot number shortfall mark seen = record { hash = number; key = number; bucket = record { shortfall = shortfall; stamp = moment 0 }; mark = mark; seen = ms seen }
+slot number shortfall mark seen =
+    record { hash = number; key = number; bucket = record { shortfall = shortfall; stamp = moment 0 }; mark = mark; seen = ms seen }
 
 -- A ledger by its count, its cursor and what stands in all its places, and a shard by its count, its hand, its sweep, its places and its ledger.
 abbrev pub ledger : ℕ → ℕ → List Debt → Ledger.Ledger
@@ -46,7 +47,8 @@ abbrev pub noDebts : Ledger.Ledger
 noDebts = ledger 0 0 (Ledger.noDebt ∷ [])
 
 -- A shard with room for one slot in its words: the count, the hand, the sweep and the slot; then the ledger's count, its cursor and its debt, the two places of
--- the slots' index, and the two of the debts'. The slot of hash 5 and key 7 stands in the second place, its hash's home. Lookup finds it by that, for its own key.
+-- the slots' index, and the two of the debts'. The slot of hash 5 and key 7 stands in the second place, its hash's home. Lookup finds it by that, for its own
+-- key.
 abbrev inWords : List ℕ
 inWords = 1 ∷ 0 ∷ 0 ∷ 5 ∷ 7 ∷ 0 ∷ 0 ∷ 0 ∷ 0 ∷ 0 ∷ 0 ∷ 0 ∷ 0 ∷ 0 ∷ 1 ∷ 0 ∷ 0 ∷ []
 

@@ -65,8 +65,8 @@ shardWords cap = ledgerStart cap + Ledger.ledgerWords cap
 abbrev pub slotIndex : ℕ → Index
 slotIndex cap = record { base = ledgerStart cap + Ledger.othersAt cap; size = placesFor cap; first = slotsAt; width = slotWidth; key = keyIn }
 
--- The shard that a table of slots and a ledger are, where the ledger's other words are the index of the slots. Those words stand in the shard once: the slots have
--- them, and the shard's ledger has none that are not its own.
+-- The shard that a table of slots and a ledger are, where the ledger's other words are the index of the slots. Those words stand in the shard once: the slots
+-- have them, and the shard's ledger has none that are not its own.
 abbrev pub shardWith : Table Slot → Debts.Ledger → Shard
 shardWith t l = record { slots = heldOf countAt (l .others) t; hand = t .head handAt; sweep = t .head sweepAt; ledger = withOthers l [] }
 

@@ -35,7 +35,8 @@ pub fn owed_by(ws: &[u64], cap: usize, hash: u64) -> OptionNanos
 // Takes out the debt of the hash, if there is one.
 pub fn take(ws: &mut [u64], cap: usize, hash: u64) -> OptionNanos
     requires { ⌜ Intact cap (now ws) ⌝ }
-    ensures { λ r. ⌜ outcome r (shard cap (now (ws .exit))) ≡ Model.inLedger (shard cap (now (ws .entry))) (Ledger.taken (shard cap (now (ws .entry)) .ledger) hash) ⌝ }
+    ensures { λ r. ⌜ outcome r (shard cap (now (ws .exit)))
+        ≡ Model.inLedger (shard cap (now (ws .entry))) (Ledger.taken (shard cap (now (ws .entry)) .ledger) hash) ⌝ }
 {
     let start = words::ledger_start(cap);
     ledger::take(&mut ws[start..], cap, hash)
@@ -44,7 +45,8 @@ pub fn take(ws: &mut [u64], cap: usize, hash: u64) -> OptionNanos
 // Records a debt.
 pub fn record(ws: &mut [u64], cap: usize, debt: Debt, at: Nanos, forget: bool) -> Recorded
     requires { ⌜ Intact cap (now ws) ⌝ }
-    ensures { λ r. ⌜ outcome r (shard cap (now (ws .exit))) ≡ Model.inLedger (shard cap (now (ws .entry))) (Ledger.recorded (shard cap (now (ws .entry)) .ledger) debt at forget) ⌝ }
+    ensures { λ r. ⌜ outcome r (shard cap (now (ws .exit)))
+        ≡ Model.inLedger (shard cap (now (ws .entry))) (Ledger.recorded (shard cap (now (ws .entry)) .ledger) debt at forget) ⌝ }
 {
     let start = words::ledger_start(cap);
     ledger::record(&mut ws[start..], cap, debt, at, forget)
@@ -53,7 +55,8 @@ pub fn record(ws: &mut [u64], cap: usize, debt: Debt, at: Nanos, forget: bool) -
 // Drops settled debts among the next `budget` looks.
 pub fn sweep(ws: &mut [u64], cap: usize, at: Nanos, budget: usize)
     requires { ⌜ Intact cap (now ws) ⌝ }
-    ensures { λ _. ⌜ shard cap (now (ws .exit)) ≡ Model.withLedger (shard cap (now (ws .entry))) (Ledger.sweep at budget (shard cap (now (ws .entry)) .ledger)) ⌝ }
+    ensures { λ _. ⌜ shard cap (now (ws .exit))
+        ≡ Model.withLedger (shard cap (now (ws .entry))) (Ledger.sweep at budget (shard cap (now (ws .entry)) .ledger)) ⌝ }
 {
     let start = words::ledger_start(cap);
     ledger::sweep(&mut ws[start..], cap, at, budget);
@@ -62,7 +65,8 @@ pub fn sweep(ws: &mut [u64], cap: usize, at: Nanos, budget: usize)
 // Pays tokens off the debt of the hash, if there is one.
 pub fn pay_down(ws: &mut [u64], cap: usize, hash: u64, cost: u32, config: BucketConfig) -> bool
     requires { ⌜ Intact cap (now ws) × Accepted config ⌝ }
-    ensures { λ r. ⌜ outcome r (shard cap (now (ws .exit))) ≡ Model.inLedger (shard cap (now (ws .entry))) (Ledger.paidDown (shard cap (now (ws .entry)) .ledger) hash cost config) ⌝ }
+    ensures { λ r. ⌜ outcome r (shard cap (now (ws .exit)))
+        ≡ Model.inLedger (shard cap (now (ws .entry))) (Ledger.paidDown (shard cap (now (ws .entry)) .ledger) hash cost config) ⌝ }
 {
     let start = words::ledger_start(cap);
     ledger::pay_down(&mut ws[start..], cap, hash, cost, config)

@@ -27,7 +27,8 @@ pub fn position(ws: &[u64], cap: usize, hash: u64, key: u64) -> Place
 // The index gets the slot of this hash that the caller will put at the place.
 fn add_to_index(ws: &mut [u64], cap: usize, hash: u64, pos: usize)
     requires { ⌜ Intact cap (now ws) × (pos < cap) ⌝ }
-    ensures { λ _. ⌜ shard cap (now (ws .exit)) ≡ Model.withFinding (shard cap (now (ws .entry))) (withAdded (shard cap (now (ws .entry)) .slots .finding) hash pos) ⌝ }
+    ensures { λ _. ⌜ shard cap (now (ws .exit))
+        ≡ Model.withFinding (shard cap (now (ws .entry))) (withAdded (shard cap (now (ws .entry)) .slots .finding) hash pos) ⌝ }
 {
     index::add(ws, words::index(cap), hash, pos);
 }
@@ -35,7 +36,8 @@ fn add_to_index(ws: &mut [u64], cap: usize, hash: u64, pos: usize)
 // The slot at a place leaves the index, and the last slot gets its number.
 fn remove_from_index(ws: &mut [u64], cap: usize, pos: usize)
     requires { ⌜ Intact cap (now ws) × (pos < shard cap (now ws) .slots .count) ⌝ }
-    ensures { λ _. ⌜ shard cap (now (ws .exit)) ≡ Model.withFinding (shard cap (now (ws .entry))) (withoutItem Model.slotItems (shard cap (now (ws .entry)) .slots) pos) ⌝ }
+    ensures { λ _. ⌜ shard cap (now (ws .exit))
+        ≡ Model.withFinding (shard cap (now (ws .entry))) (withoutItem Model.slotItems (shard cap (now (ws .entry)) .slots) pos) ⌝ }
 {
     let count = words::count(ws, cap);
     index::remove(ws, words::index(cap), count, pos);

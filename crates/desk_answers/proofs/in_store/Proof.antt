@@ -26,7 +26,8 @@ same-length c = search needs
 returns : tie.Need-returns
 returns c =
     let args′ = c .before .before .before .before .before .before .args in
-    lent-answered (args′ .settings) (args′ .memory .now) _ (answered (args′ .settings) (args′ .line)) (c .before .before .before .before .store-size .ensures) (c .before .before .answer .ensures)
+    lent-answered (args′ .settings) (args′ .memory .now) _ (answered (args′ .settings) (args′ .line)) (c .before .before .before .before .store-size .ensures)
+    (c .before .before .answer .ensures)
 
 pub in-store-spec : {M : Type 1} → statement M
 in-store-spec =

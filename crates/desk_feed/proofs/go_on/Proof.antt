@@ -11,7 +11,8 @@ use Rattle.desk_feed.proofs.go_on.Statement.{statement}
 use Rattle.desk_feed.proofs.go_on.Tie as tie
 
 abbrev Inv-loop : tie.InvT-loop
-Inv-loop input₀ pending₀ output₀ memory₀ feed₀ turns₀ input pending output memory feed turns = GoingOn input₀ pending₀ output₀ memory₀ feed₀ input pending output memory feed turns
+Inv-loop input₀ pending₀ output₀ memory₀ feed₀ turns₀ input pending output memory feed turns =
+    GoingOn input₀ pending₀ output₀ memory₀ feed₀ input pending output memory feed turns
 
 abbrev μ-loop : tie.MeasureT-loop
 μ-loop input₀ pending₀ output₀ memory₀ feed₀ turns₀ input pending output memory feed turns = 2 ^ 64 - turns
@@ -41,7 +42,15 @@ grown g = let r = g .before .before .before .before in rw (g .got .given .1) at 
 loop-holds : tie.Need-loop-holds Inv-loop μ-loop
 loop-holds c =
     let start′ = c .before .before .before in
-    record { same-input = refl; same-output = refl; same-memory = refl; few = start′ .pre .2; counted = omega arith; more = start′ .pre .3; far = none-turned _ _ }
+    record {
+      same-input = refl;
+      same-output = refl;
+      same-memory = refl;
+      few = start′ .pre .2;
+      counted = omega arith;
+      more = start′ .pre .3;
+      far = none-turned _ _;
+    }
 
 read-more-requires : tie.Need-read-more-requires Inv-loop μ-loop
 read-more-requires c κs = search needs

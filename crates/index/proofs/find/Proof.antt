@@ -46,7 +46,8 @@ returns-3 c =
     let look = c .before .before .before in
     let homed = look .before in
     let pre′ = homed .before .before .pre in
-    rw (c .find-on .ensures) (find-home _ _ _ _ _ _ (places-length _ _ (pre′ .inside)) (pre′ .room) (homed .home .ensures) (look .probe .ensures) (c .before .enum-told2 .given .1))
+    rw (c .find-on .ensures)
+    (find-home _ _ _ _ _ _ (places-length _ _ (pre′ .inside)) (pre′ .room) (homed .home .ensures) (look .probe .ensures) (c .before .enum-told2 .given .1))
 
 pub find-spec : {M : Type 1} → statement M
 find-spec =

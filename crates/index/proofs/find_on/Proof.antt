@@ -17,7 +17,8 @@ use Rattle.index.proofs.find_on.Tie as tie
 record Walking (ws : List ℕ) (index : Index) (n hash key home size q left : ℕ) : Type 0 where
   below : q < size
   sized : size ≡ index .size
-  same : findFrom n (keyed index ws hash key) (placesOf index ws) q left ≡ findFrom n (keyed index ws hash key) (placesOf index ws) (onward (index .size) home) (index .size - 1)
+  same : findFrom n (keyed index ws hash key) (placesOf index ws) q left
+      ≡ findFrom n (keyed index ws hash key) (placesOf index ws) (onward (index .size) home) (index .size - 1)
 
 abbrev Inv-loop : tie.InvT-loop
 Inv-loop ws index n hash key home size q₀ left₀ q left = Walking ws index n hash key home size q left
@@ -32,10 +33,12 @@ turned : (l : tie.After-probe Inv-loop μ-loop) {p : Probed} → l .probe .resul
     let test = keyed (args .index) (args .ws .now) (args .hash) (args .key) in
     let ix = placesOf (args .index) (args .ws .now) in
     let size = args .index .size in
-    afterLook p (findFrom (args .n) test ix (onward size (head .loop .q)) (head .loop .left - 1)) ≡ findFrom (args .n) test ix (onward size (args .home)) (size - 1)
+    afterLook p (findFrom (args .n) test ix (onward size (head .loop .q)) (head .loop .left - 1))
+    ≡ findFrom (args .n) test ix (onward size (args .home)) (size - 1)
 turned l which =
     let head = l .before .before in
-    find-turn _ _ _ _ _ _ (places-length _ _ (head .before .before .before .pre .0 .inside)) (l .before .loop-test .taken) (l .probe .ensures) which ∙ head .loop .inv .same
+    find-turn _ _ _ _ _ _ (places-length _ _ (head .before .before .before .pre .0 .inside)) (l .before .loop-test .taken) (l .probe .ensures) which
+    ∙ head .loop .inv .same
 
 onward-requires : tie.Need-onward-requires Inv-loop μ-loop
 onward-requires c κs = search needs

@@ -53,7 +53,8 @@ finish-requires c κs =
     let k = w .before .before in
     let s = start k in
     let settled = attempted k .before .before .settings-of .ensures in
-    left-may-be-finished (request s) (settings s) (moment s) (key s) (s .args .cost) (s .args .ws .now) _ settled (attempted k .attempt-try .ensures) (w .why .given .1)
+    left-may-be-finished (request s) (settings s) (moment s) (key s) (s .args .cost) (s .args .ws .now) _ settled (attempted k .attempt-try .ensures)
+    (w .why .given .1)
 
 told-requires-2 : tie.Need-told-requires-2
 told-requires-2 c κs = search needs
@@ -67,7 +68,8 @@ returns c =
     let k = y .before .before in
     let s = start k in
     let settled = attempted k .before .before .settings-of .ensures in
-    let told = attempt-is-told (request s) (settings s) (moment s) (key s) (s .args .cost) (s .args .ws .now) _ settled (attempted k .attempt-try .ensures) (y .reply .given .1) in
+    let told = attempt-is-told (request s) (settings s) (moment s) (key s) (s .args .cost) (s .args .ws .now) _ settled (attempted k .attempt-try .ensures)
+    (y .reply .given .1) in
     outcome-is-told told (c .told .ensures)
 
 same-length-2 : tie.Need-same-length-2

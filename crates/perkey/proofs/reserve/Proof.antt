@@ -27,7 +27,8 @@ finish-requires c κs =
     let w = c .before .before in
     let k = w .before .before in
     let a = start k .args in
-    left-may-be-finished (Reserve (a .max-wait)) (a .settings) (a .at) (a .id) (a .cost) (a .ws .now) _ refl (attempted k .attempt-reserve .ensures) (w .why .given .1)
+    left-may-be-finished (Reserve (a .max-wait)) (a .settings) (a .at) (a .id) (a .cost) (a .ws .now) _ refl (attempted k .attempt-reserve .ensures)
+    (w .why .given .1)
 
 same-length : tie.Need-same-length
 same-length c = search needs
@@ -36,7 +37,8 @@ returns : tie.Need-returns
 returns c =
     let k = c .before .before .before in
     let a = start k .args in
-    attempt-is-told (Reserve (a .max-wait)) (a .settings) (a .at) (a .id) (a .cost) (a .ws .now) _ refl (attempted k .attempt-reserve .ensures) (c .before .reply .given .1)
+    attempt-is-told (Reserve (a .max-wait)) (a .settings) (a .at) (a .id) (a .cost) (a .ws .now) _ refl (attempted k .attempt-reserve .ensures)
+    (c .before .reply .given .1)
 
 same-length-2 : tie.Need-same-length-2
 same-length-2 c = search needs
@@ -47,7 +49,8 @@ returns-2 c =
     let w = f .before .before .before in
     let k = w .before .before in
     let a = start k .args in
-    finished-is-told (Reserve (a .max-wait)) (a .settings) (a .at) (a .id) (a .cost) (a .ws .now) _ refl (attempted k .attempt-reserve .ensures) (w .why .given .1) (f .finish .ensures)
+    finished-is-told (Reserve (a .max-wait)) (a .settings) (a .at) (a .id) (a .cost) (a .ws .now) _ refl (attempted k .attempt-reserve .ensures)
+    (w .why .given .1) (f .finish .ensures)
 
 pub reserve-spec : {M : Type 1} → statement M
 reserve-spec =

@@ -47,7 +47,8 @@ returns-2 c =
     let w = f .before .before .before in
     let k = w .before .before in
     let a = start k .args in
-    finished-is-told Acquire (a .settings) (a .at) (a .id) (a .cost) (a .ws .now) _ refl (attempted k .attempt-try .ensures) (w .why .given .1) (f .finish .ensures)
+    finished-is-told Acquire (a .settings) (a .at) (a .id) (a .cost) (a .ws .now) _ refl (attempted k .attempt-try .ensures) (w .why .given .1)
+    (f .finish .ensures)
 
 pub try-acquire-with-cost-spec : {M : Type 1} → statement M
 try-acquire-with-cost-spec =

@@ -23,7 +23,8 @@ lending : (l : tie.After-lend) → let a = start l .args in
 lending l =
     let a = start l .args in
     let e = l .before .before .before .before in
-    request-lending Acquire (a .settings) (a .at) (a .id) (a .ws .now) (accepted e) (l .before .before .before .shape .ensures) (l .before .moment-refusal .ensures)
+    request-lending Acquire (a .settings) (a .at) (a .id) (a .ws .now) (accepted e) (l .before .before .before .shape .ensures)
+    (l .before .moment-refusal .ensures)
     (l .lend .ensures)
 
 refusal-requires : tie.Need-refusal-requires

@@ -14,7 +14,8 @@ is-lossless-requires : tie.Need-is-lossless-requires
 is-lossless-requires c κs = search needs
 
 returns : tie.Need-returns
-returns c = simp (c .is-lossless .ensures, rw (c .before .before .before .millis .ensures) at (sym (c .before .before .is-expired .ensures) ∙ c .before .if1 .taken))
+returns c =
+    simp (c .is-lossless .ensures, rw (c .before .before .before .millis .ensures) at (sym (c .before .before .is-expired .ensures) ∙ c .before .if1 .taken))
 
 returns-2 : tie.Need-returns-2
 returns-2 c = simp (rw (c .before .before .millis .ensures) at (sym (c .before .is-expired .ensures) ∙ c .if1 .left))

@@ -25,7 +25,8 @@ number-requires c κs = search needs
 returns-2 : tie.Need-returns-2
 returns-2 c =
     let args′ = c .before .before .before .before .before .args in
-    idle-of-number (args′ .line .now) (args′ .rest) _ (sym (c .before .before .before .is-dash .ensures) ∙ c .before .before .if1 .left) (c .before .number .ensures)
+    idle-of-number (args′ .line .now) (args′ .rest) _ (sym (c .before .before .before .is-dash .ensures) ∙ c .before .before .if1 .left)
+    (c .before .number .ensures)
 
 pub idle-spec : {M : Type 1} → statement M
 idle-spec = tie.close (tie.spec is-dash-requires add-t7 returns number-requires returns-2)

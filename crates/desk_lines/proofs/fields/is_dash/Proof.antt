@@ -26,7 +26,8 @@ add-result c = search needs
 returns-3 : tie.Need-returns-3
 returns-3 c =
     let args′ = c .before .before .before .before .before .before .args in
-    rw (c .end .ensures) (dash-by-end (args′ .line .now) (args′ .rest) (c .before .if3 .taken) (c .before .before .before .before .if1 .left) (c .before .before .if2 .left))
+    rw (c .end .ensures)
+    (dash-by-end (args′ .line .now) (args′ .rest) (c .before .if3 .taken) (c .before .before .before .before .if1 .left) (c .before .before .if2 .left))
 
 returns-4 : tie.Need-returns-4
 returns-4 c =

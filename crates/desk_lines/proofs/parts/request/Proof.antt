@@ -22,7 +22,8 @@ cast-t8 c = record { fits = omega (arith, value-within most32 _ (c .before .befo
 returns : tie.Need-returns
 returns c =
     let args′ = c .before .before .before .before .before .before .args in
-    request-taken (args′ .line .now) (args′ .rest) _ _ _ (c .before .before .before .before .number .ensures) (c .before .before .before .number2 .ensures) (c .before .before .number3 .ensures)
+    request-taken (args′ .line .now) (args′ .rest) _ _ _ (c .before .before .before .before .number .ensures) (c .before .before .before .number2 .ensures)
+    (c .before .before .number3 .ensures)
 
 pub request-spec : {M : Type 1} → statement M
 request-spec =

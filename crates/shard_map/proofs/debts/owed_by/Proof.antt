@@ -32,7 +32,8 @@ owed-by-requires c κs = let l = c .before in intact-ledger (start l .pre) (l .l
 returns : tie.Need-returns
 returns c =
     let l = c .before .before in
-    ledger-tells _ _ (start l .pre .size) (l .ledger-start .ensures) (λ m. Ledger.owedBy m (start l .args .hash)) (λ m ws. owed-with-others m ws _) (c .owed-by .ensures)
+    ledger-tells _ _ (start l .pre .size) (l .ledger-start .ensures) (λ m. Ledger.owedBy m (start l .args .hash)) (λ m ws. owed-with-others m ws _)
+    (c .owed-by .ensures)
 
 pub owed-by-spec : {M : Type 1} → statement M
 owed-by-spec =

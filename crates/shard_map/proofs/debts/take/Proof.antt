@@ -36,7 +36,8 @@ returns : tie.Need-returns
 returns c =
     let gave = c .before .before .take in
     let l = c .before .before .before .before in
-    ledger-answers _ _ (start l .pre .size) (l .ledger-start .ensures) _ (gave .kept .0) (λ m. Ledger.taken m (start l .args .hash)) (λ m ws. taken-with-others m ws _) (gave .ensures)
+    ledger-answers _ _ (start l .pre .size) (l .ledger-start .ensures) _ (gave .kept .0) (λ m. Ledger.taken m (start l .args .hash))
+    (λ m ws. taken-with-others m ws _) (gave .ensures)
 
 pub take-spec : {M : Type 1} → statement M
 take-spec =
