@@ -37,8 +37,8 @@ pub record TurnedTo (from : Standing) (size turns : ℕ) (to : Standing) : Type 
   pub counted : length reads ≡ turns
   pub is-turned : to ≡ turnedOver reads from
 
--- Whether the last line is answered: at the end of the input. Once the run has ended no line is left to answer (`none-once-ended` of `desk_turns`), so it may be said of
--- that too.
+-- Whether the last line is answered: at the end of the input. Once the run has ended no line is left to answer, so it may be said of
+-- that too (`none-once-ended` of `desk_turns`).
 abbrev pub withLast : Why → Bool
 withLast Input = true
 withLast Refused = true

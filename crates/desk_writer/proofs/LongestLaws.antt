@@ -8,7 +8,7 @@ use lib.ListN.{length}
 use Rattle.arith.proofs.Cases.{by-test}
 use Rattle.rows.specs.Outcome.{outcome}
 use Rattle.rows.proofs.OutcomeLaws.{answer-is}
-use Rattle.decimal.proofs.DecimalLaws.{digits-count}
+use Rattle.decimal.proofs.WriteLaws.{digits-count}
 use Rattle.desk_lines.specs.declared.Request.{Request}
 use Rattle.desk_lines.specs.Lines.{most32}
 use Rattle.desk_writer.specs.declared.Call.{Call}

@@ -1,7 +1,7 @@
 -- `words::add_number` stays inside the buffer: a number has at most 20 digits.
 use native.Mathlib.Omega.{arith}
 use Rattle.rows.proofs.OutcomeLaws.{answer-is}
-use Rattle.decimal.proofs.DecimalLaws.{digits-count}
+use Rattle.decimal.proofs.WriteLaws.{digits-count}
 use borrow.Author.Needs.{needs}
 use Rattle.desk_notes.proofs.words.add_number.Statement.{statement}
 use Rattle.desk_notes.proofs.words.add_number.Tie as tie
