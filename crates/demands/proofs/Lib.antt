@@ -23,6 +23,7 @@ pub mod CallSteps
 pub mod AppearsLaws
 pub mod RunLaws
 pub mod Theorem
+pub mod RefusalTheorem
 pub mod SizeTheorem
 pub mod MomentLaws
 pub mod OneShardLaws

@@ -6,6 +6,7 @@ use mathlib.Core.Bool.{true}
 use mathlib.Core.List.{List}
 use Rattle.settings.specs.declared.Settings.{Settings}
 use Rattle.settings.specs.declared.Shape.{Shape}
+use Rattle.settings.specs.Settings.{shapeOf}
 use Rattle.settings.specs.Before as Before
 use Rattle.settings.proofs.BeforeLaws.{accepted-before-is-as-before}
 use Rattle.store.specs.Memory.{wordsIn, memoryWords}
@@ -14,8 +15,9 @@ use Rattle.rules.specs.Calls.{Call, keyed, whole, len, Terms, settingsOf, rules
 use Rattle.rules.specs.Widths.{lendable}
 use Rattle.demands.specs.Demands.{Limiter, Demand2}
 
--- How many words the settings ask for, what set-up makes of any words, and what every call answers and leaves: all as at the shape of before.
+-- Shards and cap, how many words the settings ask for, what set-up makes of any words, and what every call answers and leaves: all as at the shape of before.
 pub record AsAtTheShapeOfBefore {S N : Type 0} (terms : Terms S N) (s : Settings) : Type 0 where
+  pub shape : shapeOf s ≡ Before.shapeOf s
   pub words : memoryWords s ≡ wordsIn (Before.shapeOf s)
   pub set-up : (ws : List ℕ) → setUp s ws ≡ setUpIn (Before.shapeOf s) s ws
   pub answers : (c : Call S N) (ws : List ℕ) → settingsOf terms c ≡ s → rules terms c ws ≡ rulesIn terms Before.shapeOf c ws
@@ -35,6 +37,7 @@ module _ {S N : Type 0} (terms : Terms S N) where
   accepted-before-is-as-at-the-shape-of-before s accepted =
       let shape = accepted-before-is-as-before s accepted .shape in
       record {
+        shape = shape;
         words = ap wordsIn shape;
         set-up = λ ws. ap (λ (shape : Shape). setUpIn shape s ws) shape;
         answers = λ c ws same. answers-by-shape c ws (rw same accepted);

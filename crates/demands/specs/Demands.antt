@@ -1,5 +1,6 @@
--- What is promised of a limiter, as two claims about any limiter: demand 2, that it does what the rules say; demand 3, the window and the own bucket. Demand 1,
--- that no call faults, overflows or fails to end, is what `rt` proves of every function; that no operation has a `requires` is in the contracts of `perkey`.
+-- What is promised of a limiter, as claims about any limiter: of demand 1, that a call which is refused by number changes no word (`RefusedChangesNothing`);
+-- demand 2, that it does what the rules say; demand 3, the window and the own bucket. That no call faults, overflows or fails to end is what `rt` proves of
+-- every function. No operation and no export has a `requires`: the contracts in src/ of `perkey`, `modems`, `limiter`, `limiter_modems` show that.
 --
 -- Demand 3 in plain English. Behind each clause stands the name that states it.
 --
@@ -32,6 +33,7 @@
 --
 -- Theorems, in proofs/:
 -- * `rules-meet-demand3`: the rules meet it. `demand2-gives-demand3`: so does every limiter that meets demand 2.
+-- * `demand2-changes-nothing-where-refused`: a limiter that meets demand 2 changes no word where it refuses.
 -- * `contracts-meet-demand2`, `contracts-meet-demand3`: so does code that is as the contracts of `perkey` and `modems` tell its callers, in lists that mix
 -- both.
 -- * `exports-meet-demand2`: what C and Rust call gives the rules' replies as numbers. `exports-meet-demand3`: so their callers have a limiter that meets it.
@@ -57,7 +59,7 @@ use Rattle.shard.specs.Model.{ownDecision, holds}
 use Rattle.store.specs.Memory.{shardAt}
 use Rattle.rules.specs.declared.Reply.{Reply}
 use Rattle.rules.specs.declared.Reply.the-variants.{Done}
-use Rattle.rules.specs.Replies.{ofGrant}
+use Rattle.rules.specs.Replies.{ofGrant, numbered}
 use Rattle.rules.specs.Asks.{Ask, requests, looks, undoes, Manner, asTry, asReservation, mannerOf, replyTo}
 use Rattle.rules.specs.Rules.{setUp, clear}
 use Rattle.rules.specs.Widths.{lendable}
@@ -99,6 +101,15 @@ module _ {S N : Type 0} (terms : Terms S N) where
     pub sets-up : (s : S) (ws : List ℕ) → terms .settingsFit s ≡ true → lendable ws ≡ true → l .sets-up s ws ≡ setUp (terms .settings s) ws
     pub clears : (s : S) (ws : List ℕ) → terms .settingsFit s ≡ true → lendable ws ≡ true → l .clears s ws ≡ clear (terms .settings s) ws
     pub answers : (c : Call S N) (ws : List ℕ) → fits terms c ≡ true → lendable ws ≡ true → l .answers c ws ≡ rules terms c ws
+
+  -- Of demand 1: where the reply is a refusal by number, all words are as they were.
+  pub record RefusedChangesNothing (l : Limiter S N) : Type 0 where
+    pub sets-up : (s : S) (ws : List ℕ) → terms .settingsFit s ≡ true → lendable ws ≡ true → numbered (l .sets-up s ws .answer) ≡ true
+        → l .sets-up s ws .after ≡ ws
+    pub clears : (s : S) (ws : List ℕ) → terms .settingsFit s ≡ true → lendable ws ≡ true → numbered (l .clears s ws .answer) ≡ true
+        → l .clears s ws .after ≡ ws
+    pub answers : (c : Call S N) (ws : List ℕ) → fits terms c ≡ true → lendable ws ≡ true → numbered (l .answers c ws .answer) ≡ true
+        → l .answers c ws .after ≡ ws
 
   -- The conditions of the window rule bind accepted calls only. They all have the settings of set-up;
   abbrev pub SameSettings : Settings → List (Answered S N) → Type 0

@@ -1,6 +1,7 @@
--- The limiter as C and Rust call it: the nine operations that `limiter` exports on plain numbers, the five that `limiter_modems` exports on numbers and the
--- bytes of an address, demand 2 of them, and the limiter that a caller has in them, who reads replies from their numbers. Each call of a list writes its
--- settings as numbers of its own.
+-- The limiter as C and Rust call it: the nine exports of `limiter` that are lent words, on plain numbers, and the five of `limiter_modems`, on numbers and the
+-- bytes of an address; demand 2 of them; and the limiter that a caller has in them, who reads replies from their numbers. Each call of a list writes its
+-- settings as numbers of its own. The other exports are lent no words, so they are no calls of a list: the number of words, the hash of a key, the identity of
+-- an address, the version.
 use Prim.Native.Nat.{ℕ, _-_}
 use mathlib.Core.Path.{_≡_}
 use mathlib.Core.Bool.{Bool, true, cond, _&&_}
@@ -72,8 +73,8 @@ numbersFit n =
 abbrev pub exported : Terms LimiterSettings Name
 exported = namedIn settingsOf numbersFit
 
--- The export by which a call is made, with the call's own numbers. There is none for the tokens of an address, and no list has such a call: it
--- does not fit (`offers` of `rules`).
+-- The export by which a call is made, with the call's own numbers. There is none for the tokens of an address. No list has such a call, since it does not fit
+-- (`offeredByAddress` of `modems` is false of it).
 abbrev noExport : Gives
 noExport ws = outcome (toldOf Nothing) ws
 
@@ -98,7 +99,9 @@ pub record ExportDemand2 (e : Exports) : Type 0 where
   pub clears : (n : LimiterSettings) (ws : List ℕ) → numbersFit n ≡ true → lendable ws ≡ true → e .clear n ws ≡ told (clear (settingsOf n) ws)
   pub answers : (c : Call LimiterSettings Name) (ws : List ℕ) → fits exported c ≡ true → lendable ws ≡ true → through e c ws ≡ told (rules exported c ws)
 
--- How a caller reads a reply, by the kind of the call: the code tells which reply of that kind it is. Any other code is read as a refusal.
+-- How a caller reads a reply, by the kind of the call. The code tells which reply of that kind it is. A number or a moment that this reply does not have is not
+-- read; `ExportDemand2` says that it is 0. Any other code is read as a refusal, by the code less 10; a code below 10 is read as `Refused 0`, which the rules
+-- never answer.
 abbrev refusedBy : Told → Reply
 refusedBy r = Refused (r .code - 10)
 

@@ -1,6 +1,6 @@
 -- Implementations of the calls that look as if they kept the promises: the six of document 01, and five more. Each of them fails demand 2
 -- (proofs/ImpostorLaws.antt). The one that counts a key too many and the one that turns newcomers away meet demand 3 (proofs/TellingLaws.antt). The one that
--- tells no moments fails those of request 1. All others are shown to fail demand 3.
+-- tells no moments fails `TellsMoments`; whether it meets demand 3 is not shown. All others are shown to fail demand 3.
 use Prim.Native.Nat.{ℕ, _+_, min}
 use mathlib.Core.Bool.{Bool, cond}
 use mathlib.Core.List.{List, [], _∷_}

@@ -18,7 +18,7 @@ use Rattle.rules.specs.Calls.{Call, keyed, whole, Terms, Answered, replies, all
 use Rattle.demands.specs.Demands.{Limiter, usable, usableFrom}
 
 -- A try that is granted tells the moment of the call. A reservation that is granted tells that moment plus its wait, and so does a retry, held to 64 bits: on
--- damaged memory the wait of a retry may leave them. Of other replies nothing is asked here.
+-- damaged memory the wait of a retry may leave them. Other replies have no moment.
 abbrev pub momentTold : Manner → Nanos → Reply → Type 0
 momentTold m at (Tried (Acquired due)) = due .moment .0 ≡ usableFrom m at 0
 momentTold m at (Tried (Retry due)) = due .moment .0 ≡ saturated (at .0 + due .wait .0)

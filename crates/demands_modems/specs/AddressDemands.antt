@@ -1,5 +1,6 @@
--- Demand 3 as it reads for hardware addresses (request 4 of document 02): the window for every address, in lists whose calls name modems by the bytes of their
--- addresses. `Demands` of crate demands has it for identities, in lists that may mix calls by key and by address; here names and sums are those of bytes.
+-- Demand 3 as it reads for hardware addresses (request 4 of document 02): the window for every address, in lists whose calls name modems by the bytes of
+-- their addresses. `Demands` of crate demands has it for identities, in lists that may mix calls by key and by address; here names and sums are those of
+-- bytes. A list that has calls by key too, such as looks at available, is one of those lists, with `identityOf` of `modems` for the address.
 --
 -- In plain English. Behind each clause stands the name that states it.
 --

@@ -1,4 +1,5 @@
--- How a run has gone, from wherever it stood: there are reads of which it stands turned over them.
+-- How a run has gone, from wherever it stood: some reads exist, and a turn for each of them leads from that standing to the last one. Which bytes standard
+-- input had, and which were written, no contract says.
 use Prim.Native.Nat.{ℕ, _-_, _^_, _≤_, _<_}
 use mathlib.Core.Path.{_≡_}
 use mathlib.Core.Bool.{Bool, true, false, cond}
@@ -25,7 +26,7 @@ standing pending input f memory = record { pending = take pending input; state =
 abbrev pub atStart : List ℕ → Standing
 atStart memory = record { pending = []; state = record { stage = First; number = 0; memory = memory } }
 
--- None of the reads brought more bytes than there are in the input.
+-- No read brought more bytes than the input buffer holds.
 abbrev pub Short : ℕ → List (List ℕ) → Type 0
 Short size [] = Unit {0}
 Short size (read ∷ reads) = (length read ≤ size) × Short size reads
@@ -37,8 +38,8 @@ pub record TurnedTo (from : Standing) (size turns : ℕ) (to : Standing) : Type 
   pub counted : length reads ≡ turns
   pub is-turned : to ≡ turnedOver reads from
 
--- Whether the last line is answered: at the end of the input. Once the run has ended no line is left to answer, so it may be said of
--- that too (`none-once-ended` of `desk_turns`).
+-- Whether the last line is answered: at the end of the input. Once the run has ended no line is left, so that answering the last
+-- line changes nothing (`none-once-ended` of `desk_turns`).
 abbrev pub withLast : Why → Bool
 withLast Input = true
 withLast Refused = true

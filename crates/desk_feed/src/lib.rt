@@ -27,7 +27,7 @@ pub enum Why {
     Write,
     // The write of the last line's answer failed.
     LastWrite,
-    // No run makes so many turns.
+    // The run has made 2^64 - 1 turns, the most that are counted. No run lasts so long.
     Turns,
 }
 

@@ -57,8 +57,8 @@ numbered Done = false
 numbered (Count n) = false
 numbered (Refused n) = true
 
--- `f` of the wait if the reply grants, else the other value. Acquired and a reservation both grant, whichever request is answered so: no grant of a try is
--- hidden in a reservation's reply, nor the other way round.
+-- `f` of the wait if the reply grants, else the other value. Acquired and a reservation both grant, whichever request is answered so: a try that
+-- is answered as a reservation counts as a grant, and so does a reservation that is answered as a try.
 abbrev pub ofGrant : {A : Type 0} → (ℕ → A) → A → Reply → A
 ofGrant f other (Tried (Acquired due)) = f 0
 ofGrant f other (Tried (Retry due)) = other
