@@ -17,7 +17,7 @@ use Rattle.desk_turns.proofs.RunLaws.{none-once-ended}
 use Rattle.desk_turns.proofs.CuttingLaws.{one-turn-more, turn-is-turned, every-cutting-stands-the-same}
 use Rattle.desk_feed.specs.declared.Ran.{Ran}
 use Rattle.desk_feed.specs.declared.Why.the-variants.{Input, Refused, Read, Write, LastWrite, Turns}
-use Rattle.desk_feed.specs.Ran.{standing, atStart, Short, TurnedTo, withLast, lastAnswered, mostTurns, AtEnd, RanFrom}
+use Rattle.desk_feed.specs.Ran.{standing, atStart, Short, EachWhileGoing, TurnedTo, withLast, lastAnswered, mostTurns, AtEnd, RanFrom}
 
 -- How the loop stands at its head.
 pub record GoingOn (input₀ : List ℕ) (pending₀ : ℕ) (output₀ memory₀ : List ℕ) (f₀ : Feed) (input : List ℕ) (pending : ℕ) (output memory : List ℕ) (f : Feed)
@@ -32,20 +32,27 @@ pub record GoingOn (input₀ : List ℕ) (pending₀ : ℕ) (output₀ memory₀
 
 -- No read yet, and one more.
 pub none-turned : (s : Standing) (size : ℕ) → TurnedTo s size 0 s
-unfolding turnedOver
-none-turned s size = record { reads = []; short = tt; counted = refl; is-turned = refl }
+unfolding turnedOver EachWhileGoing
+none-turned s size = record { reads = []; short = tt; counted = refl; going = tt; is-turned = refl }
 
 short-on : (size : ℕ) (reads : List (List ℕ)) (read : List ℕ) → Short size reads → length read ≤ size → Short size (reads ++ (read ∷ []))
 short-on size [] read short fits = (fits, tt)
 short-on size (first ∷ reads) read short fits = (short .0, short-on size reads read (short .1) fits)
 
-one-more : {from to : Standing} {size turns : ℕ} (read : List ℕ) → length read ≤ size → TurnedTo from size turns to
+going-on : (reads : List (List ℕ)) (read : List ℕ) (s : Standing) → EachWhileGoing reads s → hasEnded (turnedOver reads s .state .stage) ≡ false
+    → EachWhileGoing (reads ++ (read ∷ [])) s
+unfolding turnedOver EachWhileGoing
+going-on [] read s going more = (more, tt)
+going-on (first ∷ reads) read s going more = (going .0, going-on reads read (turned first s .after) (going .1) more)
+
+one-more : {from to : Standing} {size turns : ℕ} (read : List ℕ) → length read ≤ size → TurnedTo from size turns to → hasEnded (to .state .stage) ≡ false
     → TurnedTo from size (turns + 1) (turned read to .after)
-one-more {from} {size = size} read fits far =
+one-more {from} {size = size} read fits far more =
     record {
       reads = far .reads ++ (read ∷ []);
       short = short-on size (far .reads) read (far .short) fits;
       counted = omega (arith, length-append (far .reads) (read ∷ []), far .counted);
+      going = going-on (far .reads) read from (far .going) (sym (ap (λ (s : Standing). hasEnded (s .state .stage)) (far .is-turned)) ∙ more);
       is-turned = ap (λ (s : Standing). turned read s .after) (far .is-turned) ∙ sym (one-turn-more (far .reads) read from);
     }
 
@@ -56,7 +63,8 @@ ended-answers-none s ended = ap (λ (o : Outcome (List ℕ) State). o .after) (n
 -- A turn after a read, which leaves the bytes that are pending.
 module _ (input₀ : List ℕ) {from : Standing} {size turns pending end : ℕ} {f : Feed} {input memory output : List ℕ} {r : Turned}
     {input′ memory′ output′ : List ℕ}
-    (far : TurnedTo from size turns (standing pending input₀ f memory)) (stays : take pending input ≡ take pending input₀) (within : pending ≤ end)
+    (far : TurnedTo from size turns (standing pending input₀ f memory)) (was-going : hasEnded (f .stage) ≡ false)
+    (stays : take pending input ≡ take pending input₀) (within : pending ≤ end)
     (fits : length input ≤ size)
     (one : OneTurn f end input memory output r input′ memory′ output′) where
   abbrev read : List ℕ
@@ -66,7 +74,7 @@ module _ (input₀ : List ℕ) {from : Standing} {size turns pending end : ℕ} 
   next = turned read (standing pending input f memory) .after
 
   next-turned : TurnedTo from size (turns + 1) next
-  next-turned = one-more read (omega (arith, fits, length-take (end - pending) (drop pending input), length-drop pending input)) (rw stays far)
+  next-turned = one-more read (omega (arith, fits, length-take (end - pending) (drop pending input), length-drop pending input)) (rw stays far) was-going
 
   stands-next : stateOf (r .feed) memory′ ≡ next .state
   stands-next = turn-is-turned pending within one .1

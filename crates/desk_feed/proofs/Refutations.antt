@@ -1,9 +1,9 @@
--- What wrong programs leave does not meet the contract of `go_on`: one that leaves the last line unanswered, one that drops the bytes that are pending, and
--- one that stops after its first read.
-use Prim.Native.Nat.{ℕ}
+-- What wrong programs leave does not meet the contract of `go_on`: one that leaves the last line unanswered, one that drops the bytes that are pending,
+-- one that stops after its first read, and one that reads on after a line 1 that is not accepted.
+use Prim.Native.Nat.{ℕ, _+_}
 use native.Mathlib.Omega.{arith}
 use mathlib.Core.Path.{_≡_, refl, sym, ap, _∙_}
-use mathlib.Core.Bool.{Bool, true, false}
+use mathlib.Core.Bool.{Bool, true, false, true≢false}
 use mathlib.Core.List.{List, [], _∷_}
 use lib.Dec.{leb}
 use lib.ListN.{length, take}
@@ -15,13 +15,13 @@ use Rattle.desk_lines.specs.Lines.{longestLine, lineOfLetter, lineOfFields, lin
 use Rattle.desk_answers.specs.declared.Stage.{Stage}
 use Rattle.desk_answers.specs.declared.Stage.the-variants.{First, Open, Ended}
 use Rattle.desk_turns.specs.declared.Feed.{Feed}
-use Rattle.desk_turns.specs.Run.{State, Standing, lineAnswered, linesAnswered, onFirst, cut, lastLine, keptOf, turnedOver, joined}
+use Rattle.desk_turns.specs.Run.{State, Standing, hasEnded, lineAnswered, linesAnswered, onFirst, cut, lastLine, keptOf, turnedOver, joined}
 use Rattle.desk_turns.proofs.RunLaws.{none-once-ended}
 use Rattle.desk_turns.proofs.CuttingLaws.{stands-from}
 use Rattle.desk_feed.specs.declared.Ran.{Ran}
 use Rattle.desk_feed.specs.declared.Why.{Why}
 use Rattle.desk_feed.specs.declared.Why.the-variants.{Input, Turns}
-use Rattle.desk_feed.specs.Ran.{withLast, lastAnswered, overAt, RanFrom}
+use Rattle.desk_feed.specs.Ran.{withLast, lastAnswered, overAt, EachWhileGoing, TurnedTo, RanFrom}
 
 -- Before line 1, of which the byte `x` (120) is pending.
 abbrev beforeLine1 : List ℕ → State
@@ -34,6 +34,12 @@ nothing-read : {from to : Standing} (reads : List (List ℕ)) → length reads �
 unfolding turnedOver
 nothing-read [] none is = is
 nothing-read (read ∷ reads) none is = absurd (omega (arith, none))
+
+first-read-while-going : (s : Standing) (turns : ℕ) (reads : List (List ℕ)) → length reads ≡ turns + 1 → EachWhileGoing reads s
+    → hasEnded (s .state .stage) ≡ false
+unfolding EachWhileGoing
+first-read-while-going s turns [] counted going = absurd (omega (arith, counted))
+first-read-while-going s turns (read ∷ reads) counted going = going .0
 
 -- The input ends without a read. A run that stands then where it stood has not answered the line that was pending.
 pub last-line-has-to-be-answered : (memory memory′ : List ℕ) (size put : ℕ)
@@ -49,6 +55,11 @@ last-line-has-to-be-answered memory memory′ size put ran =
 pub reads-have-to-go-on : {from : Standing} {size : ℕ} {f : Feed} {memory′ : List ℕ}
     → RanFrom from size (record { why = Turns; feed = f; turns = 1 }) memory′ → ⊥
 reads-have-to-go-on ran = omega (arith, ran .rightly .1)
+
+-- No run reads on once it has ended.
+pub no-read-is-made-once-ended : {from to : Standing} {size : ℕ} (turns : ℕ) → TurnedTo from size (turns + 1) to → hasEnded (from .state .stage) ≡ true → ⊥
+no-read-is-made-once-ended {from} turns far ended =
+    true≢false (sym ended ∙ first-read-while-going from turns (far .reads) (far .counted) (far .going))
 
 -- A line that begins with `x` is malformed, whatever follows; as line 1 it ends the run.
 x-is-no-letter : (fs : List (List ℕ)) → lineOfFields (Fields.onFirst 120 fs) ≡ Malformed

@@ -9,7 +9,7 @@ use Rattle.desk_answers.specs.declared.Stage.{Stage}
 use Rattle.desk_answers.specs.declared.Stage.the-variants.{First}
 use Rattle.desk_turns.specs.declared.Feed.{Feed}
 use Rattle.desk_turns.specs.Feeding.{stateOf}
-use Rattle.desk_turns.specs.Run.{State, Standing, hasEnded, linesAnswered, lastLine, turnedOver}
+use Rattle.desk_turns.specs.Run.{State, Standing, hasEnded, linesAnswered, lastLine, turned, turnedOver}
 use Rattle.desk_feed.specs.declared.Ran.{Ran}
 use Rattle.desk_feed.specs.declared.Why.{Why}
 use Rattle.desk_feed.specs.declared.Why.the-variants.{Input, Refused, Read, Write, LastWrite, Turns}
@@ -31,11 +31,17 @@ abbrev pub Short : ℕ → List (List ℕ) → Type 0
 Short size [] = Unit {0}
 Short size (read ∷ reads) = (length read ≤ size) × Short size reads
 
+-- No read was made once the run had ended.
+unfoldable pub EachWhileGoing : List (List ℕ) → Standing → Type 0
+EachWhileGoing [] s = Unit {0}
+EachWhileGoing (read ∷ reads) s = (hasEnded (s .state .stage) ≡ false) × EachWhileGoing reads (turned read s .after)
+
 -- The run has come from one standing to another in so many turns, over some reads.
 pub record TurnedTo (from : Standing) (size turns : ℕ) (to : Standing) : Type 0 where
   pub reads : List (List ℕ)
   pub short : Short size reads
   pub counted : length reads ≡ turns
+  pub going : EachWhileGoing reads from
   pub is-turned : to ≡ turnedOver reads from
 
 -- Whether the last line is answered: at the end of the input. Once the run has ended no line is left, so that answering the last

@@ -125,7 +125,7 @@ returns-3 c =
     let t = turned (c .before .before) in
     let r = read (known t) in
     let loop′ = turn-head r .loop in
-    over-by-write (loop′ .input) (loop′ .inv .far) (r .read-more .ensures .1) (grown (known t) .0) (omega arith) (t .turn .ensures)
+    over-by-write (loop′ .input) (loop′ .inv .far) (loop′ .inv .more) (r .read-more .ensures .1) (grown (known t) .0) (omega arith) (t .turn .ensures)
 
 has-ended-requires : tie.Need-has-ended-requires Inv-loop μ-loop
 has-ended-requires c κs = search needs
@@ -145,7 +145,7 @@ returns-4 c =
     let r = read (known t) in
     let loop′ = turn-head r .loop in
     let ended = sym (c .before .has-ended .ensures) ∙ c .if2 .taken in
-    over-by-line-1 (loop′ .input) (loop′ .inv .far) (r .read-more .ensures .1) (grown (known t) .0) (omega arith) (t .turn .ensures) ended
+    over-by-line-1 (loop′ .input) (loop′ .inv .far) (loop′ .inv .more) (r .read-more .ensures .1) (grown (known t) .0) (omega arith) (t .turn .ensures) ended
 
 loop-less : tie.Need-loop-less Inv-loop μ-loop
 loop-less c = search needs
@@ -163,7 +163,7 @@ loop-again c =
       few = omega (arith, t .turn .ensures .few);
       counted = search needs;
       more = more;
-      far = goes-on (loop′ .input) (loop′ .inv .far) (r .read-more .ensures .1) (grown (known t) .0) (omega arith) (t .turn .ensures) more;
+      far = goes-on (loop′ .input) (loop′ .inv .far) (loop′ .inv .more) (r .read-more .ensures .1) (grown (known t) .0) (omega arith) (t .turn .ensures) more;
     }
 
 same-length-13 : tie.Need-same-length-13 Inv-loop μ-loop
