@@ -3,7 +3,7 @@ ghost use mathlib.Core.Path.{_≡_};
 ghost use Prim.Native.Nat.{_≤_};
 ghost use Rattle.arith.specs.Arith.{saturated};
 ghost use Rattle.bucket.specs.Bucket.{Accepted, fullParts, mostShortfall, readShortfall, shortfallAt, availableAt, fullAt, fresh, grown, waitAt};
-ghost use Rattle.bucket.specs.Bucket.{dueAfter, dueAt, recoveryOf, recoveryAt, spent, longestWait, asked, refunded};
+ghost use Rattle.bucket.specs.Bucket.{dueAfter, dueAt, recoveryOf, recoveryAt, spent, longestWait, isTry, asked, refunded};
 ghost use Rattle.bucket.specs.Debt.{missingTokens, charged, takenOut, restored};
 use units::Nanos;
 
@@ -41,10 +41,11 @@ pub enum BucketDecision {
     Denied(Due),
 }
 
-// An answer, and the bucket after it.
+// An answer, the bucket after it, and whether the answer turned a try away: the bucket made it wait.
 pub struct BucketOutcome {
     pub decision: BucketDecision,
     pub bucket: BucketCore,
+    pub turned_away: bool,
 }
 
 impl Due {
@@ -224,11 +225,13 @@ impl BucketCore {
             return BucketOutcome {
                 decision: BucketDecision::Allowed(due),
                 bucket: spent,
+                turned_away: false,
             };
         }
         BucketOutcome {
             decision: BucketDecision::Denied(due),
             bucket: self,
+            turned_away: request.is_try(),
         }
     }
 
@@ -310,6 +313,16 @@ impl Request {
         match self {
             Request::Acquire => Nanos(0),
             Request::Reserve(longest) => longest,
+        }
+    }
+
+    // Whether the request is a try: it wants its tokens now.
+    pub fn is_try(self) -> bool
+        ensures { λ r. ⌜ r ≡ isTry self ⌝ }
+    {
+        match self {
+            Request::Acquire => true,
+            Request::Reserve(_) => false,
         }
     }
 }

@@ -61,7 +61,7 @@ module _ (v : View) where
         record {
           answer = ap (λ (b : BucketCore). Bucket.asked (p .config) request b cost at .decision) bucket;
           after = change-alike v like refl
-              (v .refills (v .touches slot at (tracks (p .«idle_ttl»))) (ap (λ (b : BucketCore). Bucket.asked (p .config) request b cost at .bucket) bucket));
+              (v .asks (v .touches slot at (tracks (p .«idle_ttl»))) (ap (λ (b : BucketCore). Bucket.asked (p .config) request b cost at) bucket));
         }
 
     put-back-alike : {s t : Shard} → Like s t → (owed : OptionNanos) → Like (putBack (id .hash) at owed s) (putBack (id .hash) at owed t)

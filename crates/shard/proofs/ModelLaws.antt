@@ -18,7 +18,7 @@ use Rattle.rows.specs.declared.Place.the-variants.{At, Nowhere}
 use Rattle.rows.specs.Outcome.{outcome}
 use Rattle.rows.proofs.OutcomeLaws.{answer-is, after-is}
 use Rattle.slot.specs.declared.Slot.{Slot}
-use Rattle.slot.specs.Slot.{touched, withBucket}
+use Rattle.slot.specs.Slot.{touched, withBucket, withAsked}
 use Rattle.ledger.specs.Model as Ledger
 use Rattle.shard_map.specs.Model.{Shard, Sound, capOf, slotAt, withSlot, inLedger, placeOf, removeAt}
 use Rattle.shard_map.specs.Layout.{shard, Intact}
@@ -41,10 +41,10 @@ found-held s h k i e = found-holds s h k i e .below
 pub found-below-cap : {cap : ℕ} {ws : List ℕ} (h k i : ℕ) → Intact cap ws → placeOf (shard cap ws) h k ≡ At i → i < cap
 found-below-cap {cap} {ws} h k i intact e = intact-below intact (found-held (shard cap ws) h k i e)
 
--- A known key: the slot that was read is touched, and is put back with the bucket that was asked.
+-- A known key: the slot that was read is touched, and is put back with what its bucket came to when it was asked.
 pub known-by-store : (p : Policy) (request : Request) (cost : ℕ) (at : Nanos) (s : Shard) (i : ℕ) {slot : Slot}
     → slot ≡ touched (slotAt s i) at (tracks (p .«idle_ttl»))
-    → outcome (askedAt p slot request cost at .decision) (withSlot s i (withBucket slot (askedAt p slot request cost at .bucket)))
+    → outcome (askedAt p slot request cost at .decision) (withSlot s i (withAsked slot (askedAt p slot request cost at)))
     ≡ withExisting p request cost at s i
 unfolding withExisting
 known-by-store p request cost at s i is = rw is

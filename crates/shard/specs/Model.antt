@@ -23,7 +23,7 @@ use Rattle.settings.specs.Eviction.{ttlSweep, ledgerScan}
 use Rattle.settings.specs.Rate.{timeToFull}
 use Rattle.settings.specs.Settings.{idleLimitOf}
 use Rattle.slot.specs.declared.Slot.{Slot}
-use Rattle.slot.specs.Slot.{touched, withBucket, newSlot}
+use Rattle.slot.specs.Slot.{touched, withBucket, withAsked, newSlot}
 use Rattle.ledger.specs.Model as Ledger
 use Rattle.shard_map.specs.Model.{Shard, capOf, slotAt, withSlot, withLedger, inLedger, placeOf, removeAt, insert, sweepIdle}
 use Rattle.evict.specs.declared.Room.{Room}
@@ -37,14 +37,14 @@ abbrev pub tracks : OptionNanos → Bool
 tracks nanos.None = false
 tracks (nanos.Some ttl) = true
 
--- A known key's slot is touched, and its bucket is asked. It is never refused for space.
+-- A known key's slot is touched, and its bucket is asked. It is never refused for space. A try that its bucket denies counts as turned away.
 abbrev pub askedAt : Policy → Slot → Request → ℕ → Nanos → BucketOutcome
 askedAt p slot request cost at = Bucket.asked (p .config) request (slot .bucket) cost at
 
 unfoldable pub withExisting : Policy → Request → ℕ → Nanos → Shard → ℕ → Outcome BucketDecision Shard
 withExisting p request cost at s i =
     let slot = touched (slotAt s i) at (tracks (p .«idle_ttl»)) in
-    outcome (askedAt p slot request cost at .decision) (withSlot s i (withBucket slot (askedAt p slot request cost at .bucket)))
+    outcome (askedAt p slot request cost at .decision) (withSlot s i (withAsked slot (askedAt p slot request cost at)))
 
 -- The idle limit, by the idle time and the time in which a bucket is full.
 abbrev pub idleLimitIn : Policy → OptionMillis
@@ -72,11 +72,13 @@ abbrev pub returning : BucketConfig → Nanos → OptionNanos → BucketCore
 returning c at nanos.None = Bucket.fresh c at
 returning c at (nanos.Some settles) = restored c (Bucket.fresh c at) at settles
 
--- Room was made: the bucket is asked, and its slot comes last, unmarked, seen now, whatever the bucket answered.
+-- Room was made: the bucket is asked, and its slot comes last, unmarked, seen now, whatever the bucket answered. If it denied a try, that is the first try
+-- turned away.
 abbrev pub joined : Policy → Identity → Request → ℕ → Nanos → OptionNanos → Shard → Outcome BucketDecision Shard
 joined p id request cost at owed s =
-    let asked = Bucket.asked (p .config) request (returning (p .config) at owed) cost at in
-    outcome (asked .decision) (insert s (newSlot (id .hash) (id .key) (asked .bucket) (millisOf at)))
+    let bucket = returning (p .config) at owed in
+    let asked = Bucket.asked (p .config) request bucket cost at in
+    outcome (asked .decision) (insert s (withAsked (newSlot (id .hash) (id .key) bucket (millisOf at)) asked))
 
 -- A debt that was taken out goes back into the ledger.
 abbrev pub putBack : ℕ → Nanos → OptionNanos → Shard → Shard

@@ -65,8 +65,7 @@ pub fn with_existing(
     let config = policy.config;
     let asked = bucket.ask_at(config, request, cost, at);
     let decision = asked.decision;
-    let after = asked.bucket;
-    shard_map::set(ws, cap, pos, with_bucket(slot, after));
+    shard_map::set(ws, cap, pos, slot.asked(asked));
     decision
 }
 
@@ -81,6 +80,7 @@ fn with_bucket(slot: Slot, bucket: BucketCore) -> Slot
         bucket,
         mark: slot.mark,
         seen,
+        turned_away: slot.turned_away,
     }
 }
 
@@ -123,8 +123,8 @@ fn join(
     let bucket = returning(config, at, owed);
     let asked = bucket.ask_at(config, request, cost, at);
     let decision = asked.decision;
-    let after = asked.bucket;
-    shard_map::insert(ws, cap, Slot::new(id.hash, id.key, after, at.millis()));
+    let slot = Slot::new(id.hash, id.key, bucket, at.millis());
+    shard_map::insert(ws, cap, slot.asked(asked));
     decision
 }
 

@@ -24,7 +24,7 @@ pub record Shard : Type 0 where
 
 -- What stands in a place that holds no slot.
 abbrev pub noSlot : Slot
-noSlot = record { hash = 0; key = 0; bucket = record { shortfall = 0; stamp = record { 0 = 0 } }; mark = 0; seen = record { 0 = 0 } }
+noSlot = record { hash = 0; key = 0; bucket = record { shortfall = 0; stamp = record { 0 = 0 } }; mark = 0; seen = record { 0 = 0 }; «turned_away» = 0 }
 
 -- The slots as items: they are found by their hashes.
 abbrev pub slotItems : Items Slot

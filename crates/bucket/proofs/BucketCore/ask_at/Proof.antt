@@ -19,6 +19,9 @@ after-requires c κs = search needs
 longest-requires : tie.Need-longest-requires
 longest-requires c κs = search needs
 
+is-try-requires : tie.Need-is-try-requires
+is-try-requires c κs = search needs
+
 -- Once it is known when the cost is due.
 returns : tie.Need-returns
 returns c =
@@ -28,10 +31,10 @@ returns c =
 
 returns-2 : tie.Need-returns-2
 returns-2 c =
-    let d = c .before .before .before .before in
-    denial-is-told _ _ _ _ _ (d .before .wait-for .ensures) (d .after .ensures) (omega arith)
+    let d = c .before .before .before .before .before in
+    denial-is-told _ _ _ _ _ (d .before .wait-for .ensures) (d .after .ensures) (c .is-try .ensures) (omega arith)
 
 pub ask-at-spec : {M : Type 1} → statement M
 ask-at-spec =
     tie.close
-    (tie.spec spent-at-requires wait-for-requires after-requires longest-requires returns returns-2)
+    (tie.spec spent-at-requires wait-for-requires after-requires longest-requires returns is-try-requires returns-2)
