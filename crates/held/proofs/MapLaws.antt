@@ -1,9 +1,9 @@
 -- A map of items that keeps the hash of each, and the item that stands in a free place. Such a map may be made before or after a change of the held items, and
 -- lookup by what the map keeps finds the same place. So held items that the map makes equal are alike to every operation that reads only what it keeps.
 use Prim.Native.Nat.{ℕ, _-_}
-use mathlib.Core.Path.{_≡_, sym, ap, _∙_}
+use mathlib.Core.Path.{_≡_, refl, sym, ap, _∙_}
 use mathlib.Core.Bool.{Bool}
-use mathlib.Core.List.{map}
+use mathlib.Core.List.{List, [], _∷_, map}
 use lib.ListN.{length, getD, length-map, List·getD-map}
 use Rattle.rows.specs.declared.Place.{Place}
 use Rattle.rows.proofs.RowLaws.{map-set}
@@ -48,3 +48,11 @@ module _ {A : Type 0} (items : Items A) (f : A → A) (keeps-free : f (items .fr
     removes = λ {h} {g} {i} {j} like here. removed-mapped h i ∙ (λ k. removed items (like k) (here k)) ∙ sym (removed-mapped g j);
     stores = λ {h} {g} {i} {j} {x} {y} like here same. stored-mapped h i x ∙ (λ k. stored (like k) (here k) (same k)) ∙ sym (stored-mapped g j y);
   }
+
+-- A map that changes nothing the second time.
+pub mapped-twice : {A : Type 0} (f : A → A) → ((x : A) → f (f x) ≡ f x) → (h : Held A) → mapped f (mapped f h) ≡ mapped f h
+mapped-twice {A} f settled h = ap (λ (places : List A). record { count = h .count; places = places; finding = h .finding }) (go (h .places))
+  where
+    go : (xs : List A) → map f (map f xs) ≡ map f xs
+    go [] = refl
+    go (x ∷ xs) = λ j. settled x j ∷ go xs j

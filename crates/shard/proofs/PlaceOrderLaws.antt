@@ -13,9 +13,9 @@ use Rattle.shard_map.proofs.AlikeLaws.{AlikeShards}
 use Rattle.shard_map.proofs.PlaceOrderLaws.{FindsEach, found-is-sound, placeOrder, in-place-order-alike, alike-is-in-place-order, place-in-place-order}
 use Rattle.shard.specs.declared.Identity.{Identity}
 use Rattle.shard.specs.declared.Policy.{Policy}
-use Rattle.shard.specs.Model.{withOrInsert, viewed, holds, refunded, removed}
+use Rattle.shard.specs.Model.{withOrInsert, viewed, turnedAway, holds, refunded, removed}
 use Rattle.shard.proofs.ShardLaws.{ask-same-room, refund-same-room, remove-same-room}
-use Rattle.shard.proofs.AlikeLaws.{EveryOperationAlike, every-operation-alike}
+use Rattle.shard.proofs.AlikeLaws.{EveryOperationAlike, every-operation-alike, count-alike}
 
 -- An operation gives the answer that it gives where slots and debts are found in place order, and leaves a shard that differs from the one left there only in
 -- how items are found. In the shard that it leaves lookup finds each slot and each debt.
@@ -30,6 +30,7 @@ pub record EveryOperationSame (s : Shard) : Type 0 where
   pub refunds : (c : BucketConfig) (id : Identity) (cost : ℕ) → SameAsPlaceOrder (refunded c id cost) s
   pub removes : (id : Identity) → SameAsPlaceOrder (removed id) s
   pub views : (c : BucketConfig) (id : Identity) (at : Nanos) → SameAsPlaceOrder (λ t. outcome (viewed c id at t) t) s
+  pub counts : (id : Identity) → SameAsPlaceOrder (λ t. outcome (turnedAway id t) t) s
   pub tells : (id : Identity) → SameAsPlaceOrder (λ t. outcome (holds id t) t) s
 
 pub every-operation-same : (s : Shard) → FindsEach s → EveryOperationSame s
@@ -38,14 +39,22 @@ every-operation-same s each = record {
   refunds = λ c id cost. same (alike .refunds c id cost) (refund-same-room s u c id cost .finds-each each);
   removes = λ id. same (alike .removes id) (remove-same-room s u id .finds-each each);
   views = λ c id at. record { answer = sym (alike .views c id at); after = refl; finds-each = each };
+  counts = λ id. record {
+    answer = sym (count-alike placeOrder in-order id (place-in-place-order s each (id .hash) (id .key)) (λ x y same. rw same));
+    after = refl;
+    finds-each = each;
+  };
   tells = λ id. record { answer = sym (alike .tells id); after = refl; finds-each = each };
 }
   where
     u : Sound s
     u = found-is-sound each
 
+    in-order : AlikeShards placeOrder s (inPlaceOrder s)
+    in-order = in-place-order-alike s each
+
     alike : EveryOperationAlike placeOrder s (inPlaceOrder s)
-    alike = every-operation-alike placeOrder (in-place-order-alike s each) (place-in-place-order s each)
+    alike = every-operation-alike placeOrder in-order (place-in-place-order s each)
 
     same : {A : Type 0} {operation : Shard → Outcome A Shard} → SameOutcome (AlikeShards placeOrder) (operation s) (operation (inPlaceOrder s))
         → FindsEach (operation s .after) → SameAsPlaceOrder operation s

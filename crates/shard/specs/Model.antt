@@ -23,7 +23,7 @@ use Rattle.settings.specs.Eviction.{ttlSweep, ledgerScan}
 use Rattle.settings.specs.Rate.{timeToFull}
 use Rattle.settings.specs.Settings.{idleLimitOf}
 use Rattle.slot.specs.declared.Slot.{Slot}
-use Rattle.slot.specs.Slot.{touched, withBucket, withAsked, newSlot}
+use Rattle.slot.specs.Slot.{touched, withBucket, withAsked, newSlot, readTurnedAway}
 use Rattle.ledger.specs.Model as Ledger
 use Rattle.shard_map.specs.Model.{Shard, capOf, slotAt, withSlot, withLedger, inLedger, placeOf, removeAt, insert, sweepIdle}
 use Rattle.evict.specs.declared.Room.{Room}
@@ -117,6 +117,14 @@ viewed c id at s = viewedFrom c id at s (placeOf s (id .hash) (id .key))
 -- What a key's own bucket decides on a request.
 abbrev pub ownDecision : BucketConfig → Identity → Request → ℕ → Nanos → Shard → BucketDecision
 ownDecision c id request cost at s = Bucket.asked c request (viewed c id at s) cost at .decision
+
+-- How many tries of a key its bucket has turned away, from the call that appended its slot on. A key without a slot has none.
+abbrev pub turnedAwayAt : Shard → Place → ℕ
+turnedAwayAt s (At i) = readTurnedAway (slotAt s i)
+turnedAwayAt s Nowhere = 0
+
+unfoldable pub turnedAway : Identity → Shard → ℕ
+turnedAway id s = turnedAwayAt s (placeOf s (id .hash) (id .key))
 
 -- Whether there is a debt, and a slot.
 abbrev pub hasDebt : OptionNanos → Bool

@@ -216,6 +216,20 @@ pub fn returning_bucket(
     returning(config, at, debts::owed_by(ws, cap, hash))
 }
 
+// How many tries of a key its bucket has turned away. A key without a slot has none.
+pub fn turned_away(ws: &[u64], cap: usize, id: Identity) -> u64
+    requires { ⌜ Intact cap (now ws) ⌝ }
+    ensures { λ r. ⌜ r ≡ Model.turnedAway id (shard cap (now (ws .entry))) ⌝ }
+{
+    match shard_map::position(ws, cap, id.hash, id.key) {
+        Place::At(pos) => {
+            let slot = shard_map::get(ws, cap, pos);
+            slot.times_turned_away()
+        }
+        Place::Nowhere => 0,
+    }
+}
+
 // Gives tokens back to a key: to its slot, or off the debt that it left. Tells whether it had either.
 pub fn refund(ws: &mut [u64], cap: usize, config: BucketConfig, id: Identity, cost: u32) -> bool
     requires { ⌜ Intact cap (now ws) × Accepted config ⌝ }

@@ -14,6 +14,7 @@ use Rattle.held.specs.Round as Round
 use Rattle.rows.specs.Outcome.{Outcome, outcome}
 use Rattle.slot.specs.declared.Slot.{Slot}
 use Rattle.slot.specs.Slot.{isKey, expired, lossless}
+use Rattle.slot.specs.Slot as Slot
 use Rattle.ledger.specs.Model as Ledger
 
 pub record Shard : Type 0 where
@@ -72,6 +73,10 @@ withLedger s l = record { slots = s .slots; hand = s .hand; sweep = s .sweep; le
 -- The same shard, with its slots and its debts found in the order of their places.
 abbrev pub inPlaceOrder : Shard → Shard
 inPlaceOrder s = record { slots = Held.inPlaceOrder (s .slots); hand = s .hand; sweep = s .sweep; ledger = Ledger.inPlaceOrder (s .ledger) }
+
+-- The same shard without the counts of tries turned away, in places that hold a slot and in those that hold none.
+abbrev pub uncounted : Shard → Shard
+uncounted s = record { slots = Held.mapped Slot.uncounted (s .slots); hand = s .hand; sweep = s .sweep; ledger = s .ledger }
 
 -- What an operation of the ledger gives, in its shard.
 abbrev pub inLedger : {A : Type 0} → Shard → Outcome A Ledger.Ledger → Outcome A Shard

@@ -62,6 +62,10 @@ withAsked s outcome = record {
   «turned_away» = countAfter (outcome .«turned_away») (s .«turned_away»);
 }
 
+-- The slot without its count: no try on it has been turned away.
+abbrev pub uncounted : Slot → Slot
+uncounted s = record { hash = s .hash; key = s .key; bucket = s .bucket; mark = s .mark; seen = s .seen; «turned_away» = 0 }
+
 -- A touch sets the mark and, where idle times are tracked, raises last-seen to the moment's idle stamp.
 abbrev pub touched : Slot → Nanos → Bool → Slot
 touched s at track = record {
