@@ -174,6 +174,16 @@ fn tokens_in(limit: Limit, ws: &[u64], part: Part, at: Nanos, id: Identity) -> u
     }
 }
 
+// How many tries of a key its bucket has turned away; 0 for a key without a slot. It looks at no moment and at no rate.
+pub fn turned_away(settings: Settings, ws: &[u64], id: Identity) -> Reply
+    ensures { λ r. ⌜ outcome r (now (ws .exit)) ≡ Rules.timesTurnedAway settings id (now (ws .entry)) ⌝ }
+{
+    match lending::lend_for(settings, ws, id.hash, 0) {
+        Lending::Refused(refusal) => Reply::Refused(refusal),
+        Lending::Lent(part) => Reply::Count(store::turned_away(ws, part, id)),
+    }
+}
+
 // Gives tokens back to a key, if it is known. To a refund on a closed limiter every key is unknown.
 pub fn refund(settings: Settings, ws: &mut [u64], id: Identity, cost: u32) -> Reply
     ensures { λ r. ⌜ outcome r (now (ws .exit)) ≡ Rules.refund settings id cost (now (ws .entry)) ⌝ }
