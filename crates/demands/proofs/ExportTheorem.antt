@@ -22,7 +22,7 @@ use Rattle.rules.specs.declared.Reply.{Reply}
 use Rattle.rules.specs.declared.codes.Told.{Told}
 use Rattle.rules.specs.declared.Reply.the-variants.{Done, Refused}
 use Rattle.rules.specs.Replies.{toldOf, told, Kind, decides, reserves, counts, knows}
-use Rattle.rules.specs.Asks.{Ask, requests, looks, undoes, peeks, tokens, refunds, removes}
+use Rattle.rules.specs.Asks.{Ask, requests, looks, undoes, peeks, tokens, turnedAway, refunds, removes}
 use Rattle.rules.specs.Rules.{setUpIn, setUp, clear, keyedRule}
 use Rattle.rules.specs.Widths.{lendable}
 use Rattle.rules.specs.Calls.{Call, keyed, whole, len, Terms, kindOf, settingsOf, rules, rulesIn, fits, Every}
@@ -99,6 +99,7 @@ toldRules = record {
       told (keyedRule (Exported.settingsOf n) (identityOf hash key) (requests (Reserve (nanosOf longest)) (nanosOf at) cost) ws);
   peek = λ n at hash key cost ws. told (keyedRule (Exported.settingsOf n) (identityOf hash key) (looks (peeks (nanosOf at) cost)) ws);
   available = λ n at hash key ws. told (keyedRule (Exported.settingsOf n) (identityOf hash key) (looks (tokens (nanosOf at))) ws);
+  turned-away = λ n hash key ws. told (keyedRule (Exported.settingsOf n) (identityOf hash key) (looks turnedAway) ws);
   length = λ n ws. told (rules exported (whole n len) ws);
   refund = λ n hash key cost ws. told (keyedRule (Exported.settingsOf n) (identityOf hash key) (undoes (refunds cost)) ws);
   remove = λ n hash key ws. told (keyedRule (Exported.settingsOf n) (identityOf hash key) (undoes removes) ws);
@@ -119,6 +120,7 @@ module _ (κs : Lfts 1) (κs₂ : Lfts 2) (ptr bytesPtr : ℕ × ℕ) (name byte
       reserves = λ n at id cost longest ws _ _ _. refl;
       peeks = λ n at id cost ws _ _ _. refl;
       availables = λ n at id ws _ _ _. refl;
+      counts-turned-away = λ n id ws _ _ _. refl;
       lens = λ n ws _ _ _. refl;
       refunds = λ n id cost ws _ _ _. refl;
       removes = λ n id ws _ _ _. refl;
@@ -153,6 +155,7 @@ module _ (κs : Lfts 1) (κs₂ : Lfts 2) (ptr bytesPtr : ℕ × ℕ) (name byte
             keyed-rule n id _ ws (c .by-key .reserves n at id cost longest ws fit lent tt)
         ruled (keyed n (key id) (looks (peeks at cost))) ws = λ fit lent. keyed-rule n id _ ws (c .by-key .peeks n at id cost ws fit lent tt)
         ruled (keyed n (key id) (looks (tokens at))) ws = λ fit lent. keyed-rule n id _ ws (c .by-key .availables n at id ws fit lent tt)
+        ruled (keyed n (key id) (looks turnedAway)) ws = λ fit lent. keyed-rule n id _ ws (c .by-key .counts-turned-away n id ws fit lent tt)
         ruled (keyed n (key id) (undoes (refunds cost))) ws = λ fit lent. keyed-rule n id _ ws (c .by-key .refunds n id cost ws fit lent tt)
         ruled (keyed n (key id) (undoes removes)) ws = λ fit lent. keyed-rule n id _ ws (c .by-key .removes n id ws fit lent tt)
         ruled (keyed n (address bytes) (requests Acquire at cost)) ws = λ fit lent. c .by-address .tries n at bytes cost ws fit lent tt
@@ -160,6 +163,8 @@ module _ (κs : Lfts 1) (κs₂ : Lfts 2) (ptr bytesPtr : ℕ × ℕ) (name byte
         ruled (keyed n (address bytes) (looks (peeks at cost))) ws = λ fit lent. c .by-address .peeks n at bytes cost ws fit lent tt
         ruled (keyed n (address bytes) (looks (tokens at))) ws = λ fit lent.
             absurd (false≢true (ask-is-offered exported n (address bytes) (looks (tokens at)) fit))
+        ruled (keyed n (address bytes) (looks turnedAway)) ws = λ fit lent.
+            absurd (false≢true (ask-is-offered exported n (address bytes) (looks turnedAway) fit))
         ruled (keyed n (address bytes) (undoes (refunds cost))) ws = λ fit lent. c .by-address .refunds n bytes cost ws fit lent tt
         ruled (keyed n (address bytes) (undoes removes)) ws = λ fit lent. c .by-address .removes n bytes ws fit lent tt
         ruled (whole n len) ws = λ fit lent. c .by-key .lens n ws fit lent tt

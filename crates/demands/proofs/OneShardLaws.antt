@@ -26,8 +26,8 @@ use Rattle.store.specs.Memory.{memoryWords, shardAt}
 use Rattle.store.proofs.MemoryLaws.{same-room-sized, shard-at-sized, in-shard-length, in-shard-reads-back-for, in-shard-leaves-others}
 use Rattle.store.proofs.RefusalLaws.{Accepted}
 use Rattle.rules.specs.declared.Reply.{Reply}
-use Rattle.rules.specs.declared.Reply.the-variants.{Nothing}
-use Rattle.rules.specs.Asks.{Look, peeks, tokens, Undo, refunds, removes, Ask, requests, looks, undoes, mannerOf, tooMuch, atOnce, replyTo, knownReply}
+use Rattle.rules.specs.declared.Reply.the-variants.{Nothing, Count}
+use Rattle.rules.specs.Asks.{Look, peeks, tokens, turnedAway, Undo, refunds, removes, Ask, requests, looks, undoes, mannerOf, tooMuch, atOnce, replyTo, knownReply}
 use Rattle.rules.specs.Asks.{policyOf, toldAs}
 use Rattle.rules.specs.Asks.{askedIn, peekedIn, lookedIn, undoneIn, inItsShard}
 use Rattle.rules.specs.Rules.{askedOf}
@@ -110,6 +110,7 @@ module _ (own : Shard) (each : FindsEach own) where
 
   look-same : (l : Look) (limit : Limit) (id : Identity) → lookedIn l limit id (inPlaceOrder own) ≡ lookedIn l limit id own
   unfolding peekedIn
+  look-same turnedAway limit id = ap Count (same .counts id .answer)
   look-same (peeks at cost) Closed id = refl
   look-same (tokens at) Closed id = refl
   look-same (peeks at cost) (Open rate) id = rw (same .views (configOf rate) id at .answer)

@@ -153,6 +153,19 @@ pub extern "C" fn limiter_available(
     perkey::available(settings_of(settings), ws, Nanos(at), Identity { hash, key }).told()
 }
 
+// How many tries of a key its own bucket has turned away since the key got its slot. 0 for a key without a slot.
+#[no_mangle]
+pub extern "C" fn limiter_turned_away(
+    settings: LimiterSettings,
+    ws: &[u64],
+    hash: u64,
+    key: u64,
+) -> Told
+    ensures { λ r. ⌜ outcome r (now (ws .exit)) ≡ Replies.told (Rules.timesTurnedAway (settingsOf settings) (identityOf hash key) (now (ws .entry))) ⌝ }
+{
+    perkey::turned_away(settings_of(settings), ws, Identity { hash, key }).told()
+}
+
 // Gives `cost` tokens back to a key, or to the debt that is remembered for its hash; unknown if there is neither.
 #[no_mangle]
 pub extern "C" fn limiter_refund(
