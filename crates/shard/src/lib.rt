@@ -120,10 +120,10 @@ fn join(
     ensures { λ r. ⌜ outcome r (shard cap (now (ws .exit))) ≡ Model.joined policy id request cost at owed (shard cap (now (ws .entry))) ⌝ }
 {
     let config = policy.config;
-    let bucket = returning(config, at, owed);
-    let asked = bucket.ask_at(config, request, cost, at);
+    let returned = returning(config, at, owed);
+    let asked = returned.ask_at(config, request, cost, at);
     let decision = asked.decision;
-    let slot = Slot::new(id.hash, id.key, bucket, at.millis());
+    let slot = Slot::new(id.hash, id.key, returned, at.millis());
     shard_map::insert(ws, cap, slot.asked(asked));
     decision
 }
