@@ -33,8 +33,8 @@ use Rattle.store.proofs.RefusalLaws.{Accepted}
 use Rattle.rules.specs.declared.Reply.{Reply}
 use Rattle.rules.specs.declared.Reply.the-variants.{Count}
 use Rattle.rules.specs.Asks.{Look, peeks, tokens, turnedAway, Undo, refunds, removes, Ask, requests, looks, undoes, mannerOf, replyTo, knownReply}
-use Rattle.rules.specs.Asks.{policyOf, toldAs, askedIn, peekedIn, lookedIn, undoneIn, inItsShard}
-use Rattle.rules.specs.Rules.{askedOf}
+use Rattle.rules.specs.Asks.{policyOf, repliedAs, askedIn, peekedIn, lookedIn, undoneIn, inItsShard}
+use Rattle.rules.specs.Rules.{keyedOutcome}
 use Rattle.demands.specs.Counts.{looksAtCount}
 
 -- What a call gives on words is what an operation gives in the shard of a hash: its answer, and the shard that it leaves. The other shards stay as they are,
@@ -76,7 +76,7 @@ module _ (s : Settings) (id : Identity) (ws : List ℕ) (accepted : Accepted s (
   ask-sized : (ask : Ask) → Sized (capOf s) (inItsShard s id ask own .after)
   ask-sized ask = same-room-sized s (id .hash) ws (accepted .set-up .size) (ask-keeps-room s id own (accepted .sound) ask)
 
-  pub asks-work-in-one-shard : (ask : Ask) → WorksInOneShard s (id .hash) ws (askedOf (shapeOf s) s id ask ws) (inItsShard s id ask own)
+  pub asks-work-in-one-shard : (ask : Ask) → WorksInOneShard s (id .hash) ws (keyedOutcome (shapeOf s) s id ask ws) (inItsShard s id ask own)
   asks-work-in-one-shard ask =
       let o = inItsShard s id ask own in
       record {
@@ -94,7 +94,7 @@ module _ (v : View) {a b : Shard} (like : AlikeShards v a b) (every : EveryOpera
   unchanged-alike : {x y : Reply} → x ≡ y → Alike (outcome x a) (outcome y b)
   unchanged-alike told = record { answer = told; after = like }
 
-  told-alike : {A : Type 0} (reply : A → Reply) {o q : Outcome A Shard} → SameOutcome (AlikeShards v) o q → Alike (toldAs reply o) (toldAs reply q)
+  told-alike : {A : Type 0} (reply : A → Reply) {o q : Outcome A Shard} → SameOutcome (AlikeShards v) o q → Alike (repliedAs reply o) (repliedAs reply q)
   told-alike reply same = record { answer = ap reply (same .answer); after = same .after }
 
   request-alike : (r : Request) (limit : Limit) (s : Settings) (at : Nanos) (id : Identity) (cost : ℕ)
