@@ -36,8 +36,8 @@ module _ (κs : Lfts 1) (κs₂ : Lfts 2) (ptr bytesPtr : ℕ × ℕ) (name byte
       tries = λ s at id cost ws _ _ _. named s id (requests Acquire at cost) ws;
       reserves = λ s at id cost longest ws _ _ _. named s id (requests (Reserve longest) at cost) ws;
       peeks = λ s at id cost ws _ _ _. named s id (looks (peeks at cost)) ws;
-      availables = λ s at id ws _ _ _. named s id (looks (tokens at)) ws;
-      lens = λ s ws _ _ _. refl;
+      tells-available = λ s at id ws _ _ _. named s id (looks (tokens at)) ws;
+      tells-length = λ s ws _ _ _. refl;
       refunds = λ s id cost ws _ _ _. named s id (undoes (refunds cost)) ws;
       removes = λ s id ws _ _ _. named s id (undoes removes) ws;
     };
@@ -57,7 +57,7 @@ module _ (κs : Lfts 1) (κs₂ : Lfts 2) (ptr bytesPtr : ℕ × ℕ) (name byte
     asked-by-key s id (requests Acquire at cost) ws = λ fit lent. c .tries s at id cost ws fit lent tt
     asked-by-key s id (requests (Reserve longest) at cost) ws = λ fit lent. c .reserves s at id cost longest ws fit lent tt
     asked-by-key s id (looks (peeks at cost)) ws = λ fit lent. c .peeks s at id cost ws fit lent tt
-    asked-by-key s id (looks (tokens at)) ws = λ fit lent. c .availables s at id ws fit lent tt
+    asked-by-key s id (looks (tokens at)) ws = λ fit lent. c .tells-available s at id ws fit lent tt
     asked-by-key s id (undoes (refunds cost)) ws = λ fit lent. c .refunds s id cost ws fit lent tt
     asked-by-key s id (undoes removes) ws = λ fit lent. c .removes s id ws fit lent tt
 
@@ -78,7 +78,7 @@ module _ (κs : Lfts 1) (κs₂ : Lfts 2) (ptr bytesPtr : ℕ × ℕ) (name byte
       where
         ruled : (call : Call Settings Identity) (ws : List ℕ) → fits byKey call ≡ true → lendable ws ≡ true → l .answers (asNamed call) ws ≡ rules byKey call ws
         ruled (keyed s id ask) ws = λ fit lent. asked-by-key s id ask ws fit lent ∙ sym (by-key-is-the-rule s id ask ws)
-        ruled (whole s len) ws = λ fit lent. c .lens s ws fit lent tt
+        ruled (whole s len) ws = λ fit lent. c .tells-length s ws fit lent tt
 
     pub key-contracts-meet-demand3 : Demand3 byKey onKeys
     key-contracts-meet-demand3 = demand2-gives-demand3 byKey keys-fit onKeys key-contracts-meet-demand2
@@ -100,7 +100,7 @@ module _ (κs : Lfts 1) (κs₂ : Lfts 2) (ptr bytesPtr : ℕ × ℕ) (name byte
             absurd (false≢true (ask-is-offered byName s (address bytes) (looks (tokens at)) fit))
         ruled (keyed s (address bytes) (undoes (refunds cost))) ws = λ fit lent. c .by-address .refunds s bytes cost ws fit lent tt
         ruled (keyed s (address bytes) (undoes removes)) ws = λ fit lent. c .by-address .removes s bytes ws fit lent tt
-        ruled (whole s len) ws = λ fit lent. c .by-key .lens s ws fit lent tt
+        ruled (whole s len) ws = λ fit lent. c .by-key .tells-length s ws fit lent tt
 
     pub contracts-meet-demand3 : Demand3 byName l
     contracts-meet-demand3 = demand2-gives-demand3 byName (names-fit (λ s. s) settingsFit) l contracts-meet-demand2

@@ -118,8 +118,8 @@ module _ (κs : Lfts 1) (κs₂ : Lfts 2) (ptr bytesPtr : ℕ × ℕ) (name byte
       tries = λ n at id cost ws _ _ _. refl;
       reserves = λ n at id cost longest ws _ _ _. refl;
       peeks = λ n at id cost ws _ _ _. refl;
-      availables = λ n at id ws _ _ _. refl;
-      lens = λ n ws _ _ _. refl;
+      tells-available = λ n at id ws _ _ _. refl;
+      tells-length = λ n ws _ _ _. refl;
       refunds = λ n id cost ws _ _ _. refl;
       removes = λ n id ws _ _ _. refl;
     };
@@ -152,7 +152,7 @@ module _ (κs : Lfts 1) (κs₂ : Lfts 2) (ptr bytesPtr : ℕ × ℕ) (name byte
         ruled (keyed n (key id) (requests (Reserve longest) at cost)) ws = λ fit lent.
             keyed-rule n id _ ws (c .by-key .reserves n at id cost longest ws fit lent tt)
         ruled (keyed n (key id) (looks (peeks at cost))) ws = λ fit lent. keyed-rule n id _ ws (c .by-key .peeks n at id cost ws fit lent tt)
-        ruled (keyed n (key id) (looks (tokens at))) ws = λ fit lent. keyed-rule n id _ ws (c .by-key .availables n at id ws fit lent tt)
+        ruled (keyed n (key id) (looks (tokens at))) ws = λ fit lent. keyed-rule n id _ ws (c .by-key .tells-available n at id ws fit lent tt)
         ruled (keyed n (key id) (undoes (refunds cost))) ws = λ fit lent. keyed-rule n id _ ws (c .by-key .refunds n id cost ws fit lent tt)
         ruled (keyed n (key id) (undoes removes)) ws = λ fit lent. keyed-rule n id _ ws (c .by-key .removes n id ws fit lent tt)
         ruled (keyed n (address bytes) (requests Acquire at cost)) ws = λ fit lent. c .by-address .tries n at bytes cost ws fit lent tt
@@ -162,7 +162,7 @@ module _ (κs : Lfts 1) (κs₂ : Lfts 2) (ptr bytesPtr : ℕ × ℕ) (name byte
             absurd (false≢true (ask-is-offered exported n (address bytes) (looks (tokens at)) fit))
         ruled (keyed n (address bytes) (undoes (refunds cost))) ws = λ fit lent. c .by-address .refunds n bytes cost ws fit lent tt
         ruled (keyed n (address bytes) (undoes removes)) ws = λ fit lent. c .by-address .removes n bytes ws fit lent tt
-        ruled (whole n len) ws = λ fit lent. c .by-key .lens n ws fit lent tt
+        ruled (whole n len) ws = λ fit lent. c .by-key .tells-length n ws fit lent tt
 
     -- So a caller has a limiter that meets demand 2, in whatever numbers each call writes its settings.
     pub callers-have-demand2 : Demand2 exported (called e)

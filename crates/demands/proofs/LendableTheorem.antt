@@ -30,7 +30,7 @@ use Rattle.store.proofs.MemoryLaws.{same-room-sized, in-shard-length}
 use Rattle.store.proofs.RefusalLaws.{Accepted}
 use Rattle.rules.specs.declared.Reply.{Reply}
 use Rattle.rules.specs.declared.Reply.the-variants.{Nothing}
-use Rattle.rules.specs.Asks.{Ask, requests, looks, undoes, Undo, refunds, removes, furtherOf, mannerOf, replyTo, toldAs, policyOf, knownReply, askedIn}
+use Rattle.rules.specs.Asks.{Ask, requests, looks, undoes, Undo, refunds, removes, furtherOf, mannerOf, replyTo, repliedAs, policyOf, knownReply, askedIn}
 use Rattle.rules.specs.Asks.{undoneIn, inItsShard}
 use Rattle.rules.specs.Rules.{setUp}
 use Rattle.rules.specs.Widths.{fits64, keyFits, lendable}
@@ -88,7 +88,7 @@ module _ (s : Settings) (id : Identity) (ws : List ℕ) (lent : lendable ws ≡ 
   -- A request by a key that fits, at a moment that is not too late.
   module _ (r : Request) (at : Nanos) (cost : ℕ) (early : at .0 ≤ 2 ^ 62) (key : keyFits id ≡ true) where
     asked-leaves-lendable : (rate : Rate) → limitRefusal (Open rate) ≡ 0 → cost ≤ burstOf rate
-        → LeavesLendable (toldAs (replyTo (mannerOf r)) (OneShard.withOrInsert (policyOf s rate) id r cost at own))
+        → LeavesLendable (repliedAs (replyTo (mannerOf r)) (OneShard.withOrInsert (policyOf s rate) id r cost at own))
     asked-leaves-lendable rate passed within =
         let sound = accepted .sound in
         let parts = both-true (fits64 (id .hash)) (fits64 (id .key)) key in

@@ -28,9 +28,9 @@ use Rattle.store.proofs.RefusalLaws.{Accepted}
 use Rattle.rules.specs.declared.Reply.{Reply}
 use Rattle.rules.specs.declared.Reply.the-variants.{Nothing}
 use Rattle.rules.specs.Asks.{Look, peeks, tokens, Undo, refunds, removes, Ask, requests, looks, undoes, mannerOf, tooMuch, atOnce, replyTo, knownReply}
-use Rattle.rules.specs.Asks.{policyOf, toldAs}
+use Rattle.rules.specs.Asks.{policyOf, repliedAs}
 use Rattle.rules.specs.Asks.{askedIn, peekedIn, lookedIn, undoneIn, inItsShard}
-use Rattle.rules.specs.Rules.{askedOf}
+use Rattle.rules.specs.Rules.{keyedOutcome}
 
 -- What a call gives on words is what an operation gives in the shard of a hash: its answer, and the shard that it leaves. The other shards stay as they are,
 -- and the memory keeps its length.
@@ -73,7 +73,7 @@ module _ (s : Settings) (id : Identity) (ws : List ℕ) (accepted : Accepted s (
   ask-sized (undoes u) = undone-sized u (s .limit)
 
   -- So it works in one shard.
-  pub asks-work-in-one-shard : (ask : Ask) → WorksInOneShard s (id .hash) ws (askedOf (shapeOf s) s id ask ws) (inItsShard s id ask own)
+  pub asks-work-in-one-shard : (ask : Ask) → WorksInOneShard s (id .hash) ws (keyedOutcome (shapeOf s) s id ask ws) (inItsShard s id ask own)
   asks-work-in-one-shard ask =
       let o = inItsShard s id ask own in
       record {
@@ -92,7 +92,7 @@ module _ (own : Shard) (each : FindsEach own) where
   unchanged-same reply told = record { answer = told; after = refl; finds-each = each }
 
   told-same : {A : Type 0} (reply : A → Reply) (operation : Shard → Outcome A Shard) → SameAsPlaceOrder operation own
-      → SameAsPlaceOrder (λ t. toldAs reply (operation t)) own
+      → SameAsPlaceOrder (λ t. repliedAs reply (operation t)) own
   told-same reply operation is = record { answer = ap reply (is .answer); after = is .after; finds-each = is .finds-each }
 
   either-same : {A : Type 0} (b : Bool) (f g : Shard → Outcome A Shard) → SameAsPlaceOrder f own → SameAsPlaceOrder g own

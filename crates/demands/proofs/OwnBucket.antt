@@ -18,7 +18,7 @@ use Rattle.shard.specs.Model.{withOrInsert}
 use Rattle.shard.proofs.OwnBucketLaws.{own-bucket-decides}
 use Rattle.store.specs.Memory.{shardAt}
 use Rattle.rules.specs.declared.Reply.{Reply}
-use Rattle.rules.specs.Asks.{requests, looks, undoes, mannerOf, replyTo, toldAs, policyOf, askedIn}
+use Rattle.rules.specs.Asks.{requests, looks, undoes, mannerOf, replyTo, repliedAs, policyOf, askedIn}
 use Rattle.rules.specs.Calls.{Call, keyed, whole, Terms, rules, Answered, replies, Every}
 use Rattle.rules.proofs.KeyedLaws.{ask-not-refused}
 use Rattle.rules.proofs.CallLaws.{refusalOf, not-refused-is-ruled, keyed-not-refused, accepted-not-refused}
@@ -26,7 +26,7 @@ use Rattle.demands.specs.Demands.{decidedBy}
 
 -- A cost from 1 to the burst is put to the bucket.
 pub in-range-is-asked : (r : Request) (rate : Rate) (s : Settings) (at : Nanos) (id : Identity) (cost : ℕ) (own : Shard) → 1 ≤ cost → cost ≤ burstOf rate
-    → askedIn r (Open rate) s at id cost own ≡ toldAs (replyTo (mannerOf r)) (withOrInsert (policyOf s rate) id r cost at own)
+    → askedIn r (Open rate) s at id cost own ≡ repliedAs (replyTo (mannerOf r)) (withOrInsert (policyOf s rate) id r cost at own)
 unfolding askedIn
 in-range-is-asked r rate s at id cost own least most = rw (le-ltb (burstOf rate) cost most, ne-eqb cost 0 (λ none. omega arith))
 

@@ -101,16 +101,16 @@ module _ {S N : Type 0} (terms : Terms S N) where
 
 -- A limiter that meets demand 2 gets through a list as the rules do: they leave words that can be lent again, where names mean numbers that fit.
 module _ {S N : Type 0} (terms : Terms S N) (names : NamesFit terms) (l : Limiter S N) (equal : Demand2 terms l) where
-  pub same-replies : (cs : List (Call S N)) (ws law : List ℕ) → allFit terms cs ≡ true → lendable ws ≡ true
-      → replies terms (l .answers) cs ws law ≡ replies terms (rules terms) cs ws law
+  pub same-replies : (cs : List (Call S N)) (ws rulesWords : List ℕ) → allFit terms cs ≡ true → lendable ws ≡ true
+      → replies terms (l .answers) cs ws rulesWords ≡ replies terms (rules terms) cs ws rulesWords
   unfolding replies
-  same-replies [] ws law = λ fit lent. refl
-  same-replies (c ∷ cs) ws law = λ fit lent.
+  same-replies [] ws rulesWords = λ fit lent. refl
+  same-replies (c ∷ cs) ws rulesWords = λ fit lent.
       let both = both-true (fits terms c) (allFit terms cs) fit in
       let next = rules-leave-words-lendable terms names c ws (both .0) lent in
       rw (equal .answers c ws (both .0) lent)
-      (ap {B = List (Answered S N)} (λ rest. record { call = c; reply = rules terms c ws .answer; rulesWords = law } ∷ rest)
-      (same-replies cs (rules terms c ws .after) (rules terms c law .after) (both .1) next))
+      (ap {B = List (Answered S N)} (λ rest. record { call = c; reply = rules terms c ws .answer; rulesWords = rulesWords } ∷ rest)
+      (same-replies cs (rules terms c ws .after) (rules terms c rulesWords .after) (both .1) next))
 
   -- So it meets demand 3 as well, from the words that its own set-up leaves.
   keeps : Window terms l

@@ -62,11 +62,11 @@ module _ (κs : Lfts 1) (ptr : ℕ × ℕ) (name : ℕ) where
         let o = l .answers (peek s at (key id) cost) ws in
         Peek.Asked κs (s, (lent ws, (at, (id, (cost, tt))))) →
         Peek.Learnt κs (s, (lent ws, (at, (id, (cost, tt))))) (o .answer) (s, (lent (o .after), (at, (id, (cost, tt)))))
-    pub availables : (s : Settings) (at : Nanos) (id : Identity) (ws : List ℕ) → fits byName (available s at (key id)) ≡ true → lendable ws ≡ true →
+    pub tells-available : (s : Settings) (at : Nanos) (id : Identity) (ws : List ℕ) → fits byName (available s at (key id)) ≡ true → lendable ws ≡ true →
         let o = l .answers (available s at (key id)) ws in
         Available.Asked κs (s, (lent ws, (at, (id, tt)))) →
         Available.Learnt κs (s, (lent ws, (at, (id, tt)))) (o .answer) (s, (lent (o .after), (at, (id, tt))))
-    pub lens : (s : Settings) (ws : List ℕ) → fits byName (length s) ≡ true → lendable ws ≡ true →
+    pub tells-length : (s : Settings) (ws : List ℕ) → fits byName (length s) ≡ true → lendable ws ≡ true →
         let o = l .answers (length s) ws in
         Len.Asked κs (s, (lent ws, tt)) →
         Len.Learnt κs (s, (lent ws, tt)) (o .answer) (s, (lent (o .after), tt))

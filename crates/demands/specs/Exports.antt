@@ -163,12 +163,12 @@ module _ (κs : Lfts 1) (ptr : ℕ × ℕ) (name : ℕ) where
         let o = e .peek n (at .0) (id .hash) (id .key) cost ws in
         Peek.Asked κs (atMoment n ws at id (cost, tt)) →
         Peek.Learnt κs (atMoment n ws at id (cost, tt)) (o .answer) (atMoment n (o .after) at id (cost, tt))
-    pub availables : (n : LimiterSettings) (at : Nanos) (id : Identity) (ws : List ℕ) →
+    pub tells-available : (n : LimiterSettings) (at : Nanos) (id : Identity) (ws : List ℕ) →
         fits exported (available n at (key id)) ≡ true → lendable ws ≡ true →
         let o = e .available n (at .0) (id .hash) (id .key) ws in
         Available.Asked κs (atMoment n ws at id tt) →
         Available.Learnt κs (atMoment n ws at id tt) (o .answer) (atMoment n (o .after) at id tt)
-    pub lens : (n : LimiterSettings) (ws : List ℕ) →
+    pub tells-length : (n : LimiterSettings) (ws : List ℕ) →
         fits exported (length n) ≡ true → lendable ws ≡ true →
         let o = e .length n ws in
         Length.Asked κs (onWhole n ws) →

@@ -16,7 +16,7 @@ use Rattle.desk_turns.specs.Run.{State, Standing, hasEnded, linesAnswered, last
 use Rattle.desk_turns.proofs.RunLaws.{none-once-ended}
 use Rattle.desk_turns.proofs.CuttingLaws.{one-turn-more, turn-is-turned, every-cutting-stands-the-same}
 use Rattle.desk_feed.specs.declared.Ran.{Ran}
-use Rattle.desk_feed.specs.declared.Why.the-variants.{Input, Refused, Read, Write, LastWrite, Turns}
+use Rattle.desk_feed.specs.declared.Ending.the-variants.{Input, Refused, Read, Write, LastWrite, Turns}
 use Rattle.desk_feed.specs.Ran.{standing, atStart, Short, EachWhileGoing, TurnedTo, withLast, lastAnswered, mostTurns, AtEnd, RanFrom}
 
 -- How the loop stands at its head.
@@ -85,10 +85,10 @@ module _ (input₀ : List ℕ) {from : Standing} {size turns pending end : ℕ} 
       let same : standing (r .pending) input′ (r .feed) memory′ ≡ next = λ j. record { pending = keeps j; state = stands-next j } in
       rw same next-turned
 
-  pub over-by-write : RanFrom from size (record { why = Write; feed = r .feed; turns = turns + 1 }) memory′
+  pub over-by-write : RanFrom from size (record { ending = Write; feed = r .feed; turns = turns + 1 }) memory′
   over-by-write = record { to = next; turned-to = next-turned; stands = stands-next; rightly = omega arith }
 
-  pub over-by-line-1 : hasEnded (r .feed .stage) ≡ true → RanFrom from size (record { why = Refused; feed = r .feed; turns = turns + 1 }) memory′
+  pub over-by-line-1 : hasEnded (r .feed .stage) ≡ true → RanFrom from size (record { ending = Refused; feed = r .feed; turns = turns + 1 }) memory′
   over-by-line-1 ended =
       let ended′ : hasEnded (next .state .stage) ≡ true = sym (ap (λ (s : State). hasEnded (s .stage)) stands-next) ∙ ended in
       record { to = next; turned-to = next-turned; stands = stands-next ∙ sym (ended-answers-none next ended′); rightly = ended }
@@ -96,10 +96,10 @@ module _ (input₀ : List ℕ) {from : Standing} {size turns pending end : ℕ} 
 -- Without a turn.
 module _ (pending : ℕ) (input : List ℕ) (f : Feed) {from : Standing} {size turns : ℕ} {memory : List ℕ}
     (far : TurnedTo from size turns (standing pending input f memory)) where
-  pub over-by-read : hasEnded (f .stage) ≡ false → RanFrom from size (record { why = Read; feed = f; turns = turns }) memory
+  pub over-by-read : hasEnded (f .stage) ≡ false → RanFrom from size (record { ending = Read; feed = f; turns = turns }) memory
   over-by-read more = record { to = standing pending input f memory; turned-to = far; stands = refl; rightly = more }
 
-  pub over-by-turns : hasEnded (f .stage) ≡ false → turns ≡ mostTurns → RanFrom from size (record { why = Turns; feed = f; turns = turns }) memory
+  pub over-by-turns : hasEnded (f .stage) ≡ false → turns ≡ mostTurns → RanFrom from size (record { ending = Turns; feed = f; turns = turns }) memory
   over-by-turns more all = record { to = standing pending input f memory; turned-to = far; stands = refl; rightly = (more, all) }
 
   pub over-at-end : (input₁ : List ℕ) {r : Ran} {memory′ : List ℕ} → take pending input₁ ≡ take pending input
@@ -108,7 +108,7 @@ module _ (pending : ℕ) (input : List ℕ) (f : Feed) {from : Standing} {size t
       record { to = standing pending input₁ f memory; turned-to = rw (end .counted, stays) far; stands = rw (end .last) (end .stands); rightly = end .rightly }
 
 -- Where the last line is answered, the run stands where the lines of all that was read bring it, whatever the pieces.
-pub whole-input-is-answered : {memory memory′ : List ℕ} {size : ℕ} {r : Ran} (ran : RanFrom (atStart memory) size r memory′) → withLast (r .why) ≡ true
+pub whole-input-is-answered : {memory memory′ : List ℕ} {size : ℕ} {r : Ran} (ran : RanFrom (atStart memory) size r memory′) → withLast (r .ending) ≡ true
     → stateOf (r .feed) memory′ ≡ linesAnswered (linesOf (joined (ran .turned-to .reads))) (atStart memory .state) .after
 whole-input-is-answered {memory} ran last =
     let far = ran .turned-to in

@@ -19,8 +19,8 @@ use Rattle.desk_turns.specs.Run.{State, Standing, hasEnded, lineAnswered, lines
 use Rattle.desk_turns.proofs.RunLaws.{none-once-ended}
 use Rattle.desk_turns.proofs.CuttingLaws.{stands-from}
 use Rattle.desk_feed.specs.declared.Ran.{Ran}
-use Rattle.desk_feed.specs.declared.Why.{Why}
-use Rattle.desk_feed.specs.declared.Why.the-variants.{Input, Turns}
+use Rattle.desk_feed.specs.declared.Ending.{Ending}
+use Rattle.desk_feed.specs.declared.Ending.the-variants.{Input, Turns}
 use Rattle.desk_feed.specs.Ran.{withLast, lastAnswered, overAt, EachWhileGoing, TurnedTo, RanFrom}
 
 -- Before line 1, of which the byte `x` (120) is pending.
@@ -43,7 +43,7 @@ first-read-while-going s turns (read ∷ reads) counted going = going .0
 
 -- The input ends without a read. A run that stands then where it stood has not answered the line that was pending.
 pub last-line-has-to-be-answered : (memory memory′ : List ℕ) (size put : ℕ)
-    → RanFrom (xPending memory) size (record { why = Input; feed = record { stage = First; number = 0; put = put }; turns = 0 }) memory′ → ⊥
+    → RanFrom (xPending memory) size (record { ending = Input; feed = record { stage = First; number = 0; put = put }; turns = 0 }) memory′ → ⊥
 unfolding linesAnswered lineAnswered lineOf lineOfLetter Fields.fields
 last-line-has-to-be-answered memory memory′ size put ran =
     let far = ran .turned-to in
@@ -53,7 +53,7 @@ last-line-has-to-be-answered memory memory′ size put ran =
 
 -- No run is over for its turns after the first.
 pub reads-have-to-go-on : {from : Standing} {size : ℕ} {f : Feed} {memory′ : List ℕ}
-    → RanFrom from size (record { why = Turns; feed = f; turns = 1 }) memory′ → ⊥
+    → RanFrom from size (record { ending = Turns; feed = f; turns = 1 }) memory′ → ⊥
 reads-have-to-go-on ran = omega (arith, ran .rightly .1)
 
 -- No run reads on once it has ended.
@@ -88,23 +88,23 @@ isOpen First = false
 isOpen (Open settings) = true
 isOpen (Ended code) = false
 
-shut-once-ended : (why : Why) (pending : List ℕ) {s : State} (memory : List ℕ) → s ≡ record { stage = Ended 9; number = 1; memory = memory }
-    → isOpen (overAt why (record { pending = pending; state = s }) .stage) ≡ false
-shut-once-ended why pending memory is =
+shut-once-ended : (ending : Ending) (pending : List ℕ) {s : State} (memory : List ℕ) → s ≡ record { stage = Ended 9; number = 1; memory = memory }
+    → isOpen (overAt ending (record { pending = pending; state = s }) .stage) ≡ false
+shut-once-ended ending pending memory is =
     let ended : State = record { stage = Ended 9; number = 1; memory = memory } in
-    rw is (by-test (withLast why) (λ last. rw last (ap (λ (o : Outcome (List ℕ) State). isOpen (o .after .stage)) (none-once-ended
+    rw is (by-test (withLast ending) (λ last. rw last (ap (λ (o : Outcome (List ℕ) State). isOpen (o .after .stage)) (none-once-ended
     (lastLine pending) ended refl))) (λ none. rw none))
 
-shut-after-x : (why : Why) (lines : List (List ℕ)) (rest memory : List ℕ)
-    → isOpen (overAt why (record {
+shut-after-x : (ending : Ending) (lines : List (List ℕ)) (rest memory : List ℕ)
+    → isOpen (overAt ending (record {
       pending = keptOf (onFirst 120 lines rest .rest);
       state = linesAnswered (onFirst 120 lines rest .lines)
           (beforeLine1 memory) .after;
     }) .stage) ≡ false
 unfolding linesAnswered
-shut-after-x why [] rest memory = by-test (withLast why) (λ last. rw last (ap (λ (s : State). isOpen (s .stage)) (x-ends-the-run
+shut-after-x ending [] rest memory = by-test (withLast ending) (λ last. rw last (ap (λ (s : State). isOpen (s .stage)) (x-ends-the-run
     (take 100 rest) [] memory))) (λ none. rw none)
-shut-after-x why (line ∷ lines) rest memory = shut-once-ended why (keptOf rest) memory (x-ends-the-run line lines memory)
+shut-after-x ending (line ∷ lines) rest memory = shut-once-ended ending (keptOf rest) memory (x-ends-the-run line lines memory)
 
 -- A program that drops the `x` and opens the desk by the settings line that comes next does not meet the contract.
 pub pending-bytes-have-to-be-kept : {memory memory′ : List ℕ} {size : ℕ} {r : Ran} → RanFrom (xPending memory) size r memory′ → isOpen (r .feed .stage) ≡ false
@@ -113,4 +113,4 @@ pending-bytes-have-to-be-kept {memory} {r = r} ran =
     let far = ran .turned-to in
     let rest = cut (joined (far .reads)) in
     let stands = far .is-turned ∙ stands-from (120 ∷ []) (refl, tt) (far .reads) (beforeLine1 memory) in
-    ap (λ (s : State). isOpen (s .stage)) (ran .stands ∙ ap (overAt (r .why)) stands) ∙ shut-after-x (r .why) (rest .lines) (rest .rest) memory
+    ap (λ (s : State). isOpen (s .stage)) (ran .stands ∙ ap (overAt (r .ending)) stands) ∙ shut-after-x (r .ending) (rest .lines) (rest .rest) memory

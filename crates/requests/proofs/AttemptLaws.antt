@@ -26,7 +26,7 @@ use Rattle.store.proofs.LendingLaws.{lent-by-settings}
 use Rattle.store.proofs.RefusalLaws.{settings-refuse-keyed, first-is-told}
 use Rattle.rules.specs.declared.Reply.{Reply}
 use Rattle.rules.specs.Asks.{requests, furtherTo, mannerOf, tooMuch, atOnce}
-use Rattle.rules.specs.Rules.{askedOf}
+use Rattle.rules.specs.Rules.{keyedOutcome}
 use Rattle.requests.specs.declared.Attempt.{Attempt}
 use Rattle.requests.specs.declared.Attempt.the-variants.{Answered, Left}
 use Rattle.requests.specs.declared.Why.the-variants.{Refused, New}
@@ -78,7 +78,7 @@ module _ (r : Request) (at : Nanos) {s : Settings} {id : Identity} {cost : ℕ} 
   in-shard : placeOf (shardAt s (id .hash) ws) (id .hash) (id .key) ≡ place
   in-shard = rw (a .is-part) at (sym is-place)
 
-  pub known-is-answered : (i : ℕ) {reply : Reply} {ws′ : List ℕ} → place ≡ At i → outcome reply ws′ ≡ askedOf (shapeOf s) s id (requests r at cost) ws
+  pub known-is-answered : (i : ℕ) {reply : Reply} {ws′ : List ℕ} → place ≡ At i → outcome reply ws′ ≡ keyedOutcome (shapeOf s) s id (requests r at cost) ws
       → outcome (Answered reply) ws′ ≡ attempted r s at id cost ws
   unfolding attemptedBy needsSlot
   known-is-answered i found gave =

@@ -29,14 +29,14 @@ use Rattle.store.specs.Refusals.{shapeRefusal}
 use Rattle.store.proofs.LendingLaws.{found-place-below, accepted-part}
 use Rattle.store.proofs.RefusalLaws.{Accepted}
 use Rattle.rules.specs.declared.Reply.{Reply}
-use Rattle.rules.specs.Asks.{requests, furtherTo, Manner, mannerOf, closedTo, tooMuch, atOnce, replyTo, toldAs, policyOf, askedIn}
-use Rattle.rules.specs.Rules.{unlessRefused, askedOf}
+use Rattle.rules.specs.Asks.{requests, furtherTo, Manner, mannerOf, closedTo, tooMuch, atOnce, replyTo, repliedAs, policyOf, askedIn}
+use Rattle.rules.specs.Rules.{unlessRefused, keyedOutcome}
 use Rattle.rules.proofs.KeyedLaws.{ask-not-refused, not-refused-is-asked, in-shard-unchanged, unchanged-is-told}
 use Rattle.requests.specs.code.Attempts.{ruleTo, refusalTo}
 
 -- A request that is not refused does what it asks in the shard of its key.
 pub asked-is-ruled : (r : Request) (s : Settings) (at : Nanos) (id : Identity) (cost : ℕ) (ws : List ℕ) {o : Outcome Reply (List ℕ)}
-    → refusalTo r s at id ws ≡ 0 → o ≡ askedOf (shapeOf s) s id (requests r at cost) ws → o ≡ ruleTo r s at id cost ws
+    → refusalTo r s at id ws ≡ 0 → o ≡ keyedOutcome (shapeOf s) s id (requests r at cost) ws → o ≡ ruleTo r s at id cost ws
 asked-is-ruled r s at id cost ws none gave = gave ∙ sym (not-refused-is-asked s id (requests r at cost) ws none)
 
 -- A request that leaves its shard as it is: of more than a full bucket, and of nothing.
@@ -98,20 +98,20 @@ module _ {s : Settings} {id : Identity} {cost : ℕ} {ws : List ℕ} {rate : Rat
     -- What the store's answer, in the shard of the key, makes of the reply and of all words.
     module _ (r : Request) (at : Nanos) {decision : BucketDecision} {told : Reply} {ws′ : List ℕ} (is-reply : told ≡ replyTo (mannerOf r) decision) where
       request-is-told : outcome decision ws′ ≡ inShard s (id .hash) ws (OneShard.withOrInsert policy id r cost at (shardAt s (id .hash) ws))
-          → outcome told ws′ ≡ askedOf (shapeOf s) s id (requests r at cost) ws
+          → outcome told ws′ ≡ keyedOutcome (shapeOf s) s id (requests r at cost) ws
       unfolding askedIn
       request-is-told gave =
           rw (a .is-limit, le-ltb _ _ (a .within), ne-eqb _ _ (a .some))
           (rw is-reply (ap (λ (o : Outcome BucketDecision (List ℕ)). outcome (replyTo (mannerOf r) (o .answer)) (o .after)) (rw is-policy at gave)))
 
       pub known-is-told : (i : ℕ) → place ≡ At i → outcome decision ws′ ≡ inPart part′ ws (OneShard.withExisting policy r cost at (shardIn part′ ws) i)
-          → outcome told ws′ ≡ askedOf (shapeOf s) s id (requests r at cost) ws
+          → outcome told ws′ ≡ keyedOutcome (shapeOf s) s id (requests r at cost) ws
       known-is-told i found gave =
           let with-slot = ask-with-slot policy id r cost at (shardAt s (id .hash) ws) i (rw (a .is-part) at (sym is-place ∙ found)) in
           request-is-told ((rw (a .is-part) at gave) ∙ ap (inShard s (id .hash) ws) with-slot)
 
       pub new-is-told : place ≡ Nowhere → outcome decision ws′ ≡ inPart part′ ws (OneShard.admit policy id r cost at (shardIn part′ ws))
-          → outcome told ws′ ≡ askedOf (shapeOf s) s id (requests r at cost) ws
+          → outcome told ws′ ≡ keyedOutcome (shapeOf s) s id (requests r at cost) ws
       new-is-told missed gave =
           let without-slot = ask-without-slot policy id r cost at (shardAt s (id .hash) ws) (rw (a .is-part) at (sym is-place ∙ missed)) in
           request-is-told ((rw (a .is-part) at gave) ∙ ap (inShard s (id .hash) ws) without-slot)

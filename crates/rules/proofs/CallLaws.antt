@@ -18,7 +18,7 @@ use Rattle.rules.specs.declared.Reply.{Reply}
 use Rattle.rules.specs.declared.Reply.the-variants.{Count, Refused}
 use Rattle.rules.specs.Replies.{numbered}
 use Rattle.rules.specs.Asks.{Look, Ask, looks, lookedIn}
-use Rattle.rules.specs.Rules.{unlessRefused, askRefusal, askedOf, keyedRuleIn, keyedRule, lenIn}
+use Rattle.rules.specs.Rules.{unlessRefused, askRefusal, keyedOutcome, keyedRuleIn, keyedRule, lenIn}
 use Rattle.rules.specs.Calls.{Call, keyed, whole, Whole, len, Terms, byKey, Answered, clockAfter, kindOf, rules, accepted}
 use Rattle.rules.proofs.RefusedLaws.{unless-refused-accepts, unless-refused-refuses, first-of-two-refuses}
 use Rattle.rules.proofs.KeyedLaws.{ask-not-refused, in-shard-unchanged}
@@ -45,7 +45,7 @@ module _ {S N : Type 0} (terms : Terms S N) where
 
   -- What a call gives where it is not refused.
   abbrev pub ruleOf : Call S N → List ℕ → Outcome Reply (List ℕ)
-  ruleOf (keyed s n ask) ws = askedOf (shapeOf (terms .settings s)) (terms .settings s) (terms .identity n) ask ws
+  ruleOf (keyed s n ask) ws = keyedOutcome (shapeOf (terms .settings s)) (terms .settings s) (terms .identity n) ask ws
   ruleOf (whole s len) ws = outcome (Count (sum (shardCount (terms .settings s)) (λ i. slotCount (capOf (terms .settings s)) i ws))) ws
 
   rules-are : (c : Call S N) (ws : List ℕ) → rules terms c ws ≡ unlessRefused (refusalOf c ws) ws (ruleOf c ws)

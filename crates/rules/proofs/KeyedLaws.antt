@@ -27,7 +27,7 @@ use Rattle.store.proofs.RefusalLaws.{Accepted, keyed-not-refused, moment-not-re
 use Rattle.rules.specs.declared.Reply.{Reply}
 use Rattle.rules.specs.declared.Reply.the-variants.{Refused}
 use Rattle.rules.specs.Asks.{Look, Ask, looks, furtherTo, furtherOf, lookedIn, inItsShard}
-use Rattle.rules.specs.Rules.{unlessRefused, askRefusal, askedOf, keyedRuleIn, keyedRule}
+use Rattle.rules.specs.Rules.{unlessRefused, askRefusal, keyedOutcome, keyedRuleIn, keyedRule}
 use Rattle.rules.proofs.RefusedLaws.{unless-refused-accepts, unless-refused-refuses, unlent-is-refused}
 
 -- What a call that is not refused may count on: accepted settings, memory of the right length, a sound shard; nor is what it asks refused.
@@ -44,13 +44,13 @@ request-in-time (Reserve longest) at none =
     (moment-not-refused at (parts .0), wait-not-refused longest (parts .1))
 
 module _ (s : Settings) (id : Identity) (ask : Ask) (ws : List ℕ) where
-  pub not-refused-is-asked : askRefusal s id ask ws ≡ 0 → keyedRule s id ask ws ≡ askedOf (shapeOf s) s id ask ws
+  pub not-refused-is-asked : askRefusal s id ask ws ≡ 0 → keyedRule s id ask ws ≡ keyedOutcome (shapeOf s) s id ask ws
   unfolding keyedRuleIn
-  not-refused-is-asked none = unless-refused-accepts (askRefusal s id ask ws) ws (askedOf (shapeOf s) s id ask ws) none
+  not-refused-is-asked none = unless-refused-accepts (askRefusal s id ask ws) ws (keyedOutcome (shapeOf s) s id ask ws) none
 
   pub refused-is-numbered : (askRefusal s id ask ws ≡ 0 → ⊥) → keyedRule s id ask ws ≡ outcome (Refused (askRefusal s id ask ws)) ws
   unfolding keyedRuleIn
-  refused-is-numbered some = unless-refused-refuses (askRefusal s id ask ws) ws (askedOf (shapeOf s) s id ask ws) some
+  refused-is-numbered some = unless-refused-refuses (askRefusal s id ask ws) ws (keyedOutcome (shapeOf s) s id ask ws) some
 
   -- As the code comes to it, by a number that it has found;
   pub refusal-is-told : {told : ℕ} → told ≡ askRefusal s id ask ws → (told ≡ 0 → ⊥) → outcome (Refused told) ws ≡ keyedRule s id ask ws
@@ -60,7 +60,7 @@ module _ (s : Settings) (id : Identity) (ask : Ask) (ws : List ℕ) where
   module _ {lending : Lending} (is : lending ≡ lentUnless (askRefusal s id ask ws) (partOf s (id .hash))) where
     pub unlent-is-told : {told : ℕ} → lending ≡ Lending.Refused told → outcome (Refused told) ws ≡ keyedRule s id ask ws
     unfolding keyedRuleIn
-    unlent-is-told gave = unlent-is-refused (askRefusal s id ask ws) ws (askedOf (shapeOf s) s id ask ws) (partOf s (id .hash)) is gave
+    unlent-is-told gave = unlent-is-refused (askRefusal s id ask ws) ws (keyedOutcome (shapeOf s) s id ask ws) (partOf s (id .hash)) is gave
 
     -- or the part of its key's shard. That lies in the memory, its shard is sound, and the limit is accepted.
     module _ {part′ : Part} (gave : lending ≡ Lending.Lent part′) where

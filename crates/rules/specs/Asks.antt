@@ -132,15 +132,15 @@ replyTo asReservation (Allowed due) = Reserved due
 replyTo asReservation (Denied due) = Nothing
 
 -- What an operation on a shard gives, with its answer as a reply.
-abbrev pub toldAs : {A : Type 0} → (A → Reply) → Outcome A Shard → Outcome Reply Shard
-toldAs reply o = outcome (reply (o .answer)) (o .after)
+abbrev pub repliedAs : {A : Type 0} → (A → Reply) → Outcome A Shard → Outcome Reply Shard
+repliedAs reply o = outcome (reply (o .answer)) (o .after)
 
 -- A request in its key's shard. Only a cost from 1 to a full bucket reaches the bucket, and only where there is a rate; any other leaves the shard as it is.
 unfoldable pub askedIn : Request → Limit → Settings → Nanos → Identity → ℕ → Shard → Outcome Reply Shard
 askedIn r Closed s at id cost own = outcome (closedTo (mannerOf r) at cost) own
 askedIn r (Open rate) s at id cost own =
     cond (ltb (configOf rate .capacity) cost) (outcome (tooMuch (mannerOf r)) own)
-    (cond (eqb cost 0) (outcome (atOnce (mannerOf r) at) own) (toldAs (replyTo (mannerOf r)) (OneShard.withOrInsert (policyOf s rate) id r cost at own)))
+    (cond (eqb cost 0) (outcome (atOnce (mannerOf r) at) own) (repliedAs (replyTo (mannerOf r)) (OneShard.withOrInsert (policyOf s rate) id r cost at own)))
 
 -- A peek: when the bucket that the key has, or would have if it came in now, has the cost.
 unfoldable pub dueReply : Due → Reply
@@ -168,8 +168,8 @@ knownReply false = Nothing
 -- A refund and a removal. To a refund on a closed limiter every key is unknown.
 abbrev pub undoneIn : Undo → Limit → Identity → Shard → Outcome Reply Shard
 undoneIn (refunds cost) Closed id own = outcome Nothing own
-undoneIn (refunds cost) (Open rate) id own = toldAs knownReply (OneShard.refunded (configOf rate) id cost own)
-undoneIn removes limit id own = toldAs knownReply (OneShard.removed id own)
+undoneIn (refunds cost) (Open rate) id own = repliedAs knownReply (OneShard.refunded (configOf rate) id cost own)
+undoneIn removes limit id own = repliedAs knownReply (OneShard.removed id own)
 
 -- What a call that is not refused answers, and what it leaves in the shard of its key. A look leaves the shard as it is.
 abbrev pub inItsShard : Settings → Identity → Ask → Shard → Outcome Reply Shard

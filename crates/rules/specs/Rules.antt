@@ -27,11 +27,11 @@ abbrev pub askRefusalIn : Shape → Settings → Identity → Ask → List ℕ �
 askRefusalIn shape s id ask ws = firstRefusal (keyedRefusalIn shape s (id .hash) ws) (furtherOf ask)
 
 -- Else it does what it asks in the shard of its key. The other shards stay as they are.
-abbrev pub askedOf : Shape → Settings → Identity → Ask → List ℕ → Outcome Reply (List ℕ)
-askedOf shape s id ask ws = let part = partIn shape (id .hash) in inPart part ws (inItsShard s id ask (shardIn part ws))
+abbrev pub keyedOutcome : Shape → Settings → Identity → Ask → List ℕ → Outcome Reply (List ℕ)
+keyedOutcome shape s id ask ws = let part = partIn shape (id .hash) in inPart part ws (inItsShard s id ask (shardIn part ws))
 
 unfoldable pub keyedRuleIn : Shape → Settings → Identity → Ask → List ℕ → Outcome Reply (List ℕ)
-keyedRuleIn shape s id ask ws = unlessRefused (askRefusalIn shape s id ask ws) ws (askedOf shape s id ask ws)
+keyedRuleIn shape s id ask ws = unlessRefused (askRefusalIn shape s id ask ws) ws (keyedOutcome shape s id ask ws)
 
 -- The shape is that of the settings.
 abbrev pub askRefusal : Settings → Identity → Ask → List ℕ → ℕ
