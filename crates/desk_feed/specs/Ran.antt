@@ -11,12 +11,12 @@ use Rattle.desk_turns.specs.declared.Feed.{Feed}
 use Rattle.desk_turns.specs.Feeding.{stateOf}
 use Rattle.desk_turns.specs.Run.{State, Standing, hasEnded, linesAnswered, lastLine, turned, turnedOver}
 use Rattle.desk_feed.specs.declared.Ran.{Ran}
-use Rattle.desk_feed.specs.declared.Why.{Why}
-use Rattle.desk_feed.specs.declared.Why.the-variants.{Input, Refused, Read, Write, LastWrite, Turns}
+use Rattle.desk_feed.specs.declared.Ending.{Ending}
+use Rattle.desk_feed.specs.declared.Ending.the-variants.{Input, Refused, Read, Write, LastWrite, Turns}
 
 -- The program's memory holds so many words; a store that needs more is refused.
-abbrev pub memoryWords : ℕ
-memoryWords = 8192
+abbrev pub deskWords : ℕ
+deskWords = 8192
 
 -- How the run stands: so many bytes at the start of the input are pending.
 abbrev pub standing : ℕ → List ℕ → Feed → List ℕ → Standing
@@ -46,7 +46,7 @@ pub record TurnedTo (from : Standing) (size turns : ℕ) (to : Standing) : Type 
 
 -- Whether the last line is answered: at the end of the input. Once the run has ended no line is left, so that answering the last
 -- line changes nothing (`none-once-ended` of `desk_turns`).
-abbrev pub withLast : Why → Bool
+abbrev pub withLast : Ending → Bool
 withLast Input = true
 withLast Refused = true
 withLast LastWrite = true
@@ -57,8 +57,8 @@ withLast Turns = false
 abbrev pub lastAnswered : Standing → State
 lastAnswered s = linesAnswered (lastLine (s .pending)) (s .state) .after
 
-abbrev pub overAt : Why → Standing → State
-overAt why s = cond (withLast why) (lastAnswered s) (s .state)
+abbrev pub overAt : Ending → Standing → State
+overAt ending s = cond (withLast ending) (lastAnswered s) (s .state)
 
 -- The most turns that a run makes: the largest number that their counter holds.
 abbrev pub mostTurns : ℕ
@@ -67,7 +67,7 @@ mostTurns = 2 ^ 64 - 1
 -- A run is said to be over for its line 1 if that was not accepted, and for no other reason then, but for a write that failed. It is said to be over for its
 -- turns once it has made the most of them, and for the write of a turn's answers once it has made a turn. The write of the last line's answer may fail
 -- whatever the stage is and however many turns were made.
-abbrev pub Rightly : Why → Stage → ℕ → Type 0
+abbrev pub Rightly : Ending → Stage → ℕ → Type 0
 Rightly Refused stage turns = hasEnded stage ≡ true
 Rightly Input stage turns = hasEnded stage ≡ false
 Rightly Read stage turns = hasEnded stage ≡ false
@@ -77,14 +77,14 @@ Rightly LastWrite stage turns = Unit {0}
 
 -- The end of the input: the last line is answered.
 pub record AtEnd (s : Standing) (turns : ℕ) (r : Ran) (memory′ : List ℕ) : Type 0 where
-  pub last : withLast (r .why) ≡ true
+  pub last : withLast (r .ending) ≡ true
   pub stands : stateOf (r .feed) memory′ ≡ lastAnswered s
-  pub rightly : Rightly (r .why) (r .feed .stage) (r .turns)
+  pub rightly : Rightly (r .ending) (r .feed .stage) (r .turns)
   pub counted : r .turns ≡ turns
 
 -- A run that is over, from wherever it stood: it has turned some reads, and where the input has ended answered the last line.
 pub record RanFrom (from : Standing) (size : ℕ) (r : Ran) (memory′ : List ℕ) : Type 0 where
   pub to : Standing
   pub turned-to : TurnedTo from size (r .turns) to
-  pub stands : stateOf (r .feed) memory′ ≡ overAt (r .why) to
-  pub rightly : Rightly (r .why) (r .feed .stage) (r .turns)
+  pub stands : stateOf (r .feed) memory′ ≡ overAt (r .ending) to
+  pub rightly : Rightly (r .ending) (r .feed .stage) (r .turns)

@@ -6,7 +6,7 @@ ghost use lib.ListN.{length};
 ghost use Rattle.desk_lines.specs.Lines.{longestLine};
 ghost use Rattle.desk_lines.specs.Printed.{longestPrinted};
 ghost use Rattle.desk_turns.specs.Run.{hasEnded};
-ghost use Rattle.desk_feed.specs.Ran.{memoryWords, standing, atStart, RanFrom, AtEnd};
+ghost use Rattle.desk_feed.specs.Ran.{deskWords, standing, atStart, RanFrom, AtEnd};
 use desk_answers::Stage;
 use desk_reads::Got;
 use desk_turns::Feed;
@@ -16,7 +16,7 @@ use libc::STDOUT_FILENO;
 pub const MEMORY_WORDS: usize = 8192;
 
 // Why a run is over.
-pub enum Why {
+pub enum Ending {
     // The input has ended, and its last line is answered.
     Input,
     // Line 1 was not accepted.
@@ -31,16 +31,16 @@ pub enum Why {
     Turns,
 }
 
-// A run that is over: why, how far it has come, and how many reads were turned.
+// A run that is over: its ending, how far it has come, and how many reads were turned.
 pub struct Ran {
-    pub why: Why,
+    pub ending: Ending,
     pub feed: Feed,
     pub turns: u64,
 }
 
 // Answers all lines, from the first on.
 pub fn run(input: &mut [u8], output: &mut [u8], memory: &mut [u64]) -> Ran
-    requires { ⌜ (longestLine + 1 < length (now input)) × (longestPrinted * length (now input) ≤ length (now output)) × (length (now memory) ≡ memoryWords) ⌝ }
+    requires { ⌜ (longestLine + 1 < length (now input)) × (longestPrinted * length (now input) ≤ length (now output)) × (length (now memory) ≡ deskWords) ⌝ }
     ensures { λ r. ⌜ RanFrom (atStart (now (memory .entry))) (length (now (input .entry))) r (now (memory .exit)) ⌝ }
 {
     let feed = Feed {
@@ -79,21 +79,37 @@ fn go_on(
                 return finish(input, pending, output, memory, feed, turns);
             }
             Got::Failed => {
-                let why = Why::Read;
-                return Ran { why, feed, turns };
+                let ending = Ending::Read;
+                return Ran {
+                    ending,
+                    feed,
+                    turns,
+                };
             }
         }
         if !flush(output, feed) {
-            let why = Why::Write;
-            return Ran { why, feed, turns };
+            let ending = Ending::Write;
+            return Ran {
+                ending,
+                feed,
+                turns,
+            };
         }
         if desk_turns::has_ended(feed) {
-            let why = Why::Refused;
-            return Ran { why, feed, turns };
+            let ending = Ending::Refused;
+            return Ran {
+                ending,
+                feed,
+                turns,
+            };
         }
     }
-    let why = Why::Turns;
-    Ran { why, feed, turns }
+    let ending = Ending::Turns;
+    Ran {
+        ending,
+        feed,
+        turns,
+    }
 }
 
 // The end of the input: the last line is answered, if one has begun. After a read that failed none is, since what is pending of it may be cut.
@@ -110,15 +126,27 @@ fn finish(
 {
     let feed = desk_turns::last_line(input, pending, output, memory, feed);
     if !flush(output, feed) {
-        let why = Why::LastWrite;
-        return Ran { why, feed, turns };
+        let ending = Ending::LastWrite;
+        return Ran {
+            ending,
+            feed,
+            turns,
+        };
     }
     if desk_turns::has_ended(feed) {
-        let why = Why::Refused;
-        return Ran { why, feed, turns };
+        let ending = Ending::Refused;
+        return Ran {
+            ending,
+            feed,
+            turns,
+        };
     }
-    let why = Why::Input;
-    Ran { why, feed, turns }
+    let ending = Ending::Input;
+    Ran {
+        ending,
+        feed,
+        turns,
+    }
 }
 
 // Writes what is printed. Tells whether all of it was written: else further answers would come after a gap.

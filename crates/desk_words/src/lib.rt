@@ -1,8 +1,8 @@
 // What the desk tells a person, all of it on standard error: standard output has the answers and nothing else.
 use desk_answers::Stage;
+use desk_feed::Ending;
 use desk_feed::MEMORY_WORDS;
 use desk_feed::Ran;
-use desk_feed::Why;
 use libc::STDERR_FILENO;
 
 // Writes words. A write that fails here has nobody to be told.
@@ -29,16 +29,16 @@ pub fn greet() {
 
 // Why the run is over. Nothing is told where the input has ended and all is written.
 pub fn tell(ran: Ran) {
-    let why = ran.why;
+    let why = ran.ending;
     let feed = ran.feed;
     let stage = feed.stage;
     match why {
-        Why::Input => {}
-        Why::Refused => refused(stage),
-        Why::Read => os::fail(b"desk: a read failed, and the run ends"),
-        Why::Write => os::fail(b"desk: a write failed, and the run ends"),
-        Why::LastWrite => os::fail(b"desk: a write failed, and the run ends"),
-        Why::Turns => say(b"desk: 2^64 - 1 reads are made, and the run ends\n"),
+        Ending::Input => {}
+        Ending::Refused => refused(stage),
+        Ending::Read => os::fail(b"desk: a read failed, and the run ends"),
+        Ending::Write => os::fail(b"desk: a write failed, and the run ends"),
+        Ending::LastWrite => os::fail(b"desk: a write failed, and the run ends"),
+        Ending::Turns => say(b"desk: 2^64 - 1 reads are made, and the run ends\n"),
     }
 }
 

@@ -11,8 +11,8 @@ use Rattle.rows.proofs.OutcomeLaws.{answer-is}
 use Rattle.decimal.proofs.WriteLaws.{digits-count}
 use Rattle.desk_lines.specs.declared.Request.{Request}
 use Rattle.desk_lines.specs.Lines.{most32}
-use Rattle.desk_writer.specs.declared.Call.{Call}
-use Rattle.desk_writer.specs.declared.Call.the-variants.{Try, Peek, Reserve, Refund, Remove}
+use Rattle.desk_writer.specs.declared.DeskCall.{DeskCall}
+use Rattle.desk_writer.specs.declared.DeskCall.the-variants.{Try, Peek, Reserve, Refund, Remove}
 use Rattle.desk_writer.specs.declared.Written.{Written}
 use Rattle.desk_writer.specs.Writer.{field, spaced, requestNumbers, numbersOf, writtenLine, written, requestFits, Fits, longestWritten}
 use Rattle.desk_writer.proofs.SizeLaws.{spaced-none-size, spaced-size, spaced-append-size, line-size}
@@ -40,7 +40,7 @@ request-size-within q fits =
     )
 
 -- By the kind of the call.
-numbers-within : (call : Call) → Fits call → 2 + length (spaced (numbersOf call)) ≤ longestWritten
+numbers-within : (call : DeskCall) → Fits call → 2 + length (spaced (numbersOf call)) ≤ longestWritten
 numbers-within (Try q) fits = omega (arith, request-size-within q fits)
 numbers-within (Peek q) fits = omega (arith, request-size-within q fits)
 numbers-within (Reserve q w) fits =
@@ -52,10 +52,10 @@ numbers-within (Refund key cost) fits =
 numbers-within (Remove key) fits = omega (arith, spaced-size key [], spaced-none-size, number-size-within key)
 
 -- The theorem, and what it means for a buffer: one of 76 bytes is never refused. `longest-reserve` of Worked has a line of 76 bytes.
-pub written-line-has-at-most-76-bytes : (call : Call) → Fits call → length (writtenLine call) ≤ longestWritten
+pub written-line-has-at-most-76-bytes : (call : DeskCall) → Fits call → length (writtenLine call) ≤ longestWritten
 written-line-has-at-most-76-bytes call fits = omega (arith, line-size call, numbers-within call fits)
 
-pub longest-buffer-is-not-refused : (call : Call) (buffer : List ℕ) → Fits call → longestWritten ≤ length buffer
+pub longest-buffer-is-not-refused : (call : DeskCall) (buffer : List ℕ) → Fits call → longestWritten ≤ length buffer
     → written call buffer .answer ≡ record { number = 0; size = length (writtenLine call) }
 unfolding written
 longest-buffer-is-not-refused call buffer fits room =
@@ -63,12 +63,12 @@ longest-buffer-is-not-refused call buffer fits room =
     rw (le-leb (length (writtenLine call)) (length buffer) line)
 
 -- The length that is told is within the buffer, written or refused.
-size-within : (call : Call) (buffer : List ℕ) → written call buffer .answer .size ≤ length buffer
+size-within : (call : DeskCall) (buffer : List ℕ) → written call buffer .answer .size ≤ length buffer
 unfolding written
 size-within call buffer =
     by-test (leb (length (writtenLine call)) (length buffer))
     (λ t. rw t (leb-true (length (writtenLine call)) (length buffer) t))
     (λ t. rw t (omega arith))
 
-pub told-size-within : (call : Call) (buffer : List ℕ) {w : Written} {bytes : List ℕ} → outcome w bytes ≡ written call buffer → w .size ≤ length buffer
+pub told-size-within : (call : DeskCall) (buffer : List ℕ) {w : Written} {bytes : List ℕ} → outcome w bytes ≡ written call buffer → w .size ≤ length buffer
 told-size-within call buffer gave = rw (answer-is gave) (size-within call buffer)

@@ -22,8 +22,8 @@ use Rattle.desk_lines.specs.declared.Line.{Line}
 use Rattle.desk_lines.specs.declared.Line.the-variants as line
 use Rattle.desk_lines.specs.Printed.{lineFeed}
 use Rattle.desk_lines.proofs.FieldLaws.{digit-is-no-space}
-use Rattle.desk_writer.specs.declared.Call.{Call}
-use Rattle.desk_writer.specs.declared.Call.the-variants.{Try, Peek, Reserve, Refund, Remove}
+use Rattle.desk_writer.specs.declared.DeskCall.{DeskCall}
+use Rattle.desk_writer.specs.declared.DeskCall.the-variants.{Try, Peek, Reserve, Refund, Remove}
 use Rattle.desk_writer.specs.Writer.{field, spaced, requestNumbers, letterOf, numbersOf, bytesOf, writtenLine, written, asRead, requestFits, Fits}
 use Rattle.desk_writer.proofs.SizeLaws.{line-size}
 use Rattle.desk_writer.proofs.LongestLaws.{written-line-has-at-most-76-bytes}
@@ -62,7 +62,7 @@ request-is-taken q fs fits =
     rw (now-taken, key-taken, number-is-taken most32 (q .cost) fs (omega arith) (fits .1 .1))
 
 -- By the kind of the call.
-fields-read-back : (call : Call) → Fits call → lineOfLetter (letterOf call) (left (map digitsOf (numbersOf call))) ≡ asRead call
+fields-read-back : (call : DeskCall) → Fits call → lineOfLetter (letterOf call) (left (map digitsOf (numbersOf call))) ≡ asRead call
 unfolding lineOfLetter
 fields-read-back (Try q) fits = ap (λ (t : Taken Request). finished (t .rest) (line.Try (t .value))) (request-is-taken q [] fits)
 fields-read-back (Peek q) fits = ap (λ (t : Taken Request). finished (t .rest) (line.Peek (t .value))) (request-is-taken q [] fits)
@@ -74,7 +74,7 @@ fields-read-back (Refund key cost) fits =
     rw (number-is-taken most64 key (digitsOf cost ∷ []) (omega arith) (fits .0), number-is-taken most32 cost [] (omega arith) (fits .1))
 fields-read-back (Remove key) fits = rw (number-is-taken most64 key [] (omega arith) fits)
 
-letter-is-no-space : (call : Call) → eqb (letterOf call) space ≡ false
+letter-is-no-space : (call : DeskCall) → eqb (letterOf call) space ≡ false
 letter-is-no-space (Try q) = refl
 letter-is-no-space (Peek q) = refl
 letter-is-no-space (Reserve q w) = refl
@@ -82,11 +82,11 @@ letter-is-no-space (Refund key cost) = refl
 letter-is-no-space (Remove key) = refl
 
 -- A line has at most 76 bytes, so it is not too long for the reader.
-bytes-within : (call : Call) → Fits call → length (bytesOf call) ≤ longestLine
+bytes-within : (call : DeskCall) → Fits call → length (bytesOf call) ≤ longestLine
 bytes-within call fits = omega (arith, line-size call, written-line-has-at-most-76-bytes call fits)
 
 -- The theorem: reading a written line, without its LF, gives the call again.
-pub written-line-reads-back : (call : Call) → Fits call → reader.lineOf (bytesOf call) ≡ asRead call
+pub written-line-reads-back : (call : DeskCall) → Fits call → reader.lineOf (bytesOf call) ≡ asRead call
 unfolding reader.lineOf
 written-line-reads-back call fits =
     rw (le-leb (length (bytesOf call)) longestLine (bytes-within call fits), letter-is-a-field (letterOf call) (numbersOf call) (letter-is-no-space call))
@@ -113,14 +113,14 @@ spaced-have-no-lf (n ∷ ns) bs =
     rw apart (omega
     (arith, digits-have-no-lf (digitsOf n) (spaced ns ++ bs) (digits-are-digits 20 n), spaced-have-no-lf ns bs, length-append (digitsOf n) (spaced ns)))
 
-letter-is-no-lf : (call : Call) → eqb (letterOf call) lineFeed ≡ false
+letter-is-no-lf : (call : DeskCall) → eqb (letterOf call) lineFeed ≡ false
 letter-is-no-lf (Try q) = refl
 letter-is-no-lf (Peek q) = refl
 letter-is-no-lf (Reserve q w) = refl
 letter-is-no-lf (Refund key cost) = refl
 letter-is-no-lf (Remove key) = refl
 
-pub written-line-ends-at-its-first-lf : (call : Call) (more : List ℕ) → indexOf lineFeed (bytesOf call ++ (lineFeed ∷ more)) ≡ length (bytesOf call)
+pub written-line-ends-at-its-first-lf : (call : DeskCall) (more : List ℕ) → indexOf lineFeed (bytesOf call ++ (lineFeed ∷ more)) ≡ length (bytesOf call)
 unfolding indexOf indexAfter
 written-line-ends-at-its-first-lf call more =
     rw (letter-is-no-lf call) (omega (arith, spaced-have-no-lf (numbersOf call) (lineFeed ∷ more), first-is-lf more))
@@ -129,7 +129,7 @@ written-line-ends-at-its-first-lf call more =
     first-is-lf bs = refl
 
 -- What a buffer holds after a call of the writer: the line, and the bytes past it as they were; where the buffer is too short, all bytes as they were.
-module _ (call : Call) (buffer : List ℕ) where
+module _ (call : DeskCall) (buffer : List ℕ) where
   pub buffer-begins-with-the-line : length (writtenLine call) ≤ length buffer → take (length (writtenLine call)) (written call buffer .after) ≡ writtenLine call
   unfolding written
   buffer-begins-with-the-line room =

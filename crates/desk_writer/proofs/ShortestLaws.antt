@@ -21,8 +21,8 @@ use Rattle.desk_lines.specs.Lines.{Reading, failed, left, Taken, takenNumber, t
 use Rattle.desk_lines.specs.Lines.{takenRate, takenIdle, mostRule, lineOfLetter, lineOfFields}
 use Rattle.desk_lines.specs.Lines as reader
 use Rattle.desk_lines.specs.Printed.{lineFeed}
-use Rattle.desk_writer.specs.declared.Call.{Call}
-use Rattle.desk_writer.specs.declared.Call.the-variants.{Try, Peek, Reserve, Refund, Remove}
+use Rattle.desk_writer.specs.declared.DeskCall.{DeskCall}
+use Rattle.desk_writer.specs.declared.DeskCall.the-variants.{Try, Peek, Reserve, Refund, Remove}
 use Rattle.desk_writer.specs.Writer.{field, spaced, requestNumbers, numbersOf, bytesOf, writtenLine, asRead}
 use Rattle.desk_writer.proofs.SizeLaws.{spaced-none-size, spaced-size, spaced-append-size}
 use borrow.Author.Tests.{leb-true}
@@ -133,7 +133,7 @@ needed (line.Refund key cost) = length (bytesOf (Refund key cost))
 needed (line.Remove key) = length (bytesOf (Remove key))
 needed line.Malformed = 0
 
-needed-for-call : (call : Call) → needed (asRead call) ≡ length (bytesOf call)
+needed-for-call : (call : DeskCall) → needed (asRead call) ≡ length (bytesOf call)
 needed-for-call (Try q) = refl
 needed-for-call (Peek q) = refl
 needed-for-call (Reserve q w) = refl
@@ -222,7 +222,7 @@ bytes-need bs =
     (λ t. rw t (omega arith))
 
 -- The theorem: of all lines read as a call and ended by LF, the written one is the shortest.
-pub written-line-is-shortest : (call : Call) (bs : List ℕ) → reader.lineOf bs ≡ asRead call → length (writtenLine call) ≤ length (bs ++ (lineFeed ∷ []))
+pub written-line-is-shortest : (call : DeskCall) (bs : List ℕ) → reader.lineOf bs ≡ asRead call → length (writtenLine call) ≤ length (bs ++ (lineFeed ∷ []))
 written-line-is-shortest call bs is =
     omega (
       arith,

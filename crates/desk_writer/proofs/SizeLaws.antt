@@ -5,7 +5,7 @@ use mathlib.Core.Path.{_≡_, refl, sym, ap, _∙_}
 use mathlib.Core.List.{List, [], _∷_, _++_, append-assoc}
 use lib.ListN.{length, length-append}
 use Rattle.desk_lines.specs.Printed.{lineFeed}
-use Rattle.desk_writer.specs.declared.Call.{Call}
+use Rattle.desk_writer.specs.declared.DeskCall.{DeskCall}
 use Rattle.desk_writer.specs.Writer.{field, spaced, numbersOf, bytesOf, writtenLine}
 
 -- Numbers in a row, one part after another.
@@ -27,5 +27,5 @@ pub spaced-append-size : (ms ns : List ℕ) → length (spaced (ms ++ ns)) ≡ l
 spaced-append-size ms ns = ap length (spaced-append ms ns) ∙ length-append (spaced ms) (spaced ns)
 
 -- A line has its letter and its LF beside its numbers.
-pub line-size : (call : Call) → length (writtenLine call) ≡ 2 + length (spaced (numbersOf call))
+pub line-size : (call : DeskCall) → length (writtenLine call) ≡ 2 + length (spaced (numbersOf call))
 line-size call = omega (arith, length-append (bytesOf call) (lineFeed ∷ []))

@@ -7,7 +7,7 @@ use Rattle.units.specs.Units.{nanosOf}
 use Rattle.rows.specs.Outcome.{outcome}
 use Rattle.decimal.specs.Decimal.{digitsFrom}
 use Rattle.desk_lines.specs.declared.Request.{Request}
-use Rattle.desk_writer.specs.declared.Call.the-variants.{Try, Peek, Reserve, Refund, Remove}
+use Rattle.desk_writer.specs.declared.DeskCall.the-variants.{Try, Peek, Reserve, Refund, Remove}
 use Rattle.desk_writer.specs.Writer.{spaced, writtenLine, longestWritten, written}
 
 abbrev request : ℕ → ℕ → ℕ → Request

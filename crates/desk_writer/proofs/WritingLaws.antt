@@ -14,8 +14,8 @@ use Rattle.desk_lines.specs.Printed.{lineFeed, writtenOver}
 use Rattle.desk_lines.proofs.PrintLaws.{written-after}
 use Rattle.units.specs.declared.Nanos.{Nanos}
 use Rattle.desk_lines.specs.declared.Request.{Request}
-use Rattle.desk_writer.specs.declared.Call.{Call}
-use Rattle.desk_writer.specs.declared.Call.the-variants.{Try, Peek, Reserve, Refund, Remove}
+use Rattle.desk_writer.specs.declared.DeskCall.{DeskCall}
+use Rattle.desk_writer.specs.declared.DeskCall.the-variants.{Try, Peek, Reserve, Refund, Remove}
 use Rattle.desk_writer.specs.declared.Written.{Written}
 use Rattle.desk_writer.specs.Writer.{field, spaced, requestNumbers, numbersOf, bytesOf, writtenLine, tooShort, written}
 use Rattle.desk_writer.proofs.SizeLaws.{spaced-none-size, spaced-size, spaced-append, spaced-append-size, line-size}
@@ -69,7 +69,7 @@ module _ (letter : ℕ) (ms : List ℕ) (n : ℕ) (bytes : List ℕ) {place : �
       written-after (letter ∷ spaced ms) (field n) 0 bytes gave then ∙ ap (λ (bs : List ℕ). writtenOver (letter ∷ bs) 0 bytes) all
 
 -- The line that the writer stored is the definition's.
-module _ (call : Call) (buffer : List ℕ) where
+module _ (call : DeskCall) (buffer : List ℕ) where
   pub line-is-written : {size place : ℕ} {bytes : List ℕ} → length (writtenLine call) ≤ length buffer → size ≡ length (writtenLine call)
       → outcome place bytes ≡ writtenOver (bytesOf call) 0 buffer
       → outcome (record { number = 0; size = size }) (set bytes place lineFeed) ≡ written call buffer

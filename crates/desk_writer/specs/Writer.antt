@@ -12,8 +12,8 @@ use Rattle.desk_lines.specs.declared.Line.the-variants as line
 use Rattle.desk_lines.specs.Fields.{space}
 use Rattle.desk_lines.specs.Lines.{most64, most32}
 use Rattle.desk_lines.specs.Printed.{lineFeed}
-use Rattle.desk_writer.specs.declared.Call.{Call}
-use Rattle.desk_writer.specs.declared.Call.the-variants.{Try, Peek, Reserve, Refund, Remove}
+use Rattle.desk_writer.specs.declared.DeskCall.{DeskCall}
+use Rattle.desk_writer.specs.declared.DeskCall.the-variants.{Try, Peek, Reserve, Refund, Remove}
 use Rattle.desk_writer.specs.declared.Written.{Written}
 
 -- A number with a space in front. Its digits have no zero in front.
@@ -26,7 +26,7 @@ spaced [] = []
 spaced (n ∷ ns) = field n ++ spaced ns
 
 -- A call's letter: `a`, `p`, `r`, `f`, `d`.
-abbrev pub letterOf : Call → ℕ
+abbrev pub letterOf : DeskCall → ℕ
 letterOf (Try q) = 97
 letterOf (Peek q) = 112
 letterOf (Reserve q w) = 114
@@ -37,7 +37,7 @@ letterOf (Remove k) = 100
 abbrev pub requestNumbers : Request → List ℕ
 requestNumbers q = q .at .0 ∷ q .key ∷ q .cost ∷ []
 
-abbrev pub numbersOf : Call → List ℕ
+abbrev pub numbersOf : DeskCall → List ℕ
 numbersOf (Try q) = requestNumbers q
 numbersOf (Peek q) = requestNumbers q
 numbersOf (Reserve q w) = requestNumbers q ++ (w .0 ∷ [])
@@ -45,10 +45,10 @@ numbersOf (Refund k n) = k ∷ n ∷ []
 numbersOf (Remove k) = k ∷ []
 
 -- The line without its LF, and with it.
-abbrev pub bytesOf : Call → List ℕ
+abbrev pub bytesOf : DeskCall → List ℕ
 bytesOf call = letterOf call ∷ spaced (numbersOf call)
 
-abbrev pub writtenLine : Call → List ℕ
+abbrev pub writtenLine : DeskCall → List ℕ
 writtenLine call = bytesOf call ++ (lineFeed ∷ [])
 
 -- The most bytes that a line has, with its LF.
@@ -61,14 +61,14 @@ tooShort = 13
 
 -- What is told, and what is left in the buffer: the line and then the bytes that stood past it; or, where the buffer is shorter than the line, all bytes as
 -- they were.
-unfoldable pub written : Call → List ℕ → Outcome Written (List ℕ)
+unfoldable pub written : DeskCall → List ℕ → Outcome Written (List ℕ)
 written call buffer =
     cond (leb (length (writtenLine call)) (length buffer))
     (outcome (record { number = 0; size = length (writtenLine call) }) (writtenLine call ++ drop (length (writtenLine call)) buffer))
     (outcome (record { number = tooShort; size = 0 }) buffer)
 
 -- The line of the reader that a call is.
-abbrev pub asRead : Call → Line
+abbrev pub asRead : DeskCall → Line
 asRead (Try q) = line.Try q
 asRead (Peek q) = line.Peek q
 asRead (Reserve q w) = line.Reserve q w
@@ -79,7 +79,7 @@ asRead (Remove k) = line.Remove k
 abbrev pub requestFits : Request → Type 0
 requestFits q = (q .at .0 ≤ most64) × ((q .key ≤ most64) × (q .cost ≤ most32))
 
-abbrev pub Fits : Call → Type 0
+abbrev pub Fits : DeskCall → Type 0
 Fits (Try q) = requestFits q
 Fits (Peek q) = requestFits q
 Fits (Reserve q w) = requestFits q × (w .0 ≤ most64)

@@ -5,13 +5,13 @@ ghost use Prim.Native.Nat.{_+_, _≤_, _<_};
 ghost use lib.ListN.{length, set};
 ghost use Rattle.rows.specs.Outcome.{outcome};
 ghost use Rattle.desk_lines.specs.Printed.{lineFeed, writtenOver};
-ghost use Rattle.desk_writer.specs.declared.Call.the-variants.{Reserve, Refund, Remove};
+ghost use Rattle.desk_writer.specs.declared.DeskCall.the-variants.{Reserve, Refund, Remove};
 ghost use Rattle.desk_writer.specs.Writer.{field, spaced, requestNumbers, bytesOf, writtenLine, written};
 use desk_lines::Request;
 use units::Nanos;
 
 // A call that a line can be written for.
-pub enum Call {
+pub enum DeskCall {
     Try(Request),
     Peek(Request),
     // With the longest wait.
@@ -35,7 +35,7 @@ pub const LONGEST_WRITTEN: usize = 76;
 pub const TOO_SHORT: u64 = 13;
 
 // Writes a call's line at the start of a buffer. The bytes past it stay, and a refusal changes none.
-pub fn write(call: Call, out: &mut [u8]) -> Written
+pub fn write(call: DeskCall, out: &mut [u8]) -> Written
     ensures { λ r. ⌜ outcome r (now (out .exit)) ≡ written call (now (out .entry)) ⌝ }
 {
     let size = size(call);
@@ -59,15 +59,15 @@ fn put_end(out: &mut [u8], end: usize)
 }
 
 // How many bytes a call's line has, with its LF.
-pub fn size(call: Call) -> usize
+pub fn size(call: DeskCall) -> usize
     ensures { λ r. ⌜ r ≡ length (writtenLine call) ⌝ }
 {
     match call {
-        Call::Try(request) => 2 + request_size(request),
-        Call::Peek(request) => 2 + request_size(request),
-        Call::Reserve(request, max_wait) => 2 + request_size(request) + field_size(max_wait.0),
-        Call::Refund(key, cost) => 2 + field_size(key) + field_size(cost as u64),
-        Call::Remove(key) => 2 + field_size(key),
+        DeskCall::Try(request) => 2 + request_size(request),
+        DeskCall::Peek(request) => 2 + request_size(request),
+        DeskCall::Reserve(request, max_wait) => 2 + request_size(request) + field_size(max_wait.0),
+        DeskCall::Refund(key, cost) => 2 + field_size(key) + field_size(cost as u64),
+        DeskCall::Remove(key) => 2 + field_size(key),
     }
 }
 
@@ -147,15 +147,15 @@ fn put_remove(out: &mut [u8], key: u64) -> usize
 }
 
 // Stores a call's line without its LF. Tells the place after it.
-fn put(out: &mut [u8], call: Call) -> usize
+fn put(out: &mut [u8], call: DeskCall) -> usize
     requires { ⌜ length (bytesOf call) ≤ length (now out) ⌝ }
     ensures { λ r. ⌜ outcome r (now (out .exit)) ≡ writtenOver (bytesOf call) 0 (now (out .entry)) ⌝ }
 {
     match call {
-        Call::Try(request) => put_request(out, b'a', request),
-        Call::Peek(request) => put_request(out, b'p', request),
-        Call::Reserve(request, max_wait) => put_reserve(out, request, max_wait),
-        Call::Refund(key, cost) => put_refund(out, key, cost),
-        Call::Remove(key) => put_remove(out, key),
+        DeskCall::Try(request) => put_request(out, b'a', request),
+        DeskCall::Peek(request) => put_request(out, b'p', request),
+        DeskCall::Reserve(request, max_wait) => put_reserve(out, request, max_wait),
+        DeskCall::Refund(key, cost) => put_refund(out, key, cost),
+        DeskCall::Remove(key) => put_remove(out, key),
     }
 }

@@ -8,7 +8,7 @@ ghost use Rattle.exercise_lines.specs.Repeats.{within64};
 ghost use Rattle.exercise.specs.Described.{Inside, stepAfter};
 use desk_lines::Line;
 use desk_reads::Got;
-use desk_writer::Call;
+use desk_writer::DeskCall;
 use desk_writer::LONGEST_WRITTEN;
 use exercise_lines::Repeat;
 use libc::STDERR_FILENO;
@@ -152,7 +152,7 @@ fn other_line(line: &[u8], number: u64) -> bool {
 }
 
 // Writes the lines of a call, for one modem after another.
-fn repeated(call: Call, count: u64, spacing: u64) -> bool
+fn repeated(call: DeskCall, count: u64, spacing: u64) -> bool
     requires { ⌜ within64 spacing (count - 1) call ≡ true ⌝ }
 {
     let mut place: u64 = 0;
@@ -166,7 +166,7 @@ fn repeated(call: Call, count: u64, spacing: u64) -> bool
 }
 
 // Writes a call's line. It has room, since no line has more bytes.
-fn write_line(call: Call) -> bool {
+fn write_line(call: DeskCall) -> bool {
     let mut out: [u8; LONGEST_WRITTEN] = [0; LONGEST_WRITTEN];
     let written = desk_writer::write(call, &mut out);
     let size = written.size;

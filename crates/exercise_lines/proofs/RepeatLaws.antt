@@ -18,8 +18,8 @@ use Rattle.desk_lines.specs.declared.Line.{Line}
 use Rattle.desk_lines.specs.declared.Line.the-variants as line
 use Rattle.desk_lines.specs.Fields.{space, fieldEnd}
 use Rattle.desk_lines.specs.Lines.{most64, lineOf}
-use Rattle.desk_writer.specs.declared.Call.{Call}
-use Rattle.desk_writer.specs.declared.Call.the-variants.{Try, Peek, Reserve, Refund, Remove}
+use Rattle.desk_writer.specs.declared.DeskCall.{DeskCall}
+use Rattle.desk_writer.specs.declared.DeskCall.the-variants.{Try, Peek, Reserve, Refund, Remove}
 use Rattle.exercise_lines.specs.declared.Repeat.{Repeat}
 use Rattle.exercise_lines.specs.declared.Repeat.the-variants.{Other}
 use Rattle.exercise_lines.specs.Repeats.{requestWithin, within64, ofCall, ofLine, ofParts, mostLines, spacingAt, ofBytes, beginsWithV, repeatOf, Within}
@@ -67,7 +67,7 @@ module _ (spacing place last : ℕ) (before : place ≤ last) where
   key-before : (key : ℕ) → leb (key + last) most64 ≡ true → leb (key + place) most64 ≡ true
   key-before key is = le-leb (key + place) most64 (omega (arith, leb-true (key + last) most64 is))
 
-  pub call-before : (call : Call) → within64 spacing last call ≡ true → within64 spacing place call ≡ true
+  pub call-before : (call : DeskCall) → within64 spacing last call ≡ true → within64 spacing place call ≡ true
   unfolding within64
   call-before (Try q) is = request-before q is
   call-before (Peek q) is = request-before q is
@@ -131,7 +131,7 @@ module _ (bytes : List ℕ) {end : ℕ} (ends : end ≡ fieldEnd bytes 2) where
         rw (has-spacing, has-call, is-next, ← ends) (rw (is-count, is-spacing, is-line, all) at is)
 
 -- The calls of a line that is read are within 64 bits.
-call-is-within : (count spacing : ℕ) (call : Call) → Within (ofCall count spacing call)
+call-is-within : (count spacing : ℕ) (call : DeskCall) → Within (ofCall count spacing call)
 unfolding ofCall
 call-is-within count spacing call = by-test (within64 spacing (count - 1) call) (λ t. rw t t) (λ t. rw t tt)
 

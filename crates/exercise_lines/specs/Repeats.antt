@@ -14,8 +14,8 @@ use Rattle.desk_lines.specs.declared.Line.{Line}
 use Rattle.desk_lines.specs.declared.Line.the-variants as line
 use Rattle.desk_lines.specs.Fields.{space, fieldEnd, fieldAt}
 use Rattle.desk_lines.specs.Lines.{most64, lineOf}
-use Rattle.desk_writer.specs.declared.Call.{Call}
-use Rattle.desk_writer.specs.declared.Call.the-variants.{Try, Peek, Reserve, Refund, Remove}
+use Rattle.desk_writer.specs.declared.DeskCall.{DeskCall}
+use Rattle.desk_writer.specs.declared.DeskCall.the-variants.{Try, Peek, Reserve, Refund, Remove}
 use Rattle.exercise_lines.specs.declared.Repeat.{Repeat}
 use Rattle.exercise_lines.specs.declared.Repeat.the-variants.{Calls, Other, TooFar}
 
@@ -24,7 +24,7 @@ use Rattle.exercise_lines.specs.declared.Repeat.the-variants.{Calls, Oth
 abbrev pub requestOn : ℕ → ℕ → Request → Request
 requestOn spacing place q = record { at = nanosOf (q .at .0 + place * spacing); key = q .key + place; cost = q .cost }
 
-unfoldable pub callOn : ℕ → ℕ → Call → Call
+unfoldable pub callOn : ℕ → ℕ → DeskCall → DeskCall
 callOn spacing place (Try q) = Try (requestOn spacing place q)
 callOn spacing place (Peek q) = Peek (requestOn spacing place q)
 callOn spacing place (Reserve q w) = Reserve (requestOn spacing place q) w
@@ -35,7 +35,7 @@ callOn spacing place (Remove key) = Remove (key + place)
 unfoldable pub requestWithin : ℕ → ℕ → Request → Bool
 requestWithin spacing place q = cond (leb (q .at .0 + place * spacing) most64) (leb (q .key + place) most64) false
 
-unfoldable pub within64 : ℕ → ℕ → Call → Bool
+unfoldable pub within64 : ℕ → ℕ → DeskCall → Bool
 within64 spacing place (Try q) = requestWithin spacing place q
 within64 spacing place (Peek q) = requestWithin spacing place q
 within64 spacing place (Reserve q w) = requestWithin spacing place q
@@ -43,7 +43,7 @@ within64 spacing place (Refund key cost) = leb (key + place) most64
 within64 spacing place (Remove key) = leb (key + place) most64
 
 -- Some calls, unless a number of the last one has more than 64 bits.
-unfoldable pub ofCall : ℕ → ℕ → Call → Repeat
+unfoldable pub ofCall : ℕ → ℕ → DeskCall → Repeat
 ofCall count spacing call = cond (within64 spacing (count - 1) call) (Calls call count spacing) TooFar
 
 -- The calls of a line of the desk. Settings are no call.

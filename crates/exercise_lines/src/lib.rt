@@ -9,7 +9,7 @@ ghost use Rattle.exercise_lines.specs.Repeats.{requestOn, callOn, reques
 use decimal::OptionNumber;
 use desk_lines::Line;
 use desk_lines::Request;
-use desk_writer::Call;
+use desk_writer::DeskCall;
 use units::Nanos;
 
 // The largest COUNT.
@@ -18,7 +18,7 @@ pub const MOST_LINES: u64 = 65536;
 // What a line is as a `v` line.
 pub enum Repeat {
     // The call of the first line, the number of lines, and the spacing. Every number of every line has at most 64 bits.
-    Calls(Call, u64, u64),
+    Calls(DeskCall, u64, u64),
     // A line that is no `v` line.
     Other,
     // A moment or a modem's number of a later line has more than 64 bits.
@@ -86,20 +86,20 @@ fn of_line(line: Line, count: u64, spacing: u64) -> Repeat
     ensures { λ r. ⌜ r ≡ ofLine count spacing line ⌝ }
 {
     match line {
-        Line::Try(request) => of_call(Call::Try(request), count, spacing),
-        Line::Peek(request) => of_call(Call::Peek(request), count, spacing),
+        Line::Try(request) => of_call(DeskCall::Try(request), count, spacing),
+        Line::Peek(request) => of_call(DeskCall::Peek(request), count, spacing),
         Line::Reserve(request, max_wait) => {
-            of_call(Call::Reserve(request, max_wait), count, spacing)
+            of_call(DeskCall::Reserve(request, max_wait), count, spacing)
         }
-        Line::Refund(key, cost) => of_call(Call::Refund(key, cost), count, spacing),
-        Line::Remove(key) => of_call(Call::Remove(key), count, spacing),
+        Line::Refund(key, cost) => of_call(DeskCall::Refund(key, cost), count, spacing),
+        Line::Remove(key) => of_call(DeskCall::Remove(key), count, spacing),
         Line::SetUp(_) => Repeat::Other,
         Line::Malformed => Repeat::Other,
     }
 }
 
 // The calls, unless a number of the last one has more than 64 bits.
-fn of_call(call: Call, count: u64, spacing: u64) -> Repeat
+fn of_call(call: DeskCall, count: u64, spacing: u64) -> Repeat
     ensures { λ r. ⌜ r ≡ ofCall count spacing call ⌝ }
 {
     if is_within(call, spacing, last(count)) {
@@ -119,15 +119,15 @@ fn last(count: u64) -> u64
 }
 
 // Whether the numbers of the call at a place have at most 64 bits.
-fn is_within(call: Call, spacing: u64, place: u64) -> bool
+fn is_within(call: DeskCall, spacing: u64, place: u64) -> bool
     ensures { λ r. ⌜ r ≡ within64 spacing place call ⌝ }
 {
     match call {
-        Call::Try(request) => request_is_within(request, spacing, place),
-        Call::Peek(request) => request_is_within(request, spacing, place),
-        Call::Reserve(request, _) => request_is_within(request, spacing, place),
-        Call::Refund(key, _) => key_is_within(key, place),
-        Call::Remove(key) => key_is_within(key, place),
+        DeskCall::Try(request) => request_is_within(request, spacing, place),
+        DeskCall::Peek(request) => request_is_within(request, spacing, place),
+        DeskCall::Reserve(request, _) => request_is_within(request, spacing, place),
+        DeskCall::Refund(key, _) => key_is_within(key, place),
+        DeskCall::Remove(key) => key_is_within(key, place),
     }
 }
 
@@ -157,18 +157,18 @@ fn key_is_within(key: u64, place: u64) -> bool
 }
 
 // The call at a place: for the modem that many after the first one, and that many spacings later.
-pub fn call_on(call: Call, spacing: u64, place: u64) -> Call
+pub fn call_on(call: DeskCall, spacing: u64, place: u64) -> DeskCall
     requires { ⌜ within64 spacing place call ≡ true ⌝ }
     ensures { λ r. ⌜ r ≡ callOn spacing place call ⌝ }
 {
     match call {
-        Call::Try(request) => Call::Try(request_on(request, spacing, place)),
-        Call::Peek(request) => Call::Peek(request_on(request, spacing, place)),
-        Call::Reserve(request, max_wait) => {
-            Call::Reserve(request_on(request, spacing, place), max_wait)
+        DeskCall::Try(request) => DeskCall::Try(request_on(request, spacing, place)),
+        DeskCall::Peek(request) => DeskCall::Peek(request_on(request, spacing, place)),
+        DeskCall::Reserve(request, max_wait) => {
+            DeskCall::Reserve(request_on(request, spacing, place), max_wait)
         }
-        Call::Refund(key, cost) => Call::Refund(key_on(key, place), cost),
-        Call::Remove(key) => Call::Remove(key_on(key, place)),
+        DeskCall::Refund(key, cost) => DeskCall::Refund(key_on(key, place), cost),
+        DeskCall::Remove(key) => DeskCall::Remove(key_on(key, place)),
     }
 }
 

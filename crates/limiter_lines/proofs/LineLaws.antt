@@ -5,7 +5,7 @@ use mathlib.Core.List.{List}
 use Rattle.rows.specs.Outcome.{outcome}
 use Rattle.rows.proofs.OutcomeLaws.{answer-is, after-is}
 use Rattle.rules.specs.declared.codes.Told.{Told}
-use Rattle.desk_writer.specs.declared.Call.{Call}
+use Rattle.desk_writer.specs.declared.DeskCall.{DeskCall}
 use Rattle.desk_writer.specs.declared.Written.{Written}
 use Rattle.desk_writer.specs.Writer.{written}
 use Rattle.limiter_lines.specs.Lines.{lineTold, toldWritten}
@@ -20,6 +20,6 @@ unfolding lineTold
 refusal-is-told w other = rw (ne-eqb (w .number) 0 other)
 
 -- A line that the writer gave, told.
-pub written-is-told : (call : Call) (buffer : List ℕ) {w : Written} {t : Told} {bytes : List ℕ}
+pub written-is-told : (call : DeskCall) (buffer : List ℕ) {w : Written} {t : Told} {bytes : List ℕ}
     → outcome w bytes ≡ written call buffer → t ≡ lineTold w → outcome t bytes ≡ toldWritten call buffer
 written-is-told call buffer gave told = rw (told, answer-is gave, after-is gave)

@@ -7,7 +7,7 @@ use Rattle.rows.specs.Outcome.{Outcome, outcome}
 use Rattle.units.specs.Units.{nanosOf}
 use Rattle.rules.specs.declared.codes.Told.{Told}
 use Rattle.desk_lines.specs.declared.Request.{Request}
-use Rattle.desk_writer.specs.declared.Call.{Call}
+use Rattle.desk_writer.specs.declared.DeskCall.{DeskCall}
 use Rattle.desk_writer.specs.declared.Written.{Written}
 use Rattle.desk_writer.specs.Writer.{tooShort, written}
 
@@ -19,5 +19,5 @@ unfoldable pub lineTold : Written → Told
 lineTold w = record { code = cond (eqb (w .number) 0) 0 (10 + tooShort); number = w .size; moment = 0 }
 
 -- What is told of a call's line, and what is left in the buffer.
-abbrev pub toldWritten : Call → List ℕ → Outcome Told (List ℕ)
+abbrev pub toldWritten : DeskCall → List ℕ → Outcome Told (List ℕ)
 toldWritten call buffer = outcome (lineTold (written call buffer .answer)) (written call buffer .after)

@@ -4,10 +4,10 @@
 ghost use mathlib.Core.Path.{_≡_};
 ghost use Rattle.rows.specs.Outcome.{outcome};
 ghost use Rattle.units.specs.Units.{nanosOf};
-ghost use Rattle.desk_writer.specs.declared.Call.the-variants.{Try, Peek, Reserve, Refund, Remove};
+ghost use Rattle.desk_writer.specs.declared.DeskCall.the-variants.{Try, Peek, Reserve, Refund, Remove};
 ghost use Rattle.limiter_lines.specs.Lines.{requestOf, lineTold, toldWritten};
 use desk_lines::Request;
-use desk_writer::Call;
+use desk_writer::DeskCall;
 use desk_writer::Written;
 use rules::codes::Told;
 use units::Nanos;
@@ -17,7 +17,7 @@ use units::Nanos;
 pub extern "C" fn limiter_line_try(out: &mut [u8], at: u64, key: u64, cost: u32) -> Told
     ensures { λ r. ⌜ outcome r (now (out .exit)) ≡ toldWritten (Try (requestOf at key cost)) (now (out .entry)) ⌝ }
 {
-    tell(desk_writer::write(Call::Try(request(at, key, cost)), out))
+    tell(desk_writer::write(DeskCall::Try(request(at, key, cost)), out))
 }
 
 // The line of a peek.
@@ -25,7 +25,7 @@ pub extern "C" fn limiter_line_try(out: &mut [u8], at: u64, key: u64, cost: u32)
 pub extern "C" fn limiter_line_peek(out: &mut [u8], at: u64, key: u64, cost: u32) -> Told
     ensures { λ r. ⌜ outcome r (now (out .exit)) ≡ toldWritten (Peek (requestOf at key cost)) (now (out .entry)) ⌝ }
 {
-    tell(desk_writer::write(Call::Peek(request(at, key, cost)), out))
+    tell(desk_writer::write(DeskCall::Peek(request(at, key, cost)), out))
 }
 
 // The line of a reservation.
@@ -39,7 +39,10 @@ pub extern "C" fn limiter_line_reserve(
 ) -> Told
     ensures { λ r. ⌜ outcome r (now (out .exit)) ≡ toldWritten (Reserve (requestOf at key cost) (nanosOf «max_wait»)) (now (out .entry)) ⌝ }
 {
-    tell(desk_writer::write(Call::Reserve(request(at, key, cost), Nanos(max_wait)), out))
+    tell(desk_writer::write(
+        DeskCall::Reserve(request(at, key, cost), Nanos(max_wait)),
+        out,
+    ))
 }
 
 // The line of a refund.
@@ -47,7 +50,7 @@ pub extern "C" fn limiter_line_reserve(
 pub extern "C" fn limiter_line_refund(out: &mut [u8], key: u64, cost: u32) -> Told
     ensures { λ r. ⌜ outcome r (now (out .exit)) ≡ toldWritten (Refund key cost) (now (out .entry)) ⌝ }
 {
-    tell(desk_writer::write(Call::Refund(key, cost), out))
+    tell(desk_writer::write(DeskCall::Refund(key, cost), out))
 }
 
 // The line of a removal.
@@ -55,7 +58,7 @@ pub extern "C" fn limiter_line_refund(out: &mut [u8], key: u64, cost: u32) -> To
 pub extern "C" fn limiter_line_remove(out: &mut [u8], key: u64) -> Told
     ensures { λ r. ⌜ outcome r (now (out .exit)) ≡ toldWritten (Remove key) (now (out .entry)) ⌝ }
 {
-    tell(desk_writer::write(Call::Remove(key), out))
+    tell(desk_writer::write(DeskCall::Remove(key), out))
 }
 
 // The request that the numbers are.

@@ -1,5 +1,5 @@
 -- `limiter_line_peek` tells what the writer gives for a peek.
-use Rattle.desk_writer.specs.declared.Call.the-variants.{Peek}
+use Rattle.desk_writer.specs.declared.DeskCall.the-variants.{Peek}
 use Rattle.limiter_lines.specs.Lines.{requestOf}
 use Rattle.limiter_lines.proofs.LineLaws.{written-is-told}
 use borrow.Author.Needs.{needs}

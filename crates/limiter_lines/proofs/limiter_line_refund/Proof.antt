@@ -1,5 +1,5 @@
 -- `limiter_line_refund` tells what the writer gives for a refund.
-use Rattle.desk_writer.specs.declared.Call.the-variants.{Refund}
+use Rattle.desk_writer.specs.declared.DeskCall.the-variants.{Refund}
 use Rattle.limiter_lines.proofs.LineLaws.{written-is-told}
 use borrow.Author.Needs.{needs}
 use Rattle.limiter_lines.proofs.limiter_line_refund.Statement.{statement}

@@ -1,5 +1,5 @@
 -- `limiter_line_remove` tells what the writer gives for a removal.
-use Rattle.desk_writer.specs.declared.Call.the-variants.{Remove}
+use Rattle.desk_writer.specs.declared.DeskCall.the-variants.{Remove}
 use Rattle.limiter_lines.proofs.LineLaws.{written-is-told}
 use borrow.Author.Needs.{needs}
 use Rattle.limiter_lines.proofs.limiter_line_remove.Statement.{statement}

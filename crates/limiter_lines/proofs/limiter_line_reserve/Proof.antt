@@ -1,5 +1,5 @@
 -- `limiter_line_reserve` tells what the writer gives for a reservation.
-use Rattle.desk_writer.specs.declared.Call.the-variants.{Reserve}
+use Rattle.desk_writer.specs.declared.DeskCall.the-variants.{Reserve}
 use Rattle.units.specs.Units.{nanosOf}
 use Rattle.limiter_lines.specs.Lines.{requestOf}
 use Rattle.limiter_lines.proofs.LineLaws.{written-is-told}

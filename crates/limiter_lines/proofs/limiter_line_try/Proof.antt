@@ -1,5 +1,5 @@
 -- `limiter_line_try` tells what the writer gives for a try.
-use Rattle.desk_writer.specs.declared.Call.the-variants.{Try}
+use Rattle.desk_writer.specs.declared.DeskCall.the-variants.{Try}
 use Rattle.limiter_lines.specs.Lines.{requestOf}
 use Rattle.limiter_lines.proofs.LineLaws.{written-is-told}
 use borrow.Author.Needs.{needs}
