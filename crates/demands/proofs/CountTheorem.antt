@@ -87,7 +87,8 @@ keyed-without-counts s id ask ws vs no-look like first second =
         size = first .size ∙ sym (second .size);
         shards = λ other.
             by-eq (shardOf s other) (shardOf s (id .hash))
-            (λ own. rw (first .own other own, second .own other own) (shard-without-counts s id ask no-look (shardAt s (id .hash) ws) (shardAt s (id .hash) vs) same))
+            (λ own. rw (first .own other own, second .own other own)
+            (shard-without-counts s id ask no-look (shardAt s (id .hash) ws) (shardAt s (id .hash) vs) same))
             (λ apart. rw (first .others other apart, second .others other apart) (like .shards other));
       };
     }

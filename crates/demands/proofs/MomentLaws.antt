@@ -24,7 +24,8 @@ use Rattle.store.proofs.RefusalLaws.{moment-not-refused}
 use Rattle.rules.specs.declared.Reply.{Reply}
 use Rattle.rules.specs.declared.Reply.the-variants.{Tried, Reserved, Nothing, Done, Count, Refused}
 use Rattle.rules.specs.Replies.{momentOf, ofGrant, decides, knows}
-use Rattle.rules.specs.Asks.{peeks, tokens, turnedAway, Undo, Ask, requests, looks, undoes, asTry, asReservation, mannerOf, furtherOf, policyOf, replyTo, askedIn}
+use Rattle.rules.specs.Asks.{peeks, tokens, turnedAway, Undo, Ask, requests, looks, undoes, asTry, asReservation, mannerOf, furtherOf, policyOf, replyTo}
+use Rattle.rules.specs.Asks.{askedIn}
 use Rattle.rules.specs.Asks.{inItsShard}
 use Rattle.rules.specs.Calls.{Call, keyed, whole, len, Terms, rules, Answered, replies, Every}
 use Rattle.rules.proofs.KeyedLaws.{ask-not-refused, request-in-time}

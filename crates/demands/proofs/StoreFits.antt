@@ -78,7 +78,8 @@ module _ (p : Policy) (id : Identity) (request : Request) (cost : ℕ) (at : Nan
   known-fits s i f =
       let slot : Slot = touched (slotAt s i) at (tracks (p .«idle_ttl»)) in
       let old : SlotFits slot = touched-fits (slotAt s i) at (tracks (p .«idle_ttl»)) (slot-at-fits s f i) stamp-fits in
-      changed-slot-fits s f i _ (asked-slot-fits slot (askedAt p slot request cost at) old (asked-fits (p .config) at a early request _ cost within (old .bucket)))
+      changed-slot-fits s f i _
+      (asked-slot-fits slot (askedAt p slot request cost at) old (asked-fits (p .config) at a early request _ cost within (old .bucket)))
 
   -- Room is made by the two sweeps and an eviction.
   room-fits : (s : Shard) → Sound s → ShardFits s → ShardFits (makeRoom p at s .after)

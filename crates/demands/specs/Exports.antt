@@ -75,8 +75,8 @@ numbersFit n =
 abbrev pub exported : Terms LimiterSettings Name
 exported = namedIn settingsOf numbersFit
 
--- The export by which a call is made, with the call's own numbers. There is none for the tokens and the count of an address. No list has such a call, since it does not
--- fit (`offeredByAddress` of `modems` is false of it).
+-- The export by which a call is made, with the call's own numbers. There is none for the tokens and the count of an address. No list has such a call,
+-- since it does not fit (`offeredByAddress` of `modems` is false of it).
 abbrev noExport : Gives
 noExport ws = outcome (toldOf Nothing) ws
 

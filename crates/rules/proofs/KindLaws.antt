@@ -25,7 +25,8 @@ use Rattle.rules.specs.declared.Reply.{Reply}
 use Rattle.rules.specs.declared.Reply.the-variants.{Tried, Reserved, Nothing, Done, Count}
 use Rattle.rules.specs.Replies.{numbered, Kind, decides, reserves, counts, knows}
 use Rattle.rules.specs.Asks as Asks
-use Rattle.rules.specs.Asks.{Look, peeks, tokens, turnedAway, Undo, refunds, removes, Ask, requests, looks, undoes, Manner, asTry, asReservation, mannerOf}
+use Rattle.rules.specs.Asks.{Look, peeks, tokens, turnedAway, Undo, refunds, removes, Ask, requests, looks, undoes, Manner, asTry, asReservation}
+use Rattle.rules.specs.Asks.{mannerOf}
 use Rattle.rules.specs.Asks.{clockAfterAsk, kindIn, kindOfLook, kindOfAsk, inItsShard}
 
 -- A reply of each kind, to an ask at a moment. A grant and a retry have that moment plus their wait; Acquired has no wait.

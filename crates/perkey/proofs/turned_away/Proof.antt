@@ -39,7 +39,8 @@ returns-2 : tie.Need-returns-2
 returns-2 c =
     let l = c .before .before .before .before in
     let a = start l .args in
-    lent-look-is-told (a .settings) (a .id) turnedAway (a .ws .now) (l .lend-for .ensures) (c .before .before .part .given .1) (ap Count (c .turned-away .ensures))
+    lent-look-is-told (a .settings) (a .id) turnedAway (a .ws .now) (l .lend-for .ensures) (c .before .before .part .given .1)
+    (ap Count (c .turned-away .ensures))
 
 pub turned-away-spec : {M : Type 1} → statement M
 turned-away-spec =
