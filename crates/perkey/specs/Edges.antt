@@ -120,8 +120,8 @@ allHold [] = true
 allHold (edge ∷ rest) = passes edge && allHold rest
 
 -- The table. The words of a shard are its slot count, hand and sweep, seven a slot (hash, key, shortfall, stamp, mark, last-seen, tries turned away), its debt
--- count and cursor, two a debt (hash, settles-at), then the index of the slots and that of the debts, of two places for each slot and each debt. A place holds 0,
--- or the number of an item, from 0, plus 1; for two places the home of a hash is its last bit.
+-- count and cursor, two a debt (hash, settles-at), then the index of the slots and that of the debts, of two places for each slot and each debt. A place holds
+-- 0, or the number of an item, from 0, plus 1; for two places the home of a hash is its last bit.
 abbrev pub edges : List Edge
 edges =
     -- No keys and no shards asked for: one shard with one place.
