@@ -1,4 +1,4 @@
-// The limiter for callers in C and Rust: the nine operations on plain numbers and lent words, the number of words to lend, and a hash for keys.
+// The limiter for callers in C and Rust: the ten operations on plain numbers and lent words, the number of words to lend, and a hash for keys.
 // Whatever a caller gives, a call ends and answers. What each operation does is the rule of `perkey` that its contract names; its reply is told as numbers.
 ghost use mathlib.Core.Path.{_≡_};
 ghost use Rattle.rows.specs.Outcome.{outcome};

@@ -1,4 +1,4 @@
-// The limiter: its nine operations, on settings, arguments and lent words of any kind. A call that is refused by number changes no word.
+// The limiter: its ten operations, on settings, arguments and lent words of any kind. A call that is refused by number changes no word.
 ghost use mathlib.Core.Path.{_≡_};
 ghost use Rattle.rows.specs.Outcome.{outcome};
 ghost use Rattle.settings.specs.Settings.{limitRefusal};
