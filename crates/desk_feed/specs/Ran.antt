@@ -1,5 +1,5 @@
 -- How a run has gone, from wherever it stood: some reads exist, and a turn for each of them leads from that standing to the last one. Which bytes standard
--- input had, and which were written, no contract says.
+-- input had, and that all answers were written in order, no contract says. What is handed to a write are answers (`Answering`).
 use Prim.Native.Nat.{ℕ, _-_, _^_, _≤_, _<_}
 use mathlib.Core.Path.{_≡_}
 use mathlib.Core.Bool.{Bool, true, false, cond}
@@ -8,7 +8,7 @@ use lib.ListN.{length, take}
 use Rattle.desk_answers.specs.declared.Stage.{Stage}
 use Rattle.desk_answers.specs.declared.Stage.the-variants.{First}
 use Rattle.desk_turns.specs.declared.Feed.{Feed}
-use Rattle.desk_turns.specs.Feeding.{stateOf}
+use Rattle.desk_turns.specs.Feeding.{stateOf, fed}
 use Rattle.desk_turns.specs.Run.{State, Standing, hasEnded, linesAnswered, lastLine, turned, turnedOver}
 use Rattle.desk_feed.specs.declared.Ran.{Ran}
 use Rattle.desk_feed.specs.declared.Ending.{Ending}
@@ -25,6 +25,13 @@ standing pending input f memory = record { pending = take pending input; state =
 -- Before line 1, at number 0, nothing is pending.
 abbrev pub atStart : List ℕ → Standing
 atStart memory = record { pending = []; state = record { stage = First; number = 0; memory = memory } }
+
+-- What is to be written are answers: the printed bytes answer some lines from some state, and those lines lead to where the run stands.
+pub record Answering (f : Feed) (output : List ℕ) : Type 0 where
+  pub from : State
+  pub lines : List (List ℕ)
+  pub memory : List ℕ
+  pub answers : fed f memory output ≡ linesAnswered lines from
 
 -- No read brought more bytes than the input buffer holds.
 abbrev pub Short : ℕ → List (List ℕ) → Type 0

@@ -6,7 +6,7 @@ ghost use lib.ListN.{length};
 ghost use Rattle.desk_lines.specs.Lines.{longestLine};
 ghost use Rattle.desk_lines.specs.Printed.{longestPrinted};
 ghost use Rattle.desk_turns.specs.Run.{hasEnded};
-ghost use Rattle.desk_feed.specs.Ran.{deskWords, standing, atStart, RanFrom, AtEnd};
+ghost use Rattle.desk_feed.specs.Ran.{deskWords, standing, atStart, Answering, RanFrom, AtEnd};
 use desk_answers::Stage;
 use desk_reads::Got;
 use desk_turns::Feed;
@@ -151,7 +151,7 @@ fn finish(
 
 // Writes what is printed. Tells whether all of it was written: else further answers would come after a gap.
 fn flush(output: &[u8], feed: Feed) -> bool
-    requires { ⌜ feed .put ≤ length (now output) ⌝ }
+    requires { ⌜ (feed .put ≤ length (now output)) × Answering feed (now output) ⌝ }
 {
     let put = feed.put;
     io::write_all(STDOUT_FILENO, &output[0..put])

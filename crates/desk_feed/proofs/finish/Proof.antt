@@ -1,6 +1,7 @@
 -- `finish` answers the last line, whichever way its write goes.
 use Rattle.desk_feed.proofs.RanLaws.{last-stands}
 use mathlib.Core.Path.{refl, sym, _∙_}
+use native.Mathlib.Omega.{arith}
 use borrow.Author.Needs.{needs}
 use Rattle.desk_feed.proofs.finish.Statement.{statement}
 use Rattle.desk_feed.proofs.finish.Tie as tie
@@ -13,7 +14,9 @@ last-line-requires : tie.Need-last-line-requires
 last-line-requires c κs = search needs
 
 flush-requires : tie.Need-flush-requires
-flush-requires c κs = search needs
+flush-requires c κs =
+    let done = c .before .before .before .before .before .last-line .ensures in
+    (omega (arith, done .fits), record { from = _; lines = _; memory = _; answers = done .answers })
 
 same-length : tie.Need-same-length
 same-length c = search needs

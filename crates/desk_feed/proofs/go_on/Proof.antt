@@ -109,7 +109,9 @@ returns-2 c =
     over-by-read (loop′ .pending) (loop′ .input) (loop′ .feed) (loop′ .inv .far) (loop′ .inv .more)
 
 flush-requires : tie.Need-flush-requires Inv-loop μ-loop
-flush-requires c κs = omega (arith, turned c .turn .ensures .fits)
+flush-requires c κs =
+    let done = turned c .turn .ensures in
+    (omega (arith, done .fits), record { from = _; lines = _; memory = _; answers = done .answers })
 
 same-length-7 : tie.Need-same-length-7 Inv-loop μ-loop
 same-length-7 c = search needs
