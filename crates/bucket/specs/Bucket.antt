@@ -103,8 +103,8 @@ isTry (Reserve longest) = false
 unfoldable pub asked : BucketConfig → Request → BucketCore → ℕ → Nanos → BucketOutcome
 asked c request b cost at =
     cond (leb (waitAt c b cost at) (longestWait request))
-    (record { decision = Allowed (dueAt c b cost at); bucket = spent c b cost at; «turned_away» = false })
-    (record { decision = Denied (dueAt c b cost at); bucket = b; «turned_away» = isTry request })
+    (record { decision = Allowed (dueAt c b cost at); bucket = spent c b cost at; «turns_away» = false })
+    (record { decision = Denied (dueAt c b cost at); bucket = b; «turns_away» = isTry request })
 
 -- A refund lowers the shortfall, as read, by the parts of the cost, down to 0. The stamp stays.
 abbrev pub refunded : BucketConfig → BucketCore → ℕ → BucketCore

@@ -36,13 +36,15 @@ use Rattle.limiter.specs.Exported as Exported
 use Rattle.limiter.specs.Exported.{identityOf}
 use Rattle.demands.specs.Demands.{Limiter, Demand2, Demand3}
 use Rattle.demands.specs.Moments.{TellsMoments}
-use Rattle.demands.specs.PlaceOrder.{Turn, AllOf, SameWithoutIndexes}
+use Rattle.demands.specs.PlaceOrder.{Turn, AllOf, run, SameWithoutIndexes}
+use Rattle.demands.specs.TurnAways.{EqualButForTurnAways, ListDecidedAlike}
 use Rattle.demands.specs.Exports.{Exports, numbersFit, exported, through, ExportDemand2, reading, readAs, called, ExportContracts}
 use Rattle.demands.proofs.WidthLaws.{ask-is-offered, NamesFit}
 use Rattle.demands.proofs.NameLaws.{names-fit, key-is-the-rule}
 use Rattle.demands.proofs.Theorem.{demand2-gives-demand3}
 use Rattle.demands.proofs.MomentLaws.{demand2-tells-moments}
 use Rattle.demands.proofs.PlaceOrderTheorem.{byLimiter, TurnFits, limiter-is-as-without-indexes}
+use Rattle.demands.proofs.TurnAwayTheorem.{limiter-decides-alike}
 use Rattle.demands.proofs.SizeTheorem.{limiter-answers-as-at-the-shape-of-before}
 
 -- A reply that is told as numbers is read, by its kind, as it was.
@@ -183,8 +185,8 @@ module _ (κs : Lfts 1) (κs₂ : Lfts 2) (ptr bytesPtr : ℕ × ℕ) (name byte
     pub exports-meet-demand3 : Demand3 exported (called e)
     exports-meet-demand3 = demand2-gives-demand3 exported names (called e) callers-have-demand2
 
-    -- They tell moments as the rules do (request 1), answer as a store without indexes does (request 3), and as the rules do at the shape of before (request
-    -- 6).
+    -- They tell moments as the rules do (request 1), answer as a store without indexes does (request 3), as the rules do at the shape of before (request 6), and
+    -- alike whatever the counts of tries turned away (request 8).
     pub exports-tell-moments : TellsMoments exported (called e)
     exports-tell-moments = demand2-tells-moments exported names (called e) callers-have-demand2
 
@@ -197,3 +199,9 @@ module _ (κs : Lfts 1) (κs₂ : Lfts 2) (ptr bytesPtr : ℕ × ℕ) (name byte
     pub exports-answer-as-at-the-shape-of-before : (c : Call LimiterSettings Name) (ws : List ℕ) → fits exported c ≡ true → lendable ws ≡ true
         → Before.settingsRefusal (settingsOf exported c) ≡ 0 → called e .answers c ws ≡ rulesIn exported Before.shapeOf c ws
     exports-answer-as-at-the-shape-of-before = limiter-answers-as-at-the-shape-of-before exported (called e) callers-have-demand2
+
+    pub exports-decide-alike : (n : LimiterSettings) → numbersFit n ≡ true → (ts : List (Turn LimiterSettings Name)) (ws vs : List ℕ)
+        → Every (TurnFits exported) ts → AllOf exported (Exported.settingsOf n) ts → lendable ws ≡ true → lendable vs ≡ true
+        → EqualButForTurnAways (Exported.settingsOf n) ws vs
+        → ListDecidedAlike (Exported.settingsOf n) ts (run (byLimiter (called e) n) ts ws) (run (byLimiter (called e) n) ts vs)
+    exports-decide-alike n fit = limiter-decides-alike exported names (called e) callers-have-demand2 n fit

@@ -21,7 +21,7 @@ use Rattle.shard_map.proofs.ReadBack.{Sized}
 use Rattle.shard_map.proofs.RoomLaws.{same-room}
 use Rattle.shard_map.proofs.AlikeLaws.{View, AlikeShards}
 use Rattle.shard_map.proofs.PlaceOrderLaws.{FindsEach, found-is-sound, placeOrder, in-place-order-alike, alike-is-in-place-order}
-use Rattle.shard_map.proofs.CountLaws.{countless, equal-but-for-counts, uncounted-alike, place-uncounted}
+use Rattle.shard_map.proofs.TurnAwayLaws.{countless, equal-but-for-turn-aways, uncounted-alike, place-uncounted}
 use Rattle.shard.specs.declared.Identity.{Identity}
 use Rattle.shard.specs.Model.{turnedAway as countOf}
 use Rattle.shard.proofs.ShardLaws.{SameRoom, ask-same-room, refund-same-room, remove-same-room}
@@ -35,7 +35,7 @@ use Rattle.rules.specs.declared.Reply.the-variants.{Count}
 use Rattle.rules.specs.Asks.{Look, peeks, tokens, turnedAway, Undo, refunds, removes, Ask, requests, looks, undoes, mannerOf, replyTo, knownReply}
 use Rattle.rules.specs.Asks.{policyOf, repliedAs, askedIn, peekedIn, lookedIn, undoneIn, inItsShard}
 use Rattle.rules.specs.Rules.{keyedOutcome}
-use Rattle.demands.specs.Counts.{looksAtCount}
+use Rattle.demands.specs.TurnAways.{readsTurnAways}
 
 -- What a call gives on words is what an operation gives in the shard of a hash: its answer, and the shard that it leaves. The other shards stay as they are,
 -- and the memory keeps its length.
@@ -106,7 +106,7 @@ module _ (v : View) {a b : Shard} (like : AlikeShards v a b) (every : EveryOpera
       (alike-by-test Alike (eqb cost 0) refl (unchanged-alike refl)
       (told-alike (replyTo (mannerOf r)) (every .asks (policyOf s rate) id r cost at)))
 
-  look-alike : (l : Look) (limit : Limit) (id : Identity) → (looksAtCount (looks l) ≡ true → countOf id a ≡ countOf id b)
+  look-alike : (l : Look) (limit : Limit) (id : Identity) → (readsTurnAways (looks l) ≡ true → countOf id a ≡ countOf id b)
       → lookedIn l limit id a ≡ lookedIn l limit id b
   unfolding peekedIn
   look-alike (peeks at cost) Closed id counts = refl
@@ -120,7 +120,7 @@ module _ (v : View) {a b : Shard} (like : AlikeShards v a b) (every : EveryOpera
   undo-alike (refunds cost) (Open rate) id = told-alike knownReply (every .refunds (configOf rate) id cost)
   undo-alike removes limit id = told-alike knownReply (every .removes id)
 
-  pub ask-alike : (s : Settings) (id : Identity) (ask : Ask) → (looksAtCount ask ≡ true → countOf id a ≡ countOf id b)
+  pub ask-alike : (s : Settings) (id : Identity) (ask : Ask) → (readsTurnAways ask ≡ true → countOf id a ≡ countOf id b)
       → Alike (inItsShard s id ask a) (inItsShard s id ask b)
   ask-alike s id (requests r at cost) counts = request-alike r (s .limit) s at id cost
   ask-alike s id (looks l) counts = unchanged-alike (look-alike l (s .limit) id counts)
@@ -138,8 +138,8 @@ call-same-as-place-order own each s id ask =
     }
 
 -- Without counts, where the call does not look at one.
-pub call-same-without-counts : (own : Shard) (s : Settings) (id : Identity) (ask : Ask) → looksAtCount ask ≡ false
+pub call-same-without-turn-aways : (own : Shard) (s : Settings) (id : Identity) (ask : Ask) → readsTurnAways ask ≡ false
     → SameOutcome (AlikeShards countless) (inItsShard s id ask (uncounted own)) (inItsShard s id ask own)
-call-same-without-counts own s id ask no-look =
+call-same-without-turn-aways own s id ask no-look =
     ask-alike countless (uncounted-alike own) (every-operation-alike countless (uncounted-alike own) (place-uncounted own)) s id ask
     (λ looks-at-it. absurd (false≢true (sym no-look ∙ looks-at-it)))

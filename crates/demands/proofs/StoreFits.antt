@@ -47,7 +47,7 @@ asked-slot-fits slot o f fits = record {
   bucket = fits;
   mark = f .mark;
   seen = f .seen;
-  turned-away = of-either Word (o .«turned_away») _ _ (omega arith) (f .turned-away);
+  turned-away = of-either Word (o .«turns_away») _ _ (omega arith) (f .turned-away);
 }
 
 touched-fits : (slot : Slot) (at : Nanos) (track : Bool) → SlotFits slot → Word (millisOf at .0) → SlotFits (touched slot at track)

@@ -153,7 +153,7 @@ pub extern "C" fn limiter_available(
     perkey::available(settings_of(settings), ws, Nanos(at), Identity { hash, key }).told()
 }
 
-// How many tries of a key its own bucket has turned away since the key got its slot. 0 for a key without a slot.
+// How many tries of a key its own bucket has turned away, from the call on that gave the key its slot. 0 for a key without a slot.
 #[no_mangle]
 pub extern "C" fn limiter_turned_away(
     settings: LimiterSettings,

@@ -20,7 +20,7 @@ use Rattle.shard.specs.declared.Identity.{Identity}
 use Rattle.rules.specs.declared.Reply.{Reply}
 use Rattle.rules.specs.Replies.{codeOf, numberOf, momentOf}
 use Rattle.rules.specs.Rules.{setUp}
-use Rattle.rules.specs.Calls.{Call, try, reserve, available, timesTurnedAway, refund, byKey, rules}
+use Rattle.rules.specs.Calls.{Call, try, reserve, available, timesTurnedAway, refund, remove, byKey, rules}
 use Rattle.store.specs.Memory.{memoryWords}
 
 -- Rates by amount, period and burst, with the initial tokens unset. Two tokens a second, up to four, is the rate that document 01 calls R; the last has
@@ -73,6 +73,10 @@ books moment key cost s = reserve s (record { 0 = moment }) (keyOf key) cost (re
 
 abbrev counts : ℕ → Settings → Call Settings Identity
 counts key s = timesTurnedAway s (keyOf key)
+
+-- A removal.
+abbrev forgets : ℕ → Settings → Call Settings Identity
+forgets key s = remove s (keyOf key)
 
 -- The last answer and the last words of a run through the rules.
 abbrev ranFrom : Settings → List (Settings → Call Settings Identity) → Outcome Reply (List ℕ) → Outcome Reply (List ℕ)
@@ -179,11 +183,15 @@ edges =
     -- Key 7 is turned away twice, and reserves a token without success: the count is 2. A refund and a grant leave the count.
     ∷ ends (forOneKey fastest) (asks 0 7 65535 ∷ asks 0 7 1 ∷ asks 0 7 2 ∷ books 0 7 1 ∷ returns 7 1 ∷ asks 0 7 1 ∷ counts 7 ∷ []) 0 2 0
     (1 ∷ 0 ∷ 0 ∷ 7 ∷ 7 ∷ 65535000000000 ∷ 0 ∷ 1 ∷ 0 ∷ 2 ∷ 0 ∷ 0 ∷ 0 ∷ 0 ∷ 0 ∷ 1 ∷ 0 ∷ 0 ∷ [])
-    -- Key 9 is turned away for space, and key 7 is a debt: neither has a count.
+    -- Key 9 is refused for space, and key 7 is a debt: neither has a count.
     ∷ ends (forOneKey twoPerSecond) (asks 0 7 4 ∷ asks 0 8 1 ∷ asks 0 9 1 ∷ counts 9 ∷ []) 0 0 0
     (1 ∷ 1 ∷ 0 ∷ 8 ∷ 8 ∷ 1000000000 ∷ 0 ∷ 0 ∷ 0 ∷ 0 ∷ 1 ∷ 1 ∷ 7 ∷ 2000000000 ∷ 1 ∷ 0 ∷ 0 ∷ 1 ∷ [])
     ∷ ends (forOneKey twoPerSecond) (asks 0 7 4 ∷ asks 0 7 1 ∷ asks 0 8 1 ∷ counts 7 ∷ []) 0 0 0
     (1 ∷ 1 ∷ 0 ∷ 8 ∷ 8 ∷ 1000000000 ∷ 0 ∷ 0 ∷ 0 ∷ 0 ∷ 1 ∷ 0 ∷ 7 ∷ 2000000000 ∷ 1 ∷ 0 ∷ 0 ∷ 1 ∷ [])
+    -- Keys 7 and 8 spend all, and key 8 is turned away once. Key 7 is removed: the slot of key 8 moves to the first place, with its count.
+    ∷ ends (limited twoPerSecond (capacityOf 2) 1) (asks 0 7 4 ∷ asks 0 8 4 ∷ asks 0 8 1 ∷ forgets 7 ∷ []) 0 0 0
+    (1 ∷ 0 ∷ 0 ∷ 8 ∷ 8 ∷ 4000000000 ∷ 0 ∷ 1 ∷ 0 ∷ 1 ∷ 0 ∷ 0 ∷ 0 ∷ 0 ∷ 0 ∷ 0 ∷ 0 ∷ 0 ∷ 0 ∷ 0 ∷ 0 ∷ 0 ∷ 0
+    ∷ 1 ∷ replicate 7 0)
     -- No bytes hash to the number at which the hash starts.
     ∷ hashes [] 14695981039346656037
     ∷ []

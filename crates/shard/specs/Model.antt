@@ -86,7 +86,7 @@ putBack hash at nanos.None s = s
 putBack hash at (nanos.Some settles) s = withLedger s (Ledger.recorded (s .ledger) (record { hash = hash; settles = settles }) at false .after)
 
 -- No room: the key is denied for want of space, and told when room is due. Its debt, if it had one, goes back. What was swept, cleared or moved stays so. A key
--- that had a debt is never turned away (`admit` says why), so the code puts nothing back.
+-- that had a debt is never refused for space (`admit` says why), so the code puts nothing back.
 abbrev pub admitted : Policy → Identity → Request → ℕ → Nanos → OptionNanos → Shard → Room → Outcome BucketDecision Shard
 admitted p id request cost at owed s Made = joined p id request cost at owed s
 admitted p id request cost at owed s (Refused due) = outcome (Denied due) (putBack (id .hash) at owed s)

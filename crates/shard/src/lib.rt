@@ -85,7 +85,7 @@ fn with_bucket(slot: Slot, bucket: BucketCore) -> Slot
 }
 
 // A request of a new key. The key's own debt is taken out first: its place in the ledger is then free for the debt of a slot that has to go. So a key that
-// left a debt is never turned away for space, and no debt has to be put back. A key that is turned away is denied until room is due.
+// left a debt is never refused for space, and no debt has to be put back. A key that is refused for space is denied until room is due.
 pub fn admit(
     ws: &mut [u64],
     cap: usize,

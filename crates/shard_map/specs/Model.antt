@@ -74,7 +74,7 @@ withLedger s l = record { slots = s .slots; hand = s .hand; sweep = s .sweep; le
 abbrev pub inPlaceOrder : Shard → Shard
 inPlaceOrder s = record { slots = Held.inPlaceOrder (s .slots); hand = s .hand; sweep = s .sweep; ledger = Ledger.inPlaceOrder (s .ledger) }
 
--- The same shard without the counts of tries turned away, in places that hold a slot and in those that hold none.
+-- The same shard with all counts of tries turned away 0, in unused places too.
 abbrev pub uncounted : Shard → Shard
 uncounted s = record { slots = Held.mapped Slot.uncounted (s .slots); hand = s .hand; sweep = s .sweep; ledger = s .ledger }
 

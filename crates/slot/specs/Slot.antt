@@ -49,7 +49,7 @@ readTurnedAway s = min (s .«turned_away») mostTurnedAway
 
 -- The count after an answer: one more where a try was turned away, up to the largest; else the word as it stands.
 abbrev pub countAfter : Bool → ℕ → ℕ
-countAfter turned count = cond turned (min (count + 1) mostTurnedAway) count
+countAfter turns-away count = cond turns-away (min (count + 1) mostTurnedAway) count
 
 -- The slot after its bucket was asked: the bucket and the count are those after the answer.
 abbrev pub withAsked : Slot → BucketOutcome → Slot
@@ -59,10 +59,10 @@ withAsked s outcome = record {
   bucket = outcome .bucket;
   mark = s .mark;
   seen = s .seen;
-  «turned_away» = countAfter (outcome .«turned_away») (s .«turned_away»);
+  «turned_away» = countAfter (outcome .«turns_away») (s .«turned_away»);
 }
 
--- The slot without its count: no try on it has been turned away.
+-- The same slot with the count 0.
 abbrev pub uncounted : Slot → Slot
 uncounted s = record { hash = s .hash; key = s .key; bucket = s .bucket; mark = s .mark; seen = s .seen; «turned_away» = 0 }
 

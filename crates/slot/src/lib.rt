@@ -65,16 +65,16 @@ impl Slot {
             bucket,
             mark: self.mark,
             seen,
-            turned_away: self.count_after(outcome.turned_away),
+            turned_away: self.count_after(outcome.turns_away),
         }
     }
 
     // The count after an answer. A count at its largest stays there; a larger word is brought down to it by the next try that is turned away.
-    fn count_after(self, turned_away: bool) -> u64
-        ensures { λ r. ⌜ r ≡ Model.countAfter «turned_away» (self .«turned_away») ⌝ }
+    fn count_after(self, turns_away: bool) -> u64
+        ensures { λ r. ⌜ r ≡ Model.countAfter «turns_away» (self .«turned_away») ⌝ }
     {
         let count = self.turned_away;
-        if turned_away {
+        if turns_away {
             return arith::smaller(count, MOST_TURNED_AWAY - 1) + 1;
         }
         count

@@ -33,8 +33,8 @@ countless = record {
 }
 
 -- So shards are alike where they are equal but for the counts; a shard and the same without counts are.
-pub equal-but-for-counts : {s t : Shard} → AlikeShards countless s t → uncounted s ≡ uncounted t
-equal-but-for-counts like = λ j. record { slots = like .slots j; hand = like .hand j; sweep = like .sweep j; ledger = like .ledger j }
+pub equal-but-for-turn-aways : {s t : Shard} → AlikeShards countless s t → uncounted s ≡ uncounted t
+equal-but-for-turn-aways like = λ j. record { slots = like .slots j; hand = like .hand j; sweep = like .sweep j; ledger = like .ledger j }
 
 pub uncounted-alike : (s : Shard) → AlikeShards countless (uncounted s) s
 uncounted-alike s = record { slots = mapped-twice Slot.uncounted (λ x. refl) (s .slots); hand = refl; sweep = refl; ledger = refl }
