@@ -191,8 +191,8 @@ enum {
     LIMITER_BAD_PERIOD = 12,    /* refused as 2: the period is not 1 to 2^46 ns */
     LIMITER_BAD_BURST = 13,     /* refused as 3: the burst is not 1 to 65,535 */
     LIMITER_BAD_SIZES = 14,     /* refused as 4: max_keys over 65,536 or shards over 64 */
-    LIMITER_BAD_MEMORY = 15,    /* refused as 5: another length than limiter_words(s); or a count of the key's shard (for limiter_length, the
-                                   count of slots of any shard) is more than the shard can hold. Set-up and clear look at no count */
+    LIMITER_BAD_MEMORY = 15,    /* refused as 5: another length than limiter_words(s); or the count of slots or of debts of the key's shard (for
+                                   limiter_length, of slots of any shard) is more than the shard can hold. Set-up and clear look at neither */
     LIMITER_BAD_MOMENT = 16,    /* refused as 6: now is after 2^62 ns */
     LIMITER_BAD_MAX_WAIT = 17,  /* refused as 7: max_wait is over 2^46 ns */
     LIMITER_BAD_ADDRESS = 21,   /* refused as 11: the address is not six bytes */
@@ -275,12 +275,13 @@ limiter_reply limiter_peek(limiter_settings s, const uint64_t *words, size_t len
 /* The tokens that the key has now. 0 with `number` tokens, or refused as 1 to 6. */
 limiter_reply limiter_available(limiter_settings s, const uint64_t *words, size_t len, uint64_t now, uint64_t hash, uint64_t key);
 
-/* How many tries of the key its own bucket has answered with 1 (retry) since the key got its slot. The try that gave it the slot counts too. 0 with
- * `number` tries, at most 2^32 - 1, where the count stops; or refused as 1 to 5, as limiter_remove is. It takes no moment, and a closed limiter answers it too.
+/* How many tries of the key its own bucket has answered with 1 (retry), from the call on that gave the key its slot. That call counts too, if it was a
+ * try that was answered so. 0 with `number` tries, at most 2^32 - 1, where the count stops; or refused as 1 to 5, as limiter_remove is. It takes no
+ * moment, and a closed limiter answers it too.
  *
  * These do not count: a reservation, a peek, a granted try, a try of a cost over the burst, and a retry that means that there is no room. A grant or a
- * refund leaves the count as it is. The count goes with the slot: a key that the store has forgotten (evicted, idle, removed) has 0, also where its debt
- * is remembered, and it begins at 0 when it comes back. So 0 does not say that the key has not tried. */
+ * refund leaves the count as it is. The count goes with the slot: a key that the store has forgotten (evicted, idle, removed, cleared) has 0, also where
+ * its debt is remembered. When it comes back it is counted anew, from the call that brings it back. So 0 does not say that the key has not tried. */
 limiter_reply limiter_turned_away(limiter_settings s, const uint64_t *words, size_t len, uint64_t hash, uint64_t key);
 
 /* Gives `cost` tokens back. 0 known, 3 unknown, or refused as 1 to 5. */
@@ -297,7 +298,8 @@ limiter_reply limiter_clear(limiter_settings s, uint64_t *words, size_t len);
  * It is also the check of words that were saved and loaded again: it refuses settings out of range, another number of words, and a count of
  * slots that is more than a shard holds. It looks at nothing else: not at other settings, which no call can tell, and not at any other word. Of
  * the 84,480 bits of a store for 100 modems in 4 shards it notices 244 when one is flipped. So save the settings and a checksum with the words,
- * and compare both before you use the words: bindings/c/save.c does. Words that version 0.5 saved are fewer, and are refused as 5: set up anew. */
+ * and compare both before you use the words: bindings/c/save.c does. Words that version 0.5 saved are fewer, and are refused as 5. The store is
+ * then set up anew, and all keys and debts are forgotten. */
 limiter_reply limiter_length(limiter_settings s, const uint64_t *words, size_t len);
 
 /* Modems by hardware address. In the calls below `address` and `address_len` are the bytes of an address, in the order in which it is written;

@@ -185,8 +185,8 @@ module _ (κs : Lfts 1) (κs₂ : Lfts 2) (ptr bytesPtr : ℕ × ℕ) (name byte
     pub exports-meet-demand3 : Demand3 exported (called e)
     exports-meet-demand3 = demand2-gives-demand3 exported names (called e) callers-have-demand2
 
-    -- They tell moments as the rules do (request 1), answer as a store without indexes does (request 3), as the rules do at the shape of before (request 6), and
-    -- alike whatever the counts of tries turned away (request 8).
+    -- They tell moments as the rules do (request 1), answer as a store without indexes does (request 3), as the rules do at the shape of before (request 6),
+    -- and alike whatever the counts of tries turned away (request 8).
     pub exports-tell-moments : TellsMoments exported (called e)
     exports-tell-moments = demand2-tells-moments exported names (called e) callers-have-demand2
 
