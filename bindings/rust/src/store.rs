@@ -120,12 +120,12 @@ impl<W: AsRef<[u64]>> Store<W> {
         answer::count(reply)
     }
 
-    /// How many tries of `key` its own bucket has answered with [`Decision::Retry`] since the key got its slot. The try that gave it the slot counts too. The
-    /// count stops at 2^32 - 1.
+    /// How many tries of `key` its own bucket has answered with [`Decision::Retry`], from the call on that gave the key its slot. That call counts too, if it
+    /// was a try that was answered so. The count stops at 2^32 - 1.
     ///
     /// These do not count: a reservation, a peek, a granted or an impossible try, and a retry that means that there is no room. The count goes with the slot:
-    /// a key that the store has forgotten has 0, also where its debt is remembered, and begins at 0 when it comes back. So 0 does not say that the key has not
-    /// tried.
+    /// a key that the store has forgotten has 0, also where its debt is remembered. When it comes back it is counted anew, from the call that brings it back.
+    /// So 0 does not say that the key has not tried.
     ///
     /// ```
     /// # use core::time::Duration;
