@@ -1,6 +1,6 @@
 """Where the words of a shard stand, for the recording scripts: as src/layout.rs says."""
 
-HEAD_WORDS, SLOT_WORDS = 3, 6
+HEAD_WORDS, SLOT_WORDS = 3, 7
 LEDGER_HEAD_WORDS, DEBT_WORDS = 2, 2
 PLACES_PER_ITEM = 2
 

@@ -1,6 +1,6 @@
 /* What limiter.h says of any caller's arguments: no words at all, every code with its text, the version, the hash's vectors, each field of the settings
- * read as the field that it is and written by its function, and the moment in every answer. Compiles as C99, C11 and C++. Run with
- * bindings/c/run-example. */
+ * read as the field that it is and written by its function, the moment in every answer, and the count of tries turned away. Compiles as C99, C11 and C++.
+ * Run with bindings/c/run-example. */
 #include <stdio.h>
 #include <stdlib.h>
 #include <string.h>
@@ -8,10 +8,10 @@
 #include "limiter.h"
 
 #define SECOND UINT64_C(1000000000)
-#define MOST_WORDS 800000
+#define MOST_WORDS 860000
 /* The words of a store for one key, and for two, in one shard. */
-#define ONE 17
-#define TWO 29
+#define ONE 18
+#define TWO 31
 
 static uint64_t words[MOST_WORDS];
 static int checks;
@@ -62,12 +62,14 @@ static void no_words(void)
     CHECK(tells(limiter_reserve(s, NULL, 0, SECOND, 7, 7, 1, 0), refused, 0, 0));
     CHECK(tells(limiter_peek(s, NULL, 0, SECOND, 7, 7, 1), refused, 0, 0));
     CHECK(tells(limiter_available(s, NULL, 0, SECOND, 7, 7), refused, 0, 0));
+    CHECK(tells(limiter_turned_away(s, NULL, 0, 7, 7), refused, 0, 0));
     CHECK(tells(limiter_refund(s, NULL, 0, 7, 7, 1), refused, 0, 0));
     CHECK(tells(limiter_remove(s, NULL, 0, 7, 7), refused, 0, 0));
     CHECK(tells(limiter_clear(s, NULL, 0), refused, 0, 0));
     CHECK(tells(limiter_length(s, NULL, 0), refused, 0, 0));
     bad.amount = 0;
     CHECK(limiter_length(bad, NULL, 0).code == LIMITER_BAD_AMOUNT);
+    CHECK(limiter_turned_away(bad, NULL, 0, 7, 7).code == LIMITER_BAD_AMOUNT);
 }
 
 static void words_to_lend(void)
@@ -75,7 +77,7 @@ static void words_to_lend(void)
     limiter_settings s = small();
     CHECK(limiter_words(s) == ONE);
     s.max_keys = 4096;
-    CHECK(set_up(s) == 49157);
+    CHECK(set_up(s) == 53253);
     s.shards = 64;
     CHECK(set_up_code(s, set_up(s) + 1) == LIMITER_BAD_MEMORY);
     s.max_keys = 65537;
@@ -90,7 +92,7 @@ static void words_to_lend(void)
 }
 
 /* The shards asked for are first raised to max_keys / 16,384, rounded up: the keys, and then the shards and the places of each for 0, 1, 3 and 64
- * shards asked for. A store takes shards * (5 + 12 * places) words. */
+ * shards asked for. A store takes shards * (5 + 13 * places) words. */
 static void raised_shards(void)
 {
     static const uint64_t asked[4] = { 0, 1, 3, 64 };
@@ -104,7 +106,7 @@ static void raised_shards(void)
             const uint64_t shards = rows[row][1 + 2 * i], places = rows[row][2 + 2 * i];
             s.max_keys = rows[row][0];
             s.shards = asked[i];
-            CHECK(set_up(s) == shards * (5 + 12 * places));
+            CHECK(set_up(s) == shards * (5 + 13 * places));
             CHECK(set_up_code(s, (size_t)limiter_words(s) - 1) == LIMITER_BAD_MEMORY);
         }
     }
@@ -227,12 +229,122 @@ static void no_moments(void)
     CHECK(tells(limiter_set_up(s, words, ONE), LIMITER_DONE, 0, 0));
     CHECK(tells(limiter_try(s, words, ONE, SECOND, 7, 7, 1), LIMITER_DONE, 0, SECOND));
     CHECK(tells(limiter_available(s, words, ONE, SECOND, 7, 7), LIMITER_DONE, 1, 0));
+    CHECK(tells(limiter_turned_away(s, words, ONE, 7, 7), LIMITER_DONE, 0, 0));
     CHECK(tells(limiter_length(s, words, ONE), LIMITER_DONE, 1, 0));
     CHECK(tells(limiter_refund(s, words, ONE, 7, 7, 1), LIMITER_DONE, 0, 0));
     CHECK(tells(limiter_refund(s, words, ONE, 8, 8, 1), LIMITER_NONE, 0, 0));
     CHECK(tells(limiter_remove(s, words, ONE, 7, 7), LIMITER_DONE, 0, 0));
     CHECK(tells(limiter_remove(s, words, ONE, 7, 7), LIMITER_NONE, 0, 0));
     CHECK(tells(limiter_clear(s, words, ONE), LIMITER_DONE, 0, 0));
+}
+
+/* Whether the modem of this number, which is its hash too, was turned away so often. */
+static int was_turned_away(limiter_settings s, size_t len, uint64_t modem, uint64_t times)
+{
+    return tells(limiter_turned_away(s, words, len, modem, modem), LIMITER_DONE, times, 0);
+}
+
+/* A try counts that the modem's own bucket answers with a retry. No other call does. */
+static void counted_tries(void)
+{
+    limiter_settings s = small();
+    set_up(s);
+    CHECK(was_turned_away(s, ONE, 7, 0));
+    CHECK(limiter_try(s, words, ONE, 0, 7, 7, 2).code == LIMITER_DONE);
+    CHECK(was_turned_away(s, ONE, 7, 0));
+    CHECK(limiter_try(s, words, ONE, 0, 7, 7, 1).code == LIMITER_RETRY);
+    CHECK(was_turned_away(s, ONE, 7, 1));
+    CHECK(limiter_try(s, words, ONE, 0, 7, 7, 2).code == LIMITER_RETRY);
+    CHECK(was_turned_away(s, ONE, 7, 2));
+    CHECK(limiter_peek(s, words, ONE, 0, 7, 7, 1).code == LIMITER_RETRY);
+    CHECK(limiter_reserve(s, words, ONE, 0, 7, 7, 1, 0).code == LIMITER_NONE);
+    CHECK(limiter_reserve(s, words, ONE, 0, 7, 7, 1, SECOND).code == LIMITER_DONE);
+    CHECK(limiter_try(s, words, ONE, 0, 7, 7, 3).code == LIMITER_IMPOSSIBLE);
+    CHECK(limiter_try(s, words, ONE, 0, 7, 7, 0).code == LIMITER_DONE);
+    CHECK(limiter_refund(s, words, ONE, 7, 7, 2).code == LIMITER_DONE);
+    CHECK(limiter_try(s, words, ONE, 0, 7, 7, 1).code == LIMITER_DONE);
+    CHECK(was_turned_away(s, ONE, 7, 2));
+    /* Another key of the same hash, and another hash of the same key. */
+    CHECK(tells(limiter_turned_away(s, words, ONE, 7, 8), LIMITER_DONE, 0, 0));
+    CHECK(tells(limiter_turned_away(s, words, ONE, 8, 7), LIMITER_DONE, 0, 0));
+    /* A closed limiter is looked at too. It turns nobody away for a wait. */
+    s.closed = 1;
+    CHECK(limiter_try(s, words, ONE, 0, 7, 7, 1).code == LIMITER_IMPOSSIBLE);
+    CHECK(was_turned_away(s, ONE, 7, 2));
+    CHECK(limiter_clear(s, words, ONE).code == LIMITER_DONE);
+    CHECK(was_turned_away(s, ONE, 7, 0));
+}
+
+/* The call that gives a modem its slot counts, if it is a try. */
+static void counted_from_the_first(void)
+{
+    limiter_settings s = limiter_with_initial(small(), 1);
+    set_up(s);
+    CHECK(limiter_try(s, words, ONE, 0, 7, 7, 2).code == LIMITER_RETRY);
+    CHECK(was_turned_away(s, ONE, 7, 1));
+    set_up(s);
+    CHECK(limiter_reserve(s, words, ONE, 0, 7, 7, 2, 0).code == LIMITER_NONE);
+    CHECK(limiter_length(s, words, ONE).number == 1 && was_turned_away(s, ONE, 7, 0));
+}
+
+/* The count goes with the slot: modem 7 leaves a debt and comes back, is removed, and is forgotten for being idle. A retry for want of space, which
+ * modem 9 gets, counts nowhere. */
+static void counted_while_known(void)
+{
+    limiter_settings s = small();
+    set_up(s);
+    CHECK(limiter_try(s, words, ONE, 0, 7, 7, 2).code == LIMITER_DONE);
+    CHECK(limiter_try(s, words, ONE, 0, 7, 7, 1).code == LIMITER_RETRY);
+    CHECK(limiter_try(s, words, ONE, 0, 7, 7, 1).code == LIMITER_RETRY);
+    CHECK(was_turned_away(s, ONE, 7, 2));
+    CHECK(limiter_try(s, words, ONE, 0, 8, 8, 2).code == LIMITER_DONE);
+    CHECK(limiter_peek(s, words, ONE, 0, 7, 7, 1).code == LIMITER_RETRY && was_turned_away(s, ONE, 7, 0));
+    CHECK(limiter_try(s, words, ONE, 0, 9, 9, 1).code == LIMITER_RETRY);
+    CHECK(was_turned_away(s, ONE, 8, 0) && was_turned_away(s, ONE, 9, 0));
+    CHECK(limiter_try(s, words, ONE, 0, 7, 7, 1).code == LIMITER_RETRY);
+    CHECK(was_turned_away(s, ONE, 7, 1) && was_turned_away(s, ONE, 8, 0));
+    CHECK(limiter_remove(s, words, ONE, 7, 7).code == LIMITER_DONE);
+    CHECK(was_turned_away(s, ONE, 7, 0));
+    s = limiter_with_idle(limiter_settings_of(2, SECOND, 2), 2 * SECOND);
+    set_up(s);
+    CHECK(limiter_try(s, words, TWO, 0, 7, 7, 2).code == LIMITER_DONE);
+    CHECK(limiter_try(s, words, TWO, 0, 7, 7, 1).code == LIMITER_RETRY);
+    CHECK(was_turned_away(s, TWO, 7, 1));
+    CHECK(limiter_try(s, words, TWO, 9 * SECOND, 8, 8, 1).code == LIMITER_DONE);
+    CHECK(limiter_length(s, words, TWO).number == 1 && was_turned_away(s, TWO, 7, 0));
+}
+
+/* Whether the look at the count and a removal are both refused with this code. */
+static int both_refused(limiter_settings s, size_t len, uint64_t code)
+{
+    return tells(limiter_turned_away(s, words, len, 7, 7), code, 0, 0) && tells(limiter_remove(s, words, len, 7, 7), code, 0, 0);
+}
+
+/* The look at the count is refused as a removal is. */
+static void refused_counts(void)
+{
+    limiter_settings s = small();
+    size_t place;
+    int damaged = 0;
+    set_up(s);
+    CHECK(both_refused(limiter_settings_of(65536, SECOND, 1), ONE, LIMITER_BAD_AMOUNT));
+    CHECK(both_refused(limiter_settings_of(2, 0, 1), ONE, LIMITER_BAD_PERIOD));
+    CHECK(both_refused(limiter_with_burst(s, 0), ONE, LIMITER_BAD_BURST));
+    CHECK(both_refused(limiter_settings_of(2, SECOND, 65537), ONE, LIMITER_BAD_SIZES));
+    CHECK(both_refused(limiter_with_shards(s, 65), ONE, LIMITER_BAD_SIZES));
+    CHECK(both_refused(s, ONE - 1, LIMITER_BAD_MEMORY));
+    CHECK(both_refused(s, ONE + 1, LIMITER_BAD_MEMORY));
+    CHECK(both_refused(limiter_closed_settings(1), ONE + 1, LIMITER_BAD_MEMORY));
+    /* The counts of slots and of debts, damaged; any other word may be anything. */
+    for (place = 0; place < ONE; place++) {
+        uint64_t code;
+        set_up(s);
+        words[place] = UINT64_MAX;
+        code = limiter_turned_away(s, words, ONE, 7, 7).code;
+        CHECK(code == LIMITER_DONE || both_refused(s, ONE, LIMITER_BAD_MEMORY));
+        damaged += code != LIMITER_DONE;
+    }
+    CHECK(damaged == 2);
 }
 
 /* Every code has a text of its own, and all other codes share one. The names are the codes, and those of refusals are above 10. */
@@ -343,6 +455,10 @@ int main(void)
     moments_told();
     moments_for_space();
     no_moments();
+    counted_tries();
+    counted_from_the_first();
+    counted_while_known();
+    refused_counts();
     texts();
     versions();
     written_settings();

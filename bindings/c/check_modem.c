@@ -116,6 +116,8 @@ static void as_the_key(void)
     CHECK(len > 0 && len <= MOST_WORDS && limiter_set_up(s, words, len).code == LIMITER_DONE);
     memcpy(others, words, bytes);
     CHECK(alike(limiter_modem_try(s, words, len, 7, modem, 6, 2), limiter_try(s, others, len, 7, hash, key, 2)));
+    CHECK(alike(limiter_modem_try(s, words, len, 7, modem, 6, 1), limiter_try(s, others, len, 7, hash, key, 1)));
+    CHECK(limiter_turned_away(s, words, len, hash, key).number == 1 && limiter_turned_away(s, others, len, hash, key).number == 1);
     CHECK(limiter_modem_peek(s, words, len, 7, modem, 6, 1).code == LIMITER_RETRY);
     CHECK(alike(limiter_modem_peek(s, words, len, 7, modem, 6, 1), limiter_peek(s, others, len, 7, hash, key, 1)));
     CHECK(alike(limiter_modem_reserve(s, words, len, 7, modem, 6, 1, SECOND), limiter_reserve(s, others, len, 7, hash, key, 1, SECOND)));

@@ -1,6 +1,7 @@
 /* A support desk's view of one modem: it asks until it has to wait, reserves, and is looked at, paid back and forgotten. The technician learns
- * at which moment to try again. Calls every function on keys, and every function that writes settings but the closed one. modem.c asks by address,
- * save.c saves and resumes, check.c and check_modem.c try every function. Compiles as C99 and as C++. Run with bindings/c/run-example. */
+ * at which moment to try again, and how often the modem was turned away. Calls every function on keys, and every function that writes settings but the
+ * closed one. modem.c asks by address, save.c saves and resumes, check.c and check_modem.c try every function. Compiles as C99 and as C++. Run with
+ * bindings/c/run-example. */
 #include <inttypes.h>
 #include <stdio.h>
 #include <stdlib.h>
@@ -64,6 +65,11 @@ static void look_and_refund(const desk *d, uint64_t now)
     stop_if_refused(reply);
     printf("then the next one, code %d: after another %" PRIu64 " ns, at %" PRIu64 "\n", (int)reply.code, reply.number, reply.moment);
 
+    /* Has the modem been trying at all? The reservation and the peek do not count. */
+    reply = limiter_turned_away(d->settings, d->words, d->len, d->hash, d->modem);
+    stop_if_refused(reply);
+    printf("tries turned away since the modem got its slot, code %d: %" PRIu64 "\n", (int)reply.code, reply.number);
+
     reply = limiter_refund(d->settings, d->words, d->len, d->hash, d->modem, 1);
     stop_if_refused(reply);
     printf("paid back, code %d", (int)reply.code);
@@ -72,7 +78,7 @@ static void look_and_refund(const desk *d, uint64_t now)
     printf(": %" PRIu64 " token\n", reply.number);
 }
 
-/* The modem is forgotten, and then everything. */
+/* The modem is forgotten, and its count with it; and then everything. */
 static void forget(const desk *d)
 {
     limiter_reply reply;
@@ -80,7 +86,8 @@ static void forget(const desk *d)
     reply = limiter_remove(d->settings, d->words, d->len, d->hash, d->modem);
     printf("removed, code %d", (int)reply.code);
     reply = limiter_remove(d->settings, d->words, d->len, d->hash, d->modem);
-    printf("; removed again, code %d\n", (int)reply.code);
+    printf("; removed again, code %d", (int)reply.code);
+    printf("; tries turned away: %" PRIu64 "\n", limiter_turned_away(d->settings, d->words, d->len, d->hash, d->modem).number);
     reply = limiter_clear(d->settings, d->words, d->len);
     printf("cleared, code %d: %" PRIu64 " modems known\n", (int)reply.code, limiter_length(d->settings, d->words, d->len).number);
 }

@@ -22,11 +22,11 @@
 
 /* The version of this interface. A change that a caller has to know of raises the minor number while the major one is 0. */
 #define LIMITER_VERSION_MAJOR 0
-#define LIMITER_VERSION_MINOR 5
+#define LIMITER_VERSION_MINOR 6
 #define LIMITER_VERSION_PATCH 0
-#define LIMITER_VERSION "0.5.0"
+#define LIMITER_VERSION "0.6.0"
 /* The same as one number: 65,536 times the major number, 256 times the minor one, and the patch. */
-#define LIMITER_VERSION_NUMBER 0x000500
+#define LIMITER_VERSION_NUMBER 0x000600
 
 #ifdef __cplusplus
 extern "C" {
@@ -34,23 +34,23 @@ extern "C" {
 
 /* The version of the library that is linked, as LIMITER_VERSION_NUMBER has it. The name has the major and the minor number in it: a library of
  * another minor version does not define it. Every object that is compiled with this header refers to it, so header and library of two
- * versions do not link ("undefined reference to limiter_version_0_5"). The patch may differ. */
-uint32_t limiter_version_0_5(void);
+ * versions do not link ("undefined reference to limiter_version_0_6"). The patch may differ. */
+uint32_t limiter_version_0_6(void);
 #if defined(__has_attribute)
 #if __has_attribute(retain)
-static uint32_t (*const limiter_version_needed)(void) __attribute__((used, retain)) = limiter_version_0_5;
+static uint32_t (*const limiter_version_needed)(void) __attribute__((used, retain)) = limiter_version_0_6;
 #define LIMITER_VERSION_IS_NEEDED
 #endif
 #endif
 #if defined(__GNUC__) && !defined(LIMITER_VERSION_IS_NEEDED)
-static uint32_t (*const limiter_version_needed)(void) __attribute__((used)) = limiter_version_0_5;
+static uint32_t (*const limiter_version_needed)(void) __attribute__((used)) = limiter_version_0_6;
 #endif
 #undef LIMITER_VERSION_IS_NEEDED
 
 /* The version of the library that is linked, for a log. */
 static inline uint32_t limiter_version(void)
 {
-    return limiter_version_0_5();
+    return limiter_version_0_6();
 }
 
 /* What a store is set up with. Times are in nanoseconds. A flag is set if it is not 0. A value whose flag is not set is not read: write settings
@@ -133,7 +133,7 @@ static inline limiter_settings limiter_forgetting_debts(limiter_settings s)
 /* An answer. */
 typedef struct limiter_reply {
     uint64_t code;   /* one of the codes below */
-    uint64_t number; /* a wait in ns, tokens, or a count of keys, as the call says; else 0 */
+    uint64_t number; /* a wait in ns, tokens, or a count of tries or of keys, as the call says; else 0 */
     uint64_t moment; /* of a grant and of a retry: now + the wait, when the tokens may be used, or when to try again. Of all
                         other answers 0. It can be after 2^62, the last moment at which a call is taken, and is held to 2^64 - 1 */
 } limiter_reply;
@@ -191,8 +191,8 @@ enum {
     LIMITER_BAD_PERIOD = 12,    /* refused as 2: the period is not 1 to 2^46 ns */
     LIMITER_BAD_BURST = 13,     /* refused as 3: the burst is not 1 to 65,535 */
     LIMITER_BAD_SIZES = 14,     /* refused as 4: max_keys over 65,536 or shards over 64 */
-    LIMITER_BAD_MEMORY = 15,    /* refused as 5: another length than limiter_words(s); or a count of the key's shard (for limiter_length, the
-                                   count of slots of any shard) is more than the shard can hold. Set-up and clear look at no count */
+    LIMITER_BAD_MEMORY = 15,    /* refused as 5: another length than limiter_words(s); or the count of slots or of debts of the key's shard (for
+                                   limiter_length, of slots of any shard) is more than the shard can hold. Set-up and clear look at neither */
     LIMITER_BAD_MOMENT = 16,    /* refused as 6: now is after 2^62 ns */
     LIMITER_BAD_MAX_WAIT = 17,  /* refused as 7: max_wait is over 2^46 ns */
     LIMITER_BAD_ADDRESS = 21,   /* refused as 11: the address is not six bytes */
@@ -275,6 +275,15 @@ limiter_reply limiter_peek(limiter_settings s, const uint64_t *words, size_t len
 /* The tokens that the key has now. 0 with `number` tokens, or refused as 1 to 6. */
 limiter_reply limiter_available(limiter_settings s, const uint64_t *words, size_t len, uint64_t now, uint64_t hash, uint64_t key);
 
+/* How many tries of the key its own bucket has answered with 1 (retry), from the call on that gave the key its slot. That call counts too, if it was a
+ * try that was answered so. 0 with `number` tries, at most 2^32 - 1, where the count stops; or refused as 1 to 5, as limiter_remove is. It takes no
+ * moment, and a closed limiter answers it too.
+ *
+ * These do not count: a reservation, a peek, a granted try, a try of a cost over the burst, and a retry that means that there is no room. A grant or a
+ * refund leaves the count as it is. The count goes with the slot: a key that the store has forgotten (evicted, idle, removed, cleared) has 0, also where
+ * its debt is remembered. When it comes back it is counted anew, from the call that brings it back. So 0 does not say that the key has not tried. */
+limiter_reply limiter_turned_away(limiter_settings s, const uint64_t *words, size_t len, uint64_t hash, uint64_t key);
+
 /* Gives `cost` tokens back. 0 known, 3 unknown, or refused as 1 to 5. */
 limiter_reply limiter_refund(limiter_settings s, uint64_t *words, size_t len, uint64_t hash, uint64_t key, uint32_t cost);
 
@@ -288,8 +297,9 @@ limiter_reply limiter_clear(limiter_settings s, uint64_t *words, size_t len);
  *
  * It is also the check of words that were saved and loaded again: it refuses settings out of range, another number of words, and a count of
  * slots that is more than a shard holds. It looks at nothing else: not at other settings, which no call can tell, and not at any other word. Of
- * the 78,080 bits of a store for 100 modems in 4 shards it notices 244 when one is flipped. So save the settings and a checksum with the words,
- * and compare both before you use the words: bindings/c/save.c does. */
+ * the 84,480 bits of a store for 100 modems in 4 shards it notices 244 when one is flipped. So save the settings and a checksum with the words,
+ * and compare both before you use the words: bindings/c/save.c does. Words that version 0.5 saved are fewer, and are refused as 5. The store is
+ * then set up anew, and all keys and debts are forgotten. */
 limiter_reply limiter_length(limiter_settings s, const uint64_t *words, size_t len);
 
 /* Modems by hardware address. In the calls below `address` and `address_len` are the bytes of an address, in the order in which it is written;
@@ -319,8 +329,8 @@ limiter_reply limiter_modem_refund(limiter_settings s, uint64_t *words, size_t l
 /* As limiter_remove; or refused as 11 or 12. */
 limiter_reply limiter_modem_remove(limiter_settings s, uint64_t *words, size_t len, const uint8_t *address, size_t address_len);
 
-/* The hash and the key that the five calls above give the modem: for limiter_available, and to choose one of several stores. 0 with both, or
- * refused as 11 or 12 with 0 and 0. */
+/* The hash and the key that the five calls above give the modem: for limiter_available and limiter_turned_away, and to choose one of several stores. 0
+ * with both, or refused as 11 or 12 with 0 and 0. */
 limiter_identity limiter_modem_identity(const uint8_t *address, size_t address_len);
 
 /* The value of a hexadecimal digit of either case; 16 of any other character. */

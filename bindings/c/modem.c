@@ -1,5 +1,5 @@
 /* A provisioning server asks for modems by hardware address, which its requests have as text: it answers a modem, tells it when to come back, or refuses
- * it; a group's address is no modem's. Compiles as C99 and as C++. Run with bindings/c/run-example. */
+ * it; a group's address is no modem's. A technician then looks at two modems. Compiles as C99 and as C++. Run with bindings/c/run-example. */
 #include <inttypes.h>
 #include <stdio.h>
 #include <stdlib.h>
@@ -43,16 +43,18 @@ static void answer(limiter_settings settings, size_t len, const request *r)
     }
 }
 
-/* What a modem has left: a look that takes a hash and a key. */
-static void left(limiter_settings settings, size_t len, uint64_t now, const char *text)
+/* What a modem has left, and how many of its tries were turned away: looks that take a hash and a key. */
+static void look(limiter_settings settings, size_t len, uint64_t now, const char *text)
 {
     uint8_t address[6];
     limiter_identity modem;
     if (!limiter_read_address(text, strlen(text), address))
         return;
     modem = limiter_modem_identity(address, sizeof address);
-    if (modem.code == LIMITER_DONE)
-        printf("%s has %" PRIu64 " left\n", text, limiter_available(settings, words, len, now, modem.hash, modem.key).number);
+    if (modem.code != LIMITER_DONE)
+        return;
+    printf("%s has %" PRIu64 " left", text, limiter_available(settings, words, len, now, modem.hash, modem.key).number);
+    printf("; tries turned away: %" PRIu64 "\n", limiter_turned_away(settings, words, len, modem.hash, modem.key).number);
 }
 
 int main(void)
@@ -68,7 +70,7 @@ int main(void)
         return 1;
     for (i = 0; i < sizeof requests / sizeof *requests; i++)
         answer(settings, len, &requests[i]);
-    left(settings, len, 5 * SECOND, "00:1a:2b:3c:4d:5e");
-    left(settings, len, 5 * SECOND, "00:1a:2b:3c:4d:5f");
+    look(settings, len, 5 * SECOND, "00:1a:2b:3c:4d:5e");
+    look(settings, len, 5 * SECOND, "00:1a:2b:3c:4d:5f");
     return 0;
 }

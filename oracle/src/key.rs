@@ -2,6 +2,8 @@
 
 use core::hash::{Hash, Hasher};
 
+use crate::layout::slot;
+
 /// The identity of a key: its hash and the key itself. The hash is the caller's, so two keys may be given the same one.
 #[derive(Debug, Clone, Copy, PartialEq, Eq)]
 pub struct Key {
@@ -9,6 +11,16 @@ pub struct Key {
     pub hash: u64,
     /// The key.
     pub key: u64,
+}
+
+impl Key {
+    /// The identity that a slot's words name.
+    pub(crate) fn of(slot: &[u64]) -> Self {
+        Self {
+            hash: slot[slot::HASH],
+            key: slot[slot::KEY],
+        }
+    }
 }
 
 impl Hash for Key {

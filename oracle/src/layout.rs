@@ -33,10 +33,20 @@ pub mod slot {
     pub const MARK: usize = 4;
     /// The idle stamp, in ms.
     pub const LAST_SEEN: usize = 5;
+    /// How many tries the bucket answered Retry (02, request 8).
+    pub const TURNED_AWAY: usize = 6;
     /// How many there are.
-    pub const WORDS: usize = 6;
+    pub const WORDS: usize = 7;
     /// What they are called.
-    pub const NAMES: [&str; WORDS] = ["hash", "key", "shortfall", "stamp", "mark", "last-seen"];
+    pub const NAMES: [&str; WORDS] = [
+        "hash",
+        "key",
+        "shortfall",
+        "stamp",
+        "mark",
+        "last-seen",
+        "turned-away",
+    ];
 }
 
 /// The words of a debt.

@@ -5,14 +5,15 @@
 //! ```text
 //! let rate = Rate { amount: 2, period: 1_000_000_000, burst: Some(4), initial: None };
 //! let settings = Settings { rate: Some(rate), max_keys: 2, shards: 1, idle: None, when_full: WhenFull::RefuseNew };
-//! let (limiter, answer) = Limiter::set_up(settings, 29);         // 0: accepted
+//! let (limiter, answer) = Limiter::set_up(settings, 31);         // 0: accepted
 //! limiter.try_(0, Key { hash: 7, key: 7 }, 4);                   // 0 0: granted
 //! limiter.try_(0, Key { hash: 7, key: 7 }, 1);                   // 1 500000000: retry
-//! limiter.words();                                               // 29 words
+//! limiter.turned_away(Key { hash: 7, key: 7 });                  // 0 1: one try turned away
+//! limiter.words();                                               // 31 words
 //! ```
 //!
-//! - [`Limiter`]: the operations, with refusals, answers and words.
-//! - [`OneShard`]: one shard's contents as words, and the published parts called by themselves.
+//! - [`Limiter`]: the operations, with refusals, answers and words, and the count of 02, request 8, which the published Rust lacks.
+//! - [`OneShard`]: one shard, with the published parts called by themselves.
 //! - [`refusals`]: the numbered refusals over any words at all.
 //! - [`Shape`]: how settings divide a memory; [`layout`]: where its words stand.
 //! - [`PerKey`], [`Eviction`], [`WhenFull`], [`Decision`]: the published types.
@@ -24,6 +25,7 @@ mod key;
 mod limiter;
 mod settings;
 mod shape;
+mod tally;
 mod throttle;
 
 // The published files name each other from the crate's root.

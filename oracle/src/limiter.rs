@@ -7,18 +7,20 @@ use clock_lib::ManualClock;
 
 use crate::decision::Decision;
 use crate::key::Key;
+use crate::layout::{self, slot};
 use crate::perkey::PerKey;
 use crate::refusals::{self, Memory};
 use crate::settings::Settings;
 use crate::shape::Shape;
 use crate::store::one_shard::{LoadError, OneShard};
+use crate::tally::Tally;
 
 /// A code and a number beside it.
 #[derive(Debug, Clone, Copy, PartialEq, Eq)]
 pub struct Answer {
     /// 0 granted, accepted or known; 1 retry; 2 impossible; 3 none or unknown; 10 + n refused as n.
     pub code: u8,
-    /// The wait in ns of a retry or a reservation, the tokens available, the length; else 0.
+    /// The wait in ns of a retry or a reservation, the tokens available, the tries turned away, the length; else 0.
     pub number: u64,
 }
 
@@ -65,6 +67,8 @@ pub struct Limiter {
     clock: Arc<ManualClock>,
     /// None after a refused set-up.
     published: Option<Published>,
+    /// The counts that the published limiter lacks, shard by shard.
+    tallies: Vec<Tally>,
 }
 
 impl Limiter {
@@ -80,6 +84,7 @@ impl Limiter {
             lent,
             clock: Arc::new(ManualClock::new()),
             published: None,
+            tallies: Vec::new(),
         };
         if let Some(number) = refusals::set_up(&limiter.settings, &limiter) {
             return (limiter, Answer::refused(number));
@@ -97,6 +102,7 @@ impl Limiter {
             "the Rust's cap"
         );
         limiter.published = Some(published);
+        limiter.tallies = (0..shape.shards).map(|_| Tally::default()).collect();
         limiter.give_places();
         (limiter, Answer::done(0))
     }
@@ -119,12 +125,19 @@ impl Limiter {
         &self.settings
     }
 
-    /// Takes `cost` tokens for `key` at `now`, if they are there.
+    /// Takes `cost` tokens for `key` at `now`, if they are there. A retry of a key that then has a slot came from its bucket, and counts. A key that
+    /// then has none was refused for space.
     pub fn try_(&self, now: u64, key: Key, cost: u32) -> Answer {
-        match refusals::try_(&self.settings, self, key.hash, now) {
-            Some(number) => Answer::refused(number),
-            None => self.at(now).decision(&key, cost).into(),
+        if let Some(number) = refusals::try_(&self.settings, self, key.hash, now) {
+            return Answer::refused(number);
         }
+        let (shard, tally) = self.own(&key);
+        forget_unless_held(&shard, tally, &key);
+        let decision = self.at(now).decision(&key, cost);
+        if matches!(decision, Decision::Retry { .. }) && shard.position(&key).is_some() {
+            tally.add(key);
+        }
+        decision.into()
     }
 
     /// What a try would answer, taking nothing.
@@ -150,10 +163,26 @@ impl Limiter {
         match refusals::reserve(&self.settings, self, key.hash, now, max_wait) {
             Some(number) => Answer::refused(number),
             None => {
+                let (shard, tally) = self.own(&key);
+                forget_unless_held(&shard, tally, &key);
                 let wait = self
                     .at(now)
                     .reserve(&key, cost, Duration::from_nanos(max_wait));
                 wait.map_or(Answer::known(false), |wait| Answer::done(nanos(wait)))
+            }
+        }
+    }
+
+    /// How many tries of `key` its bucket answered Retry, from the call that appended its slot on; 0 for a key without a slot. The answers are those of
+    /// the Rust, the count is the tally's.
+    #[must_use]
+    pub fn turned_away(&self, key: Key) -> Answer {
+        match refusals::turned_away(&self.settings, self, key.hash) {
+            Some(number) => Answer::refused(number),
+            None => {
+                let (shard, tally) = self.own(&key);
+                let place = shard.position(&key);
+                Answer::done(place.map_or(0, |_| tally.count(&key)))
             }
         }
     }
@@ -170,7 +199,10 @@ impl Limiter {
     pub fn remove(&self, key: Key) -> Answer {
         match refusals::remove(&self.settings, self, key.hash) {
             Some(number) => Answer::refused(number),
-            None => Answer::known(self.published().remove(&key)),
+            None => {
+                self.own(&key).1.forget(&key);
+                Answer::known(self.published().remove(&key))
+            }
         }
     }
 
@@ -179,6 +211,7 @@ impl Limiter {
         match refusals::clear(&self.settings, self) {
             Some(number) => Answer::refused(number),
             None => {
+                self.tallies.iter().for_each(Tally::clear);
                 self.published().clear();
                 self.give_places();
                 Answer::done(0)
@@ -201,7 +234,7 @@ impl Limiter {
         self.published.as_ref().map_or(0, PerKey::shard_count)
     }
 
-    /// One shard, if there is such a one.
+    /// One shard, if there is such a one. What is asked of it directly is not tallied.
     #[must_use]
     pub fn shard(&self, index: usize) -> Option<OneShard<'_>> {
         let published = self.published.as_ref()?;
@@ -213,12 +246,24 @@ impl Limiter {
     #[must_use]
     pub fn words(&self) -> Vec<u64> {
         (0..self.shards())
-            .filter_map(|index| self.shard(index))
-            .flat_map(|shard| shard.words())
+            .filter_map(|index| self.shard_words(index))
+            .flatten()
             .collect()
     }
 
-    /// Replaces the store's contents by those that `words` stand for (see [`OneShard::load`]).
+    /// One shard as words, with the tally in its slots, if there is such a shard.
+    #[must_use]
+    pub fn shard_words(&self, index: usize) -> Option<Vec<u64>> {
+        let shard = self.shard(index)?;
+        let mut words = shard.words();
+        for place in 0..shard.slot_count() {
+            let row = &mut words[layout::SLOTS.item(place)];
+            row[slot::TURNED_AWAY] = self.tallies[index].word(&Key::of(row));
+        }
+        Some(words)
+    }
+
+    /// Replaces the store's contents by those that `words` stand for (see [`Limiter::load_shard`]).
     ///
     /// # Errors
     ///
@@ -229,8 +274,32 @@ impl Limiter {
             return Err(LoadError::Length);
         }
         (0..shape.shards)
-            .filter_map(|index| Some((self.shard(index as usize)?, &words[shape.shard(index)])))
-            .try_for_each(|(shard, row)| shard.load(row))
+            .try_for_each(|index| self.load_shard(index as usize, &words[shape.shard(index)]))
+    }
+
+    /// Replaces one shard's contents by those that `words` stand for. A nonzero mark is set, whatever its value, and comes back as 1. A count is tallied as
+    /// it is, whatever its size.
+    ///
+    /// # Errors
+    ///
+    /// When there is no such shard, or the Rust has no such contents; nothing has changed then.
+    pub fn load_shard(&self, index: usize, words: &[u64]) -> Result<(), LoadError> {
+        let shard = self.shard(index).ok_or(LoadError::Length)?;
+        shard.load(words)?;
+        for place in 0..shard.slot_count() {
+            let row = &words[layout::SLOTS.item(place)];
+            self.tallies[index].load(Key::of(row), row[slot::TURNED_AWAY]);
+        }
+        Ok(())
+    }
+
+    /// The shard of `key` and its tally, for a call that is not refused.
+    fn own(&self, key: &Key) -> (OneShard<'_>, &Tally) {
+        let index = Shape::of(&self.settings).shard_of(key.hash) as usize;
+        let shard = self
+            .shard(index)
+            .expect("calls after a refused set-up are refused");
+        (shard, &self.tallies[index])
     }
 
     /// Gives the indexes of all shards, which are empty, their places.
@@ -292,6 +361,13 @@ fn build(settings: &Settings, clock: Arc<ManualClock>) -> Published {
         .shards(shards)
         .clock(clock)
         .build()
+}
+
+/// Forgets the count of a key that has no slot, before a call that may give it one: the count left with the slot.
+fn forget_unless_held(shard: &OneShard<'_>, tally: &Tally, key: &Key) {
+    if shard.position(key).is_none() {
+        tally.forget(key);
+    }
 }
 
 /// The nanoseconds of a wait.

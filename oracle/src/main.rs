@@ -134,6 +134,7 @@ fn operation(limiter: &Limiter, name: &str, fields: &mut Fields) -> Result<Optio
             fields.small()?,
             fields.number()?,
         ),
+        "turned-away" => limiter.turned_away(fields.key()?),
         "refund" => limiter.refund(fields.key()?, fields.small()?),
         "remove" => limiter.remove(fields.key()?),
         "clear" => limiter.clear(),
@@ -146,8 +147,8 @@ fn operation(limiter: &Limiter, name: &str, fields: &mut Fields) -> Result<Optio
 /// The contents of the shards, and the calls on one shard alone.
 fn one_shard(limiter: &Limiter, name: &str, fields: &mut Fields) -> Result<Printed, String> {
     if name == "dump" {
-        let shards = (0..limiter.shards()).filter_map(|index| limiter.shard(index));
-        return Ok(Printed::Shards(shards.map(|shard| shard.words()).collect()));
+        let shards = (0..limiter.shards()).filter_map(|index| limiter.shard_words(index));
+        return Ok(Printed::Shards(shards.collect()));
     }
     if !["load", "take", "record", "sweep", "pay", "idle", "evict"].contains(&name) {
         return Err(format!("no such line: {name}"));
@@ -155,13 +156,12 @@ fn one_shard(limiter: &Limiter, name: &str, fields: &mut Fields) -> Result<Print
     if limiter.settings().rate.is_none() && ["pay", "idle", "evict"].contains(&name) {
         return Err("a closed limiter has no buckets to look at".into());
     }
-    let shard = shard(limiter, fields)?;
+    let (index, shard) = shard(limiter, fields)?;
     let forget = limiter.settings().when_full == WhenFull::ForgetDebt;
     Ok(match name {
         "load" => {
-            let words = fields.rest()?;
-            shard
-                .load(&words)
+            limiter
+                .load_shard(index, &fields.rest()?)
                 .map_err(|fault| format!("the Rust has no such contents: {fault:?}"))?;
             Printed::Answer(0, 0)
         }
@@ -185,11 +185,12 @@ fn one_shard(limiter: &Limiter, name: &str, fields: &mut Fields) -> Result<Print
     })
 }
 
-/// The shard that the next field names.
-fn shard<'a>(limiter: &'a Limiter, fields: &mut Fields) -> Result<OneShard<'a>, String> {
+/// The shard that the next field names, and its number.
+fn shard<'a>(limiter: &'a Limiter, fields: &mut Fields) -> Result<(usize, OneShard<'a>), String> {
     let index = usize::try_from(fields.number()?).map_err(|error| error.to_string())?;
     limiter
         .shard(index)
+        .map(|shard| (index, shard))
         .ok_or_else(|| format!("no shard {index}"))
 }
 

@@ -1,5 +1,5 @@
 //! The numbered refusals of document 01, section "Refused by number", operation by operation. They are written from that
-//! page and use nothing of the published Rust, which has none of them. They come before the Rust's own rules.
+//! page, and from 02 where it adds a call, and use nothing of the published Rust, which has none of them. They come before the Rust's own rules.
 //!
 //! Each function gives the number of the first refusal that applies, or `None` if the call is not refused.
 
@@ -100,6 +100,11 @@ pub fn refund<M: Memory + ?Sized>(settings: &Settings, memory: &M, hash: u64) ->
 
 /// Remove: 1 to 5 as try.
 pub fn remove<M: Memory + ?Sized>(settings: &Settings, memory: &M, hash: u64) -> Option<u8> {
+    keyed(settings, memory, hash)
+}
+
+/// The look at a key's count: as remove (02, request 8).
+pub fn turned_away<M: Memory + ?Sized>(settings: &Settings, memory: &M, hash: u64) -> Option<u8> {
     keyed(settings, memory, hash)
 }
 

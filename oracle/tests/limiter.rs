@@ -32,7 +32,7 @@ macro_rules! answers {
 
 #[test]
 fn answers_by_number() {
-    let (limiter, accepted) = Limiter::set_up(settings(1, 1), 17);
+    let (limiter, accepted) = Limiter::set_up(settings(1, 1), 18);
     let got = answers![
         accepted,
         limiter.try_(0, key(7), 4),
@@ -71,6 +71,8 @@ fn answers_by_number() {
         0,
         1,
         0,
+        // No try of 8 was answered Retry.
+        0,
         1,
         1,
         7,
@@ -83,7 +85,7 @@ fn answers_by_number() {
     ];
     assert_eq!(limiter.words(), words);
     assert_eq!(answers![limiter.clear(), limiter.len()], [(0, 0), (0, 0)]);
-    assert_eq!(limiter.words(), [0; 17]);
+    assert_eq!(limiter.words(), [0; 18]);
 }
 
 #[test]
@@ -111,37 +113,41 @@ fn loads_what_it_shows() {
 fn loads_only_what_the_rust_can_hold() {
     let (limiter, _accepted) = Limiter::new(settings(2, 1));
     let with = |changes: &[(usize, u64)]| {
-        let mut words = vec![0; 29];
+        let mut words = vec![0; 31];
         changes
             .iter()
             .for_each(|&(place, word)| words[place] = word);
         limiter.load(&words)
     };
-    assert_eq!(limiter.load(&[0; 28]), Err(LoadError::Length));
+    assert_eq!(limiter.load(&[0; 30]), Err(LoadError::Length));
     assert_eq!(with(&[(0, 3)]), Err(LoadError::Count));
-    assert_eq!(with(&[(15, 3)]), Err(LoadError::Count));
+    assert_eq!(with(&[(17, 3)]), Err(LoadError::Count));
     assert_eq!(with(&[(0, 2)]), Err(LoadError::SameIdentity));
-    assert_eq!(with(&[(15, 2)]), Err(LoadError::SameDebt));
-    assert_eq!(with(&[(0, 1), (9, 1)]), Err(LoadError::PastCount));
+    assert_eq!(with(&[(17, 2)]), Err(LoadError::SameDebt));
+    // The first and the last word of the slot past the count: its hash and its count.
+    assert_eq!(with(&[(0, 1), (10, 1)]), Err(LoadError::PastCount));
+    assert_eq!(with(&[(0, 1), (16, 1)]), Err(LoadError::PastCount));
+    let most = u64::MAX;
     assert_eq!(
-        with(&[(0, 1), (7, 5), (1, u64::MAX), (5, u64::MAX), (21, 1)]),
+        with(&[(0, 1), (7, 5), (1, most), (5, most), (9, most), (23, 1)]),
         Ok(())
     );
-    // A mark of 5 is set; a shortfall of any size is kept.
+    // A mark of 5 is set; a shortfall and a count of any size are kept.
     let words = limiter.words();
-    assert_eq!((words[1], words[5], words[7]), (u64::MAX, u64::MAX, 1));
+    assert_eq!((words[1], words[5], words[7]), (most, most, 1));
+    assert_eq!(words[9], most);
 }
 
 #[test]
 fn loads_only_sound_indexes() {
     let (limiter, _accepted) = Limiter::new(settings(2, 1));
-    // Two slots, of hash 3 and 7, whose home is the last of four places from word 21 on; a debt of hash 6, at home at word 27.
+    // Two slots, of hash 3 and 7, whose home is the last of four places from word 23 on; a debt of hash 6, at home at word 29.
     let with = |places: [u64; 4], debt: [u64; 4]| {
-        let mut words = vec![0; 29];
-        (words[0], words[3], words[9]) = (2, 3, 7);
-        (words[15], words[17]) = (1, 6);
-        words[21..25].copy_from_slice(&places);
-        words[25..29].copy_from_slice(&debt);
+        let mut words = vec![0; 31];
+        (words[0], words[3], words[10]) = (2, 3, 7);
+        (words[17], words[19]) = (1, 6);
+        words[23..27].copy_from_slice(&places);
+        words[27..31].copy_from_slice(&debt);
         limiter.load(&words)
     };
     let sound = [0, 0, 1, 0];
@@ -160,10 +166,10 @@ fn loads_only_sound_indexes() {
 fn refuses_counts_over_the_cap() {
     let settings = settings(4, 2);
     let shape = Shape::of(&settings);
-    assert_eq!((shape.shards, shape.cap, shape.words()), (2, 2, 58));
+    assert_eq!((shape.shards, shape.cap, shape.words()), (2, 2, 62));
     let second_shard = 1 << 40;
-    for (place, length) in [(29, Some(5)), (29 + 15, None)] {
-        let mut words = [0; 58];
+    for (place, length) in [(31, Some(5)), (31 + 17, None)] {
+        let mut words = [0; 62];
         words[place] = 3;
         let words = words.as_slice();
         assert_eq!(refusals::set_up(&settings, words), None);
@@ -175,7 +181,12 @@ fn refuses_counts_over_the_cap() {
             Some(5)
         );
         assert_eq!(refusals::remove(&settings, words, 0), None);
+        assert_eq!(refusals::turned_away(&settings, words, 0), None);
         assert_eq!(refusals::refund(&settings, words, second_shard), Some(5));
+        assert_eq!(
+            refusals::turned_away(&settings, words, second_shard),
+            Some(5)
+        );
     }
 }
 
@@ -197,8 +208,9 @@ fn parts_can_be_called_alone() {
     shard.insert(key(9), 5, 6, 7_000_000);
     assert!(shard.touch(0, 8_000_000));
     // The looks in recording left the cursor at 1; nothing was there to look at since.
-    let before_the_indexes = [1, 1, 0, 9, 9, 5, 6, 1, 7, 0, 1, 0, 0];
-    assert_eq!(shard.words()[..13], before_the_indexes);
-    assert_eq!(shard.words()[13..], [0, 1, 0, 0]);
+    let before_the_indexes = [1, 1, 0, 9, 9, 5, 6, 1, 7, 0, 0, 1, 0, 0];
+    let words = limiter.shard_words(0).expect("there is one shard");
+    assert_eq!(words[..14], before_the_indexes);
+    assert_eq!(words[14..], [0, 1, 0, 0]);
     assert_eq!(shard.remove_at(0), Some(key(9)));
 }

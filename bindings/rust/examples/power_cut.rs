@@ -34,7 +34,13 @@ fn main() -> Result<(), Refusal> {
     }
     println!("{} modems have a slot", store.len()?);
 
-    // The first modem lost its slot to others, but not what it owes.
+    // Has modem 12 been trying? It has a slot, and a count in it. Modem 1 lost its slot to others, and its count with it.
+    for modem in [12, 1] {
+        let times = store.turned_away(Key::fnv1a(modem))?;
+        println!("modem {modem}: tries turned away since it got its slot: {times}");
+    }
+
+    // Modem 1 did not lose what it owes.
     let first = Key::fnv1a(1);
     println!("modem 1 has {} tokens", store.available(now, first)?);
     match store.reserve(now, first, 2, Duration::from_secs(2))? {

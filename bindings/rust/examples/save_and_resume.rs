@@ -12,7 +12,7 @@ use std::time::{Duration, SystemTime};
 
 use limiter::{Decision, Key, OwnedStore, Rate, Settings};
 
-/// What the file begins with. Another mark means another form of the file.
+/// What the file begins with. Another mark means another form of the file. A file that version 0.5 saved has this mark and fewer words: the library refuses it.
 const MARK: &[u8; 8] = b"limiter2";
 
 type Fault = Box<dyn Error>;

@@ -44,8 +44,8 @@ impl HardwareAddress {
         self.0[0] & 1 == 1
     }
 
-    /// The key that a store gives the modem of this address: for [`Store::available`], and to choose one of several stores by the hash. The library makes
-    /// both, the hash by FNV-1a over the six bytes, first byte first, and the key as the number with the first byte highest.
+    /// The key that a store gives the modem of this address: for [`Store::available`] and [`Store::turned_away`], and to choose one of several stores by the
+    /// hash. The library makes both, the hash by FNV-1a over the six bytes, first byte first, and the key as the number with the first byte highest.
     ///
     /// ```
     /// # use core::time::Duration;
@@ -54,6 +54,7 @@ impl HardwareAddress {
     /// let (now, modem) = (Duration::from_secs(5), HardwareAddress::new([0, 0x1a, 0x2b, 0x3c, 0x4d, 0x5e]));
     /// store.try_acquire_modem(now, modem, 1)?;
     /// assert_eq!(store.available(now, modem.key()?)?, 1);
+    /// assert_eq!(store.turned_away(modem.key()?)?, 0);
     /// # Ok::<(), limiter::Refusal>(())
     /// ```
     ///

@@ -211,7 +211,7 @@ pub(crate) fn known(reply: LimiterReply) -> Result<bool, Refusal> {
     }
 }
 
-/// Tokens or keys.
+/// Tokens, tries or keys.
 pub(crate) fn count(reply: LimiterReply) -> Result<u64, Refusal> {
     match reply.code {
         LIMITER_DONE => Ok(reply.number),

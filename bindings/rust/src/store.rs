@@ -48,9 +48,11 @@ impl OwnedStore {
 }
 
 impl<W: AsRef<[u64]>> Store<W> {
-    /// A store on words that were one before, under the same settings. Any words are safe, and nearly any are taken for a store: of the 78,080 bits of a
+    /// A store on words that were one before, under the same settings. Any words are safe, and nearly any are taken for a store: of the 84,480 bits of a
     /// store for 100 modems in 4 shards a resume notices 244 when one is flipped. The words do not tell which settings they had. So keep
     /// [`Settings::numbers`] and a checksum with them, and compare both first: the example `save_and_resume` does.
+    ///
+    /// Words that version 0.5 saved are fewer, and are refused with [`Refusal::Memory`]: set up anew.
     ///
     /// # Errors
     ///
@@ -115,6 +117,34 @@ impl<W: AsRef<[u64]>> Store<W> {
     /// As [`Store::try_acquire`].
     pub fn available(&self, now: Duration, key: Key) -> Result<u64, Refusal> {
         let reply = slices::available(self.raw, self.words(), nanos(now), key.hash, key.key);
+        answer::count(reply)
+    }
+
+    /// How many tries of `key` its own bucket has answered with [`Decision::Retry`], from the call on that gave the key its slot. That call counts too, if it
+    /// was a try that was answered so. The count stops at 2^32 - 1.
+    ///
+    /// These do not count: a reservation, a peek, a granted or an impossible try, and a retry that means that there is no room. The count goes with the slot:
+    /// a key that the store has forgotten has 0, also where its debt is remembered. When it comes back it is counted anew, from the call that brings it back.
+    /// So 0 does not say that the key has not tried.
+    ///
+    /// ```
+    /// # use core::time::Duration;
+    /// # use limiter::{Key, OwnedStore, Rate, Settings};
+    /// let mut store = OwnedStore::new(Settings::new(Rate::per_second(2), 100))?;
+    /// let (now, modem) = (Duration::from_secs(5), Key::fnv1a(7));
+    /// // Two are granted, and three turned away.
+    /// for _ in 0..5 {
+    ///     store.try_acquire(now, modem, 1)?;
+    /// }
+    /// assert_eq!(store.turned_away(modem)?, 3);
+    /// # Ok::<(), limiter::Refusal>(())
+    /// ```
+    ///
+    /// # Errors
+    ///
+    /// As [`Store::remove`].
+    pub fn turned_away(&self, key: Key) -> Result<u64, Refusal> {
+        let reply = slices::turned_away(self.raw, self.words(), key.hash, key.key);
         answer::count(reply)
     }
 

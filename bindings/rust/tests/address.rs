@@ -104,8 +104,11 @@ fn an_address_has_the_key_that_its_calls_are_on() {
     assert_eq!(key.key, 0x5e4d_3c2b_1a00);
     assert_ne!(key.hash, AS_KEY.hash);
     let (mut store, now) = (store(), 5 * SECOND);
-    assert!(store.try_acquire_modem(now, MODEM, 3).is_ok());
+    for cost in [3, 2] {
+        assert!(store.try_acquire_modem(now, MODEM, cost).is_ok());
+    }
     assert_eq!(store.available(now, AS_KEY), Ok(1));
+    assert_eq!(store.turned_away(AS_KEY), Ok(1));
 }
 
 #[test]

@@ -11,7 +11,7 @@ const HALF: Duration = Duration::from_millis(500);
 const ZERO: Duration = Duration::ZERO;
 
 /// The words of a store for one key.
-const ONE: usize = 17;
+const ONE: usize = 18;
 
 /// 2 tokens a second, at most 4.
 const R: Rate = Rate::per_second(2).burst(4);
@@ -44,13 +44,13 @@ fn told(answer: Result<Decision, Refusal>) -> (Option<Duration>, Option<Duration
 #[test]
 fn words_to_lend() {
     assert_eq!(Settings::new(R, 0).shards(0).words(), Ok(ONE));
-    assert_eq!(Settings::new(R, 5).shards(3).words(), Ok(116));
+    assert_eq!(Settings::new(R, 5).shards(3).words(), Ok(124));
     assert_eq!(Settings::new(R, 65_537).words(), Err(Refusal::Sizes));
     let many_shards = Settings::new(R, 1).shards(65);
     assert_eq!(many_shards.words(), Err(Refusal::Sizes));
     // The rate is not looked at.
     let no_rate = Settings::new(Rate::per_second(0), 5).shards(3);
-    assert_eq!(no_rate.words(), Ok(116));
+    assert_eq!(no_rate.words(), Ok(124));
     // Every size that has words is accepted with these, and with no others.
     for (keys, shards) in [
         (0, 0),
@@ -70,7 +70,7 @@ fn words_to_lend() {
 
 #[test]
 fn many_keys_raise_the_shards() {
-    let words = |shards: usize, places: usize| Ok(shards * (5 + 12 * places));
+    let words = |shards: usize, places: usize| Ok(shards * (5 + 13 * places));
     let asked = |keys, shards| Settings::new(R, keys).shards(shards).words();
     assert_eq!(asked(16_384, 0), words(1, 16_384));
     assert_eq!(asked(16_385, 1), words(2, 8_193));
@@ -219,6 +219,86 @@ fn a_forgotten_modem_keeps_its_debt() {
     assert!(store.words().iter().all(|&word| word == 0));
 }
 
+/// A try counts that the modem's own bucket answers with a retry, and nothing else does.
+#[test]
+fn tries_turned_away_are_counted() {
+    let mut store = store(Settings::new(R, 2));
+    let [seven, eight] = modems([7, 8]);
+    assert!(granted(store.try_acquire(ZERO, seven, 4)));
+    assert_eq!(store.turned_away(seven), Ok(0));
+    for times in 1..4 {
+        assert_eq!(retry(store.try_acquire(ZERO, seven, 1)), Some(HALF));
+        assert_eq!(store.turned_away(seven), Ok(times));
+    }
+    assert_eq!(retry(store.peek(ZERO, seven, 1)), Some(HALF));
+    assert_eq!(store.reserve(ZERO, seven, 1, ZERO), Ok(None));
+    let never = store.try_acquire(ZERO, seven, 5).expect("not refused");
+    assert!(never.is_impossible());
+    assert_eq!(store.refund(seven, 1), Ok(true));
+    for cost in [0, 1] {
+        assert!(granted(store.try_acquire(ZERO, seven, cost)));
+    }
+    let reserved = store.reserve(ZERO, seven, 1, HALF).expect("not refused");
+    assert_eq!(reserved.expect("reserved").wait, HALF);
+    assert_eq!(store.turned_away(seven), Ok(3));
+    // Each modem has a count of its own, and keys of one hash have too.
+    assert_eq!(store.turned_away(eight), Ok(0));
+    assert_eq!(store.turned_away(Key::new(seven.hash, 8)), Ok(0));
+    // It is in the words: a look has it, and so has a store that is resumed.
+    assert_eq!(store.look().turned_away(seven), Ok(3));
+    let (settings, words) = (*store.settings(), store.into_words());
+    let resumed = Look::resume(settings, &words[..]).expect("the same settings");
+    assert_eq!(resumed.turned_away(seven), Ok(3));
+}
+
+#[test]
+fn the_count_begins_with_the_slot() {
+    let settings = Settings::new(R.initial(1), 1);
+    let [seven, eight, nine] = modems([7, 8, 9]);
+    // The try that gives the slot counts. A reservation that does is not counted.
+    let mut first = store(settings);
+    assert_eq!(retry(first.try_acquire(ZERO, seven, 2)), Some(HALF));
+    assert_eq!(first.turned_away(seven), Ok(1));
+    let mut other = store(settings);
+    assert_eq!(other.reserve(ZERO, seven, 2, ZERO), Ok(None));
+    assert_eq!((other.len(), other.turned_away(seven)), (Ok(1), Ok(0)));
+    // Seven becomes a debt, and its count is gone. For nine there is no room: that retry counts nowhere.
+    assert!(granted(first.try_acquire(ZERO, eight, 1)));
+    assert_eq!(first.turned_away(seven), Ok(0));
+    assert!(!granted(first.try_acquire(ZERO, nine, 1)));
+    assert!(granted(first.peek(ZERO, nine, 1)));
+    for modem in [eight, nine] {
+        assert_eq!(first.turned_away(modem), Ok(0));
+    }
+    // It comes back, in debt, and begins anew.
+    assert!(!granted(first.try_acquire(ZERO, seven, 2)));
+    assert_eq!(first.turned_away(seven), Ok(1));
+    assert_eq!(first.remove(seven), Ok(true));
+    assert_eq!(first.turned_away(seven), Ok(0));
+}
+
+/// Refused as a removal is: for a count that is more than a shard holds, and for no other word.
+#[test]
+fn the_count_is_refused_as_a_removal() {
+    let settings = Settings::new(R, 1);
+    let mut first = store(settings);
+    let [modem] = modems([7]);
+    assert!(granted(first.try_acquire(ZERO, modem, 4)));
+    let words = first.into_words();
+    let refused = (0..words.len()).filter(|&place| {
+        let mut damaged = words.clone();
+        damaged[place] = u64::MAX;
+        let Ok(mut store) = Store::resume(settings, damaged) else {
+            return false;
+        };
+        let (looked, removed) = (store.turned_away(modem), store.remove(modem));
+        assert_eq!(looked.err(), removed.err());
+        looked == Err(Refusal::Memory)
+    });
+    // The count of debts. That of slots is refused by the resume.
+    assert_eq!(refused.count(), 1);
+}
+
 #[test]
 fn a_debt_can_be_forgotten() {
     let mut store = store(Settings::new(R, 1).when_full(WhenFull::ForgetDebt));
@@ -255,6 +335,7 @@ fn a_closed_limiter_grants_nothing() {
     assert!(one.is_impossible() && one.moment().is_none());
     assert_eq!(store.reserve(ZERO, modem, 0, ZERO), Ok(None));
     assert_eq!(store.available(ZERO, modem), Ok(0));
+    assert_eq!(store.turned_away(modem), Ok(0));
     assert_eq!(store.refund(modem, 1), Ok(false));
 }
 
@@ -323,6 +404,8 @@ fn a_store_is_resumed() {
     // Another number of words, and words that no store has.
     let refused = |words: &[u64]| Look::resume(settings, words).expect_err("refused");
     assert_eq!(refused(&words[1..]), Refusal::Memory);
+    // Version 0.5 had a word less for each of the three places in the four shards.
+    assert_eq!(refused(&words[12..]), Refusal::Memory);
     words.fill(u64::MAX);
     assert_eq!(refused(&words), Refusal::Memory);
     assert!(words.iter().all(|&word| word == u64::MAX));
@@ -405,6 +488,7 @@ fn readers_look_while_others_look() {
     std::thread::scope(|threads| {
         let peeking = threads.spawn(|| granted(one.peek(ZERO, modem, 1)));
         assert_eq!(look.available(ZERO, modem), Ok(1));
+        assert_eq!(look.turned_away(modem), Ok(0));
         assert_eq!(look.len(), Ok(1));
         assert!(peeking.join().expect("no panic"));
     });

@@ -2,7 +2,7 @@
 -- The worked examples are imported so that they are checked first: a wrong definition is then refused for a wrong number, before any law that quotes it.
 use Prim.Native.Nat.{ℕ, _+_, _*_, _-_, _/_, _≤_, _<_, _^_}
 use mathlib.Core.Path.{_≡_, refl, ap, sym, _∙_}
-use mathlib.Core.Bool.{true}
+use mathlib.Core.Bool.{Bool, true, false}
 use native.Mathlib.Nat.{mul-comm, mul-le-mul, mul-le-mul-left, mul-le-mul-right, mul-pos, mul-div-cancel, div-mul-le-self, sub-zero}
 use native.Mathlib.Omega.{arith}
 use borrow.Author.Tests.{eq-eqb, ne-eqb, le-leb, lt-leb, eqb-true}
@@ -15,7 +15,7 @@ use Rattle.bucket.specs.declared.BucketCore.{BucketCore}
 use Rattle.bucket.specs.declared.Request.{Request}
 use Rattle.bucket.specs.declared.BucketDecision.the-variants.{Allowed, Denied}
 use Rattle.bucket.specs.Bucket.{Accepted, partsOf, fullParts, mostShortfall, readShortfall, shortfallAt, availableAt, fullAt, lackFor, grown, waitAt}
-use Rattle.bucket.specs.Bucket.{recoveryOf, recoveryAt, dueAfter, dueAt, spent, longestWait, asked, refunded}
+use Rattle.bucket.specs.Bucket.{recoveryOf, recoveryAt, dueAfter, dueAt, spent, longestWait, isTry, asked, refunded}
 use Rattle.bucket.specs.declared.Due.{Due}
 use Rattle.bucket.proofs.Worked as Worked
 
@@ -145,12 +145,12 @@ due-by-number at wait e = ap (λ (n : ℕ). dueAfter at (record { 0 = n })) e
 
 -- The two answers to a request: granted and charged where the wait is within its longest wait, else denied with the bucket as it was.
 pub granted-within-longest : (c : BucketConfig) (request : Request) (b : BucketCore) (cost : ℕ) (at : Nanos) → waitAt c b cost at ≤ longestWait request →
-    asked c request b cost at ≡ record { decision = Allowed (dueAt c b cost at); bucket = spent c b cost at }
+    asked c request b cost at ≡ record { decision = Allowed (dueAt c b cost at); bucket = spent c b cost at; «turns_away» = false }
 unfolding asked
 granted-within-longest c request b cost at h = rw (le-leb _ _ h)
 
 pub denied-beyond-longest : (c : BucketConfig) (request : Request) (b : BucketCore) (cost : ℕ) (at : Nanos) → longestWait request < waitAt c b cost at →
-    asked c request b cost at ≡ record { decision = Denied (dueAt c b cost at); bucket = b }
+    asked c request b cost at ≡ record { decision = Denied (dueAt c b cost at); bucket = b; «turns_away» = isTry request }
 unfolding asked
 denied-beyond-longest c request b cost at h = rw (lt-leb _ _ h)
 
@@ -161,11 +161,12 @@ module _ (c : BucketConfig) (request : Request) (b : BucketCore) (cost : ℕ) (a
   due-is-told = is-due ∙ due-by-number at wait is-wait
 
   pub grant-is-told : {after : BucketCore} → after ≡ spent c b cost at → wait .0 ≤ longestWait request
-      → record { decision = Allowed due; bucket = after } ≡ asked c request b cost at
+      → record { decision = Allowed due; bucket = after; «turns_away» = false } ≡ asked c request b cost at
   grant-is-told is-after within = rw (due-is-told, is-after) (sym (granted-within-longest c request b cost at (rw is-wait at within)))
 
-  pub denial-is-told : longestWait request < wait .0 → record { decision = Denied due; bucket = b } ≡ asked c request b cost at
-  denial-is-told beyond = rw due-is-told (sym (denied-beyond-longest c request b cost at (rw is-wait at beyond)))
+  pub denial-is-told : {turned : Bool} → turned ≡ isTry request → longestWait request < wait .0
+      → record { decision = Denied due; bucket = b; «turns_away» = turned } ≡ asked c request b cost at
+  denial-is-told is-turned beyond = rw (due-is-told, is-turned) (sym (denied-beyond-longest c request b cost at (rw is-wait at beyond)))
 
 -- From one moment to a later one no more comes back than the amount for each nanosecond between them. Bounds over a span of time rest on this.
 pub shortfall-falls-slowly : (c : BucketConfig) (b : BucketCore) (earlier later : Nanos) → earlier .0 ≤ later .0 →

@@ -3,6 +3,7 @@
 -- nothing.
 use Prim.Native.Nat.{ℕ, _+_, _*_, _-_, _≤_, _<_, _^_}
 use mathlib.Core.Path.{_≡_, ap, sym, _∙_}
+use mathlib.Core.Bool.{true, false}
 use native.Mathlib.Nat.{mul-le-mul-right}
 use native.Mathlib.Omega.{arith}
 use Rattle.arith.specs.Arith.{ceilDiv}
@@ -23,8 +24,8 @@ use Rattle.bucket.proofs.BucketLaws.{granted-within-longest, denied-bey
 -- The moment is the first at which a try of the cost is granted, if nothing happens to the bucket before.
 pub record FirstGranted (c : BucketConfig) (b : BucketCore) (cost : ℕ) (told : Nanos) : Type 0 where
   pub granted : (t : Nanos) → told .0 ≤ t .0
-      → asked c Acquire b cost t ≡ record { decision = Allowed (dueAfter t (record { 0 = 0 })); bucket = spent c b cost t }
-  pub denied : (t : Nanos) → t .0 < told .0 → asked c Acquire b cost t ≡ record { decision = Denied (dueAt c b cost t); bucket = b }
+      → asked c Acquire b cost t ≡ record { decision = Allowed (dueAfter t (record { 0 = 0 })); bucket = spent c b cost t; «turns_away» = false }
+  pub denied : (t : Nanos) → t .0 < told .0 → asked c Acquire b cost t ≡ record { decision = Denied (dueAt c b cost t); bucket = b; «turns_away» = true }
 
 -- What a denial tells; for a grant the other value.
 abbrev toldBy : BucketDecision → Due → Due

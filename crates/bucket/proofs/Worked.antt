@@ -1,6 +1,7 @@
 -- Worked examples of the bucket and of a restored debt, computed from the definitions.
 use Prim.Native.Nat.{ℕ, _-_, _^_}
 use mathlib.Core.Path.{_≡_, refl}
+use mathlib.Core.Bool.{true, false}
 use Rattle.arith.specs.Arith.{ceilDiv}
 use Rattle.units.specs.declared.Nanos.{Nanos}
 use Rattle.bucket.specs.declared.BucketConfig.{BucketConfig}
@@ -46,12 +47,13 @@ abbrev beforeTold : Nanos
 beforeTold = record { 0 = told .0 - 1 }
 
 pub denied-before-the-told-moment :
-    asked twoPerSecond Acquire empty 1 beforeTold ≡ record { decision = Denied (dueAfter beforeTold (record { 0 = 1 })); bucket = empty }
+    asked twoPerSecond Acquire empty 1 beforeTold ≡ record { decision = Denied (dueAfter beforeTold (record { 0 = 1 })); bucket = empty; «turns_away» = true }
 unfolding ceilDiv shortfallAt grown waitAt asked
 denied-before-the-told-moment = refl
 
 pub granted-at-the-told-moment :
-    asked twoPerSecond Acquire empty 1 told ≡ record { decision = Allowed (dueAfter told (record { 0 = 0 })); bucket = spent twoPerSecond empty 1 told }
+    asked twoPerSecond Acquire empty 1 told
+    ≡ record { decision = Allowed (dueAfter told (record { 0 = 0 })); bucket = spent twoPerSecond empty 1 told; «turns_away» = false }
 unfolding ceilDiv shortfallAt grown waitAt asked
 granted-at-the-told-moment = refl
 
@@ -87,12 +89,13 @@ abbrev reserved : ℕ → BucketOutcome
 reserved longest = asked twoPerSecond (Reserve (record { 0 = longest })) (ahead 4) 1 setBack
 
 pub two-seconds-are-not-enough :
-    reserved 2000000000 ≡ record { decision = Denied (dueAfter setBack (record { 0 = 2500000000 })); bucket = ahead 4 }
+    reserved 2000000000 ≡ record { decision = Denied (dueAfter setBack (record { 0 = 2500000000 })); bucket = ahead 4; «turns_away» = false }
 unfolding ceilDiv shortfallAt grown waitAt asked
 two-seconds-are-not-enough = refl
 
 pub two-and-a-half-seconds-are-enough :
-    reserved 2500000000 ≡ record { decision = Allowed (dueAfter setBack (record { 0 = 2500000000 })); bucket = spent twoPerSecond (ahead 4) 1 setBack }
+    reserved 2500000000
+    ≡ record { decision = Allowed (dueAfter setBack (record { 0 = 2500000000 })); bucket = spent twoPerSecond (ahead 4) 1 setBack; «turns_away» = false }
 unfolding ceilDiv shortfallAt grown waitAt asked
 two-and-a-half-seconds-are-enough = refl
 

@@ -1,6 +1,6 @@
 -- The token bucket, on numbers. A token is P parts, and a bucket is known by its shortfall: how many parts it is below full, and since when.
 use Prim.Native.Nat.{ℕ, _+_, _*_, _-_, _/_, _≤_, _^_, min, max}
-use mathlib.Core.Bool.{Bool, cond}
+use mathlib.Core.Bool.{Bool, true, false, cond}
 use lib.Dec.{leb, eqb}
 use Rattle.arith.specs.Arith.{ceilDiv, saturated}
 use Rattle.units.specs.declared.Nanos.{Nanos}
@@ -93,12 +93,18 @@ abbrev pub longestWait : Request → ℕ
 longestWait Acquire = 0
 longestWait (Reserve longest) = longest .0
 
+-- A try wants its tokens now. A reservation is no try, whatever wait it takes.
+abbrev pub isTry : Request → Bool
+isTry Acquire = true
+isTry (Reserve longest) = false
+
 -- A request is granted where its wait is within its longest wait, and then the bucket is charged. A denial stores nothing. Both tell when the cost is due.
+-- A denial of a try turns it away.
 unfoldable pub asked : BucketConfig → Request → BucketCore → ℕ → Nanos → BucketOutcome
 asked c request b cost at =
     cond (leb (waitAt c b cost at) (longestWait request))
-    (record { decision = Allowed (dueAt c b cost at); bucket = spent c b cost at })
-    (record { decision = Denied (dueAt c b cost at); bucket = b })
+    (record { decision = Allowed (dueAt c b cost at); bucket = spent c b cost at; «turns_away» = false })
+    (record { decision = Denied (dueAt c b cost at); bucket = b; «turns_away» = isTry request })
 
 -- A refund lowers the shortfall, as read, by the parts of the cost, down to 0. The stamp stays.
 abbrev pub refunded : BucketConfig → BucketCore → ℕ → BucketCore

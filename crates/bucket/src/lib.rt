@@ -1,9 +1,9 @@
 // The token bucket, by value: its shortfall in parts, and the moment at which that was the shortfall. Every function is exact for any stored words.
 ghost use mathlib.Core.Path.{_≡_};
-ghost use Prim.Native.Nat.{_≤_};
+ghost use Prim.Native.Nat.{_≤_, max};
 ghost use Rattle.arith.specs.Arith.{saturated};
 ghost use Rattle.bucket.specs.Bucket.{Accepted, fullParts, mostShortfall, readShortfall, shortfallAt, availableAt, fullAt, fresh, grown, waitAt};
-ghost use Rattle.bucket.specs.Bucket.{dueAfter, dueAt, recoveryOf, recoveryAt, spent, longestWait, asked, refunded};
+ghost use Rattle.bucket.specs.Bucket.{dueAfter, dueAt, recoveryOf, recoveryAt, spent, longestWait, isTry, asked, refunded};
 ghost use Rattle.bucket.specs.Debt.{missingTokens, charged, takenOut, restored};
 use units::Nanos;
 
@@ -41,10 +41,11 @@ pub enum BucketDecision {
     Denied(Due),
 }
 
-// An answer, and the bucket after it.
+// An answer, the bucket after it, and whether the answer turned a try away: the bucket made it wait.
 pub struct BucketOutcome {
     pub decision: BucketDecision,
     pub bucket: BucketCore,
+    pub turns_away: bool,
 }
 
 impl Due {
@@ -149,8 +150,7 @@ impl BucketCore {
         requires { ⌜ Accepted config × (cost ≤ config .capacity) ⌝ }
         ensures { λ r. ⌜ r .0 ≡ waitAt config self cost at ⌝ }
     {
-        let spent = self.spent_at(config, cost, at);
-        self.wait_for(config, spent.shortfall, cost, at)
+        self.wait_for(config, self.wanted_at(config, cost, at), cost, at)
     }
 
     // When `cost` tokens are due.
@@ -195,13 +195,28 @@ impl BucketCore {
         self.grown_at(recovery.0, at)
     }
 
+    // The shortfall that a grant of `cost` tokens stores.
+    fn wanted_at(self, config: BucketConfig, cost: u32, at: Nanos) -> u64
+        requires { ⌜ Accepted config × (cost ≤ config .capacity) ⌝ }
+        ensures { λ r. ⌜ r ≡ spent config self cost at .shortfall ⌝ }
+    {
+        self.shortfall_at(config, at) + (cost as u64) * config.period.0
+    }
+
     // The bucket after a grant of `cost` tokens.
     pub fn spent_at(self, config: BucketConfig, cost: u32, at: Nanos) -> BucketCore
         requires { ⌜ Accepted config × (cost ≤ config .capacity) ⌝ }
         ensures { λ r. ⌜ r ≡ spent config self cost at ⌝ }
     {
+        self.granted(self.wanted_at(config, cost, at), at)
+    }
+
+    // The bucket after a grant, by the shortfall that the grant stores. A denial does not work the later moment out.
+    fn granted(self, wanted: u64, at: Nanos) -> BucketCore
+        ensures { λ r. ⌜ r ≡ record { shortfall = wanted; stamp = record { 0 = max (self .stamp .0) (at .0) } } ⌝ }
+    {
         BucketCore {
-            shortfall: self.shortfall_at(config, at) + (cost as u64) * config.period.0,
+            shortfall: wanted,
             stamp: Nanos(arith::larger(self.stamp.0, at.0)),
         }
     }
@@ -217,18 +232,21 @@ impl BucketCore {
         requires { ⌜ Accepted config × (cost ≤ config .capacity) ⌝ }
         ensures { λ r. ⌜ r ≡ asked config request self cost at ⌝ }
     {
-        let spent = self.spent_at(config, cost, at);
-        let wait = self.wait_for(config, spent.shortfall, cost, at);
+        let wanted = self.wanted_at(config, cost, at);
+        let wait = self.wait_for(config, wanted, cost, at);
         let due = Due::after(at, wait);
         if wait.0 <= request.longest().0 {
+            let bucket = self.granted(wanted, at);
             return BucketOutcome {
                 decision: BucketDecision::Allowed(due),
-                bucket: spent,
+                bucket,
+                turns_away: false,
             };
         }
         BucketOutcome {
             decision: BucketDecision::Denied(due),
             bucket: self,
+            turns_away: request.is_try(),
         }
     }
 
@@ -310,6 +328,16 @@ impl Request {
         match self {
             Request::Acquire => Nanos(0),
             Request::Reserve(longest) => longest,
+        }
+    }
+
+    // Whether the request is a try: it wants its tokens now.
+    pub fn is_try(self) -> bool
+        ensures { λ r. ⌜ r ≡ isTry self ⌝ }
+    {
+        match self {
+            Request::Acquire => true,
+            Request::Reserve(_) => false,
         }
     }
 }

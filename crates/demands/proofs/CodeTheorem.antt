@@ -8,7 +8,7 @@ use contract.Lifetimes.{Lfts}
 use Rattle.bucket.specs.declared.Request.the-variants.{Acquire, Reserve}
 use Rattle.settings.specs.declared.Settings.{Settings}
 use Rattle.shard.specs.declared.Identity.{Identity}
-use Rattle.rules.specs.Asks.{Ask, requests, looks, undoes, peeks, tokens, refunds, removes}
+use Rattle.rules.specs.Asks.{Ask, requests, looks, undoes, peeks, tokens, turnedAway, refunds, removes}
 use Rattle.rules.specs.Rules.{keyedRule}
 use Rattle.rules.specs.Widths.{settingsFit, lendable}
 use Rattle.rules.specs.Calls.{Call, keyed, whole, len, byKey, rules, fits}
@@ -37,6 +37,7 @@ module _ (κs : Lfts 1) (κs₂ : Lfts 2) (ptr bytesPtr : ℕ × ℕ) (name byte
       reserves = λ s at id cost longest ws _ _ _. named s id (requests (Reserve longest) at cost) ws;
       peeks = λ s at id cost ws _ _ _. named s id (looks (peeks at cost)) ws;
       tells-available = λ s at id ws _ _ _. named s id (looks (tokens at)) ws;
+      tells-turned-away = λ s id ws _ _ _. named s id (looks turnedAway) ws;
       tells-length = λ s ws _ _ _. refl;
       refunds = λ s id cost ws _ _ _. named s id (undoes (refunds cost)) ws;
       removes = λ s id ws _ _ _. named s id (undoes removes) ws;
@@ -58,6 +59,7 @@ module _ (κs : Lfts 1) (κs₂ : Lfts 2) (ptr bytesPtr : ℕ × ℕ) (name byte
     asked-by-key s id (requests (Reserve longest) at cost) ws = λ fit lent. c .reserves s at id cost longest ws fit lent tt
     asked-by-key s id (looks (peeks at cost)) ws = λ fit lent. c .peeks s at id cost ws fit lent tt
     asked-by-key s id (looks (tokens at)) ws = λ fit lent. c .tells-available s at id ws fit lent tt
+    asked-by-key s id (looks turnedAway) ws = λ fit lent. c .tells-turned-away s id ws fit lent tt
     asked-by-key s id (undoes (refunds cost)) ws = λ fit lent. c .refunds s id cost ws fit lent tt
     asked-by-key s id (undoes removes) ws = λ fit lent. c .removes s id ws fit lent tt
 
@@ -98,6 +100,8 @@ module _ (κs : Lfts 1) (κs₂ : Lfts 2) (ptr bytesPtr : ℕ × ℕ) (name byte
         ruled (keyed s (address bytes) (looks (peeks at cost))) ws = λ fit lent. c .by-address .peeks s at bytes cost ws fit lent tt
         ruled (keyed s (address bytes) (looks (tokens at))) ws = λ fit lent.
             absurd (false≢true (ask-is-offered byName s (address bytes) (looks (tokens at)) fit))
+        ruled (keyed s (address bytes) (looks turnedAway)) ws = λ fit lent.
+            absurd (false≢true (ask-is-offered byName s (address bytes) (looks turnedAway) fit))
         ruled (keyed s (address bytes) (undoes (refunds cost))) ws = λ fit lent. c .by-address .refunds s bytes cost ws fit lent tt
         ruled (keyed s (address bytes) (undoes removes)) ws = λ fit lent. c .by-address .removes s bytes ws fit lent tt
         ruled (whole s len) ws = λ fit lent. c .by-key .tells-length s ws fit lent tt

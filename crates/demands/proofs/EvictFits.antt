@@ -19,7 +19,7 @@ looked-fits : (s : Shard) → ShardFits s → ShardFits (looked s (handOf s))
 looked-fits s f =
     let old : SlotFits (slotAt s (handOf s)) = slot-at-fits s f (handOf s) in
     let unmarked : SlotFits (withMark (slotAt s (handOf s)) 0) =
-    record { hash = old .hash; key = old .key; bucket = old .bucket; mark = omega arith; seen = old .seen } in
+    record { hash = old .hash; key = old .key; bucket = old .bucket; mark = omega arith; seen = old .seen; turned-away = old .turned-away } in
     moved-hand-fits _ (changed-slot-fits s f (handOf s) _ unmarked) _ (next-place-fits (s .hand) (s .slots .count) (f .slots .count))
 
 walk-from-fits : (c : BucketConfig) (at : Nanos) (left : ℕ) (s : Shard) (n : Notes) → ShardFits s → ShardFits (walkFrom c at left s n .after)

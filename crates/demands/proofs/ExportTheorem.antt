@@ -22,7 +22,7 @@ use Rattle.rules.specs.declared.Reply.{Reply}
 use Rattle.rules.specs.declared.codes.Told.{Told}
 use Rattle.rules.specs.declared.Reply.the-variants.{Done, Refused}
 use Rattle.rules.specs.Replies.{toldOf, told, Kind, decides, reserves, counts, knows}
-use Rattle.rules.specs.Asks.{Ask, requests, looks, undoes, peeks, tokens, refunds, removes}
+use Rattle.rules.specs.Asks.{Ask, requests, looks, undoes, peeks, tokens, turnedAway, refunds, removes}
 use Rattle.rules.specs.Rules.{setUpIn, setUp, clear, keyedRule}
 use Rattle.rules.specs.Widths.{lendable}
 use Rattle.rules.specs.Calls.{Call, keyed, whole, len, Terms, kindOf, settingsOf, rules, rulesIn, fits, Every}
@@ -36,13 +36,15 @@ use Rattle.limiter.specs.Exported as Exported
 use Rattle.limiter.specs.Exported.{identityOf}
 use Rattle.demands.specs.Demands.{Limiter, Demand2, Demand3}
 use Rattle.demands.specs.Moments.{TellsMoments}
-use Rattle.demands.specs.PlaceOrder.{Turn, AllOf, SameWithoutIndexes}
+use Rattle.demands.specs.PlaceOrder.{Turn, AllOf, run, SameWithoutIndexes}
+use Rattle.demands.specs.TurnAways.{EqualButForTurnAways, ListDecidedAlike}
 use Rattle.demands.specs.Exports.{Exports, numbersFit, exported, through, ExportDemand2, reading, readAs, called, ExportContracts}
 use Rattle.demands.proofs.WidthLaws.{ask-is-offered, NamesFit}
 use Rattle.demands.proofs.NameLaws.{names-fit, key-is-the-rule}
 use Rattle.demands.proofs.Theorem.{demand2-gives-demand3}
 use Rattle.demands.proofs.MomentLaws.{demand2-tells-moments}
 use Rattle.demands.proofs.PlaceOrderTheorem.{byLimiter, TurnFits, limiter-is-as-without-indexes}
+use Rattle.demands.proofs.TurnAwayTheorem.{limiter-decides-alike}
 use Rattle.demands.proofs.SizeTheorem.{limiter-answers-as-at-the-shape-of-before}
 
 -- A reply that is told as numbers is read, by its kind, as it was.
@@ -99,6 +101,7 @@ toldRules = record {
       told (keyedRule (Exported.settingsOf n) (identityOf hash key) (requests (Reserve (nanosOf longest)) (nanosOf at) cost) ws);
   peek = λ n at hash key cost ws. told (keyedRule (Exported.settingsOf n) (identityOf hash key) (looks (peeks (nanosOf at) cost)) ws);
   available = λ n at hash key ws. told (keyedRule (Exported.settingsOf n) (identityOf hash key) (looks (tokens (nanosOf at))) ws);
+  turned-away = λ n hash key ws. told (keyedRule (Exported.settingsOf n) (identityOf hash key) (looks turnedAway) ws);
   length = λ n ws. told (rules exported (whole n len) ws);
   refund = λ n hash key cost ws. told (keyedRule (Exported.settingsOf n) (identityOf hash key) (undoes (refunds cost)) ws);
   remove = λ n hash key ws. told (keyedRule (Exported.settingsOf n) (identityOf hash key) (undoes removes) ws);
@@ -119,6 +122,7 @@ module _ (κs : Lfts 1) (κs₂ : Lfts 2) (ptr bytesPtr : ℕ × ℕ) (name byte
       reserves = λ n at id cost longest ws _ _ _. refl;
       peeks = λ n at id cost ws _ _ _. refl;
       tells-available = λ n at id ws _ _ _. refl;
+      tells-turned-away = λ n id ws _ _ _. refl;
       tells-length = λ n ws _ _ _. refl;
       refunds = λ n id cost ws _ _ _. refl;
       removes = λ n id ws _ _ _. refl;
@@ -153,6 +157,7 @@ module _ (κs : Lfts 1) (κs₂ : Lfts 2) (ptr bytesPtr : ℕ × ℕ) (name byte
             keyed-rule n id _ ws (c .by-key .reserves n at id cost longest ws fit lent tt)
         ruled (keyed n (key id) (looks (peeks at cost))) ws = λ fit lent. keyed-rule n id _ ws (c .by-key .peeks n at id cost ws fit lent tt)
         ruled (keyed n (key id) (looks (tokens at))) ws = λ fit lent. keyed-rule n id _ ws (c .by-key .tells-available n at id ws fit lent tt)
+        ruled (keyed n (key id) (looks turnedAway)) ws = λ fit lent. keyed-rule n id _ ws (c .by-key .tells-turned-away n id ws fit lent tt)
         ruled (keyed n (key id) (undoes (refunds cost))) ws = λ fit lent. keyed-rule n id _ ws (c .by-key .refunds n id cost ws fit lent tt)
         ruled (keyed n (key id) (undoes removes)) ws = λ fit lent. keyed-rule n id _ ws (c .by-key .removes n id ws fit lent tt)
         ruled (keyed n (address bytes) (requests Acquire at cost)) ws = λ fit lent. c .by-address .tries n at bytes cost ws fit lent tt
@@ -160,6 +165,8 @@ module _ (κs : Lfts 1) (κs₂ : Lfts 2) (ptr bytesPtr : ℕ × ℕ) (name byte
         ruled (keyed n (address bytes) (looks (peeks at cost))) ws = λ fit lent. c .by-address .peeks n at bytes cost ws fit lent tt
         ruled (keyed n (address bytes) (looks (tokens at))) ws = λ fit lent.
             absurd (false≢true (ask-is-offered exported n (address bytes) (looks (tokens at)) fit))
+        ruled (keyed n (address bytes) (looks turnedAway)) ws = λ fit lent.
+            absurd (false≢true (ask-is-offered exported n (address bytes) (looks turnedAway) fit))
         ruled (keyed n (address bytes) (undoes (refunds cost))) ws = λ fit lent. c .by-address .refunds n bytes cost ws fit lent tt
         ruled (keyed n (address bytes) (undoes removes)) ws = λ fit lent. c .by-address .removes n bytes ws fit lent tt
         ruled (whole n len) ws = λ fit lent. c .by-key .tells-length n ws fit lent tt
@@ -178,8 +185,8 @@ module _ (κs : Lfts 1) (κs₂ : Lfts 2) (ptr bytesPtr : ℕ × ℕ) (name byte
     pub exports-meet-demand3 : Demand3 exported (called e)
     exports-meet-demand3 = demand2-gives-demand3 exported names (called e) callers-have-demand2
 
-    -- They tell moments as the rules do (request 1), answer as a store without indexes does (request 3), and as the rules do at the shape of before (request
-    -- 6).
+    -- They tell moments as the rules do (request 1), answer as a store without indexes does (request 3), as the rules do at the shape of before (request 6),
+    -- and alike whatever the counts of tries turned away (request 8).
     pub exports-tell-moments : TellsMoments exported (called e)
     exports-tell-moments = demand2-tells-moments exported names (called e) callers-have-demand2
 
@@ -192,3 +199,9 @@ module _ (κs : Lfts 1) (κs₂ : Lfts 2) (ptr bytesPtr : ℕ × ℕ) (name byte
     pub exports-answer-as-at-the-shape-of-before : (c : Call LimiterSettings Name) (ws : List ℕ) → fits exported c ≡ true → lendable ws ≡ true
         → Before.settingsRefusal (settingsOf exported c) ≡ 0 → called e .answers c ws ≡ rulesIn exported Before.shapeOf c ws
     exports-answer-as-at-the-shape-of-before = limiter-answers-as-at-the-shape-of-before exported (called e) callers-have-demand2
+
+    pub exports-decide-alike : (n : LimiterSettings) → numbersFit n ≡ true → (ts : List (Turn LimiterSettings Name)) (ws vs : List ℕ)
+        → Every (TurnFits exported) ts → AllOf exported (Exported.settingsOf n) ts → lendable ws ≡ true → lendable vs ≡ true
+        → EqualButForTurnAways (Exported.settingsOf n) ws vs
+        → ListDecidedAlike (Exported.settingsOf n) ts (run (byLimiter (called e) n) ts ws) (run (byLimiter (called e) n) ts vs)
+    exports-decide-alike n fit = limiter-decides-alike exported names (called e) callers-have-demand2 n fit

@@ -58,6 +58,7 @@ slot-read-fits row every = record {
   bucket = record { shortfall = word-fits row _ every; stamp = word-fits row _ every };
   mark = word-fits row _ every;
   seen = word-fits row _ every;
+  turned-away = word-fits row _ every;
 }
 
 debt-read-fits : (row : List ℕ) → Every Word row → DebtFits (Debts.debtOf row)
@@ -94,7 +95,7 @@ shard-read-fits cap ws room every =
 
 -- The words of each, where it fits.
 slot-words-fit : (slot : Slot) → SlotFits slot → Every Word (slotWords slot)
-slot-words-fit slot f = (f .hash, (f .key, (f .bucket .shortfall, (f .bucket .stamp, (f .mark, (f .seen, tt))))))
+slot-words-fit slot f = (f .hash, (f .key, (f .bucket .shortfall, (f .bucket .stamp, (f .mark, (f .seen, (f .turned-away, tt)))))))
 
 debt-words-fit : (d : Debt) → DebtFits d → Every Word (Debts.debtWords d)
 debt-words-fit d f = (f .hash, (f .settles, tt))

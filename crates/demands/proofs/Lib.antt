@@ -29,6 +29,7 @@ pub mod MomentLaws
 pub mod OneShardLaws
 pub mod GrownLaws
 pub mod PlaceOrderTheorem
+pub mod TurnAwayTheorem
 pub mod CodeTheorem
 pub mod ExportTheorem
 pub mod ExampleLaws

@@ -24,7 +24,8 @@ use Rattle.store.proofs.RefusalLaws.{moment-not-refused}
 use Rattle.rules.specs.declared.Reply.{Reply}
 use Rattle.rules.specs.declared.Reply.the-variants.{Tried, Reserved, Nothing, Done, Count, Refused}
 use Rattle.rules.specs.Replies.{momentOf, ofGrant, decides, knows}
-use Rattle.rules.specs.Asks.{peeks, tokens, Undo, Ask, requests, looks, undoes, asTry, asReservation, mannerOf, furtherOf, policyOf, replyTo, askedIn}
+use Rattle.rules.specs.Asks.{peeks, tokens, turnedAway, Undo, Ask, requests, looks, undoes, asTry, asReservation, mannerOf, furtherOf, policyOf, replyTo}
+use Rattle.rules.specs.Asks.{askedIn}
 use Rattle.rules.specs.Asks.{inItsShard}
 use Rattle.rules.specs.Calls.{Call, keyed, whole, len, Terms, rules, Answered, replies, Every}
 use Rattle.rules.proofs.KeyedLaws.{ask-not-refused, request-in-time}
@@ -71,12 +72,14 @@ ask-tells s id (requests (Reserve longest) at cost) own none =
     reservation-tells longest (s .limit) s at id cost own (timely .0) (timely .1)
 ask-tells s id (looks (peeks at cost)) own none = try-tells (moment-not-refused at none) (asks-are-answered-in-kind s id (looks (peeks at cost)) own)
 ask-tells s id (looks (tokens at)) own none = refl
+ask-tells s id (looks turnedAway) own none = refl
 ask-tells s id (undoes u) own none = undoing-tells u (asks-are-answered-in-kind s id (undoes u) own)
 
 ask-refused-tells : (ask : Ask) (n : ℕ) → askTells ask (Refused n)
 ask-refused-tells (requests r at cost) n = tt
 ask-refused-tells (looks (peeks at cost)) n = tt
 ask-refused-tells (looks (tokens at)) n = refl
+ask-refused-tells (looks turnedAway) n = refl
 ask-refused-tells (undoes u) n = refl
 
 module _ {S N : Type 0} (terms : Terms S N) where

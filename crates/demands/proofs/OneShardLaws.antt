@@ -1,8 +1,8 @@
--- A call on a key that is not refused works in its key's shard alone, and there it does what `inItsShard` says. That gives the same where slots and debts are
--- found in place order.
+-- A call on a key that is not refused works in its key's shard alone, and there it does what `inItsShard` says. On two shards that are alike to a view that
+-- gives one answer, and leaves shards that are alike. Two instances: slots and debts found in place order, and shards that are equal but for counts.
 use Prim.Native.Nat.{ℕ}
-use mathlib.Core.Path.{_≡_, refl, ap}
-use mathlib.Core.Bool.{Bool, true, false, cond}
+use mathlib.Core.Path.{_≡_, refl, sym, ap, _∙_}
+use mathlib.Core.Bool.{true, false, false≢true}
 use mathlib.Core.List.{List}
 use lib.Dec.{ltb, eqb}
 use lib.ListN.{length}
@@ -15,22 +15,27 @@ use Rattle.settings.specs.declared.Limit.the-variants.{Closed, Open}
 use Rattle.settings.specs.declared.Settings.{Settings}
 use Rattle.settings.specs.Rate.{configOf}
 use Rattle.settings.specs.Settings.{capOf, shapeOf, shardOf}
-use Rattle.shard_map.specs.Model.{Shard, inPlaceOrder}
+use Rattle.held.proofs.AlikeLaws.{SameOutcome, alike-by-test}
+use Rattle.shard_map.specs.Model.{Shard, Sound, inPlaceOrder, uncounted}
 use Rattle.shard_map.proofs.ReadBack.{Sized}
-use Rattle.shard_map.proofs.PlaceOrderLaws.{FindsEach}
+use Rattle.shard_map.proofs.RoomLaws.{same-room}
+use Rattle.shard_map.proofs.AlikeLaws.{View, AlikeShards}
+use Rattle.shard_map.proofs.PlaceOrderLaws.{FindsEach, found-is-sound, placeOrder, in-place-order-alike, alike-is-in-place-order}
+use Rattle.shard_map.proofs.TurnAwayLaws.{countless, equal-but-for-turn-aways, uncounted-alike, place-uncounted}
 use Rattle.shard.specs.declared.Identity.{Identity}
-use Rattle.shard.specs.Model.{withOrInsert, refunded, removed}
+use Rattle.shard.specs.Model.{turnedAway as countOf}
 use Rattle.shard.proofs.ShardLaws.{SameRoom, ask-same-room, refund-same-room, remove-same-room}
-use Rattle.shard.proofs.PlaceOrderLaws.{SameAsPlaceOrder, EveryOperationSame, every-operation-same}
+use Rattle.shard.proofs.AlikeLaws.{EveryOperationAlike, every-operation-alike}
+use Rattle.shard.proofs.PlaceOrderLaws.{SameAsPlaceOrder, every-operation-in-place-order, count-in-place-order}
 use Rattle.store.specs.Memory.{memoryWords, shardAt}
-use Rattle.store.proofs.MemoryLaws.{same-room-sized, shard-at-sized, in-shard-length, in-shard-reads-back-for, in-shard-leaves-others}
+use Rattle.store.proofs.MemoryLaws.{same-room-sized, in-shard-length, in-shard-reads-back-for, in-shard-leaves-others}
 use Rattle.store.proofs.RefusalLaws.{Accepted}
 use Rattle.rules.specs.declared.Reply.{Reply}
-use Rattle.rules.specs.declared.Reply.the-variants.{Nothing}
-use Rattle.rules.specs.Asks.{Look, peeks, tokens, Undo, refunds, removes, Ask, requests, looks, undoes, mannerOf, tooMuch, atOnce, replyTo, knownReply}
-use Rattle.rules.specs.Asks.{policyOf, repliedAs}
-use Rattle.rules.specs.Asks.{askedIn, peekedIn, lookedIn, undoneIn, inItsShard}
+use Rattle.rules.specs.declared.Reply.the-variants.{Count}
+use Rattle.rules.specs.Asks.{Look, peeks, tokens, turnedAway, Undo, refunds, removes, Ask, requests, looks, undoes, mannerOf, replyTo, knownReply}
+use Rattle.rules.specs.Asks.{policyOf, repliedAs, askedIn, peekedIn, lookedIn, undoneIn, inItsShard}
 use Rattle.rules.specs.Rules.{keyedOutcome}
+use Rattle.demands.specs.TurnAways.{readsTurnAways}
 
 -- What a call gives on words is what an operation gives in the shard of a hash: its answer, and the shard that it leaves. The other shards stay as they are,
 -- and the memory keeps its length.
@@ -40,39 +45,37 @@ pub record WorksInOneShard (s : Settings) (hash : ℕ) (ws : List ℕ) (gives : 
   pub own : (other : ℕ) → shardOf s other ≡ shardOf s hash → shardAt s other (gives .after) ≡ operation .after
   pub others : (other : ℕ) → (shardOf s other ≡ shardOf s hash → ⊥) → shardAt s other (gives .after) ≡ shardAt s other ws
 
+-- What is asked of a key leaves the room of its shard as it is.
+module _ (s : Settings) (id : Identity) (own : Shard) (u : Sound own) where
+  request-keeps-room : (r : Request) (limit : Limit) (at : Nanos) (cost : ℕ) → SameRoom own (askedIn r limit s at id cost own .after)
+  unfolding askedIn
+  request-keeps-room r Closed at cost = same-room own u
+  request-keeps-room r (Open rate) at cost =
+      by-test (ltb (configOf rate .capacity) cost)
+      (λ more. rw more (same-room own u))
+      (λ most.
+      by-test (eqb cost 0)
+      (λ none. rw (most, none) (same-room own u))
+      (λ some. rw (most, some) (ask-same-room own u (policyOf s rate) id r cost at)))
+
+  undoing-keeps-room : (undo : Undo) (limit : Limit) → SameRoom own (undoneIn undo limit id own .after)
+  undoing-keeps-room (refunds cost) Closed = same-room own u
+  undoing-keeps-room (refunds cost) (Open rate) = refund-same-room own u (configOf rate) id cost
+  undoing-keeps-room removes limit = remove-same-room own u id
+
+  ask-keeps-room : (ask : Ask) → SameRoom own (inItsShard s id ask own .after)
+  ask-keeps-room (requests r at cost) = request-keeps-room r (s .limit) at cost
+  ask-keeps-room (looks l) = same-room own u
+  ask-keeps-room (undoes undo) = undoing-keeps-room undo (s .limit)
+
+-- So it works in one shard.
 module _ (s : Settings) (id : Identity) (ws : List ℕ) (accepted : Accepted s (id .hash) ws) where
   abbrev own : Shard
   own = shardAt s (id .hash) ws
 
-  -- What is asked of a key leaves a shard of the same size.
-  unchanged-sized : Sized (capOf s) own
-  unchanged-sized = shard-at-sized s (id .hash) ws (accepted .set-up .size)
-
-  room-sized : {t : Shard} → SameRoom own t → Sized (capOf s) t
-  room-sized room = same-room-sized s (id .hash) ws (accepted .set-up .size) room
-
-  request-sized : (r : Request) (limit : Limit) (at : Nanos) (cost : ℕ) → Sized (capOf s) (askedIn r limit s at id cost own .after)
-  unfolding askedIn
-  request-sized r Closed at cost = unchanged-sized
-  request-sized r (Open rate) at cost =
-      by-test (ltb (configOf rate .capacity) cost)
-      (λ more. rw more unchanged-sized)
-      (λ most.
-      by-test (eqb cost 0)
-      (λ none. rw (most, none) unchanged-sized)
-      (λ some. rw (most, some) (room-sized (ask-same-room own (accepted .sound) (policyOf s rate) id r cost at))))
-
-  undone-sized : (u : Undo) (limit : Limit) → Sized (capOf s) (undoneIn u limit id own .after)
-  undone-sized (refunds cost) Closed = unchanged-sized
-  undone-sized (refunds cost) (Open rate) = room-sized (refund-same-room own (accepted .sound) (configOf rate) id cost)
-  undone-sized removes limit = room-sized (remove-same-room own (accepted .sound) id)
-
   ask-sized : (ask : Ask) → Sized (capOf s) (inItsShard s id ask own .after)
-  ask-sized (requests r at cost) = request-sized r (s .limit) at cost
-  ask-sized (looks l) = unchanged-sized
-  ask-sized (undoes u) = undone-sized u (s .limit)
+  ask-sized ask = same-room-sized s (id .hash) ws (accepted .set-up .size) (ask-keeps-room s id own (accepted .sound) ask)
 
-  -- So it works in one shard.
   pub asks-work-in-one-shard : (ask : Ask) → WorksInOneShard s (id .hash) ws (keyedOutcome (shapeOf s) s id ask ws) (inItsShard s id ask own)
   asks-work-in-one-shard ask =
       let o = inItsShard s id ask own in
@@ -83,44 +86,60 @@ module _ (s : Settings) (id : Identity) (ws : List ℕ) (accepted : Accepted s (
         others = in-shard-leaves-others s (id .hash) ws o (accepted .set-up .size) (ask-sized ask);
       }
 
--- Each call gives in its shard what it gives where slots and debts are found in place order, and leaves a shard in which lookup finds each of them.
-module _ (own : Shard) (each : FindsEach own) where
-  same : EveryOperationSame own
-  same = every-operation-same own each
+-- Each call on two shards that are alike.
+module _ (v : View) {a b : Shard} (like : AlikeShards v a b) (every : EveryOperationAlike v a b) where
+  abbrev Alike : Outcome Reply Shard → Outcome Reply Shard → Type 0
+  Alike = SameOutcome (AlikeShards v)
 
-  unchanged-same : (reply : Shard → Reply) → reply (inPlaceOrder own) ≡ reply own → SameAsPlaceOrder (λ t. outcome (reply t) t) own
-  unchanged-same reply told = record { answer = told; after = refl; finds-each = each }
+  unchanged-alike : {x y : Reply} → x ≡ y → Alike (outcome x a) (outcome y b)
+  unchanged-alike told = record { answer = told; after = like }
 
-  told-same : {A : Type 0} (reply : A → Reply) (operation : Shard → Outcome A Shard) → SameAsPlaceOrder operation own
-      → SameAsPlaceOrder (λ t. repliedAs reply (operation t)) own
-  told-same reply operation is = record { answer = ap reply (is .answer); after = is .after; finds-each = is .finds-each }
+  told-alike : {A : Type 0} (reply : A → Reply) {o q : Outcome A Shard} → SameOutcome (AlikeShards v) o q → Alike (repliedAs reply o) (repliedAs reply q)
+  told-alike reply same = record { answer = ap reply (same .answer); after = same .after }
 
-  either-same : {A : Type 0} (b : Bool) (f g : Shard → Outcome A Shard) → SameAsPlaceOrder f own → SameAsPlaceOrder g own
-      → SameAsPlaceOrder (λ t. cond b (f t) (g t)) own
-  either-same true f g first second = first
-  either-same false f g first second = second
-
-  request-same : (r : Request) (limit : Limit) (s : Settings) (at : Nanos) (id : Identity) (cost : ℕ) → SameAsPlaceOrder (askedIn r limit s at id cost) own
+  request-alike : (r : Request) (limit : Limit) (s : Settings) (at : Nanos) (id : Identity) (cost : ℕ)
+      → Alike (askedIn r limit s at id cost a) (askedIn r limit s at id cost b)
   unfolding askedIn
-  request-same r Closed s at id cost = unchanged-same _ refl
-  request-same r (Open rate) s at id cost =
-      either-same (ltb (configOf rate .capacity) cost) _ _ (unchanged-same (λ t. tooMuch (mannerOf r)) refl)
-      (either-same (eqb cost 0) _ _ (unchanged-same (λ t. atOnce (mannerOf r) at) refl)
-      (told-same (replyTo (mannerOf r)) (withOrInsert (policyOf s rate) id r cost at) (same .asks (policyOf s rate) id r cost at)))
+  request-alike r Closed s at id cost = unchanged-alike refl
+  request-alike r (Open rate) s at id cost =
+      alike-by-test Alike (ltb (configOf rate .capacity) cost) refl (unchanged-alike refl)
+      (alike-by-test Alike (eqb cost 0) refl (unchanged-alike refl)
+      (told-alike (replyTo (mannerOf r)) (every .asks (policyOf s rate) id r cost at)))
 
-  look-same : (l : Look) (limit : Limit) (id : Identity) → lookedIn l limit id (inPlaceOrder own) ≡ lookedIn l limit id own
+  look-alike : (l : Look) (limit : Limit) (id : Identity) → (readsTurnAways (looks l) ≡ true → countOf id a ≡ countOf id b)
+      → lookedIn l limit id a ≡ lookedIn l limit id b
   unfolding peekedIn
-  look-same (peeks at cost) Closed id = refl
-  look-same (tokens at) Closed id = refl
-  look-same (peeks at cost) (Open rate) id = rw (same .views (configOf rate) id at .answer)
-  look-same (tokens at) (Open rate) id = rw (same .views (configOf rate) id at .answer)
+  look-alike (peeks at cost) Closed id counts = refl
+  look-alike (peeks at cost) (Open rate) id counts = rw (every .views (configOf rate) id at)
+  look-alike (tokens at) Closed id counts = refl
+  look-alike (tokens at) (Open rate) id counts = rw (every .views (configOf rate) id at)
+  look-alike turnedAway limit id counts = ap Count (counts refl)
 
-  undo-same : (u : Undo) (limit : Limit) (id : Identity) → SameAsPlaceOrder (undoneIn u limit id) own
-  undo-same (refunds cost) Closed id = unchanged-same (λ t. Nothing) refl
-  undo-same (refunds cost) (Open rate) id = told-same knownReply (refunded (configOf rate) id cost) (same .refunds (configOf rate) id cost)
-  undo-same removes limit id = told-same knownReply (removed id) (same .removes id)
+  undo-alike : (u : Undo) (limit : Limit) (id : Identity) → Alike (undoneIn u limit id a) (undoneIn u limit id b)
+  undo-alike (refunds cost) Closed id = unchanged-alike refl
+  undo-alike (refunds cost) (Open rate) id = told-alike knownReply (every .refunds (configOf rate) id cost)
+  undo-alike removes limit id = told-alike knownReply (every .removes id)
 
-  pub call-same-as-place-order : (s : Settings) (id : Identity) (ask : Ask) → SameAsPlaceOrder (inItsShard s id ask) own
-  call-same-as-place-order s id (requests r at cost) = request-same r (s .limit) s at id cost
-  call-same-as-place-order s id (looks l) = unchanged-same (lookedIn l (s .limit) id) (look-same l (s .limit) id)
-  call-same-as-place-order s id (undoes u) = undo-same u (s .limit) id
+  pub ask-alike : (s : Settings) (id : Identity) (ask : Ask) → (readsTurnAways ask ≡ true → countOf id a ≡ countOf id b)
+      → Alike (inItsShard s id ask a) (inItsShard s id ask b)
+  ask-alike s id (requests r at cost) counts = request-alike r (s .limit) s at id cost
+  ask-alike s id (looks l) counts = unchanged-alike (look-alike l (s .limit) id counts)
+  ask-alike s id (undoes u) counts = undo-alike u (s .limit) id
+
+-- Where slots and debts are found in place order. Lookup finds each of them in the shard that is left.
+pub call-same-as-place-order : (own : Shard) → FindsEach own → (s : Settings) (id : Identity) (ask : Ask) → SameAsPlaceOrder (inItsShard s id ask) own
+call-same-as-place-order own each s id ask =
+    let same = ask-alike placeOrder (in-place-order-alike own each) (every-operation-in-place-order own each) s id ask
+    (λ looks-at-it. count-in-place-order own each id) in
+    record {
+      answer = sym (same .answer);
+      after = alike-is-in-place-order (same .after);
+      finds-each = ask-keeps-room s id own (found-is-sound each) ask .finds-each each;
+    }
+
+-- Without counts, where the call does not look at one.
+pub call-same-without-turn-aways : (own : Shard) (s : Settings) (id : Identity) (ask : Ask) → readsTurnAways ask ≡ false
+    → SameOutcome (AlikeShards countless) (inItsShard s id ask (uncounted own)) (inItsShard s id ask own)
+call-same-without-turn-aways own s id ask no-look =
+    ask-alike countless (uncounted-alike own) (every-operation-alike countless (uncounted-alike own) (place-uncounted own)) s id ask
+    (λ looks-at-it. absurd (false≢true (sym no-look ∙ looks-at-it)))

@@ -211,7 +211,7 @@ module _ {S N : Type 0} (terms : Terms S N) (names : NamesFit terms) (l : Limite
   turn-leaves-lendable (calls c) ws fits′ lent = rules-leave-words-lendable terms names c ws fits′ lent
   turn-leaves-lendable clears ws fits′ lent = set-up-leaves-words-lendable (terms .settings written) ws lent
 
-  runs-alike : (ts : List (Turn S N)) (ws : List ℕ) → Every (TurnFits terms) ts → lendable ws ≡ true
+  pub runs-alike : (ts : List (Turn S N)) (ws : List ℕ) → Every (TurnFits terms) ts → lendable ws ≡ true
       → run (byLimiter l written) ts ws ≡ run (byRules terms (terms .settings written)) ts ws
   unfolding run
   runs-alike [] ws every lent = refl

@@ -20,6 +20,7 @@ pub record SlotFits (slot : Slot) : Type 0 where
   pub bucket : BucketFits (slot .bucket)
   pub mark : Word (slot .mark)
   pub seen : Word (slot .seen .0)
+  pub turned-away : Word (slot .«turned_away»)
 
 pub record ShardFits (s : Shard) : Type 0 where
   pub slots : HeldFits SlotFits (s .slots)
@@ -34,6 +35,7 @@ no-slot-fits = record {
   bucket = record { shortfall = omega arith; stamp = omega arith };
   mark = omega arith;
   seen = omega arith;
+  turned-away = omega arith;
 }
 
 -- The single steps.

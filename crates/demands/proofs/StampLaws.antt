@@ -23,7 +23,7 @@ use Rattle.held.proofs.HeldLaws.{item-stored, item-stored-other, item-appended,
 use Rattle.held.proofs.SingleLaws.{ComesFrom, removed-comes-from, sweep-comes-from}
 use Rattle.settings.specs.Eviction.{ttlSweep}
 use Rattle.slot.specs.declared.Slot.{Slot}
-use Rattle.slot.specs.Slot.{newSlot}
+use Rattle.slot.specs.Slot.{withAsked, newSlot}
 use Rattle.ledger.specs.Model as Ledger
 use Rattle.shard_map.specs.Model.{Shard, Sound, slotItems, capOf, slotAt, withSlot, removeAt, insert, reclaimable, roundOf, sweepIdle}
 use Rattle.shard_map.proofs.StepLaws.{slots-sound}
@@ -125,7 +125,7 @@ ask-keeps-stamps p id request cost at s a u past = go (ask-cases p id request co
         let v : Sound (debtTaken id s) = debt-taken-sound id s u in
         let owed : OptionNanos = Ledger.taken (s .ledger) (id .hash) .answer in
         insert-keeps-stamps (at .0) (roomFor p id at s .after)
-        (newSlot (id .hash) (id .key) (asked c request (returning c at owed) cost at .bucket) (millisOf at))
+        (withAsked (newSlot (id .hash) (id .key) (returning c at owed) (millisOf at)) (asked c request (returning c at owed) cost at))
         (room-made-leaves-room p at (debtTaken id s) v made)
         (asked-stamp c request (returning c at owed) cost at (returning-stamp c at owed a)) (room-keeps-stamps (at .0) p at (debtTaken id s) v past)
     go (no-space due e no-debt told) = room-keeps-stamps (at .0) p at s u past

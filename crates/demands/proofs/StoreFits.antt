@@ -9,21 +9,22 @@ use Rattle.units.specs.declared.OptionNanos.{OptionNanos}
 use Rattle.units.specs.Units.{nanosPerMilli, millisOf}
 use Rattle.bucket.specs.declared.BucketConfig.{BucketConfig}
 use Rattle.bucket.specs.declared.BucketCore.{BucketCore}
+use Rattle.bucket.specs.declared.BucketOutcome.{BucketOutcome}
 use Rattle.bucket.specs.declared.Request.{Request}
-use Rattle.bucket.specs.Bucket.{Accepted}
+use Rattle.bucket.specs.Bucket.{Accepted, asked}
 use Rattle.rows.specs.declared.Place.{Place}
 use Rattle.rows.specs.declared.Place.the-variants.{At, Nowhere}
 use Rattle.rows.specs.Outcome.{Outcome}
 use Rattle.settings.specs.Eviction.{ttlSweep, ledgerScan}
 use Rattle.slot.specs.declared.Slot.{Slot}
-use Rattle.slot.specs.Slot.{touched, withBucket}
+use Rattle.slot.specs.Slot.{touched, withBucket, withAsked, newSlot}
 use Rattle.ledger.specs.Model as Ledger
 use Rattle.shard_map.specs.Model.{Shard, Sound, slotAt, placeOf}
 use Rattle.evict.specs.declared.Room.{Room}
 use Rattle.evict.specs.declared.Room.the-variants.{Made, Refused}
 use Rattle.shard.specs.declared.Identity.{Identity}
 use Rattle.shard.specs.declared.Policy.{Policy}
-use Rattle.shard.specs.Model.{tracks, withExisting, makeRoom, admitted, admit, askedFrom, withOrInsert, refundedFrom, refunded, removed}
+use Rattle.shard.specs.Model.{tracks, askedAt, withExisting, makeRoom, admitted, admit, askedFrom, withOrInsert, returning, refundedFrom, refunded, removed}
 use Rattle.shard.proofs.RoomLaws.{room-keeps, room-made-leaves-room}
 use Rattle.shard.proofs.ShardLaws.{debtTaken, roomFor, debt-taken-sound, refused-took-nothing, Removing, slot-removed, no-slot, remove-cases}
 use Rattle.demands.proofs.EveryLaws.{of-either}
@@ -35,9 +36,19 @@ use Rattle.demands.proofs.ShardFits.{SlotFits, ShardFits, slot-at-fits,
 use Rattle.demands.proofs.ShardFits.{changed-ledger-fits, sweep-idle-fits}
 use Rattle.demands.proofs.EvictFits.{evicted-fits}
 
--- A slot with another bucket, and one that is touched.
+-- A slot with another bucket, one whose bucket was asked, and one that is touched.
 rebucketed-fits : (slot : Slot) (b : BucketCore) → SlotFits slot → BucketFits b → SlotFits (withBucket slot b)
-rebucketed-fits slot b f fits = record { hash = f .hash; key = f .key; bucket = fits; mark = f .mark; seen = f .seen }
+rebucketed-fits slot b f fits = record { hash = f .hash; key = f .key; bucket = fits; mark = f .mark; seen = f .seen; turned-away = f .turned-away }
+
+asked-slot-fits : (slot : Slot) (o : BucketOutcome) → SlotFits slot → BucketFits (o .bucket) → SlotFits (withAsked slot o)
+asked-slot-fits slot o f fits = record {
+  hash = f .hash;
+  key = f .key;
+  bucket = fits;
+  mark = f .mark;
+  seen = f .seen;
+  turned-away = of-either Word (o .«turns_away») _ _ (omega arith) (f .turned-away);
+}
 
 touched-fits : (slot : Slot) (at : Nanos) (track : Bool) → SlotFits slot → Word (millisOf at .0) → SlotFits (touched slot at track)
 touched-fits slot at track f stamped = record {
@@ -46,6 +57,7 @@ touched-fits slot at track f stamped = record {
   bucket = f .bucket;
   mark = omega arith;
   seen = of-either Word track _ _ (omega (arith, f .seen)) (f .seen);
+  turned-away = f .turned-away;
 }
 
 -- A shard once the debt of a hash was taken out.
@@ -58,12 +70,16 @@ module _ (p : Policy) (id : Identity) (request : Request) (cost : ℕ) (at : Nan
   stamp-fits : Word (millisOf at .0)
   stamp-fits = omega (arith, div-le-self (at .0) nanosPerMilli)
 
+  new-slot-fits : (b : BucketCore) → BucketFits b → SlotFits (newSlot (id .hash) (id .key) b (millisOf at))
+  new-slot-fits b fits = record { hash = hash-fits; key = key-fits; bucket = fits; mark = omega arith; seen = stamp-fits; turned-away = omega arith }
+
   known-fits : (s : Shard) (i : ℕ) → ShardFits s → ShardFits (withExisting p request cost at s i .after)
   unfolding withExisting
   known-fits s i f =
-      let old : SlotFits (touched (slotAt s i) at (tracks (p .«idle_ttl»))) =
-      touched-fits (slotAt s i) at (tracks (p .«idle_ttl»)) (slot-at-fits s f i) stamp-fits in
-      changed-slot-fits s f i _ (rebucketed-fits _ _ old (asked-fits (p .config) at a early request _ cost within (old .bucket)))
+      let slot : Slot = touched (slotAt s i) at (tracks (p .«idle_ttl»)) in
+      let old : SlotFits slot = touched-fits (slotAt s i) at (tracks (p .«idle_ttl»)) (slot-at-fits s f i) stamp-fits in
+      changed-slot-fits s f i _
+      (asked-slot-fits slot (askedAt p slot request cost at) old (asked-fits (p .config) at a early request _ cost within (old .bucket)))
 
   -- Room is made by the two sweeps and an eviction.
   room-fits : (s : Shard) → Sound s → ShardFits s → ShardFits (makeRoom p at s .after)
@@ -84,6 +100,9 @@ module _ (p : Policy) (id : Identity) (request : Request) (cost : ℕ) (at : Nan
       debt : Outcome OptionNanos Ledger.Ledger
       debt = Ledger.taken (s .ledger) (id .hash)
 
+      returned : BucketFits (returning (p .config) at (debt .answer))
+      returned = returning-fits (p .config) at a early (debt .answer)
+
       made-fits : ShardFits (roomFor p id at s .after)
       made-fits = room-fits (debtTaken id s) (debt-taken-sound id s u) (debt-taken-fits id s f)
 
@@ -92,13 +111,8 @@ module _ (p : Policy) (id : Identity) (request : Request) (cost : ℕ) (at : Nan
       go Made made =
           let free = room-made-leaves-room p at (debtTaken id s) (debt-taken-sound id s u) made in
           inserted-slot-fits _ made-fits _
-          (record {
-            hash = hash-fits;
-            key = key-fits;
-            bucket = asked-fits (p .config) at a early request _ cost within (returning-fits (p .config) at a early (debt .answer));
-            mark = omega arith;
-            seen = stamp-fits;
-          })
+          (asked-slot-fits _ (asked (p .config) request (returning (p .config) at (debt .answer)) cost at) (new-slot-fits _ returned)
+          (asked-fits (p .config) at a early request _ cost within returned))
           (omega (arith, free, made-fits .slots .room))
       go (Refused wait) told = rw (refused-took-nothing p id at s wait u told) (room-fits s u f)
 

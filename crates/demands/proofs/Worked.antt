@@ -62,11 +62,11 @@ pub record Worked : Type 0 where
   pub of-store : AllOf byKey (roomFor 2) workedTurns
   -- Key 7 is item 0, at its home; key 3 is item 1, at the next place, which is the first.
   pub two-keys : run (byRules byKey (roomFor 2)) twoKeysCome (fresh (roomFor 2)) .after
-      ≡ 2 ∷ 0 ∷ 0 ∷ 7 ∷ 7 ∷ 1000000000 ∷ 0 ∷ 0 ∷ 0 ∷ 3 ∷ 3 ∷ 2000000000 ∷ 0 ∷ 0 ∷ 0 ∷ 0 ∷ 0 ∷ 0 ∷ 0 ∷ 0 ∷ 0
+      ≡ 2 ∷ 0 ∷ 0 ∷ 7 ∷ 7 ∷ 1000000000 ∷ 0 ∷ 0 ∷ 0 ∷ 0 ∷ 3 ∷ 3 ∷ 2000000000 ∷ 0 ∷ 0 ∷ 0 ∷ 0 ∷ 0 ∷ 0 ∷ 0 ∷ 0 ∷ 0 ∷ 0
       ∷ 2 ∷ 0 ∷ 0 ∷ 1 ∷ replicate 4 0
   -- Key 3 has moved to its home, and is item 0.
   pub one-key : run (byRules byKey (roomFor 2)) workedTurns (fresh (roomFor 2)) .after
-      ≡ 1 ∷ 0 ∷ 0 ∷ 3 ∷ 3 ∷ 2000000000 ∷ 0 ∷ 0 ∷ 0 ∷ 0 ∷ 0 ∷ 0 ∷ 0 ∷ 0 ∷ 0 ∷ 0 ∷ 0 ∷ 0 ∷ 0 ∷ 0 ∷ 0
+      ≡ 1 ∷ 0 ∷ 0 ∷ 3 ∷ 3 ∷ 2000000000 ∷ 0 ∷ 0 ∷ 0 ∷ 0 ∷ 0 ∷ 0 ∷ 0 ∷ 0 ∷ 0 ∷ 0 ∷ 0 ∷ 0 ∷ 0 ∷ 0 ∷ 0 ∷ 0 ∷ 0
       ∷ 0 ∷ 0 ∷ 0 ∷ 1 ∷ replicate 4 0
   -- The answers, and those without indexes.
   pub answers : run (byRules byKey (roomFor 2)) workedTurns (fresh (roomFor 2)) .answer ≡ workedAnswers

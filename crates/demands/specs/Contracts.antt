@@ -1,4 +1,4 @@
--- Code as its caller knows it: what the contracts of the nine operations of `perkey` and of the five of `modems` tell. Both answer calls of one list, in which
+-- Code as its caller knows it: what the contracts of the ten operations of `perkey` and of the five of `modems` tell. Both answer calls of one list, in which
 -- each call names a modem by key or by address (`byName`).
 -- `Asked` and `Learnt` are an operation's `requires` and `ensures` (crates/perkey/src/lib.rt, crates/modems/src/lib.rt) as the check gives them to its callers:
 -- `Asked` of the arguments, `Learnt` of the arguments at entry, the result, and the arguments at exit.
@@ -12,7 +12,7 @@ use Rattle.units.specs.declared.Nanos.{Nanos}
 use Rattle.settings.specs.declared.Settings.{Settings}
 use Rattle.shard.specs.declared.Identity.{Identity}
 use Rattle.rules.specs.Widths.{settingsFit, lendable}
-use Rattle.rules.specs.Calls.{try, reserve, peek, available, length, refund, remove, fits}
+use Rattle.rules.specs.Calls.{try, reserve, peek, available, timesTurnedAway, length, refund, remove, fits}
 use Rattle.modems.specs.Names.{Name, key, address, byName}
 use Rattle.perkey.proofs.set_up.Reads as SetUp
 use Rattle.perkey.proofs.clear.Reads as Clear
@@ -20,6 +20,7 @@ use Rattle.perkey.proofs.try_acquire_with_cost.Reads as Try
 use Rattle.perkey.proofs.reserve.Reads as Reserve
 use Rattle.perkey.proofs.peek.Reads as Peek
 use Rattle.perkey.proofs.available.Reads as Available
+use Rattle.perkey.proofs.turned_away.Reads as TurnedAway
 use Rattle.perkey.proofs.len.Reads as Len
 use Rattle.perkey.proofs.refund.Reads as Refund
 use Rattle.perkey.proofs.remove.Reads as Remove
@@ -66,6 +67,10 @@ module _ (κs : Lfts 1) (ptr : ℕ × ℕ) (name : ℕ) where
         let o = l .answers (available s at (key id)) ws in
         Available.Asked κs (s, (lent ws, (at, (id, tt)))) →
         Available.Learnt κs (s, (lent ws, (at, (id, tt)))) (o .answer) (s, (lent (o .after), (at, (id, tt))))
+    pub tells-turned-away : (s : Settings) (id : Identity) (ws : List ℕ) → fits byName (timesTurnedAway s (key id)) ≡ true → lendable ws ≡ true →
+        let o = l .answers (timesTurnedAway s (key id)) ws in
+        TurnedAway.Asked κs (s, (lent ws, (id, tt))) →
+        TurnedAway.Learnt κs (s, (lent ws, (id, tt))) (o .answer) (s, (lent (o .after), (id, tt)))
     pub tells-length : (s : Settings) (ws : List ℕ) → fits byName (length s) ≡ true → lendable ws ≡ true →
         let o = l .answers (length s) ws in
         Len.Asked κs (s, (lent ws, tt)) →

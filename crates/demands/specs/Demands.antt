@@ -4,7 +4,8 @@
 --
 -- Demand 3 in plain English. Behind each clause stands the name that states it.
 --
--- Take any list of tries, reservations, peeks, looks at available or at length, refunds and removals,     Call
+-- Take any list of tries, reservations, peeks, looks at available, at counts or at length, refunds and
+-- removals,                                                                                               Call
 -- each with its own settings and naming a modem by key or by hardware address,                            Terms (Calls)
 -- calls that are refused by number among them, with any numbers that code can be given.                  fits, lendable
 -- Each call gets the words that the call before it left.                                                 replies

@@ -1,4 +1,4 @@
--- The limiter as C and Rust call it: the nine exports of `limiter` that are lent words, on plain numbers, and the five of `limiter_modems`, on numbers and the
+-- The limiter as C and Rust call it: the ten exports of `limiter` that are lent words, on plain numbers, and the five of `limiter_modems`, on numbers and the
 -- bytes of an address; demand 2 of them; and the limiter that a caller has in them, who reads replies from their numbers. Each call of a list writes its
 -- settings as numbers of its own. The other exports are lent no words, so they are no calls of a list: the number of words, the hash of a key, the identity of
 -- an address, the version.
@@ -19,10 +19,10 @@ use Rattle.rules.specs.declared.Reply.{Reply}
 use Rattle.rules.specs.declared.Reply.the-variants.{Tried, Reserved, Nothing, Done, Count, Refused}
 use Rattle.rules.specs.declared.codes.Told.{Told}
 use Rattle.rules.specs.Replies.{toldOf, told, Kind, decides, reserves, counts, knows}
-use Rattle.rules.specs.Asks.{requests, looks, undoes, peeks, tokens, refunds, removes}
+use Rattle.rules.specs.Asks.{requests, looks, undoes, peeks, tokens, turnedAway, refunds, removes}
 use Rattle.rules.specs.Rules.{setUp, clear}
 use Rattle.rules.specs.Widths.{fits64, fits32, lendable}
-use Rattle.rules.specs.Calls.{Call, keyed, whole, len, Terms, try, reserve, peek, available, length, refund, remove, kindOf, rules, fits}
+use Rattle.rules.specs.Calls.{Call, keyed, whole, len, Terms, try, reserve, peek, available, timesTurnedAway, length, refund, remove, kindOf, rules, fits}
 use Rattle.modems.specs.Names.{Name, key, address, namedIn}
 use Rattle.limiter.specs.declared.LimiterSettings.{LimiterSettings}
 use Rattle.limiter.specs.Exported.{settingsOf}
@@ -32,6 +32,7 @@ use Rattle.limiter.proofs.limiter_try.Reads as Try
 use Rattle.limiter.proofs.limiter_reserve.Reads as Reserve
 use Rattle.limiter.proofs.limiter_peek.Reads as Peek
 use Rattle.limiter.proofs.limiter_available.Reads as Available
+use Rattle.limiter.proofs.limiter_turned_away.Reads as TurnedAway
 use Rattle.limiter.proofs.limiter_length.Reads as Length
 use Rattle.limiter.proofs.limiter_refund.Reads as Refund
 use Rattle.limiter.proofs.limiter_remove.Reads as Remove
@@ -54,6 +55,7 @@ pub record Exports : Type 0 where
   pub reserve : LimiterSettings → (at hash key cost longest : ℕ) → Gives
   pub peek : LimiterSettings → (at hash key cost : ℕ) → Gives
   pub available : LimiterSettings → (at hash key : ℕ) → Gives
+  pub turned-away : LimiterSettings → (hash key : ℕ) → Gives
   pub length : LimiterSettings → Gives
   pub refund : LimiterSettings → (hash key cost : ℕ) → Gives
   pub remove : LimiterSettings → (hash key : ℕ) → Gives
@@ -73,8 +75,8 @@ numbersFit n =
 abbrev pub exported : Terms LimiterSettings Name
 exported = namedIn settingsOf numbersFit
 
--- The export by which a call is made, with the call's own numbers. There is none for the tokens of an address. No list has such a call, since it does not fit
--- (`offeredByAddress` of `modems` is false of it).
+-- The export by which a call is made, with the call's own numbers. There is none for the tokens and the count of an address. No list has such a call,
+-- since it does not fit (`offeredByAddress` of `modems` is false of it).
 abbrev noExport : Gives
 noExport ws = outcome (toldOf Nothing) ws
 
@@ -83,12 +85,14 @@ through e (keyed n (key id) (requests Acquire at cost)) = e .try n (at .0) (id .
 through e (keyed n (key id) (requests (Reserve longest) at cost)) = e .reserve n (at .0) (id .hash) (id .key) cost (longest .0)
 through e (keyed n (key id) (looks (peeks at cost))) = e .peek n (at .0) (id .hash) (id .key) cost
 through e (keyed n (key id) (looks (tokens at))) = e .available n (at .0) (id .hash) (id .key)
+through e (keyed n (key id) (looks turnedAway)) = e .turned-away n (id .hash) (id .key)
 through e (keyed n (key id) (undoes (refunds cost))) = e .refund n (id .hash) (id .key) cost
 through e (keyed n (key id) (undoes removes)) = e .remove n (id .hash) (id .key)
 through e (keyed n (address bytes) (requests Acquire at cost)) = e .modem-try n (at .0) bytes cost
 through e (keyed n (address bytes) (requests (Reserve longest) at cost)) = e .modem-reserve n (at .0) bytes cost (longest .0)
 through e (keyed n (address bytes) (looks (peeks at cost))) = e .modem-peek n (at .0) bytes cost
 through e (keyed n (address bytes) (looks (tokens at))) = noExport
+through e (keyed n (address bytes) (looks turnedAway)) = noExport
 through e (keyed n (address bytes) (undoes (refunds cost))) = e .modem-refund n bytes cost
 through e (keyed n (address bytes) (undoes removes)) = e .modem-remove n bytes
 through e (whole n len) = e .length n
@@ -168,6 +172,11 @@ module _ (κs : Lfts 1) (ptr : ℕ × ℕ) (name : ℕ) where
         let o = e .available n (at .0) (id .hash) (id .key) ws in
         Available.Asked κs (atMoment n ws at id tt) →
         Available.Learnt κs (atMoment n ws at id tt) (o .answer) (atMoment n (o .after) at id tt)
+    pub tells-turned-away : (n : LimiterSettings) (id : Identity) (ws : List ℕ) →
+        fits exported (timesTurnedAway n (key id)) ≡ true → lendable ws ≡ true →
+        let o = e .turned-away n (id .hash) (id .key) ws in
+        TurnedAway.Asked κs (onKey n ws id tt) →
+        TurnedAway.Learnt κs (onKey n ws id tt) (o .answer) (onKey n (o .after) id tt)
     pub tells-length : (n : LimiterSettings) (ws : List ℕ) →
         fits exported (length n) ≡ true → lendable ws ≡ true →
         let o = e .length n ws in

@@ -3,6 +3,7 @@ pub mod ByKey
 pub mod Impostors
 pub mod Grown
 pub mod PlaceOrder
+pub mod TurnAways
 pub mod Contracts
 pub mod Exports
 pub mod Moments

@@ -12,7 +12,7 @@ use Rattle.shard.specs.declared.Identity.{Identity}
 use Rattle.rules.specs.declared.Reply.{Reply}
 use Rattle.rules.specs.declared.Reply.the-variants.{Tried, Reserved, Nothing, Done, Count, Refused}
 use Rattle.rules.specs.Replies.{momentOf, ofGrant}
-use Rattle.rules.specs.Asks.{Look, peeks, tokens, Ask, requests, looks, undoes, Manner, asTry, mannerOf}
+use Rattle.rules.specs.Asks.{Look, peeks, tokens, turnedAway, Ask, requests, looks, undoes, Manner, asTry, mannerOf}
 use Rattle.rules.specs.Widths.{lendable}
 use Rattle.rules.specs.Calls.{Call, keyed, whole, Terms, Answered, replies, allFit, Every}
 use Rattle.demands.specs.Demands.{Limiter, usable, usableFrom}
@@ -33,6 +33,7 @@ momentTold m at (Refused n) = Unit {0}
 abbrev pub lookTells : Look → Reply → Type 0
 lookTells (peeks at cost) reply = momentTold asTry at reply
 lookTells (tokens at) reply = momentOf reply ≡ 0
+lookTells turnedAway reply = momentOf reply ≡ 0
 
 abbrev pub askTells : Ask → Reply → Type 0
 askTells (requests r at cost) reply = momentTold (mannerOf r) at reply

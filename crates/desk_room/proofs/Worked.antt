@@ -5,10 +5,10 @@ use Rattle.settings.specs.Powers.{exponentFrom, exponentFor}
 use Rattle.settings.specs.Settings.{sizeRefusal}
 use Rattle.desk_room.specs.Room.{fits, roomFrom, roomFor}
 
-pub room-in-one-shard : roomFor 8192 1 ≡ 682
+pub room-in-one-shard : roomFor 8192 1 ≡ 629
 unfolding ceilDiv exponentFrom exponentFor sizeRefusal fits roomFrom
 room-in-one-shard = refl
 
-pub room-in-64-shards : roomFor 8192 64 ≡ 640
+pub room-in-64-shards : roomFor 8192 64 ≡ 576
 unfolding ceilDiv exponentFrom exponentFor sizeRefusal fits roomFrom
 room-in-64-shards = refl

@@ -117,6 +117,7 @@ ahead number shortfall stamp mark = record {
   bucket = record { shortfall = shortfall; stamp = moment stamp };
   mark = mark;
   seen = record { 0 = 0 };
+  «turned_away» = 0;
 }
 
 debt-settles-after-the-stamp :

@@ -4,6 +4,7 @@ pub mod FindingLaws
 pub mod RoundLaws
 pub mod SingleLaws
 pub mod LayoutLaws
+pub mod MapLaws
 pub mod ReadBack
 pub mod IndexLaws
 pub mod AlikeLaws

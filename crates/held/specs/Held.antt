@@ -1,11 +1,11 @@
 -- Items held in the first places of a fixed number of places. What stands in the places past the count is part of the value, so that a definition
 -- over `Held` fixes every word. Three definitions change the held items: `appended` adds an item, `removed` takes one out, and `stored` puts one in the place
 -- of another. Only set-up and clear do otherwise: all words become 0. `position` finds an item and changes nothing. Only `position`, `appended` and `removed`
--- read or change an index. Definitions in higher crates are the same with an index and without.
+-- read or change an index. Definitions in higher crates are the same with an index and without. `mapped` stands in claims alone: no operation uses it.
 use Prim.Native.Nat.{ℕ, _+_, _-_, _≤_, _<_}
 use mathlib.Core.Path.{_≡_}
 use mathlib.Core.Bool.{Bool, cond}
-use mathlib.Core.List.{List}
+use mathlib.Core.List.{List, map}
 use lib.Dec.{ltb}
 use lib.ListN.{length, getD, set}
 use Rattle.rows.specs.declared.Place.{Place}
@@ -96,6 +96,10 @@ foundOtherwise h f = record { count = h .count; places = h .places; finding = f 
 -- Another item stands at a place.
 abbrev pub stored : {A : Type 0} → Held A → ℕ → A → Held A
 stored h i x = record { count = h .count; places = set (h .places) i x; finding = h .finding }
+
+-- The held items, each as a map makes it. They are found as before.
+abbrev pub mapped : {A : Type 0} → (A → A) → Held A → Held A
+mapped f h = record { count = h .count; places = map f (h .places); finding = h .finding }
 
 -- The same items, found in the order of their places.
 abbrev pub inPlaceOrder : {A : Type 0} → Held A → Held A

@@ -1,6 +1,6 @@
 -- Ledgers that no operation tells apart. Layers above know them by this record alone.
 use Prim.Native.Nat.{ℕ}
-use mathlib.Core.Path.{_≡_}
+use mathlib.Core.Path.{_≡_, refl}
 use mathlib.Core.Bool.{Bool}
 use Rattle.units.specs.declared.Nanos.{Nanos}
 use Rattle.bucket.specs.declared.BucketConfig.{BucketConfig}
@@ -15,3 +15,13 @@ pub record KeptByLedgers (Like : Ledger → Ledger → Type 0) : Type 0 where
   pub takes : {l m : Ledger} → Like l m → (h : ℕ) → SameOutcome Like (taken l h) (taken m h)
   pub pays : {l m : Ledger} → Like l m → (h cost : ℕ) (c : BucketConfig) → SameOutcome Like (paidDown l h cost c) (paidDown m h cost c)
   pub records : {l m : Ledger} → Like l m → (d : Debt) (at : Nanos) (forget : Bool) → SameOutcome Like (recorded l d at forget) (recorded m d at forget)
+
+-- Equal ledgers are alike.
+pub equal-kept : KeptByLedgers _≡_
+equal-kept = record {
+  owed = λ same h. rw same;
+  sweeps = λ same at n. rw same;
+  takes = λ same h. rw same (record { answer = refl; after = refl });
+  pays = λ same h cost c. rw same (record { answer = refl; after = refl });
+  records = λ same d at forget. rw same (record { answer = refl; after = refl });
+}

@@ -63,4 +63,4 @@ hashOf key = fnv1a (lowestFirst 8 key)
 
 -- The version 0.5.0 as one number: 65,536 times the major number, 256 times the minor one, and the patch.
 abbrev pub versionNumber : ℕ
-versionNumber = 65536 * 0 + 256 * 5 + 0
+versionNumber = 65536 * 0 + 256 * 6 + 0

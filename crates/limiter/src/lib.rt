@@ -1,4 +1,4 @@
-// The limiter for callers in C and Rust: the nine operations on plain numbers and lent words, the number of words to lend, and a hash for keys.
+// The limiter for callers in C and Rust: the ten operations on plain numbers and lent words, the number of words to lend, and a hash for keys.
 // Whatever a caller gives, a call ends and answers. What each operation does is the rule of `perkey` that its contract names; its reply is told as numbers.
 ghost use mathlib.Core.Path.{_≡_};
 ghost use Rattle.rows.specs.Outcome.{outcome};
@@ -25,7 +25,7 @@ use units::Nanos;
 // The version of the interface: bindings/c/limiter.h and bindings/rust have the same.
 const MAJOR: u32 = 0;
 
-const MINOR: u32 = 5;
+const MINOR: u32 = 6;
 
 const PATCH: u32 = 0;
 
@@ -153,6 +153,19 @@ pub extern "C" fn limiter_available(
     perkey::available(settings_of(settings), ws, Nanos(at), Identity { hash, key }).told()
 }
 
+// How many tries of a key its own bucket has turned away, from the call on that gave the key its slot. 0 for a key without a slot.
+#[no_mangle]
+pub extern "C" fn limiter_turned_away(
+    settings: LimiterSettings,
+    ws: &[u64],
+    hash: u64,
+    key: u64,
+) -> Told
+    ensures { λ r. ⌜ outcome r (now (ws .exit)) ≡ Replies.told (Rules.timesTurnedAway (settingsOf settings) (identityOf hash key) (now (ws .entry))) ⌝ }
+{
+    perkey::turned_away(settings_of(settings), ws, Identity { hash, key }).told()
+}
+
 // Gives `cost` tokens back to a key, or to the debt that is remembered for its hash; unknown if there is neither.
 #[no_mangle]
 pub extern "C" fn limiter_refund(
@@ -221,7 +234,7 @@ pub extern "C" fn limiter_key_hash(key: u64) -> u64
 // The version of this interface. The name holds the numbers that have to be equal in a caller's header and in the library: a caller's objects refer to it, so a
 // library of another version does not link.
 #[no_mangle]
-pub extern "C" fn limiter_version_0_5() -> u32
+pub extern "C" fn limiter_version_0_6() -> u32
     ensures { λ r. ⌜ r ≡ versionNumber ⌝ }
 {
     65_536 * MAJOR + 256 * MINOR + PATCH

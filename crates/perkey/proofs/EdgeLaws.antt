@@ -32,7 +32,8 @@ unfolding ceilDiv rows unrow tableIn removed Index.onward Index.walkFrom Index.w
     Debts.ledger Debts.wordsOf Ledger.placeOf Ledger.removeAt Ledger.append Ledger.owedBy Ledger.taken Ledger.sweep
     Ledger.scanFrom Ledger.scan Ledger.dropChosen Ledger.makeRoom Ledger.recordedAt Ledger.recorded Ledger.paidDown
     Layout.shard Layout.wordsOf Shard.placeOf Shard.removeAt Shard.insert Shard.sweepIdle
-    noted walkFrom walked evicted OneShard.makeRoom OneShard.withExisting OneShard.admit OneShard.withOrInsert OneShard.viewed OneShard.refunded
-    Refusals.memoryRefusal Refusals.countRefusal Refusals.momentRefusal
+    noted walkFrom walked evicted OneShard.makeRoom OneShard.withExisting OneShard.admit OneShard.withOrInsert OneShard.viewed
+    OneShard.turnedAway OneShard.refunded OneShard.removed
+    Refusals.memoryRefusal Refusals.countRefusal Refusals.momentRefusal Refusals.waitRefusal
     Asks.askedIn Rules.unlessRefused Rules.setUpIn Rules.keyedRuleIn
 every-edge-holds = refl

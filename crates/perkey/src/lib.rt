@@ -1,4 +1,4 @@
-// The limiter: its nine operations, on settings, arguments and lent words of any kind. A call that is refused by number changes no word.
+// The limiter: its ten operations, on settings, arguments and lent words of any kind. A call that is refused by number changes no word.
 ghost use mathlib.Core.Path.{_≡_};
 ghost use Rattle.rows.specs.Outcome.{outcome};
 ghost use Rattle.settings.specs.Settings.{limitRefusal};
@@ -171,6 +171,16 @@ fn tokens_in(limit: Limit, ws: &[u64], part: Part, at: Nanos, id: Identity) -> u
             let bucket = store::view(ws, part, config, id, at);
             bucket.available_at(config, at) as u64
         }
+    }
+}
+
+// How many tries of a key its bucket has turned away; 0 for a key without a slot. It looks at no moment and at no rate.
+pub fn turned_away(settings: Settings, ws: &[u64], id: Identity) -> Reply
+    ensures { λ r. ⌜ outcome r (now (ws .exit)) ≡ Rules.timesTurnedAway settings id (now (ws .entry)) ⌝ }
+{
+    match lending::lend_for(settings, ws, id.hash, 0) {
+        Lending::Refused(refusal) => Reply::Refused(refusal),
+        Lending::Lent(part) => Reply::Count(store::turned_away(ws, part, id)),
     }
 }
 

@@ -25,7 +25,8 @@ use Rattle.rules.specs.declared.Reply.{Reply}
 use Rattle.rules.specs.declared.Reply.the-variants.{Tried, Reserved, Nothing, Done, Count}
 use Rattle.rules.specs.Replies.{numbered, Kind, decides, reserves, counts, knows}
 use Rattle.rules.specs.Asks as Asks
-use Rattle.rules.specs.Asks.{Look, peeks, tokens, Undo, refunds, removes, Ask, requests, looks, undoes, Manner, asTry, asReservation, mannerOf}
+use Rattle.rules.specs.Asks.{Look, peeks, tokens, turnedAway, Undo, refunds, removes, Ask, requests, looks, undoes, Manner, asTry, asReservation}
+use Rattle.rules.specs.Asks.{mannerOf}
 use Rattle.rules.specs.Asks.{clockAfterAsk, kindIn, kindOfLook, kindOfAsk, inItsShard}
 
 -- A reply of each kind, to an ask at a moment. A grant and a retry have that moment plus their wait; Acquired has no wait.
@@ -95,6 +96,7 @@ peeked-in-kind (Open rate) at cost id own =
 looked-in-kind : (l : Look) (limit : Limit) (id : Identity) (own : Shard) → OfKind (momentIn (looks l)) (kindOfLook l) (Asks.lookedIn l limit id own)
 looked-in-kind (peeks at cost) limit id own = peeked-in-kind limit at cost id own
 looked-in-kind (tokens at) limit id own = counted _
+looked-in-kind turnedAway limit id own = counted _
 
 -- An undoing.
 key-is-known-or-not : (at : Nanos) (b : Bool) → OfKind at knows (Asks.knownReply b)

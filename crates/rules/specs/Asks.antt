@@ -29,10 +29,12 @@ use Rattle.rules.specs.declared.Reply.{Reply}
 use Rattle.rules.specs.declared.Reply.the-variants.{Tried, Reserved, Nothing, Done, Count}
 use Rattle.rules.specs.Replies.{Kind, decides, reserves, counts, knows}
 
--- What a look at a key asks, at a moment: what a try for N tokens would be answered, or how many tokens there are.
+-- What a look at a key asks: at a moment, what a try for N tokens would be answered, or how many tokens there are; at no moment, how many tries of the key
+-- its bucket has turned away.
 pub data Look : Type 0 where
   peeks : Nanos → ℕ → Look
   tokens : Nanos → Look
+  turnedAway : Look
 
 -- How what a key spent is undone: N tokens are given back, or the key is forgotten.
 pub data Undo : Type 0 where
@@ -58,6 +60,7 @@ mannerOf (Reserve longest) = asReservation
 abbrev pub clockAfterLook : Look → ℕ → ℕ
 clockAfterLook (peeks at cost) before = at .0
 clockAfterLook (tokens at) before = at .0
+clockAfterLook turnedAway before = before
 
 abbrev pub clockAfterAsk : Ask → ℕ → ℕ
 clockAfterAsk (requests r at cost) before = at .0
@@ -72,6 +75,7 @@ kindIn asReservation = reserves
 abbrev pub kindOfLook : Look → Kind
 kindOfLook (peeks at cost) = decides
 kindOfLook (tokens at) = counts
+kindOfLook turnedAway = counts
 
 abbrev pub kindOfAsk : Ask → Kind
 kindOfAsk (requests r at cost) = kindIn (mannerOf r)
@@ -86,6 +90,7 @@ furtherTo (Reserve longest) at = firstRefusal (momentRefusal at) (waitRefusal lo
 abbrev pub furtherOfLook : Look → ℕ
 furtherOfLook (peeks at cost) = momentRefusal at
 furtherOfLook (tokens at) = momentRefusal at
+furtherOfLook turnedAway = 0
 
 abbrev pub furtherOf : Ask → ℕ
 furtherOf (requests r at cost) = furtherTo r at
@@ -156,9 +161,11 @@ abbrev pub tokensIn : Limit → Nanos → Identity → Shard → ℕ
 tokensIn Closed at id own = 0
 tokensIn (Open rate) at id own = availableAt (configOf rate) (OneShard.viewed (configOf rate) id at own) at
 
+-- A look. The count of tries turned away is told on a closed limiter too.
 abbrev pub lookedIn : Look → Limit → Identity → Shard → Reply
 lookedIn (peeks at cost) limit id own = peekedIn limit at cost id own
 lookedIn (tokens at) limit id own = Count (tokensIn limit at id own)
+lookedIn turnedAway limit id own = Count (OneShard.turnedAway id own)
 
 -- Whether a key was known.
 abbrev pub knownReply : Bool → Reply

@@ -14,7 +14,7 @@ use Rattle.settings.specs.Settings.{shapeOf}
 use Rattle.shard.specs.declared.Identity.{Identity}
 use Rattle.rules.specs.declared.Reply.{Reply}
 use Rattle.rules.specs.Replies.{numbered, Kind, counts}
-use Rattle.rules.specs.Asks.{Ask, requests, looks, undoes, peeks, tokens, refunds, removes, clockAfterAsk, kindOfAsk}
+use Rattle.rules.specs.Asks.{Ask, requests, looks, undoes, peeks, tokens, turnedAway, refunds, removes, clockAfterAsk, kindOfAsk}
 use Rattle.rules.specs.Rules.{unlessRefused, keyedRuleIn, lenIn}
 use Rattle.rules.specs.Widths.{settingsFit, keyFits, askFits}
 
@@ -64,6 +64,9 @@ module _ {S N : Type 0} where
 
   abbrev pub available : S → Nanos → N → Call S N
   available s at n = keyed s n (looks (tokens at))
+
+  abbrev pub timesTurnedAway : S → N → Call S N
+  timesTurnedAway s n = keyed s n (looks turnedAway)
 
   abbrev pub refund : S → N → ℕ → Call S N
   refund s n cost = keyed s n (undoes (refunds cost))

@@ -69,8 +69,8 @@ ofGrant f other Done = other
 ofGrant f other (Count n) = other
 ofGrant f other (Refused n) = other
 
--- The kinds of replies. A try and a peek get a decision, a reservation its wait or nothing, a look at tokens or keys how many there are, and a refund or a
--- removal whether the key was known.
+-- The kinds of replies. A try and a peek get a decision, a reservation its wait or nothing, a look at tokens, counts or keys how many there are, and a refund
+-- or a removal whether the key was known.
 pub data Kind : Type 0 where
   decides : Kind
   reserves : Kind

@@ -16,7 +16,7 @@ use Rattle.store.specs.Memory.{wordsIn, partIn, shardIn, inPart, slotCount}
 use Rattle.store.specs.Refusals.{setUpRefusalIn, keyedRefusalIn, lenRefusalIn}
 use Rattle.rules.specs.declared.Reply.{Reply}
 use Rattle.rules.specs.declared.Reply.the-variants.{Done, Count, Refused}
-use Rattle.rules.specs.Asks.{Ask, requests, looks, undoes, peeks, tokens, refunds, removes, furtherOf, inItsShard}
+use Rattle.rules.specs.Asks.{Ask, requests, looks, undoes, peeks, tokens, turnedAway, refunds, removes, furtherOf, inItsShard}
 
 -- A call that is refused by number changes no word.
 unfoldable pub unlessRefused : ℕ → List ℕ → Outcome Reply (List ℕ) → Outcome Reply (List ℕ)
@@ -40,7 +40,7 @@ askRefusal s id ask ws = askRefusalIn (shapeOf s) s id ask ws
 abbrev pub keyedRule : Settings → Identity → Ask → List ℕ → Outcome Reply (List ℕ)
 keyedRule s id ask ws = keyedRuleIn (shapeOf s) s id ask ws
 
--- A try, a reservation, a peek, a look at the tokens, a refund, a removal.
+-- A try, a reservation, a peek, a look at the tokens, a look at the count of tries turned away, a refund, a removal.
 abbrev pub tryAcquire : Settings → Nanos → Identity → ℕ → List ℕ → Outcome Reply (List ℕ)
 tryAcquire s at id cost ws = keyedRule s id (requests Acquire at cost) ws
 
@@ -52,6 +52,9 @@ peek s at id cost ws = keyedRule s id (looks (peeks at cost)) ws
 
 abbrev pub available : Settings → Nanos → Identity → List ℕ → Outcome Reply (List ℕ)
 available s at id ws = keyedRule s id (looks (tokens at)) ws
+
+abbrev pub timesTurnedAway : Settings → Identity → List ℕ → Outcome Reply (List ℕ)
+timesTurnedAway s id ws = keyedRule s id (looks turnedAway) ws
 
 abbrev pub refund : Settings → Identity → ℕ → List ℕ → Outcome Reply (List ℕ)
 refund s id cost ws = keyedRule s id (undoes (refunds cost)) ws

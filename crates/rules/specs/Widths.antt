@@ -15,7 +15,7 @@ use Rattle.settings.specs.declared.rate.OptionTokens.{OptionTokens}
 use Rattle.settings.specs.declared.rate.OptionTokens.the-variants as burst
 use Rattle.settings.specs.declared.rate.Rate.{Rate}
 use Rattle.shard.specs.declared.Identity.{Identity}
-use Rattle.rules.specs.Asks.{Look, peeks, tokens, Undo, refunds, removes, Ask, requests, looks, undoes}
+use Rattle.rules.specs.Asks.{Look, peeks, tokens, turnedAway, Undo, refunds, removes, Ask, requests, looks, undoes}
 
 -- A number fits 64 bits (`u64`, `usize`), or 32 bits (`u32`).
 abbrev pub fits64 : ℕ → Bool
@@ -54,6 +54,7 @@ requestFits (Reserve longest) = fits64 (longest .0)
 abbrev pub lookFits : Look → Bool
 lookFits (peeks at cost) = fits64 (at .0) && fits32 cost
 lookFits (tokens at) = fits64 (at .0)
+lookFits turnedAway = true
 
 abbrev pub undoFits : Undo → Bool
 undoFits (refunds cost) = fits32 cost

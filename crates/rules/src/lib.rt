@@ -24,7 +24,7 @@ pub enum Reply {
     Nothing,
     // Accepted, or a known key.
     Done,
-    // Tokens available, or keys with a slot.
+    // Tokens available, tries turned away, or keys with a slot.
     Count(u64),
     // Refused by number.
     Refused(u32),

@@ -17,6 +17,7 @@ use Rattle.rows.specs.declared.Place.{Place}
 use Rattle.rows.specs.declared.Place.the-variants.{At, Nowhere}
 use Rattle.settings.specs.Eviction.{ttlSweep, ledgerScan}
 use Rattle.held.proofs.AlikeLaws.{SameOutcome, alike-by-test}
+use Rattle.slot.specs.declared.Slot.{Slot}
 use Rattle.ledger.specs.Model as Ledger
 use Rattle.shard_map.specs.Model.{Shard, capOf, placeOf}
 use Rattle.shard_map.proofs.AlikeLaws.{View, AlikeShards, slot-alike, ledger-alike, change-alike, removal-alike, insert-alike, sweep-idle-alike}
@@ -26,7 +27,7 @@ use Rattle.evict.proofs.AlikeLaws.{evict-alike}
 use Rattle.shard.specs.declared.Identity.{Identity}
 use Rattle.shard.specs.declared.Policy.{Policy}
 use Rattle.shard.specs.Model.{tracks, withExisting, idleLimitIn, sweptIdle, swept, makeRoom, putBack, admitted, admit, askedFrom, withOrInsert}
-use Rattle.shard.specs.Model.{returning, viewedFrom, viewed, hasDebt, holds, refundedFrom, refunded, removedFrom, removed}
+use Rattle.shard.specs.Model.{returning, viewedFrom, viewed, turnedAwayAt, turnedAway, hasDebt, holds, refundedFrom, refunded, removedFrom, removed}
 use Rattle.shard.proofs.ShardLaws.{debtTaken, roomFor}
 
 module _ (v : View) where
@@ -61,7 +62,7 @@ module _ (v : View) where
         record {
           answer = ap (λ (b : BucketCore). Bucket.asked (p .config) request b cost at .decision) bucket;
           after = change-alike v like refl
-              (v .refills (v .touches slot at (tracks (p .«idle_ttl»))) (ap (λ (b : BucketCore). Bucket.asked (p .config) request b cost at .bucket) bucket));
+              (v .asks (v .touches slot at (tracks (p .«idle_ttl»))) (ap (λ (b : BucketCore). Bucket.asked (p .config) request b cost at) bucket));
         }
 
     put-back-alike : {s t : Shard} → Like s t → (owed : OptionNanos) → Like (putBack (id .hash) at owed s) (putBack (id .hash) at owed t)
@@ -135,7 +136,16 @@ module _ (v : View) where
         go (At i) = record { answer = refl; after = removal-alike v left i }
         go Nowhere = record { answer = refl; after = left }
 
--- So it is for every operation.
+    -- The count is the same too, for a view that tells counts apart.
+    pub count-alike : ((x y : Slot) → v .Same x y → x .«turned_away» ≡ y .«turned_away») → turnedAway id s ≡ turnedAway id t
+    unfolding turnedAway
+    count-alike counts = rw found (go (placeOf t (id .hash) (id .key)))
+      where
+        go : (place : Place) → turnedAwayAt s place ≡ turnedAwayAt t place
+        go (At i) = rw (counts _ _ (slot-alike v like {p = i} refl))
+        go Nowhere = refl
+
+-- So it is for every operation, the look at a count apart.
 pub record EveryOperationAlike (v : View) (s t : Shard) : Type 0 where
   pub asks : (p : Policy) (id : Identity) (request : Request) (cost : ℕ) (at : Nanos)
       → SameOutcome (AlikeShards v) (withOrInsert p id request cost at s) (withOrInsert p id request cost at t)

@@ -5,3 +5,4 @@ pub mod ModelLaws
 pub mod DueLaws
 pub mod AlikeLaws
 pub mod PlaceOrderLaws
+pub mod TurnAwayLaws

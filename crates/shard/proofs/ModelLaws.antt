@@ -18,7 +18,7 @@ use Rattle.rows.specs.declared.Place.the-variants.{At, Nowhere}
 use Rattle.rows.specs.Outcome.{outcome}
 use Rattle.rows.proofs.OutcomeLaws.{answer-is, after-is}
 use Rattle.slot.specs.declared.Slot.{Slot}
-use Rattle.slot.specs.Slot.{touched, withBucket}
+use Rattle.slot.specs.Slot.{touched, withBucket, withAsked, readTurnedAway}
 use Rattle.ledger.specs.Model as Ledger
 use Rattle.shard_map.specs.Model.{Shard, Sound, capOf, slotAt, withSlot, inLedger, placeOf, removeAt}
 use Rattle.shard_map.specs.Layout.{shard, Intact}
@@ -30,7 +30,7 @@ use Rattle.evict.specs.Evict.{evicted}
 use Rattle.shard.specs.declared.Identity.{Identity}
 use Rattle.shard.specs.declared.Policy.{Policy}
 use Rattle.shard.specs.Model.{tracks, idleLimitIn, askedAt, withExisting, sweptIdle, swept, makeRoom, joined, admit, withOrInsert, hasDebt, refunded}
-use Rattle.shard.specs.Model.{removed}
+use Rattle.shard.specs.Model.{turnedAway, removed}
 use Rattle.shard.proofs.RoomLaws.{swept-idle-sound, swept-sound, room-sound, room-made-leaves-room}
 use Rattle.shard.proofs.ShardLaws.{roomFor, debt-taken-sound, refused-took-nothing}
 
@@ -41,10 +41,10 @@ found-held s h k i e = found-holds s h k i e .below
 pub found-below-cap : {cap : ℕ} {ws : List ℕ} (h k i : ℕ) → Intact cap ws → placeOf (shard cap ws) h k ≡ At i → i < cap
 found-below-cap {cap} {ws} h k i intact e = intact-below intact (found-held (shard cap ws) h k i e)
 
--- A known key: the slot that was read is touched, and is put back with the bucket that was asked.
+-- A known key: the slot that was read is touched, and is put back with what its bucket came to when it was asked.
 pub known-by-store : (p : Policy) (request : Request) (cost : ℕ) (at : Nanos) (s : Shard) (i : ℕ) {slot : Slot}
     → slot ≡ touched (slotAt s i) at (tracks (p .«idle_ttl»))
-    → outcome (askedAt p slot request cost at .decision) (withSlot s i (withBucket slot (askedAt p slot request cost at .bucket)))
+    → outcome (askedAt p slot request cost at .decision) (withSlot s i (withAsked slot (askedAt p slot request cost at)))
     ≡ withExisting p request cost at s i
 unfolding withExisting
 known-by-store p request cost at s i is = rw is
@@ -104,6 +104,15 @@ module _ (p : Policy) (id : Identity) (request : Request) (cost : ℕ) (at : Nan
   pub ask-without-slot : placeOf s (id .hash) (id .key) ≡ Nowhere → admit p id request cost at s ≡ withOrInsert p id request cost at s
   unfolding withOrInsert
   ask-without-slot e = rw e
+
+-- The count of tries turned away, by the place of the key.
+pub count-with-slot : (id : Identity) (s : Shard) (i : ℕ) → placeOf s (id .hash) (id .key) ≡ At i → readTurnedAway (slotAt s i) ≡ turnedAway id s
+unfolding turnedAway
+count-with-slot id s i e = rw e
+
+pub count-without-slot : (id : Identity) (s : Shard) → placeOf s (id .hash) (id .key) ≡ Nowhere → 0 ≡ turnedAway id s
+unfolding turnedAway
+count-without-slot id s e = rw e
 
 -- A refund, by the place of the key.
 module _ (c : BucketConfig) (id : Identity) (cost : ℕ) (s : Shard) where

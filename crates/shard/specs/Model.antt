@@ -23,7 +23,7 @@ use Rattle.settings.specs.Eviction.{ttlSweep, ledgerScan}
 use Rattle.settings.specs.Rate.{timeToFull}
 use Rattle.settings.specs.Settings.{idleLimitOf}
 use Rattle.slot.specs.declared.Slot.{Slot}
-use Rattle.slot.specs.Slot.{touched, withBucket, newSlot}
+use Rattle.slot.specs.Slot.{touched, withBucket, withAsked, newSlot, readTurnedAway}
 use Rattle.ledger.specs.Model as Ledger
 use Rattle.shard_map.specs.Model.{Shard, capOf, slotAt, withSlot, withLedger, inLedger, placeOf, removeAt, insert, sweepIdle}
 use Rattle.evict.specs.declared.Room.{Room}
@@ -37,14 +37,14 @@ abbrev pub tracks : OptionNanos → Bool
 tracks nanos.None = false
 tracks (nanos.Some ttl) = true
 
--- A known key's slot is touched, and its bucket is asked. It is never refused for space.
+-- A known key's slot is touched, and its bucket is asked. It is never refused for space. A try that its bucket denies counts as turned away.
 abbrev pub askedAt : Policy → Slot → Request → ℕ → Nanos → BucketOutcome
 askedAt p slot request cost at = Bucket.asked (p .config) request (slot .bucket) cost at
 
 unfoldable pub withExisting : Policy → Request → ℕ → Nanos → Shard → ℕ → Outcome BucketDecision Shard
 withExisting p request cost at s i =
     let slot = touched (slotAt s i) at (tracks (p .«idle_ttl»)) in
-    outcome (askedAt p slot request cost at .decision) (withSlot s i (withBucket slot (askedAt p slot request cost at .bucket)))
+    outcome (askedAt p slot request cost at .decision) (withSlot s i (withAsked slot (askedAt p slot request cost at)))
 
 -- The idle limit, by the idle time and the time in which a bucket is full.
 abbrev pub idleLimitIn : Policy → OptionMillis
@@ -72,11 +72,13 @@ abbrev pub returning : BucketConfig → Nanos → OptionNanos → BucketCore
 returning c at nanos.None = Bucket.fresh c at
 returning c at (nanos.Some settles) = restored c (Bucket.fresh c at) at settles
 
--- Room was made: the bucket is asked, and its slot comes last, unmarked, seen now, whatever the bucket answered.
+-- Room was made: the bucket is asked, and its slot comes last, unmarked, seen now, whatever the bucket answered. If it denied a try, that is the first try
+-- turned away.
 abbrev pub joined : Policy → Identity → Request → ℕ → Nanos → OptionNanos → Shard → Outcome BucketDecision Shard
 joined p id request cost at owed s =
-    let asked = Bucket.asked (p .config) request (returning (p .config) at owed) cost at in
-    outcome (asked .decision) (insert s (newSlot (id .hash) (id .key) (asked .bucket) (millisOf at)))
+    let bucket = returning (p .config) at owed in
+    let asked = Bucket.asked (p .config) request bucket cost at in
+    outcome (asked .decision) (insert s (withAsked (newSlot (id .hash) (id .key) bucket (millisOf at)) asked))
 
 -- A debt that was taken out goes back into the ledger.
 abbrev pub putBack : ℕ → Nanos → OptionNanos → Shard → Shard
@@ -84,7 +86,7 @@ putBack hash at nanos.None s = s
 putBack hash at (nanos.Some settles) s = withLedger s (Ledger.recorded (s .ledger) (record { hash = hash; settles = settles }) at false .after)
 
 -- No room: the key is denied for want of space, and told when room is due. Its debt, if it had one, goes back. What was swept, cleared or moved stays so. A key
--- that had a debt is never turned away (`admit` says why), so the code puts nothing back.
+-- that had a debt is never refused for space (`admit` says why), so the code puts nothing back.
 abbrev pub admitted : Policy → Identity → Request → ℕ → Nanos → OptionNanos → Shard → Room → Outcome BucketDecision Shard
 admitted p id request cost at owed s Made = joined p id request cost at owed s
 admitted p id request cost at owed s (Refused due) = outcome (Denied due) (putBack (id .hash) at owed s)
@@ -115,6 +117,14 @@ viewed c id at s = viewedFrom c id at s (placeOf s (id .hash) (id .key))
 -- What a key's own bucket decides on a request.
 abbrev pub ownDecision : BucketConfig → Identity → Request → ℕ → Nanos → Shard → BucketDecision
 ownDecision c id request cost at s = Bucket.asked c request (viewed c id at s) cost at .decision
+
+-- How many tries of a key its bucket has turned away, from the call that appended its slot on. A key without a slot has none.
+abbrev pub turnedAwayAt : Shard → Place → ℕ
+turnedAwayAt s (At i) = readTurnedAway (slotAt s i)
+turnedAwayAt s Nowhere = 0
+
+unfoldable pub turnedAway : Identity → Shard → ℕ
+turnedAway id s = turnedAwayAt s (placeOf s (id .hash) (id .key))
 
 -- Whether there is a debt, and a slot.
 abbrev pub hasDebt : OptionNanos → Bool

@@ -65,8 +65,7 @@ pub fn with_existing(
     let config = policy.config;
     let asked = bucket.ask_at(config, request, cost, at);
     let decision = asked.decision;
-    let after = asked.bucket;
-    shard_map::set(ws, cap, pos, with_bucket(slot, after));
+    shard_map::set(ws, cap, pos, slot.asked(asked));
     decision
 }
 
@@ -81,11 +80,12 @@ fn with_bucket(slot: Slot, bucket: BucketCore) -> Slot
         bucket,
         mark: slot.mark,
         seen,
+        turned_away: slot.turned_away,
     }
 }
 
 // A request of a new key. The key's own debt is taken out first: its place in the ledger is then free for the debt of a slot that has to go. So a key that
-// left a debt is never turned away for space, and no debt has to be put back. A key that is turned away is denied until room is due.
+// left a debt is never refused for space, and no debt has to be put back. A key that is refused for space is denied until room is due.
 pub fn admit(
     ws: &mut [u64],
     cap: usize,
@@ -120,11 +120,11 @@ fn join(
     ensures { λ r. ⌜ outcome r (shard cap (now (ws .exit))) ≡ Model.joined policy id request cost at owed (shard cap (now (ws .entry))) ⌝ }
 {
     let config = policy.config;
-    let bucket = returning(config, at, owed);
-    let asked = bucket.ask_at(config, request, cost, at);
+    let returned = returning(config, at, owed);
+    let asked = returned.ask_at(config, request, cost, at);
     let decision = asked.decision;
-    let after = asked.bucket;
-    shard_map::insert(ws, cap, Slot::new(id.hash, id.key, after, at.millis()));
+    let slot = Slot::new(id.hash, id.key, returned, at.millis());
+    shard_map::insert(ws, cap, slot.asked(asked));
     decision
 }
 
@@ -214,6 +214,20 @@ pub fn returning_bucket(
     ensures { λ r. ⌜ r ≡ Model.returning config at (Ledger.owedBy (shard cap (now (ws .entry)) .ledger) hash) ⌝ }
 {
     returning(config, at, debts::owed_by(ws, cap, hash))
+}
+
+// How many tries of a key its bucket has turned away. A key without a slot has none.
+pub fn turned_away(ws: &[u64], cap: usize, id: Identity) -> u64
+    requires { ⌜ Intact cap (now ws) ⌝ }
+    ensures { λ r. ⌜ r ≡ Model.turnedAway id (shard cap (now (ws .entry))) ⌝ }
+{
+    match shard_map::position(ws, cap, id.hash, id.key) {
+        Place::At(pos) => {
+            let slot = shard_map::get(ws, cap, pos);
+            slot.times_turned_away()
+        }
+        Place::Nowhere => 0,
+    }
 }
 
 // Gives tokens back to a key: to its slot, or off the debt that it left. Tells whether it had either.

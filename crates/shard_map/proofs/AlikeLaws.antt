@@ -7,10 +7,11 @@ use Rattle.units.specs.declared.Nanos.{Nanos}
 use Rattle.units.specs.declared.Millis.{Millis}
 use Rattle.bucket.specs.declared.BucketConfig.{BucketConfig}
 use Rattle.bucket.specs.declared.BucketCore.{BucketCore}
+use Rattle.bucket.specs.declared.BucketOutcome.{BucketOutcome}
 use Rattle.held.specs.Held.{Held}
 use Rattle.held.proofs.AlikeLaws.{KeptByWays, sweep-alike}
 use Rattle.slot.specs.declared.Slot.{Slot}
-use Rattle.slot.specs.Slot.{withMark, withBucket, touched}
+use Rattle.slot.specs.Slot.{withMark, withBucket, withAsked, touched}
 use Rattle.ledger.specs.Model.{Ledger}
 use Rattle.ledger.proofs.AlikeLaws.{KeptByLedgers}
 use Rattle.shard_map.specs.Model.{Shard, slotItems, slotAt, withSlot, withHand, withLedger, handOf, removeAt, insert, reclaimable, sweepIdle}
@@ -31,6 +32,7 @@ pub record View : Type 1 where
   pub itself : (x : Slot) → Same x x
   pub marks : {x y : Slot} → Same x y → (mark : ℕ) → Same (withMark x mark) (withMark y mark)
   pub refills : {x y : Slot} {b d : BucketCore} → Same x y → b ≡ d → Same (withBucket x b) (withBucket y d)
+  pub asks : {x y : Slot} {o r : BucketOutcome} → Same x y → o ≡ r → Same (withAsked x o) (withAsked y r)
   pub touches : {x y : Slot} → Same x y → (at : Nanos) (track : Bool) → Same (touched x at track) (touched y at track)
   pub Slots : Held Slot → Held Slot → Type 0
   pub ways : KeptByWays slotItems Same Slots

@@ -35,7 +35,7 @@ unfolding shard
 cap-is cap ws = table-length slotOf slotWidth cap slotsAt ws
 
 -- Reads: the first word is the count; the second and the third are the hand and the sweep, as they are read, where they are below the count, and 0
--- stands for them where they are not; six words from the fourth on are a slot.
+-- stands for them where they are not; seven words from the fourth on are a slot.
 module _ (cap : ℕ) (ws : List ℕ) where
   pub count-read : getD ws countAt 0 ≡ shard cap ws .slots .count
   unfolding shard
@@ -63,7 +63,7 @@ module _ (cap : ℕ) (ws : List ℕ) where
 
   pub slot-read : (i : ℕ) → i < cap
       → slotOf (getD ws (slotStart i) 0 ∷ getD ws (slotStart i + 1) 0 ∷ getD ws (slotStart i + 2) 0 ∷ getD ws (slotStart i + 3) 0 ∷ getD ws (slotStart i + 4) 0
-      ∷ getD ws (slotStart i + 5) 0 ∷ [])
+      ∷ getD ws (slotStart i + 5) 0 ∷ getD ws (slotStart i + 6) 0 ∷ [])
       ≡ slotAt (shard cap ws) i
   unfolding shard
   slot-read i below =
@@ -74,6 +74,7 @@ module _ (cap : ℕ) (ws : List ℕ) where
         bucket = record { shortfall = slot-word i 2 (lit< tt) j; stamp = record { 0 = slot-word i 3 (lit< tt) j } };
         mark = slot-word i 4 (lit< tt) j;
         seen = record { 0 = slot-word i 5 (lit< tt) j };
+        «turned_away» = slot-word i 6 (lit< tt) j;
       }))
 
 -- Stores: each changes one field of the shard, and nothing else.
@@ -99,8 +100,8 @@ module _ (cap : ℕ) (ws : List ℕ) (size : length ws ≡ shardWords cap) where
   run-put i slot below = ap (shardOf cap) (table-put slotOf slotWidth cap slotsAt ws slots-room i (slotWords slot) below refl)
 
   pub slot-put : (i : ℕ) (slot : Slot) → i < cap
-      → shard cap (set (set (set (set (set (set ws (slotStart i) (slot .hash)) (slotStart i + 1) (slot .key)) (slotStart i + 2) (slot .bucket .shortfall))
-      (slotStart i + 3) (slot .bucket .stamp .0)) (slotStart i + 4) (slot .mark)) (slotStart i + 5) (slot .seen .0))
+      → shard cap (set (set (set (set (set (set (set ws (slotStart i) (slot .hash)) (slotStart i + 1) (slot .key)) (slotStart i + 2) (slot .bucket .shortfall))
+      (slotStart i + 3) (slot .bucket .stamp .0)) (slotStart i + 4) (slot .mark)) (slotStart i + 5) (slot .seen .0)) (slotStart i + 6) (slot .«turned_away»))
       ≡ withSlot (shard cap ws) i slot
   slot-put i slot below =
       let second : slotStart i + 1 ≡ suc (slotStart i) = omega arith in
@@ -108,7 +109,8 @@ module _ (cap : ℕ) (ws : List ℕ) (size : length ws ≡ shardWords cap) where
       let fourth : slotStart i + 3 ≡ suc (suc (suc (slotStart i))) = omega arith in
       let fifth : slotStart i + 4 ≡ suc (suc (suc (suc (slotStart i)))) = omega arith in
       let sixth : slotStart i + 5 ≡ suc (suc (suc (suc (suc (slotStart i))))) = omega arith in
-      rw (second, third, fourth, fifth, sixth) (run-put i slot below)
+      let seventh : slotStart i + 6 ≡ suc (suc (suc (suc (suc (suc (slotStart i)))))) = omega arith in
+      rw (second, third, fourth, fifth, sixth, seventh) (run-put i slot below)
 
   -- The mark of a slot alone.
   pub mark-put : (i mark : ℕ) → i < cap → shard cap (set ws (slotStart i + markIn) mark) ≡ withSlot (shard cap ws) i (withMark (slotAt (shard cap ws) i) mark)

@@ -5,5 +5,6 @@ pub mod KeptLaws
 pub mod RoomLaws
 pub mod AlikeLaws
 pub mod PlaceOrderLaws
+pub mod TurnAwayLaws
 pub mod ReadBack
 pub mod Worked

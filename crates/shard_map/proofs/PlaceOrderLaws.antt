@@ -22,6 +22,7 @@ placeOrder = record {
   itself = λ x. refl;
   marks = λ same mark. rw same;
   refills = λ same bucket. rw (same, bucket);
+  asks = λ same outcome. rw (same, outcome);
   touches = λ same at track. rw same;
   Slots = λ h g. g ≡ Held.inPlaceOrder h;
   ways = found-otherwise-alike slotItems (λ x. inOrder) (λ x key i. refl) (λ x hash n p. refl);

@@ -34,7 +34,7 @@ ms n = record { 0 = n }
 -- A slot by its number, its shortfall, its mark and the millisecond of its last-seen.
 abbrev pub slot : ℕ → ℕ → ℕ → ℕ → Slot
 slot number shortfall mark seen =
-    record { hash = number; key = number; bucket = record { shortfall = shortfall; stamp = moment 0 }; mark = mark; seen = ms seen }
+    record { hash = number; key = number; bucket = record { shortfall = shortfall; stamp = moment 0 }; mark = mark; seen = ms seen; «turned_away» = 0 }
 
 -- A ledger by its count, its cursor and what stands in all its places, and a shard by its count, its hand, its sweep, its places and its ledger.
 abbrev pub ledger : ℕ → ℕ → List Debt → Ledger.Ledger
@@ -50,10 +50,10 @@ noDebts = ledger 0 0 (Ledger.noDebt ∷ [])
 -- the slots' index, and the two of the debts'. The slot of hash 5 and key 7 stands in the second place, its hash's home. Lookup finds it by that, for its own
 -- key.
 abbrev inWords : List ℕ
-inWords = 1 ∷ 0 ∷ 0 ∷ 5 ∷ 7 ∷ 0 ∷ 0 ∷ 0 ∷ 0 ∷ 0 ∷ 0 ∷ 0 ∷ 0 ∷ 0 ∷ 1 ∷ 0 ∷ 0 ∷ []
+inWords = 1 ∷ 0 ∷ 0 ∷ 5 ∷ 7 ∷ 0 ∷ 0 ∷ 0 ∷ 0 ∷ 9 ∷ 0 ∷ 0 ∷ 0 ∷ 0 ∷ 0 ∷ 1 ∷ 0 ∷ 0 ∷ []
 
 abbrev fiveSeven : Slot
-fiveSeven = record { hash = 5; key = 7; bucket = record { shortfall = 0; stamp = moment 0 }; mark = 0; seen = ms 0 }
+fiveSeven = record { hash = 5; key = 7; bucket = record { shortfall = 0; stamp = moment 0 }; mark = 0; seen = ms 0; «turned_away» = 9 }
 
 abbrev emptyLedger : Ledger.Ledger
 emptyLedger = record { debts = record { count = 0; places = Ledger.noDebt ∷ []; finding = byIndex (0 ∷ 0 ∷ []) }; cursor = 0; others = [] }

@@ -28,7 +28,7 @@ abbrev pub slotsAt : ℕ
 slotsAt = 3
 
 abbrev pub slotWidth : ℕ
-slotWidth = 6
+slotWidth = 7
 
 -- The first word of the slot at a place.
 abbrev pub slotStart : ℕ → ℕ
@@ -49,10 +49,11 @@ slotOf row = record {
   bucket = record { shortfall = getD row 2 0; stamp = record { 0 = getD row 3 0 } };
   mark = getD row markIn 0;
   seen = record { 0 = getD row 5 0 };
+  «turned_away» = getD row 6 0;
 }
 
 abbrev pub slotWords : Slot → List ℕ
-slotWords s = s .hash ∷ s .key ∷ s .bucket .shortfall ∷ s .bucket .stamp .0 ∷ s .mark ∷ s .seen .0 ∷ []
+slotWords s = s .hash ∷ s .key ∷ s .bucket .shortfall ∷ s .bucket .stamp .0 ∷ s .mark ∷ s .seen .0 ∷ s .«turned_away» ∷ []
 
 -- The word at which the ledger begins, and the words of a shard with room for cap slots and cap debts.
 abbrev pub ledgerStart : ℕ → ℕ

@@ -14,6 +14,7 @@ use Rattle.held.specs.Round as Round
 use Rattle.rows.specs.Outcome.{Outcome, outcome}
 use Rattle.slot.specs.declared.Slot.{Slot}
 use Rattle.slot.specs.Slot.{isKey, expired, lossless}
+use Rattle.slot.specs.Slot as Slot
 use Rattle.ledger.specs.Model as Ledger
 
 pub record Shard : Type 0 where
@@ -24,7 +25,7 @@ pub record Shard : Type 0 where
 
 -- What stands in a place that holds no slot.
 abbrev pub noSlot : Slot
-noSlot = record { hash = 0; key = 0; bucket = record { shortfall = 0; stamp = record { 0 = 0 } }; mark = 0; seen = record { 0 = 0 } }
+noSlot = record { hash = 0; key = 0; bucket = record { shortfall = 0; stamp = record { 0 = 0 } }; mark = 0; seen = record { 0 = 0 }; «turned_away» = 0 }
 
 -- The slots as items: they are found by their hashes.
 abbrev pub slotItems : Items Slot
@@ -72,6 +73,10 @@ withLedger s l = record { slots = s .slots; hand = s .hand; sweep = s .sweep; le
 -- The same shard, with its slots and its debts found in the order of their places.
 abbrev pub inPlaceOrder : Shard → Shard
 inPlaceOrder s = record { slots = Held.inPlaceOrder (s .slots); hand = s .hand; sweep = s .sweep; ledger = Ledger.inPlaceOrder (s .ledger) }
+
+-- The same shard with all counts of tries turned away 0, in unused places too.
+abbrev pub uncounted : Shard → Shard
+uncounted s = record { slots = Held.mapped Slot.uncounted (s .slots); hand = s .hand; sweep = s .sweep; ledger = s .ledger }
 
 -- What an operation of the ledger gives, in its shard.
 abbrev pub inLedger : {A : Type 0} → Shard → Outcome A Ledger.Ledger → Outcome A Shard

@@ -106,6 +106,7 @@ fn free_slot() -> Slot
         bucket,
         mark: 0,
         seen: Millis(0),
+        turned_away: 0,
     }
 }
 

@@ -22,7 +22,7 @@ const SWEEP: usize = 2;
 
 const SLOTS: usize = 3;
 
-const SLOT_WIDTH: usize = 6;
+const SLOT_WIDTH: usize = 7;
 
 // Where a slot's words lie, counted from its first, which is its hash.
 const KEY: usize = 1;
@@ -34,6 +34,8 @@ const STAMP: usize = 3;
 const MARK: usize = 4;
 
 const SEEN: usize = 5;
+
+const TURNED_AWAY: usize = 6;
 
 // The words of a shard that its places do not add to, and those that each place adds, with the ledger's.
 pub const HEAD_WORDS: usize = SLOTS + ledger::words::DEBTS;
@@ -115,6 +117,7 @@ pub(crate) fn load(ws: &[u64], cap: usize, i: usize) -> Slot
         bucket,
         mark: ws[first + MARK],
         seen: Millis(ws[first + SEEN]),
+        turned_away: ws[first + TURNED_AWAY],
     }
 }
 
@@ -157,6 +160,7 @@ pub(crate) fn put(ws: &mut [u64], cap: usize, i: usize, slot: Slot)
     ws[first + STAMP] = stamp.0;
     ws[first + MARK] = slot.mark;
     ws[first + SEEN] = seen.0;
+    ws[first + TURNED_AWAY] = slot.turned_away;
 }
 
 // The slot at a place loses its mark, and keeps the rest.

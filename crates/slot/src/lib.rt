@@ -4,21 +4,26 @@ ghost use Rattle.bucket.specs.Bucket.{Accepted};
 ghost use Rattle.slot.specs.Slot as Model;
 use bucket::BucketConfig;
 use bucket::BucketCore;
+use bucket::BucketOutcome;
 use units::Millis;
 use units::Nanos;
 
-// The identity (hash and key), the bucket, the mark that an access sets and the CLOCK hand clears, and last-seen: the idle stamp
-// of the first access, raised by later ones where an idle time is set.
+// The largest count of tries turned away. A larger word, which only damaged memory holds, reads as this.
+const MOST_TURNED_AWAY: u64 = 0xFFFF_FFFF;
+
+// The identity (hash and key), the bucket, the mark that an access sets and the CLOCK hand clears, last-seen (the idle stamp
+// of the first access, raised by later ones where an idle time is set), and how many tries the bucket has turned away.
 pub struct Slot {
     pub hash: u64,
     pub key: u64,
     pub bucket: BucketCore,
     pub mark: u64,
     pub seen: Millis,
+    pub turned_away: u64,
 }
 
 impl Slot {
-    // A new key starts unmarked, so that a key seen once is the first to go.
+    // A new key starts unmarked, so that a key seen once is the first to go, and no try on it has been turned away.
     pub fn new(hash: u64, key: u64, bucket: BucketCore, now_ms: Millis) -> Slot
         ensures { λ r. ⌜ r ≡ Model.newSlot hash key bucket «now_ms» ⌝ }
     {
@@ -28,6 +33,7 @@ impl Slot {
             bucket,
             mark: 0,
             seen: now_ms,
+            turned_away: 0,
         }
     }
 
@@ -43,7 +49,42 @@ impl Slot {
             bucket,
             mark: 1,
             seen,
+            turned_away: self.turned_away,
         }
+    }
+
+    // The slot after its bucket was asked: the bucket as it is then, and one more try turned away if it was.
+    pub fn asked(self, outcome: BucketOutcome) -> Slot
+        ensures { λ r. ⌜ r ≡ Model.withAsked self outcome ⌝ }
+    {
+        let bucket = outcome.bucket;
+        let seen = self.seen;
+        Slot {
+            hash: self.hash,
+            key: self.key,
+            bucket,
+            mark: self.mark,
+            seen,
+            turned_away: self.count_after(outcome.turns_away),
+        }
+    }
+
+    // The count after an answer. A count at its largest stays there; a larger word is brought down to it by the next try that is turned away.
+    fn count_after(self, turns_away: bool) -> u64
+        ensures { λ r. ⌜ r ≡ Model.countAfter «turns_away» (self .«turned_away») ⌝ }
+    {
+        let count = self.turned_away;
+        if turns_away {
+            return arith::smaller(count, MOST_TURNED_AWAY - 1) + 1;
+        }
+        count
+    }
+
+    // How many tries the bucket has turned away, as it is read.
+    pub fn times_turned_away(self) -> u64
+        ensures { λ r. ⌜ r ≡ Model.readTurnedAway self ⌝ }
+    {
+        arith::smaller(self.turned_away, MOST_TURNED_AWAY)
     }
 
     // Last-seen after an access: raised to the idle stamp of the moment where idle times are tracked. Only then is the stamp worked out.

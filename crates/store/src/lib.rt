@@ -111,6 +111,16 @@ pub fn view(ws: &[u64], part: Part, config: BucketConfig, id: Identity, at: Nano
     shard::view(&ws[start..end], part.cap, config, id, at)
 }
 
+// How many tries of a key its bucket has turned away.
+pub fn turned_away(ws: &[u64], part: Part, id: Identity) -> u64
+    requires { ⌜ Placed part (now ws) × Sound (shardIn part (now ws)) ⌝ }
+    ensures { λ r. ⌜ r ≡ OneShard.turnedAway id (shardIn part (now (ws .entry))) ⌝ }
+{
+    let start = part.start;
+    let end = part.end;
+    shard::turned_away(&ws[start..end], part.cap, id)
+}
+
 // The bucket of the slot at a place.
 pub fn bucket_at(ws: &[u64], part: Part, pos: usize) -> BucketCore
     requires { ⌜ Placed part (now ws) × Sound (shardIn part (now ws)) × (pos < part .cap) ⌝ }

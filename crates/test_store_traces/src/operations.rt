@@ -22,6 +22,8 @@ const REMOVE: u64 = 7;
 
 const CLEAR: u64 = 8;
 
+const TURNED_AWAY: u64 = 10;
+
 // 9, and any other number, is a look at the length.
 
 // Runs a call that changes words; the others are passed on.
@@ -54,6 +56,9 @@ fn look(operation: u64, ws: &[u64], s: LimiterSettings, c: Call) -> Told {
     }
     if operation == AVAILABLE {
         return limiter::limiter_available(s, ws, c.at, c.hash, c.key);
+    }
+    if operation == TURNED_AWAY {
+        return limiter::limiter_turned_away(s, ws, c.hash, c.key);
     }
     limiter::limiter_length(s, ws)
 }

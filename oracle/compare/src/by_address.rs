@@ -26,7 +26,11 @@ impl ByAddress {
             | Call::Peek { .. }
             | Call::Refund { .. }
             | Call::Remove { .. } => true,
-            Call::SetUp | Call::Available { .. } | Call::Clear | Call::Length => false,
+            Call::SetUp
+            | Call::Available { .. }
+            | Call::Clear
+            | Call::Length
+            | Call::TurnedAway { .. } => false,
         };
         offered.then_some(Self { bytes, call })
     }

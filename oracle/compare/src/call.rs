@@ -37,10 +37,13 @@ pub enum Call {
     },
     Clear,
     Length,
+    TurnedAway {
+        key: Key,
+    },
 }
 
 /// The names of the calls, in the order of [`Call::index`].
-pub const NAMES: [&str; 9] = [
+pub const NAMES: [&str; 10] = [
     "set-up",
     "try",
     "reserve",
@@ -50,6 +53,7 @@ pub const NAMES: [&str; 9] = [
     "remove",
     "clear",
     "length",
+    "turned-away",
 ];
 
 impl Call {
@@ -65,6 +69,7 @@ impl Call {
             Self::Remove { .. } => 6,
             Self::Clear => 7,
             Self::Length => 8,
+            Self::TurnedAway { .. } => 9,
         }
     }
 
@@ -77,7 +82,8 @@ impl Call {
             | Self::Peek { key, .. }
             | Self::Available { key, .. }
             | Self::Refund { key, .. }
-            | Self::Remove { key } => Some(key),
+            | Self::Remove { key }
+            | Self::TurnedAway { key } => Some(key),
         }
     }
 
@@ -98,6 +104,7 @@ impl Call {
             Self::Remove { key } => limiter.remove(key),
             Self::Clear => limiter.clear(),
             Self::Length => limiter.len(),
+            Self::TurnedAway { key } => limiter.turned_away(key),
         }
     }
 }
@@ -128,6 +135,7 @@ impl fmt::Display for Call {
             Self::Remove { key } => write!(f, "remove {} {}", key.hash, key.key),
             Self::Clear => write!(f, "clear"),
             Self::Length => write!(f, "length"),
+            Self::TurnedAway { key } => write!(f, "turned-away {} {}", key.hash, key.key),
         }
     }
 }

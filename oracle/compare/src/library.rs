@@ -100,6 +100,7 @@ pub fn ask(s: RawSettings, words: &mut [u64], call: &Call) -> Reply {
         Call::Remove { key } => slices::remove(s, words, key.hash, key.key),
         Call::Clear => slices::clear(s, words),
         Call::Length => slices::length(s, words),
+        Call::TurnedAway { key } => slices::turned_away(s, words, key.hash, key.key),
     })
 }
 

@@ -50,8 +50,8 @@ fn main() -> ExitCode {
     ExitCode::SUCCESS
 }
 
-/// Max keys and shards of all scenarios: 8,104 words of the desk's 8,192.
-const SIZES: (usize, usize) = (672, 8);
+/// Max keys and shards of all scenarios: 8,152 words of the desk's 8,192.
+const SIZES: (usize, usize) = (624, 8);
 
 /// Scenarios of bench/run, all of these sizes.
 fn scenarios(lines: usize) -> [Scenario; 3] {
@@ -63,7 +63,7 @@ fn scenarios(lines: usize) -> [Scenario; 3] {
     let names = [
         "hot key, granted",
         "hot key, denied",
-        "672 known keys, 8 shards",
+        "624 known keys, 8 shards",
     ];
     for (scenario, name) in all.iter_mut().zip(names) {
         (scenario.setup.max_keys, scenario.setup.shards) = SIZES;

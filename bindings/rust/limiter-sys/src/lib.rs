@@ -45,7 +45,7 @@ pub struct LimiterSettings {
 pub struct LimiterReply {
     /// One of the codes below.
     pub code: u64,
-    /// A wait in nanoseconds, tokens, or a count of keys, as the call says; else 0.
+    /// A wait in nanoseconds, tokens, or a count of tries or of keys, as the call says; else 0.
     pub number: u64,
     /// `now` and the wait: when granted tokens may be used, or when to try again; else 0.
     pub moment: u64,
@@ -125,7 +125,7 @@ pub const LIMITER_LONGEST_LINE: usize = 76;
 
 /// Every program that has this crate in it refers to the version by its name, so a library of another minor version does not link.
 #[used]
-static VERSION_NEEDED: extern "C" fn() -> u32 = limiter_version_0_5;
+static VERSION_NEEDED: extern "C" fn() -> u32 = limiter_version_0_6;
 
 // The three functions that are lent nothing are safe with any arguments. What the others ask of a caller: those with `words` and `len`, that these are
 // words that it may read, and write unless they are `const`, for the length of the call; those with `buffer` and `len`, that these are bytes that it may
@@ -134,7 +134,7 @@ static VERSION_NEEDED: extern "C" fn() -> u32 = limiter_version_0_5;
 unsafe extern "C" {
     pub safe fn limiter_words(settings: LimiterSettings) -> u64;
     pub safe fn limiter_key_hash(key: u64) -> u64;
-    pub safe fn limiter_version_0_5() -> u32;
+    pub safe fn limiter_version_0_6() -> u32;
 
     pub fn limiter_set_up(settings: LimiterSettings, words: *mut u64, len: usize) -> LimiterReply;
     pub fn limiter_try(
@@ -170,6 +170,13 @@ unsafe extern "C" {
         words: *const u64,
         len: usize,
         now: u64,
+        hash: u64,
+        key: u64,
+    ) -> LimiterReply;
+    pub fn limiter_turned_away(
+        settings: LimiterSettings,
+        words: *const u64,
+        len: usize,
         hash: u64,
         key: u64,
     ) -> LimiterReply;

@@ -26,6 +26,8 @@ on_slices! {
     peek = limiter_peek(&[u64], as_ptr, now: u64, hash: u64, key: u64, cost: u32);
     /// `limiter_available`: the tokens that the key has now.
     available = limiter_available(&[u64], as_ptr, now: u64, hash: u64, key: u64);
+    /// `limiter_turned_away`: how many tries of the key its own bucket has turned away.
+    turned_away = limiter_turned_away(&[u64], as_ptr, hash: u64, key: u64);
     /// `limiter_refund`: gives tokens back.
     refund = limiter_refund(&mut [u64], as_mut_ptr, hash: u64, key: u64, cost: u32);
     /// `limiter_remove`: forgets a key.

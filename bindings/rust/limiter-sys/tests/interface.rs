@@ -7,7 +7,7 @@ use limiter_sys::*;
 const HEADER: &str = include_str!("../../../c/limiter.h");
 
 /// The words of a store for one key.
-const ONE: usize = 17;
+const ONE: usize = 18;
 /// 2 tokens a second, one key, one shard.
 const SMALL: LimiterSettings = LimiterSettings {
     period: 1_000_000_000,
@@ -45,6 +45,7 @@ fn no_words_may_be_null() {
             limiter_reserve(SMALL, null_mut(), 0, 0, 7, 7, 1, 0),
             limiter_peek(SMALL, null(), 0, 0, 7, 7, 1),
             limiter_available(SMALL, null(), 0, 0, 7, 7),
+            limiter_turned_away(SMALL, null(), 0, 7, 7),
             limiter_refund(SMALL, null_mut(), 0, 7, 7, 1),
             limiter_remove(SMALL, null_mut(), 0, 7, 7),
             limiter_clear(SMALL, null_mut(), 0),
@@ -52,7 +53,7 @@ fn no_words_may_be_null() {
         ]
     };
     let refused = reply(LIMITER_BAD_MEMORY, 0, 0);
-    assert_eq!(replies, [refused; 9]);
+    assert_eq!(replies, [refused; 10]);
 }
 
 #[test]
@@ -63,6 +64,9 @@ fn a_reply_is_three_numbers() {
     assert_eq!(granted, reply(LIMITER_DONE, 0, now));
     let retry = slices::peek(SMALL, &words, now, 7, 7, 1);
     assert_eq!(retry, reply(LIMITER_RETRY, HALF, now + HALF));
+    assert_eq!(slices::try_acquire(SMALL, &mut words, now, 7, 7, 1), retry);
+    let times = slices::turned_away(SMALL, &words, 7, 7);
+    assert_eq!(times, reply(LIMITER_DONE, 1, 0));
     let reserved = slices::reserve(SMALL, &mut words, now, 7, 7, 1, HALF);
     assert_eq!(reserved, reply(LIMITER_DONE, HALF, now + HALF));
     assert_eq!(slices::length(SMALL, &words), reply(LIMITER_DONE, 1, 0));
@@ -77,12 +81,43 @@ fn the_index_decides_what_is_found() {
         ([9, 9], reply(LIMITER_DONE, 0, 0)),
     ] {
         let mut words = [0; ONE];
-        words[13..15].copy_from_slice(&places);
+        words[14..16].copy_from_slice(&places);
         let granted = slices::try_acquire(SMALL, &mut words, 0, 8, 8, 2);
         assert_eq!(granted, reply(LIMITER_DONE, 0, 0));
-        assert_eq!(words[13..15], places);
+        assert_eq!(words[14..16], places);
         assert_eq!(slices::length(SMALL, &words), reply(LIMITER_DONE, 1, 0));
         assert_eq!(slices::peek(SMALL, &words, 0, 8, 8, 1), then);
+    }
+}
+
+/// The word of a slot that has its count, of the only slot. The count stops at 2^32 - 1; a larger word, which is damaged, is read as that number, and the
+/// next try that is turned away stores it. A refund and a grant leave the word as it is.
+#[test]
+fn the_count_stops() {
+    const COUNT: usize = 9;
+    const MOST: u64 = 0xffff_ffff;
+    let mut words = [0; ONE];
+    let granted = slices::try_acquire(SMALL, &mut words, 0, 7, 7, 2);
+    assert_eq!(granted, reply(LIMITER_DONE, 0, 0));
+    for (word, read, then) in [
+        (0, 0, 1),
+        (MOST - 1, MOST - 1, MOST),
+        (MOST, MOST, MOST),
+        (MOST + 1, MOST, MOST),
+        (u64::MAX, MOST, MOST),
+    ] {
+        words[COUNT] = word;
+        let times = |words: &[u64]| slices::turned_away(SMALL, words, 7, 7);
+        assert_eq!(times(&words), reply(LIMITER_DONE, read, 0));
+        let known = slices::refund(SMALL, &mut words, 7, 7, 1);
+        assert_eq!(known, reply(LIMITER_DONE, 0, 0));
+        let granted = slices::try_acquire(SMALL, &mut words, 0, 7, 7, 1);
+        assert_eq!(granted, reply(LIMITER_DONE, 0, 0));
+        assert_eq!(words[COUNT], word);
+        let retry = slices::try_acquire(SMALL, &mut words, 0, 7, 7, 1);
+        assert_eq!(retry, reply(LIMITER_RETRY, HALF, HALF));
+        assert_eq!(words[COUNT], then);
+        assert_eq!(times(&words), reply(LIMITER_DONE, then, 0));
     }
 }
 
@@ -91,7 +126,7 @@ fn the_words_to_lend() {
     assert_eq!(limiter_words(SMALL), ONE as u64);
     assert_eq!(limiter_words(LimiterSettings::default()), ONE as u64);
     let keys = |max_keys| limiter_words(LimiterSettings { max_keys, ..SMALL });
-    assert_eq!([keys(4_096), keys(65_536)], [49_157, 786_452]);
+    assert_eq!([keys(4_096), keys(65_536)], [53_253, 851_988]);
     assert_eq!([keys(65_537), keys(u64::MAX)], [0, 0]);
     let shards = |shards| limiter_words(LimiterSettings { shards, ..SMALL });
     assert_eq!(
@@ -180,7 +215,7 @@ fn one_version() {
         .map(|number| number.parse().expect("a number"))
         .collect();
     let number = 65_536 * numbers[0] + 256 * numbers[1] + numbers[2];
-    assert_eq!(limiter_version_0_5(), number);
+    assert_eq!(limiter_version_0_6(), number);
     let lines = [
         format!("#define LIMITER_VERSION \"{version}\""),
         format!("#define LIMITER_VERSION_NUMBER {number:#08x}"),

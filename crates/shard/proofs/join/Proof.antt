@@ -15,6 +15,9 @@ millis-requires c κs = search needs
 new-requires : tie.Need-new-requires
 new-requires c κs = search needs
 
+asked-requires : tie.Need-asked-requires
+asked-requires c κs = search needs
+
 insert-requires : tie.Need-insert-requires
 insert-requires c κs = search needs
 
@@ -24,11 +27,12 @@ same-length c = search needs
 returns : tie.Need-returns
 returns c =
     let insert′ = c .before .before .insert in
-    let new′ = c .before .before .before .new in
-    let millis′ = c .before .before .before .before .millis in
+    let asked′ = c .before .before .before .asked in
+    let new′ = c .before .before .before .before .before .new in
+    let millis′ = c .before .before .before .before .before .before .millis in
     let ask-at′ = c .before .before .before .before .before .before .before .ask-at in
     let returning′ = c .before .before .before .before .before .before .before .before .returning in
-    rw (insert′ .ensures, new′ .ensures, millis′ .ensures, ask-at′ .ensures, returning′ .ensures)
+    rw (insert′ .ensures, asked′ .ensures, new′ .ensures, millis′ .ensures, ask-at′ .ensures, returning′ .ensures)
 
 pub join-spec : {M : Type 1} → statement M
 join-spec =
@@ -38,6 +42,7 @@ join-spec =
     ask-at-requires
     millis-requires
     new-requires
+    asked-requires
     insert-requires
     same-length
     returns)

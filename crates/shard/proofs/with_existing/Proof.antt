@@ -29,8 +29,8 @@ touch-value-requires c κs = search needs
 ask-at-requires : tie.Need-ask-at-requires
 ask-at-requires c κs = search needs
 
-with-bucket-requires : tie.Need-with-bucket-requires
-with-bucket-requires c κs = search needs
+asked-requires : tie.Need-asked-requires
+asked-requires c κs = search needs
 
 set-requires : tie.Need-set-requires
 set-requires c κs = search needs
@@ -42,9 +42,9 @@ returns : tie.Need-returns
 returns c =
     let s = c .before .before in
     let w = s .before in
-    let asked = w .before .before .before in
+    let asked = w .before .before in
     let touch = asked .before .before .before in
-    rw (s .set .ensures, w .with-bucket .ensures, asked .ask-at .ensures) (known-by-store _ _ _ _ _ _ (is-touched touch))
+    rw (s .set .ensures, w .asked .ensures, asked .ask-at .ensures) (known-by-store _ _ _ _ _ _ (is-touched touch))
 
 pub with-existing-spec : {M : Type 1} → statement M
 with-existing-spec =
@@ -54,7 +54,7 @@ with-existing-spec =
     tracks-idle-requires
     touch-value-requires
     ask-at-requires
-    with-bucket-requires
+    asked-requires
     set-requires
     same-length
     returns)

@@ -91,11 +91,11 @@ impl Hits {
     /// Prints how often each call was refused for each reason; the refusals that are missing.
     fn report_refusals(&self) -> Vec<String> {
         let mut missing = Vec::new();
-        print!("{:>10}", "refused");
+        print!("{:>11}", "refused");
         REASONS.iter().for_each(|reason| print!(" {reason:>9}"));
         println!();
         for (call, name) in NAMES.iter().enumerate() {
-            print!("{name:>10}");
+            print!("{name:>11}");
             for (reason, what) in REASONS.iter().enumerate() {
                 let count = self.refused[call][reason];
                 if reason_applies(call, reason) {

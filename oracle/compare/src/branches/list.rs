@@ -163,6 +163,25 @@ branches! {
         RemoveSlotLast = "the last slot goes",
         RemoveSlotSwap = "a slot goes, the last moves into the gap",
     }
+    "count of tries turned away" {
+        CountFirst = "the first of a slot",
+        CountAppended = "... by the call that appended the slot",
+        CountNext = "one more",
+        CountStops = "at its most: it stays",
+        CountCut = "a larger word: the most is stored",
+        CountGrant = "not 0, and left by a grant",
+        CountGrantLarger = "... a larger word",
+        CountReserve = "not 0, and left by a reservation that gets none",
+        CountGone = "not 0, and goes with its slot",
+        CountMoved = "not 0, and moves with its slot into a gap",
+    }
+    "turned away" {
+        TurnedAwayNone = "slot: 0",
+        TurnedAwaySome = "slot: not 0",
+        TurnedAwayLarger = "slot: a larger word reads as the most",
+        TurnedAwayDebt = "debt alone: 0",
+        TurnedAwayFresh = "no state: 0",
+    }
     "whole store" {
         SetUp = "set-up",
         ClearEmpty = "clear, all words 0 before",
@@ -181,6 +200,8 @@ branches! {
         ClosedRefund = "refund: unknown",
         ClosedRemove = "remove: known",
         ClosedRemoveUnknown = "remove: unknown",
+        ClosedTurnedAway = "turned away: slot",
+        ClosedTurnedAwayNone = "turned away: no slot",
         ClosedLength = "length",
         ClosedClear = "clear",
     }
@@ -191,10 +212,16 @@ const DEAD: [Branch; 1] = [Branch::SpacePutBack];
 
 /// Not to be had in stores grown from set-up under one settings record: grants leave no shortfall over the largest and no stamp after 2^62,
 /// a closed limiter gets no keys, and an index names every item once, on its walk, and nothing else, so that half of its places or more are empty.
-const ONLY_LOADED: [Branch; 11] = [
+/// No count is over the most, and no trace is long enough for one at its most.
+const ONLY_LOADED: [Branch; 16] = [
     Branch::BucketReadCut,
     Branch::BucketGrownHeld,
+    Branch::CountStops,
+    Branch::CountCut,
+    Branch::CountGrantLarger,
+    Branch::TurnedAwayLarger,
     Branch::ClosedRemove,
+    Branch::ClosedTurnedAway,
     Branch::LookedAllRound,
     Branch::LookedOver,
     Branch::AddNoPlace,

@@ -16,7 +16,7 @@ const fn refusable(call: usize) -> usize {
     match call {
         0 | 7 => 5,
         8 => 6,
-        5 | 6 => 7,
+        5 | 6 | 9 => 7,
         2 => 9,
         _ => 8,
     }

@@ -22,8 +22,8 @@ pub use trace::trace_head;
 use trio::Replies;
 pub use trio::Trio;
 
-/// More words than any shape has, and some to lend too many.
-const MOST_WORDS: usize = 800_000;
+/// More words than any shape has (65,536 keys in 64 shards have 852,288), and some to lend too many.
+const MOST_WORDS: usize = 900_000;
 
 /// A call with the settings as they are given to the library.
 #[derive(Clone, Copy)]

@@ -110,9 +110,8 @@ impl Trio {
         let ruled = &self.words[self.shape.shard(shard)];
         let its = self
             .limiter
-            .shard(shard as usize)
-            .expect("there is such a shard")
-            .words();
+            .shard_words(shard as usize)
+            .expect("there is such a shard");
         if its == ruled {
             return Ok(());
         }

@@ -151,7 +151,7 @@ impl Plan {
     /// Any call, each kind as often as the others.
     fn any_call(&mut self, random: &mut Random) -> Call {
         let (now, key, cost) = (self.now, self.key(random), self.cost(random));
-        match random.below(10) {
+        match random.below(11) {
             0 => Call::SetUp,
             1 | 2 => Call::Try { now, key, cost },
             3 | 4 => Call::Reserve {
@@ -167,6 +167,7 @@ impl Plan {
                 cost: self.refund(random),
             },
             8 => Call::Remove { key },
+            9 => Call::TurnedAway { key },
             _ => random.pick(&[Call::Clear, Call::Length]),
         }
     }

@@ -48,17 +48,18 @@ impl Plan {
     /// A look, a refund, a removal, or a call on the whole store.
     fn other(&mut self, random: &mut Random, now: u64, key: Key) -> Call {
         match random.below(1000) {
-            0..250 => Call::Peek {
+            0..220 => Call::Peek {
                 now,
                 key,
                 cost: self.cost(random),
             },
-            250..450 => Call::Available { now, key },
-            450..720 => Call::Refund {
+            220..400 => Call::Available { now, key },
+            400..520 => Call::TurnedAway { key },
+            520..740 => Call::Refund {
                 key,
                 cost: self.refund(random),
             },
-            720..930 => Call::Remove { key },
+            740..930 => Call::Remove { key },
             _ if self.large => Call::Length,
             930..985 => Call::Length,
             _ => {

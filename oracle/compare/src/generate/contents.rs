@@ -8,6 +8,9 @@ use oracle::layout::{self, debt, slot};
 use super::{MS, Plan, indexes};
 use crate::random::Random;
 
+/// The number at which a count of tries turned away stops.
+const MOST_TURNED_AWAY: u64 = (1 << 32) - 1;
+
 /// How a shard is filled.
 struct Fill {
     /// The most slots, and the most debts.
@@ -43,7 +46,7 @@ impl Fill {
 }
 
 impl Plan {
-    /// Contents that the Rust can hold, sound or not: any hand, sweep, cursor, shortfall, stamp and settling moment; sound indexes.
+    /// Contents that the Rust can hold, sound or not: any hand, sweep, cursor, shortfall, stamp, count and settling moment; sound indexes.
     pub fn contents(&self, random: &mut Random) -> Vec<u64> {
         let mut words = Vec::new();
         for shard in 0..self.shape.shards {
@@ -96,6 +99,7 @@ impl Plan {
             slot[slot::STAMP] = stamp;
             slot[slot::MARK] = random.chance(fill.marked).into();
             slot[slot::LAST_SEEN] = self.seen(random);
+            slot[slot::TURNED_AWAY] = turned_away(random);
             count += 1;
         }
         words[layout::SLOTS.count] = count;
@@ -197,4 +201,10 @@ impl Plan {
         let within = random.within(0, count);
         random.pick(&[within, within, within, count, count + 1, u64::MAX, anywhere])
     }
+}
+
+/// A count of tries turned away: none, some, about the most, or a larger word.
+fn turned_away(random: &mut Random) -> u64 {
+    let (some, most) = (random.within(2, 20), MOST_TURNED_AWAY);
+    random.pick(&[0, 0, 1, some, most - 1, most, most + 1, u64::MAX])
 }

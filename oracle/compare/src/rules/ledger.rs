@@ -49,6 +49,11 @@ impl Ledger<'_> {
         self.debts().position(hash, |debt| debt[debt::HASH] == hash)
     }
 
+    /// Whether any debt has this hash.
+    pub fn has_hash(&mut self, hash: u64) -> bool {
+        self.debts().any(|debt| debt[debt::HASH] == hash)
+    }
+
     /// When the debt of a hash settles, if there is one.
     pub fn settles_at(&mut self, hash: u64) -> Option<u64> {
         let place = self.position(hash)?;

@@ -3,9 +3,10 @@
 //! the Rust has no answer to. It shares nothing with the Rust but the numbered refusals, the layout of the words, and its names.
 //!
 //! Of 02 it has request 1, the moment: now + the wait of every grant and every retry (`Wait::moment`); request 3, the indexes by which slots and
-//! debts are found (`index`); request 4, calls by hardware address (`by_address`); and request 5, a clock set back (`Bucket::wait`).
+//! debts are found (`index`); request 4, calls by hardware address (`by_address`); request 5, a clock set back (`Bucket::wait`); and request 8, the count of
+//! tries that a slot's bucket turned away (`turned_away`).
 //!
-//! The layers, from below: `bucket` (numbers), `index` and `rows` (items in words), `entry` (a slot), `ledger` (the debts), `shard_map` and
+//! The layers, from below: `bucket` (numbers), `index` and `rows` (items in words), `turned_away` and `entry` (a slot), `ledger` (the debts), `shard_map` and
 //! `evict_one` (a shard), `restore_debt`, `store` (what a key holds), `perkey` (the calls). `settings` and `decision` are what goes in and
 //! what comes out.
 
@@ -22,6 +23,7 @@ mod rows;
 mod settings;
 mod shard_map;
 mod store;
+mod turned_away;
 mod whole;
 
 use oracle::Settings;
@@ -58,5 +60,6 @@ fn refusal(settings: &Settings, words: &[u64], call: &Call) -> Option<u8> {
         Call::Remove { key } => refusals::remove(settings, words, key.hash),
         Call::Clear => refusals::clear(settings, words),
         Call::Length => refusals::length(settings, words),
+        Call::TurnedAway { key } => refusals::turned_away(settings, words, key.hash),
     }
 }

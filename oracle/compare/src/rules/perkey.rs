@@ -7,11 +7,12 @@ use super::decision::{IMPOSSIBLE, NONE, acquired, counted, known, retry};
 use super::settings::Policy;
 use super::shard_map::ShardMap;
 use super::store::{Held, Outcome, Request, Store};
+use super::turned_away::turned_away;
 use crate::branches::{Branch, Hits};
 use crate::call::Call;
 use crate::reply::Reply;
 
-/// A call with a key. Remove asks nothing of the rate; all others ask whether there is one.
+/// A call with a key. Remove and the look at a count ask nothing of the rate; all others ask whether there is one.
 pub fn answer(
     settings: &Settings,
     words: &mut [u64],
@@ -25,8 +26,11 @@ pub fn answer(
         cap: shape.room(),
         hits,
     };
-    if let Call::Remove { key } = *call {
-        return remove(map, key, settings.rate.is_none());
+    let no_rate = settings.rate.is_none();
+    match *call {
+        Call::Remove { key } => return remove(map, key, no_rate),
+        Call::TurnedAway { key } => return turned_away(map, key, no_rate),
+        _ => {}
     }
     let Some(rate) = settings.rate else {
         return closed(call, hits);
@@ -40,7 +44,10 @@ pub fn answer(
             key,
             cost,
             max_wait,
-        } => store.reserve(now, key, Request { cost, max_wait }),
+        } => {
+            let max_wait = Some(max_wait);
+            store.reserve(now, key, Request { cost, max_wait })
+        }
         Call::Peek { now, key, cost } => store.peek(now, key, cost),
         Call::Available { now, key } => store.available(now, key),
         Call::Refund { key, cost } => known(store.refund(key, cost)),
@@ -91,7 +98,10 @@ impl Store<'_> {
             self.hit(Branch::TryZero);
             return acquired(Wait::none(now));
         }
-        let request = Request { cost, max_wait: 0 };
+        let request = Request {
+            cost,
+            max_wait: None,
+        };
         let (branch, answer) = match self.with_or_insert(now, key, request) {
             Outcome::Granted(wait) => (Branch::TryGranted, acquired(wait)),
             Outcome::Denied(wait) => (Branch::TryDenied, retry(wait)),
@@ -114,7 +124,7 @@ impl Store<'_> {
         let (branch, answer) = match self.with_or_insert(now, key, request) {
             Outcome::Granted(wait) if wait.nanos == 0 => (Branch::ReserveNow, acquired(wait)),
             Outcome::Granted(wait) => {
-                if wait.nanos == request.max_wait {
+                if Some(wait.nanos) == request.max_wait {
                     self.hit(Branch::ReserveLongest);
                 }
                 (Branch::ReserveLater, acquired(wait))

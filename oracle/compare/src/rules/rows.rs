@@ -2,7 +2,7 @@
 
 use core::ops::Range;
 
-use oracle::layout::Items;
+use oracle::layout::{self, Items, slot};
 
 use super::index::Index;
 use crate::branches::{Branch, Hits};
@@ -82,6 +82,7 @@ impl Rows<'_> {
     pub fn remove_at(&mut self, place: usize) -> Gap {
         self.parts().1.remove(place);
         let last = self.count() - 1;
+        self.tell_counts(place, last);
         self.words
             .copy_within(self.items.item(last), self.items.at(place));
         self.item(last).fill(0);
@@ -90,6 +91,19 @@ impl Rows<'_> {
             Gap::Last
         } else {
             Gap::Filled
+        }
+    }
+
+    /// Whether a slot's count of tries turned away goes, and whether one moves: it goes and moves with its slot.
+    fn tell_counts(&mut self, gone: usize, moved: usize) {
+        if self.items != layout::SLOTS {
+            return;
+        }
+        if self.item(gone)[slot::TURNED_AWAY] > 0 {
+            self.hits.hit(Branch::CountGone);
+        }
+        if gone != moved && self.item(moved)[slot::TURNED_AWAY] > 0 {
+            self.hits.hit(Branch::CountMoved);
         }
     }
 

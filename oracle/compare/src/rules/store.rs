@@ -14,11 +14,17 @@ pub struct Store<'a> {
     pub map: ShardMap<'a>,
 }
 
-/// A try or a reservation: so many tokens, with no longer wait than this; a try waits 0.
+/// A try or a reservation: so many tokens, and the longest wait of a reservation. A try has none, and waits 0.
 #[derive(Clone, Copy)]
 pub struct Request {
     pub cost: u32,
-    pub max_wait: u64,
+    pub max_wait: Option<u64>,
+}
+
+impl Request {
+    const fn is_try(self) -> bool {
+        self.max_wait.is_none()
+    }
 }
 
 /// What comes of a request.
@@ -63,7 +69,11 @@ impl Store<'_> {
         }
         let bucket = restore_debt(self.policy.config, now, owed, self.map.hits);
         let place = self.map.insert(key, bucket, now);
-        self.run(place, now, request)
+        let outcome = self.run(place, now, request);
+        if request.is_try() && matches!(outcome, Outcome::Denied(_)) {
+            self.hit(Branch::CountAppended);
+        }
+        outcome
     }
 
     /// Room for a new slot: the idle sweep if there is an idle time, the ledger's sweep, and an eviction if the shard is at its cap.
@@ -80,14 +90,20 @@ impl Store<'_> {
         self.map.evict_one(&self.policy, now)
     }
 
-    /// Asks the bucket of the slot at a place. Only a grant is stored.
+    /// Asks the bucket of the slot at a place. Only a grant is stored, and that a try was turned away.
     fn run(&mut self, place: usize, now: u64, request: Request) -> Outcome {
         let mut entry = self.map.entry(place);
         let bucket = entry.bucket(self.policy.config, now);
         let wait = bucket.wait(request.cost);
-        if wait.nanos > request.max_wait {
+        if wait.nanos > request.max_wait.unwrap_or(0) {
+            if request.is_try() {
+                entry.turn_away();
+            } else {
+                entry.leave_count(false);
+            }
             return Outcome::Denied(wait);
         }
+        entry.leave_count(true);
         entry.store(bucket.granted(request.cost));
         Outcome::Granted(wait)
     }

@@ -106,13 +106,12 @@ impl<'a> OneShard<'a> {
         map.ledger.index = HashTable::with_places(places);
     }
 
-    /// The contents as words, 0 past the counts.
+    /// The contents as words, 0 past the counts. The Rust has no count of tries turned away: that word is 0 here, and the limiter fills it in.
     ///
     /// # Panics
     ///
     /// When direct calls have put more into the shard than its cap, or a moment past 64 bits.
-    #[must_use]
-    pub fn words(&self) -> Vec<u64> {
+    pub(crate) fn words(&self) -> Vec<u64> {
         let (map, cap) = (self.read(), self.cap());
         let debts = &map.ledger.debts;
         assert!(
@@ -130,12 +129,13 @@ impl<'a> OneShard<'a> {
         words
     }
 
-    /// Replaces the contents by those that `words` stand for. A nonzero mark is set, whatever its value, and comes back as 1.
+    /// Replaces the contents by those that `words` stand for. A nonzero mark is set, whatever its value, and comes back as 1. The counts of tries turned
+    /// away are the limiter's to keep.
     ///
     /// # Errors
     ///
     /// When the Rust has no such contents; the shard then stays as it was.
-    pub fn load(&self, words: &[u64]) -> Result<(), LoadError> {
+    pub(crate) fn load(&self, words: &[u64]) -> Result<(), LoadError> {
         let cap = self.cap();
         if words.len() != layout::shard_words(cap) {
             return Err(LoadError::Length);
@@ -144,10 +144,7 @@ impl<'a> OneShard<'a> {
         map.hand = place(words[layout::HAND]);
         map.sweep = place(words[layout::SWEEP]);
         for row in held(words, layout::SLOTS, cap)? {
-            let key = Key {
-                hash: row[slot::HASH],
-                key: row[slot::KEY],
-            };
+            let key = Key::of(row);
             if map.position(key.hash, &key).is_some() {
                 return Err(LoadError::SameIdentity);
             }
@@ -380,12 +377,20 @@ impl OneShard<'_> {
     }
 }
 
-/// A slot's words, in the order of [`slot::NAMES`].
+/// A slot's words, in the order of [`slot::NAMES`]. The last is the count that the Rust lacks.
 fn slot_words(slot: &Slot<Key>) -> [u64; slot::WORDS] {
     let (shortfall, stamp) = slot.entry.bucket.words();
     let mark = u64::from(slot.entry.referenced.load(Ordering::Relaxed));
     let last_seen = slot.entry.last_seen_ms.load(Ordering::Relaxed);
-    [slot.hash, slot.key.key, shortfall, stamp, mark, last_seen]
+    [
+        slot.hash,
+        slot.key.key,
+        shortfall,
+        stamp,
+        mark,
+        last_seen,
+        0,
+    ]
 }
 
 /// A debt's words, in the order of [`debt::NAMES`].

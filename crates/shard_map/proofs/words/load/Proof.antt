@@ -1,4 +1,4 @@
--- `words::load` gives slot i whole: the six words of its row.
+-- `words::load` gives slot i whole: the seven words of its row.
 use Rattle.shard_map.proofs.LayoutLaws.{slot-read}
 use borrow.Author.Needs.{needs}
 use Rattle.shard_map.proofs.words.load.Statement.{statement}
@@ -61,8 +61,17 @@ mul-t21 c = search needs
 shared-slice-read-t23 : tie.Need-shared-slice-read-t23
 shared-slice-read-t23 c = search needs
 
+add-t25 : tie.Need-add-t25
+add-t25 c = search needs
+
+mul-t26 : tie.Need-mul-t26
+mul-t26 c = search needs
+
+shared-slice-read-t28 : tie.Need-shared-slice-read-t28
+shared-slice-read-t28 c = search needs
+
 returns : tie.Need-returns
-returns c = slot-read _ _ _ (c .before .before .before .before .before .before .pre .1)
+returns c = slot-read _ _ _ (c .before .before .before .before .before .before .before .pre .1)
 
 pub load-spec : {M : Type 1} → statement M
 load-spec =
@@ -87,4 +96,7 @@ load-spec =
     add-t20
     mul-t21
     shared-slice-read-t23
+    add-t25
+    mul-t26
+    shared-slice-read-t28
     returns)

@@ -1,4 +1,4 @@
--- `words::put` changes slot i alone: it stores the six words of its row.
+-- `words::put` changes slot i alone: it stores the seven words of its row.
 use native.Mathlib.Omega.{arith}
 use lib.ListN.{length-set}
 use Rattle.shard_map.proofs.LayoutLaws.{slot-put}
@@ -63,6 +63,15 @@ mul-ws-6 c = search needs
 slice-write-ws-6 : tie.Need-slice-write-ws-6
 slice-write-ws-6 c = simp length-set (omega arith)
 
+add-ws-6 : tie.Need-add-ws-6
+add-ws-6 c = search needs
+
+mul-ws-7 : tie.Need-mul-ws-7
+mul-ws-7 c = search needs
+
+slice-write-ws-7 : tie.Need-slice-write-ws-7
+slice-write-ws-7 c = simp length-set (omega arith)
+
 same-length : tie.Need-same-length
 same-length c = simp length-set
 
@@ -94,5 +103,8 @@ put-spec =
     add-ws-5
     mul-ws-6
     slice-write-ws-6
+    add-ws-6
+    mul-ws-7
+    slice-write-ws-7
     same-length
     returns)

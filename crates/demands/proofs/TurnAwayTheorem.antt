@@ -1,0 +1,168 @@
+-- The counts of tries turned away decide nothing: the claims of specs/TurnAways.antt, of the rules and of every limiter that meets demand 2.
+use Prim.Native.Nat.{ℕ, zero, suc, _*_, _≤_, _<_, _^_, max}
+use native.Mathlib.Omega.{arith}
+use mathlib.Core.Path.{_≡_, refl, sym, ap, _∙_}
+use mathlib.Core.Bool.{true, false, cond}
+use mathlib.Core.List.{List, [], _∷_}
+use lib.Dec.{eqb}
+use lib.ListN.{length}
+use Rattle.arith.proofs.Cases.{by-eq}
+use Rattle.rows.specs.Outcome.{Outcome, outcome}
+use Rattle.rows.proofs.SumLaws.{sum-same}
+use Rattle.settings.specs.declared.Settings.{Settings}
+use Rattle.settings.specs.Settings.{firstRefusal, settingsRefusal, shardCount, capOf, shardOf}
+use Rattle.shard_map.specs.Model.{Shard, uncounted}
+use Rattle.shard_map.proofs.TurnAwayLaws.{equal-but-for-turn-aways}
+use Rattle.shard.specs.declared.Identity.{Identity}
+use Rattle.store.specs.Memory.{memoryWords, shardAt, slotCount}
+use Rattle.store.specs.Refusals.{memoryRefusal, countRefusal, mostSlots, slotsRefusal, setUpRefusal}
+use Rattle.rules.specs.declared.Reply.{Reply}
+use Rattle.rules.specs.declared.Reply.the-variants.{Count}
+use Rattle.rules.specs.Asks.{Ask, requests, looks, undoes, furtherOf, inItsShard}
+use Rattle.rules.specs.Rules.{askRefusal, setUpIn, clear}
+use Rattle.rules.specs.Widths.{lendable}
+use Rattle.rules.specs.Calls.{Call, keyed, whole, len, Terms, rules, settingsOf, Every}
+use Rattle.rules.proofs.RefusedLaws.{unless-refused-accepts, unless-refused-refuses}
+use Rattle.rules.proofs.KeyedLaws.{ask-not-refused}
+use Rattle.rules.proofs.CallLaws.{refusalOf, ruleOf, not-refused-is-ruled, refused-is-told, keyed-not-refused}
+use Rattle.demands.specs.Demands.{Limiter, Demand2}
+use Rattle.demands.specs.PlaceOrder.{Turn, calls, clears, byRules, run, OfStore, AllOf}
+use Rattle.demands.specs.TurnAways.{readsTurnAways, callReadsTurnAways, turnReadsTurnAways, EqualButForTurnAways, DecidedAlike, ListDecidedAlike}
+use Rattle.demands.proofs.OneShardLaws.{WorksInOneShard, asks-work-in-one-shard, call-same-without-turn-aways}
+use Rattle.demands.proofs.GrownLaws.{every-shard-has-a-hash}
+use Rattle.demands.proofs.WidthLaws.{NamesFit}
+use Rattle.demands.proofs.PlaceOrderTheorem.{byLimiter, TurnFits, runs-alike}
+
+-- In one shard: the answer of a call that reads no such count, and what any call leaves.
+module _ (s : Settings) (id : Identity) (ask : Ask) (a b : Shard) (same : uncounted a ≡ uncounted b) where
+  answer-decided-alike : readsTurnAways ask ≡ false → inItsShard s id ask a .answer ≡ inItsShard s id ask b .answer
+  answer-decided-alike blind =
+      sym (call-same-without-turn-aways a s id ask blind .answer) ∙ ap (λ t. inItsShard s id ask t .answer) same
+      ∙ call-same-without-turn-aways b s id ask blind .answer
+
+  blind-leaves-alike : readsTurnAways ask ≡ false → uncounted (inItsShard s id ask a .after) ≡ uncounted (inItsShard s id ask b .after)
+  blind-leaves-alike blind =
+      sym (equal-but-for-turn-aways (call-same-without-turn-aways a s id ask blind .after)) ∙ ap (λ t. uncounted (inItsShard s id ask t .after)) same
+      ∙ equal-but-for-turn-aways (call-same-without-turn-aways b s id ask blind .after)
+
+leaves-alike : (s : Settings) (id : Identity) (ask : Ask) (a b : Shard) → uncounted a ≡ uncounted b
+    → uncounted (inItsShard s id ask a .after) ≡ uncounted (inItsShard s id ask b .after)
+leaves-alike s id (requests r at cost) a b same = blind-leaves-alike s id (requests r at cost) a b same refl
+leaves-alike s id (looks l) a b same = same
+leaves-alike s id (undoes u) a b same = blind-leaves-alike s id (undoes u) a b same refl
+
+-- Refusals look at no count of tries.
+module _ (s : Settings) (ws vs : List ℕ) (like : EqualButForTurnAways s ws vs) where
+  length-refused-alike : memoryRefusal (memoryWords s) ws ≡ memoryRefusal (memoryWords s) vs
+  unfolding memoryRefusal
+  length-refused-alike = ap (λ (n : ℕ). cond (eqb n (memoryWords s)) 0 5) (like .size)
+
+  counts-refused-alike : (hash : ℕ) → countRefusal (capOf s) (shardAt s hash ws) ≡ countRefusal (capOf s) (shardAt s hash vs)
+  unfolding countRefusal
+  counts-refused-alike hash = ap (countRefusal (capOf s)) (like .shards hash)
+
+  set-up-refused-alike : setUpRefusal s ws ≡ setUpRefusal s vs
+  set-up-refused-alike = ap (firstRefusal (settingsRefusal s)) length-refused-alike
+
+  ask-refused-alike : (id : Identity) (ask : Ask) → askRefusal s id ask ws ≡ askRefusal s id ask vs
+  ask-refused-alike id ask = λ j. firstRefusal (firstRefusal (set-up-refused-alike j) (counts-refused-alike (id .hash) j)) (furtherOf ask)
+
+  slots-alike : (i : ℕ) → i < shardCount s → slotCount (capOf s) i ws ≡ slotCount (capOf s) i vs
+  slots-alike i below =
+      let is = every-shard-has-a-hash s i below in
+      ap (λ (n : ℕ). slotCount (capOf s) n ws) (sym is) ∙ ap (λ (t : Shard). t .slots .count) (like .shards (i * 2 ^ 40))
+      ∙ ap (λ (n : ℕ). slotCount (capOf s) n vs) is
+
+  most-slots-alike : (n : ℕ) → n ≤ shardCount s → mostSlots (capOf s) n ws ≡ mostSlots (capOf s) n vs
+  unfolding mostSlots
+  most-slots-alike zero within = refl
+  most-slots-alike (suc n) within = λ j. max (most-slots-alike n (omega arith) j) (slots-alike n (omega arith) j)
+
+  slots-refused-alike : slotsRefusal s ws ≡ slotsRefusal s vs
+  unfolding Rattle.store.specs.Refusals.slotsRefusalIn
+  slots-refused-alike = rw (most-slots-alike (shardCount s) (omega arith))
+
+-- What is asked of a key, and not refused.
+keyed-decided-alike : (s : Settings) (id : Identity) (ask : Ask) (ws vs : List ℕ) → EqualButForTurnAways s ws vs
+    → {o q : Outcome Reply (List ℕ)} → WorksInOneShard s (id .hash) ws o (inItsShard s id ask (shardAt s (id .hash) ws))
+    → WorksInOneShard s (id .hash) vs q (inItsShard s id ask (shardAt s (id .hash) vs)) → DecidedAlike s (readsTurnAways ask) o q
+keyed-decided-alike s id ask ws vs like first second =
+    let a = shardAt s (id .hash) ws in
+    let b = shardAt s (id .hash) vs in
+    let same = like .shards (id .hash) in
+    record {
+      answer = λ blind. first .answer ∙ answer-decided-alike s id ask a b same blind ∙ sym (second .answer);
+      after = record {
+        size = first .size ∙ sym (second .size);
+        shards = λ other.
+            by-eq (shardOf s other) (shardOf s (id .hash))
+            (λ own. rw (first .own other own, second .own other own) (leaves-alike s id ask a b same))
+            (λ apart. rw (first .others other apart, second .others other apart) (like .shards other));
+      };
+    }
+
+module _ {S N : Type 0} (terms : Terms S N) where
+  refused-alike : (c : Call S N) (ws vs : List ℕ) → EqualButForTurnAways (settingsOf terms c) ws vs → refusalOf terms c ws ≡ refusalOf terms c vs
+  refused-alike (keyed s n ask) ws vs like =
+      ap (firstRefusal (terms .refusal n)) (ask-refused-alike (terms .settings s) ws vs like (terms .identity n) ask)
+  refused-alike (whole s len) ws vs like =
+      let settings = terms .settings s in
+      λ j. firstRefusal (set-up-refused-alike settings ws vs like j) (slots-refused-alike settings ws vs like j)
+
+  ruled-alike : (c : Call S N) (ws vs : List ℕ) → EqualButForTurnAways (settingsOf terms c) ws vs → refusalOf terms c ws ≡ 0 → refusalOf terms c vs ≡ 0
+      → DecidedAlike (settingsOf terms c) (callReadsTurnAways c) (ruleOf terms c ws) (ruleOf terms c vs)
+  ruled-alike (keyed s n ask) ws vs like none also =
+      let settings = terms .settings s in
+      let id = terms .identity n in
+      let accepted = ask-not-refused settings id ask ws (keyed-not-refused terms s n ask ws none .1) .0 in
+      let accepted-too = ask-not-refused settings id ask vs (keyed-not-refused terms s n ask vs also .1) .0 in
+      keyed-decided-alike settings id ask ws vs like (asks-work-in-one-shard settings id ws accepted ask)
+      (asks-work-in-one-shard settings id vs accepted-too ask)
+  ruled-alike (whole s len) ws vs like none also =
+      let settings = terms .settings s in
+      record { answer = λ blind. ap Count (sum-same (shardCount settings) _ _ (slots-alike settings ws vs like)); after = like }
+
+  -- A call, refused or not.
+  pub turn-aways-decide-no-call : (c : Call S N) (ws vs : List ℕ) → EqualButForTurnAways (settingsOf terms c) ws vs
+      → DecidedAlike (settingsOf terms c) (callReadsTurnAways c) (rules terms c ws) (rules terms c vs)
+  turn-aways-decide-no-call c ws vs like =
+      let same = refused-alike c ws vs like in
+      by-eq (refusalOf terms c vs) 0
+      (λ none. rw (not-refused-is-ruled terms c ws (same ∙ none), not-refused-is-ruled terms c vs none) (ruled-alike c ws vs like (same ∙ none) none))
+      (λ some. rw (refused-is-told terms c ws (λ none. some (sym same ∙ none)), refused-is-told terms c vs some, same)
+      (record { answer = λ blind. refl; after = like }))
+
+  module _ (s : Settings) where
+    clear-alike : (ws vs : List ℕ) → EqualButForTurnAways s ws vs → DecidedAlike s false (clear s ws) (clear s vs)
+    unfolding setUpIn
+    clear-alike ws vs like =
+        let same = set-up-refused-alike s ws vs like in
+        by-eq (setUpRefusal s vs) 0
+        (λ none. rw (unless-refused-accepts _ ws _ (same ∙ none), unless-refused-accepts _ vs _ none)
+        (record { answer = λ blind. refl; after = record { size = refl; shards = λ hash. refl } }))
+        (λ some. rw (unless-refused-refuses _ ws _ (λ none. some (sym same ∙ none)), unless-refused-refuses _ vs _ some, same)
+        (record { answer = λ blind. refl; after = like }))
+
+    turn-decided-alike : (t : Turn S N) (ws vs : List ℕ) → OfStore terms s t → EqualButForTurnAways s ws vs
+        → DecidedAlike s (turnReadsTurnAways t) (byRules terms s t ws) (byRules terms s t vs)
+    turn-decided-alike (calls c) ws vs same like = rw same at (turn-aways-decide-no-call c ws vs (rw same like))
+    turn-decided-alike clears ws vs same like = clear-alike ws vs like
+
+    -- A list of calls, all with the settings of the store, and clears.
+    pub turn-aways-decide-no-list : (ts : List (Turn S N)) (ws vs : List ℕ) → AllOf terms s ts → EqualButForTurnAways s ws vs
+        → ListDecidedAlike s ts (run (byRules terms s) ts ws) (run (byRules terms s) ts vs)
+    unfolding run
+    turn-aways-decide-no-list [] ws vs all like = record { answers = tt; after = like }
+    turn-aways-decide-no-list (t ∷ ts) ws vs all like =
+        let first = turn-decided-alike t ws vs (all .0) like in
+        let rest = turn-aways-decide-no-list ts (byRules terms s t ws .after) (byRules terms s t vs .after) (all .1) (first .after) in
+        record { answers = (first .answer, rest .answers); after = rest .after }
+
+  -- So with every limiter that meets demand 2, whose calls can be made.
+  module _ (names : NamesFit terms) (l : Limiter S N) (meets : Demand2 terms l) (written : S) (fit : terms .settingsFit written ≡ true) where
+    pub limiter-decides-alike : (ts : List (Turn S N)) (ws vs : List ℕ) → Every (TurnFits terms) ts → AllOf terms (terms .settings written) ts
+        → lendable ws ≡ true → lendable vs ≡ true → EqualButForTurnAways (terms .settings written) ws vs
+        → ListDecidedAlike (terms .settings written) ts (run (byLimiter l written) ts ws) (run (byLimiter l written) ts vs)
+    limiter-decides-alike ts ws vs fits′ all lent lent-too like =
+        rw (runs-alike terms names l meets written fit ts ws fits′ lent, runs-alike terms names l meets written fit ts vs fits′ lent-too)
+        (turn-aways-decide-no-list (terms .settings written) ts ws vs all like)
