@@ -108,17 +108,17 @@ sound-indexes-are-exact {s} {ws} memory hash =
       debts = complete-index-is-exact debtItems (shardAt s hash ws .ledger .debts) _ (sized .debts-kind) (complete .ledger);
     }
 
--- Every shard is the shard of some hash: its number, from bit 40 on.
-pub every-shard-has-a-hash : (s : Settings) (i : ℕ) → i < shardCount s → shardOf s (i * 2 ^ 40) ≡ i
+-- Every shard is the shard of some hash: its number, from bit 40 on. So what holds of the shard of each hash holds of every shard, by its number.
+every-shard-has-a-hash : (s : Settings) (i : ℕ) → i < shardCount s → shardOf s (i * 2 ^ 40) ≡ i
 every-shard-has-a-hash s i below =
     let number : i * 2 ^ 40 / 2 ^ 40 ≡ i = mul-div-cancel i (omega arith) in
     shard-is-remainder s (i * 2 ^ 40) ∙ ap (λ (n : ℕ). n % shardCount s) number ∙ mod-eq-of-lt below
 
--- The same by the numbers of the shards.
+pub of-every-shard : (s : Settings) (Q : ℕ → Type 0) → ((hash : ℕ) → Q (shardOf s hash)) → (i : ℕ) → i < shardCount s → Q i
+of-every-shard s Q holds i below = subst Q (every-shard-has-a-hash s i below) (holds (i * 2 ^ 40))
+
 pub sound-indexes-are-exact-by-number : {s : Settings} {ws : List ℕ} → SoundMemory s ws → (i : ℕ) → i < shardCount s → IndexesExact (shardNumbered s i ws)
-sound-indexes-are-exact-by-number {s} {ws} memory i below =
-    let is = ap (λ (j : ℕ). shardNumbered s j ws) (every-shard-has-a-hash s i below) in
-    subst IndexesExact is (sound-indexes-are-exact memory (i * 2 ^ 40))
+sound-indexes-are-exact-by-number {s} {ws} memory = of-every-shard s (λ j. IndexesExact (shardNumbered s j ws)) (sound-indexes-are-exact memory)
 
 pub grown-indexes-are-exact-by-number : {S N : Type 0} (terms : Terms S N) {s : Settings} {ws : List ℕ} → Grown terms s ws
     → (i : ℕ) → i < shardCount s → IndexesExact (shardNumbered s i ws)
@@ -136,10 +136,9 @@ module _ (s : Settings) (ws : List ℕ) (memory : SoundMemory s ws) where
 
   -- No shard has more slots than the cap.
   slots-are-within-the-cap : (i : ℕ) → i < shardCount s → slotCount (capOf s) i ws ≤ capOf s
-  slots-are-within-the-cap i below =
-      let hash : ℕ = i * 2 ^ 40 in
-      let fits = rw (shard-at-cap s hash ws) at (found-is-sound (memory .finds-each hash) .count-fits) in
-      subst (λ (j : ℕ). slotCount (capOf s) j ws ≤ capOf s) (every-shard-has-a-hash s i below) fits
+  slots-are-within-the-cap =
+      of-every-shard s (λ j. slotCount (capOf s) j ws ≤ capOf s)
+      (λ hash. rw (shard-at-cap s hash ws) at (found-is-sound (memory .finds-each hash) .count-fits))
 
   most-slots-are-within-the-cap : (n : ℕ) → n ≤ shardCount s → mostSlots (capOf s) n ws ≤ capOf s
   unfolding mostSlots

@@ -1,5 +1,6 @@
--- A call on a key that is not refused works in its key's shard alone, and there it does what `inItsShard` says. On two shards that are alike to a view that
--- gives one answer, and leaves shards that are alike. Two instances: slots and debts found in place order, and shards that are equal but for counts.
+-- A call on a key that is not refused works in its key's shard alone, and there it does what `inItsShard` says. On two shards that are alike to a view, that
+-- gives the same answer, and leaves shards that are alike. Two instances: slots and debts found in place order, and shards that are equal but for the counts
+-- of tries turned away.
 use Prim.Native.Nat.{ℕ}
 use mathlib.Core.Path.{_≡_, refl, sym, ap, _∙_}
 use mathlib.Core.Bool.{true, false, false≢true}
@@ -16,16 +17,17 @@ use Rattle.settings.specs.declared.Settings.{Settings}
 use Rattle.settings.specs.Rate.{configOf}
 use Rattle.settings.specs.Settings.{capOf, shapeOf, shardOf}
 use Rattle.held.proofs.AlikeLaws.{SameOutcome, alike-by-test}
-use Rattle.shard_map.specs.Model.{Shard, Sound, inPlaceOrder, uncounted}
+use Rattle.shard_map.specs.Model.{Shard, Sound, uncounted}
 use Rattle.shard_map.proofs.ReadBack.{Sized}
 use Rattle.shard_map.proofs.RoomLaws.{same-room}
 use Rattle.shard_map.proofs.AlikeLaws.{View, AlikeShards}
 use Rattle.shard_map.proofs.PlaceOrderLaws.{FindsEach, found-is-sound, placeOrder, in-place-order-alike, alike-is-in-place-order}
-use Rattle.shard_map.proofs.TurnAwayLaws.{countless, equal-but-for-turn-aways, uncounted-alike, place-uncounted}
+use Rattle.shard_map.proofs.TurnAwayLaws.{countless, uncounted-alike}
 use Rattle.shard.specs.declared.Identity.{Identity}
 use Rattle.shard.specs.Model.{turnedAway as countOf}
 use Rattle.shard.proofs.ShardLaws.{SameRoom, ask-same-room, refund-same-room, remove-same-room}
-use Rattle.shard.proofs.AlikeLaws.{EveryOperationAlike, every-operation-alike}
+use Rattle.shard.proofs.AlikeLaws.{EveryOperationAlike}
+use Rattle.shard.proofs.TurnAwayLaws.{every-operation-without-turn-aways}
 use Rattle.shard.proofs.PlaceOrderLaws.{SameAsPlaceOrder, every-operation-in-place-order, count-in-place-order}
 use Rattle.store.specs.Memory.{memoryWords, shardAt}
 use Rattle.store.proofs.MemoryLaws.{same-room-sized, in-shard-length, in-shard-reads-back-for, in-shard-leaves-others}
@@ -141,5 +143,5 @@ call-same-as-place-order own each s id ask =
 pub call-same-without-turn-aways : (own : Shard) (s : Settings) (id : Identity) (ask : Ask) → readsTurnAways ask ≡ false
     → SameOutcome (AlikeShards countless) (inItsShard s id ask (uncounted own)) (inItsShard s id ask own)
 call-same-without-turn-aways own s id ask no-look =
-    ask-alike countless (uncounted-alike own) (every-operation-alike countless (uncounted-alike own) (place-uncounted own)) s id ask
+    ask-alike countless (uncounted-alike own) (every-operation-without-turn-aways own) s id ask
     (λ looks-at-it. absurd (false≢true (sym no-look ∙ looks-at-it)))

@@ -1,6 +1,6 @@
 -- Lookup by an index changes nothing (request 3 of document 02): a store that has grown from fresh gives the answers of a store without indexes, its refusals
 -- among them, and has its slots, debts, hands, sweeps and cursors. The theorem is over lists of calls and clears.
-use Prim.Native.Nat.{ℕ, _*_, _<_, _^_}
+use Prim.Native.Nat.{ℕ, _<_}
 use mathlib.Core.Path.{_≡_, refl, sym, ap, subst, _∙_}
 use mathlib.Core.Bool.{true}
 use mathlib.Core.List.{List, [], _∷_, _++_}
@@ -33,7 +33,7 @@ use Rattle.demands.proofs.WidthLaws.{NamesFit}
 use Rattle.demands.proofs.LendableTheorem.{rules-leave-words-lendable, set-up-leaves-words-lendable}
 use Rattle.demands.proofs.Theorem.{set-up-done}
 use Rattle.demands.proofs.OneShardLaws.{WorksInOneShard, asks-work-in-one-shard, call-same-as-place-order}
-use Rattle.demands.proofs.GrownLaws.{SoundMemory, sound-kept-by-calls, every-shard-has-a-hash, grown-indexes-are-exact-by-number}
+use Rattle.demands.proofs.GrownLaws.{SoundMemory, sound-kept-by-calls, of-every-shard, grown-indexes-are-exact-by-number}
 use Rattle.demands.proofs.GrownLaws.{clear-is-accepted, grown-clear-is-accepted, sound-refusal-is-the-calls-own}
 
 -- The shards in some words are, in place order, those of a store without indexes.
@@ -43,9 +43,7 @@ SamePlaces s ws shards = (hash : ℕ) → inPlaceOrder (shardAt s hash ws) ≡ s
 -- The same by the numbers of the shards.
 same-by-number : (s : Settings) (ws : List ℕ) (shards : Shards) → SamePlaces s ws shards → (i : ℕ) → i < shardCount s
     → inPlaceOrder (shardNumbered s i ws) ≡ shards i
-same-by-number s ws shards places i below =
-    let is = every-shard-has-a-hash s i below in
-    ap (λ (j : ℕ). inPlaceOrder (shardNumbered s j ws)) (sym is) ∙ places (i * 2 ^ 40) ∙ ap shards is
+same-by-number s ws shards places = of-every-shard s (λ j. inPlaceOrder (shardNumbered s j ws) ≡ shards j) places
 
 -- What a turn or a list of turns gives on words is what it gives on a store without indexes.
 pub record SameOutcome {A : Type 0} (s : Settings) (words : Outcome A (List ℕ)) (without : Outcome A Shards) : Type 0 where
@@ -73,10 +71,9 @@ fresh-same s ws done = record { answer = done; shards = λ hash. rw (set-up-done
 
 -- A fresh store without indexes holds nothing.
 pub fresh-shards-hold-nothing : (s : Settings) (i : ℕ) → i < shardCount s → Empty (freshShards s i)
-fresh-shards-hold-nothing s i below =
-    let is = ap (freshShards s) (every-shard-has-a-hash s i below) in
-    let empty = fresh-shards-are-empty s (i * 2 ^ 40) in
-    subst Empty is (record { slots = empty .slots; hand = empty .hand; sweep = empty .sweep; debts = empty .debts; cursor = empty .cursor })
+fresh-shards-hold-nothing s = of-every-shard s (λ j. Empty (freshShards s j)) (λ hash.
+    let empty = fresh-shards-are-empty s hash in
+    record { slots = empty .slots; hand = empty .hand; sweep = empty .sweep; debts = empty .debts; cursor = empty .cursor })
 
 module _ {S N : Type 0} (terms : Terms S N) where
   -- A call that is not refused.

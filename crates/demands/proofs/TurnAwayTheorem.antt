@@ -1,13 +1,12 @@
 -- The counts of tries turned away decide nothing: the claims of specs/TurnAways.antt, of the rules and of every limiter that meets demand 2.
-use Prim.Native.Nat.{ℕ, zero, suc, _*_, _≤_, _<_, _^_, max}
+use Prim.Native.Nat.{ℕ, zero, suc, _≤_, _<_, max}
 use native.Mathlib.Omega.{arith}
 use mathlib.Core.Path.{_≡_, refl, sym, ap, _∙_}
 use mathlib.Core.Bool.{true, false, cond}
 use mathlib.Core.List.{List, [], _∷_}
 use lib.Dec.{eqb}
-use lib.ListN.{length}
 use Rattle.arith.proofs.Cases.{by-eq}
-use Rattle.rows.specs.Outcome.{Outcome, outcome}
+use Rattle.rows.specs.Outcome.{Outcome}
 use Rattle.rows.proofs.SumLaws.{sum-same}
 use Rattle.settings.specs.declared.Settings.{Settings}
 use Rattle.settings.specs.Settings.{firstRefusal, settingsRefusal, shardCount, capOf, shardOf}
@@ -29,7 +28,7 @@ use Rattle.demands.specs.Demands.{Limiter, Demand2}
 use Rattle.demands.specs.PlaceOrder.{Turn, calls, clears, byRules, run, OfStore, AllOf}
 use Rattle.demands.specs.TurnAways.{readsTurnAways, callReadsTurnAways, turnReadsTurnAways, EqualButForTurnAways, DecidedAlike, ListDecidedAlike}
 use Rattle.demands.proofs.OneShardLaws.{WorksInOneShard, asks-work-in-one-shard, call-same-without-turn-aways}
-use Rattle.demands.proofs.GrownLaws.{every-shard-has-a-hash}
+use Rattle.demands.proofs.GrownLaws.{of-every-shard}
 use Rattle.demands.proofs.WidthLaws.{NamesFit}
 use Rattle.demands.proofs.PlaceOrderTheorem.{byLimiter, TurnFits, runs-alike}
 
@@ -68,10 +67,8 @@ module _ (s : Settings) (ws vs : List ℕ) (like : EqualButForTurnAways s ws vs)
   ask-refused-alike id ask = λ j. firstRefusal (firstRefusal (set-up-refused-alike j) (counts-refused-alike (id .hash) j)) (furtherOf ask)
 
   slots-alike : (i : ℕ) → i < shardCount s → slotCount (capOf s) i ws ≡ slotCount (capOf s) i vs
-  slots-alike i below =
-      let is = every-shard-has-a-hash s i below in
-      ap (λ (n : ℕ). slotCount (capOf s) n ws) (sym is) ∙ ap (λ (t : Shard). t .slots .count) (like .shards (i * 2 ^ 40))
-      ∙ ap (λ (n : ℕ). slotCount (capOf s) n vs) is
+  slots-alike =
+      of-every-shard s (λ j. slotCount (capOf s) j ws ≡ slotCount (capOf s) j vs) (λ hash. ap (λ (t : Shard). t .slots .count) (like .shards hash))
 
   most-slots-alike : (n : ℕ) → n ≤ shardCount s → mostSlots (capOf s) n ws ≡ mostSlots (capOf s) n vs
   unfolding mostSlots

@@ -11,7 +11,7 @@ use Rattle.settings.specs.declared.Settings.{Settings}
 use Rattle.shard_map.specs.Model.{uncounted}
 use Rattle.store.specs.Memory.{shardAt}
 use Rattle.rules.specs.declared.Reply.{Reply}
-use Rattle.rules.specs.Asks.{Look, peeks, tokens, turnedAway, Ask, requests, looks, undoes}
+use Rattle.rules.specs.Asks.{peeks, tokens, turnedAway, Ask, requests, looks, undoes}
 use Rattle.rules.specs.Calls.{Call, keyed, whole}
 use Rattle.demands.specs.PlaceOrder.{Turn, calls, clears}
 

@@ -5,9 +5,8 @@ use mathlib.Core.Path.{_≡_, refl, sym, ap, _∙_}
 use mathlib.Core.Bool.{Bool}
 use mathlib.Core.List.{List, [], _∷_, map}
 use lib.ListN.{length, getD, length-map, List·getD-map}
-use Rattle.rows.specs.declared.Place.{Place}
 use Rattle.rows.proofs.RowLaws.{map-set}
-use Rattle.held.specs.Held.{Finding, Held, Items, foundBy, withRemoved, itemAt, hashAt, position, appended, removed, stored, mapped}
+use Rattle.held.specs.Held.{Held, Items, foundBy, itemAt, hashAt, position, appended, removed, stored, mapped}
 use Rattle.held.proofs.AlikeLaws.{KeptByWays}
 
 module _ {A : Type 0} (items : Items A) (f : A → A) (keeps-free : f (items .free) ≡ items .free)

@@ -15,6 +15,9 @@ use Rattle.shard.specs.declared.Policy.{Policy}
 use Rattle.shard.specs.Model.{withOrInsert, viewed, holds, refunded, removed}
 use Rattle.shard.proofs.AlikeLaws.{EveryOperationAlike, every-operation-alike}
 
+pub every-operation-without-turn-aways : (s : Shard) → EveryOperationAlike countless (uncounted s) s
+every-operation-without-turn-aways s = every-operation-alike countless (uncounted-alike s) (place-uncounted s)
+
 pub record SameWithoutTurnAways {A : Type 0} (operation : Shard → Outcome A Shard) (s : Shard) : Type 0 where
   pub answer : operation (uncounted s) .answer ≡ operation s .answer
   pub after : uncounted (operation (uncounted s) .after) ≡ uncounted (operation s .after)
@@ -36,7 +39,7 @@ turn-aways-decide-nothing s = record {
 }
   where
     alike : EveryOperationAlike countless (uncounted s) s
-    alike = every-operation-alike countless (uncounted-alike s) (place-uncounted s)
+    alike = every-operation-without-turn-aways s
 
     same : {A : Type 0} {operation : Shard → Outcome A Shard} → SameOutcome (AlikeShards countless) (operation (uncounted s)) (operation s)
         → SameWithoutTurnAways operation s
