@@ -12,7 +12,7 @@ use Rattle.arith.proofs.DivisionLaws.{ceilDiv-least, ceilDiv-reaches, ceilDiv-o
 use Rattle.settings.specs.declared.Settings.{Settings}
 use Rattle.settings.specs.declared.Shape.{Shape}
 use Rattle.settings.specs.Settings.{mostKeys, mostShards, mostKeysInShard, limitRefusal, sizeRefusal, firstRefusal, settingsRefusal}
-use Rattle.settings.specs.Settings.{share, leastShards, askedShards, shardCount, shardExponent, capOf, shapeOf, shardOf, ShapeOfAccepted}
+use Rattle.settings.specs.Settings.{share, leastShards, askedShards, shardCount, shardExponent, capOf, shapeOf, shardOf, mostCounted, ShapeOfAccepted}
 use Rattle.settings.specs.Settings.{idleLimitMillis}
 use Rattle.settings.proofs.PowerLaws.{PowerOfTwo, exponent-is-least, step-up-reaches}
 
@@ -118,8 +118,8 @@ module _ (s : Settings) where
       (omega arith)
 
 -- The shape of settings of an accepted size.
-pub shape-of-accepted : (s : Settings) {shape : Shape} → sizeRefusal s ≡ 0 → shape ≡ shapeOf s → ShapeOfAccepted shape
-shape-of-accepted s accepted is = record { settings = s; accepted = accepted; is = is }
+pub shape-of-accepted : (s : Settings) {shape : Shape} → sizeRefusal s ≡ 0 → s .classes ≤ mostCounted → shape ≡ shapeOf s → ShapeOfAccepted shape
+shape-of-accepted s accepted few is = record { settings = s; accepted = accepted; is = is; few-classes = few }
 
 -- What holds of such a shape by itself.
 module _ {shape : Shape} (a : ShapeOfAccepted shape) where

@@ -1,0 +1,26 @@
+-- `turns_away` has a case for each kind of request.
+use borrow.Author.Needs.{needs}
+use Rattle.bucket.proofs.Request.turns_away.Statement.{statement}
+use Rattle.bucket.proofs.Request.turns_away.Tie as tie
+
+enum-told : tie.Need-enum-told
+enum-told c = search needs
+
+enum-told-2 : tie.Need-enum-told-2
+enum-told-2 c = search needs
+
+enum-told-3 : tie.Need-enum-told-3
+enum-told-3 c = search needs
+
+returns : tie.Need-returns
+returns c = rw (c .before .enum-told .given .1)
+
+returns-2 : tie.Need-returns-2
+returns-2 c = search needs
+
+returns-3 : tie.Need-returns-3
+returns-3 c = rw (c .before .enum-told3 .given .1)
+
+pub turns-away-spec : {M : Type 1} → statement M
+turns-away-spec =
+    tie.close (tie.spec enum-told enum-told-2 enum-told-3 returns returns-2 returns-3)
