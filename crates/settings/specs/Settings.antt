@@ -1,5 +1,5 @@
 -- The settings of a whole store: refusals, shards, places per shard, words, and the idle limit.
-use Prim.Native.Nat.{ℕ, _+_, _-_, _/_, _^_, min, max}
+use Prim.Native.Nat.{ℕ, _+_, _-_, _/_, _≤_, _^_, min, max}
 use mathlib.Core.Path.{_≡_}
 use mathlib.Core.Bool.{cond}
 use lib.Dec.{ltb, eqb}

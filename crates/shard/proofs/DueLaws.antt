@@ -9,7 +9,7 @@ use Rattle.bucket.specs.declared.BucketCore.{BucketCore}
 use Rattle.bucket.specs.declared.BucketDecision.{BucketDecision}
 use Rattle.bucket.specs.declared.BucketDecision.the-variants.{Allowed, Denied}
 use Rattle.bucket.specs.declared.Request.{Request}
-use Rattle.bucket.specs.Bucket.{dueAfter, longestWait, waitAt, asked}
+use Rattle.bucket.specs.Bucket.{dueAfter, longestWait, requestWait, asked}
 use Rattle.bucket.proofs.BucketLaws.{granted-within-longest, denied-beyond-longest}
 use Rattle.rows.specs.declared.Place.{Place}
 use Rattle.rows.specs.declared.Place.the-variants.{At, Nowhere}
@@ -30,9 +30,9 @@ pub data TellsItsMoment (request : Request) (at : Nanos) : BucketDecision → Ty
 bucket-tells-its-moment : (c : BucketConfig) (request : Request) (b : BucketCore) (cost : ℕ) (at : Nanos)
     → TellsItsMoment request at (asked c request b cost at .decision)
 bucket-tells-its-moment c request b cost at =
-    by-le (waitAt c b cost at) (longestWait request)
-    (λ soon. rw (granted-within-longest c request b cost at soon) (granted (record { 0 = waitAt c b cost at }) soon))
-    (λ late. rw (denied-beyond-longest c request b cost at late) (denied (record { 0 = waitAt c b cost at })))
+    by-le (requestWait c request b cost at) (longestWait request)
+    (λ soon. rw (granted-within-longest c request b cost at soon) (granted (record { 0 = requestWait c request b cost at }) soon))
+    (λ late. rw (denied-beyond-longest c request b cost at late) (denied (record { 0 = requestWait c request b cost at })))
 
 making-room-tells-its-moment : (p : Policy) (at : Nanos) (s : Shard) → TellsRoom at (makeRoom p at s .answer)
 unfolding makeRoom
