@@ -2,6 +2,8 @@
 use mathlib.Core.Path.{refl, sym, _∙_}
 use Rattle.store.proofs.LendingLaws.{accepted-shape}
 use Rattle.rules.specs.Asks.{undoes, refunds}
+use Rattle.settings.specs.Settings.{shapeOf}
+use Rattle.store.specs.Memory.{bucketsAt}
 use Rattle.rules.proofs.KeyedLaws.{unchanged-is-told}
 use Rattle.perkey.proofs.KnownLaws.{closed-refund}
 use native.Mathlib.Omega.{arith}
@@ -37,8 +39,8 @@ returns : tie.Need-returns
 returns c =
     let r = c .before .before .before in
     let a = r .before .before .before .before .args in
-    let stays = closed-refund (a .settings) (a .id) (a .cost) _ (r .before .enum-told .given .1) in
-    unchanged-is-told (a .settings) (a .id) (undoes (refunds (a .cost))) (a .ws .now) _ stays (r .refusal .ensures) (c .before .before .shape .ensures)
+    let stays = closed-refund (a .settings) (a .id) (a .cost) (bucketsAt (shapeOf (a .settings)) (a .ws .now)) _ (r .before .enum-told .given .1) in
+    unchanged-is-told (a .settings) (a .id) (undoes (refunds (a .cost))) (a .ws .now) _ refl stays (r .refusal .ensures) (c .before .before .shape .ensures)
     refl (c .unless-refused .ensures)
 
 same-length-2 : tie.Need-same-length-2
