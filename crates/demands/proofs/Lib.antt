@@ -10,6 +10,7 @@ pub mod EvictFits
 pub mod StoreFits
 pub mod LineBound
 pub mod GrantLaws
+pub mod RefundBound
 pub mod BucketKept
 pub mod RequestLaws
 pub mod RefundLaws
