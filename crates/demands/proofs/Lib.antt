@@ -23,6 +23,9 @@ pub mod GivenLaws
 pub mod CallSteps
 pub mod AppearsLaws
 pub mod RunLaws
+pub mod ClassKept
+pub mod PassingLaws
+pub mod ClassImpostors
 pub mod Theorem
 pub mod RefusalTheorem
 pub mod SizeTheorem
