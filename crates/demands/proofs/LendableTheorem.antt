@@ -70,6 +70,20 @@ module _ (s : Settings) (hash : ℕ) (ws : List ℕ) (lent : lendable ws ≡ tru
       (omega (arith, same, accepted .set-up .size, lendable-length ws lent))
       (part-replaced-fits (partStart (shapeOf s) hash) (shardWords (capOf s)) ws (Layout.wordsOf (o .after)) (lendable-words ws lent) new)
 
+-- Class buckets that fit stay such where a granted try charges them.
+module _ (cs : List Class) (cost : ℕ) (at : Nanos) (early : at .0 ≤ 2 ^ 62) (sound : Classes.Sound cs) where
+  charged-buckets-fit : (is : List ℕ) → Every (λ i. Takes cs i cost) is → (bs : List BucketCore) → Every BucketFits bs
+      → Every BucketFits (charged cs cost at bs is)
+  unfolding charged
+  charged-buckets-fit [] each bs fit = fit
+  charged-buckets-fit (i ∷ is) each bs fit =
+      let config = configAt cs i in
+      let a = accepted-rate (classAt cs i .rate) (each .0 .accepted) in
+      let own : BucketFits (bucketAt bs i) = bucket-at-fits bs i fit in
+      let spent-fits : BucketFits (spentAt cs cost at bs i) =
+      record { shortfall = grant-fits (bucketAt bs i) cost at a (each .0 .within); stamp = omega (arith, own .stamp) } in
+      charged-buckets-fit is (each .1) (set bs i (spentAt cs cost at bs i)) (every-set BucketFits bs i _ fit spent-fits)
+
 -- What is asked of a key, where it is not refused.
 module _ (s : Settings) (id : Identity) (ws : List ℕ) (lent : lendable ws ≡ true) (accepted : Accepted s (id .hash) ws) where
   abbrev own : Shard
@@ -117,10 +131,35 @@ module _ (s : Settings) (id : Identity) (ws : List ℕ) (lent : lendable ws ≡ 
       operation-leaves-lendable s (id .hash) ws lent accepted (OneShard.removed id own)
       (remove-same-room _ (accepted .sound) id) (removal-fits id _ (shard-fits s (id .hash) ws lent accepted))
 
-  ask-leaves-lendable : (ask : Ask) → furtherOf ask ≡ 0 → keyFits id ≡ true → LeavesLendable (inItsShard s id ask own)
+  pass-leaves-lendable : (cs : List Class) (class : ℕ) (at : Nanos) (cost : ℕ) → at .0 ≤ 2 ^ 62 → keyFits id ≡ true
+      → LeavesLendable (passedIn s id cs class at cost (bucketsAt (shapeOf s) ws) own)
+  unfolding passedIn
+  pass-leaves-lendable cs class at cost early key =
+      by-test (ltb (leastBurst cs (chainOf cs class)) cost)
+      (λ over. rw over unchanged-leaves-lendable)
+      (λ within.
+      rw within (request-leaves-lendable (throughChain cs class at cost (bucketsAt (shapeOf s) ws)) at cost early key (s .limit) rate-not-refused))
+
+  ask-leaves-lendable : (ask : Ask) → furtherOf ask ≡ 0 → keyFits id ≡ true → LeavesLendable (inItsShard s id ask (bucketsAt (shapeOf s) ws) own)
   ask-leaves-lendable (requests r at cost) none key = request-leaves-lendable r at cost (request-in-time r at none .0) key (s .limit) rate-not-refused
   ask-leaves-lendable (looks l) none key = unchanged-leaves-lendable
   ask-leaves-lendable (undoes u) none key = undone-leaves-lendable u (s .limit)
+  ask-leaves-lendable (passes table class at cost) none key =
+      pass-leaves-lendable (classesIn table) class at cost (pass-in-time (classesIn table) class at none .early) key
+
+  -- Then the class buckets are stored: those that a granted try charges fit.
+  stored-leaves-lendable : (ask : Ask) → furtherOf ask ≡ 0 → keyFits id ≡ true → lendable (keyedOutcome (shapeOf s) s id ask ws .after) ≡ true
+  stored-leaves-lendable (requests r at cost) none key = ask-leaves-lendable (requests r at cost) none key
+  stored-leaves-lendable (looks l) none key = ask-leaves-lendable (looks l) none key
+  stored-leaves-lendable (undoes u) none key = ask-leaves-lendable (undoes u) none key
+  stored-leaves-lendable (passes table class at cost) none key =
+      let ask : Ask = passes table class at cost in
+      let o = inItsShard s id ask (bucketsAt (shapeOf s) ws) own in
+      let size = in-shard-length s (id .hash) ws o (accepted .set-up .size) (ask-sized s id ws accepted ask) in
+      let same = in-shard-leaves-buckets s ws (accepted .set-up .size) (id .hash) o (ask-sized s id ws accepted ask) in
+      buckets-stored-are-lendable s table class at cost (inShard s (id .hash) ws o .after) size (ask-leaves-lendable ask none key) (o .answer)
+      (pass-in-time (classesIn table) class at none)
+      (λ grants. rw same (granted-pass s id (classesIn table) class at cost (bucketsAt (shapeOf s) ws) own grants .within))
 
 -- What an equal outcome leaves.
 equal-leaves-lendable : {o given : Outcome Reply (List ℕ)} → o ≡ given → lendable (given .after) ≡ true → lendable (o .after) ≡ true
@@ -131,11 +170,11 @@ module _ {S N : Type 0} (terms : Terms S N) (names : NamesFit terms) where
   rule-leaves-words-lendable : (c : Call S N) (ws : List ℕ) → refusalOf terms c ws ≡ 0 → fits terms c ≡ true → lendable ws ≡ true
       → lendable (ruleOf terms c ws .after) ≡ true
   rule-leaves-words-lendable (keyed s n ask) ws none fit lent =
-      let settings = terms .settings s in
+      let settings = inForce ask (terms .settings s) in
       let id = terms .identity n in
       let free = keyed-not-refused terms s n ask ws none in
       let asked = ask-not-refused settings id ask ws (free .1) in
-      ask-leaves-lendable settings id ws lent (asked .0) ask (asked .1) (names n (name-of-call-fits terms s n ask fit) (free .0))
+      stored-leaves-lendable settings id ws lent (asked .0) ask (asked .1) (names n (name-of-call-fits terms s n ask fit) (free .0))
   rule-leaves-words-lendable (whole s len) ws none fit lent = lent
 
   pub rules-leave-words-lendable : (c : Call S N) (ws : List ℕ) → fits terms c ≡ true → lendable ws ≡ true → lendable (rules terms c ws .after) ≡ true
@@ -148,8 +187,11 @@ module _ {S N : Type 0} (terms : Terms S N) (names : NamesFit terms) where
 zeros-are-lendable : (n : ℕ) → Word n → lendable (replicate n 0) ≡ true
 zeros-are-lendable n few = words-are-lendable (replicate n 0) (rw (length-replicate {A = ℕ} n 0) few) (every-copy Word n 0 (omega arith))
 
-pub set-up-leaves-words-lendable : (s : Settings) (ws : List ℕ) → lendable ws ≡ true → lendable (setUp s ws .after) ≡ true
-set-up-leaves-words-lendable s ws lent =
+pub set-up-leaves-words-lendable : (s : Settings) (table ws : List ℕ) → lendable ws ≡ true → lendable (setUpFor s table ws .after) ≡ true
+set-up-leaves-words-lendable s table ws lent =
     by-eq (setUpRefusal s ws) 0
-    (λ none. equal-leaves-lendable (sym (set-up-zeroes s ws refl none)) (zeros-are-lendable (length ws) (lendable-length ws lent)))
-    (λ some. equal-leaves-lendable (sym (set-up-refusal-is-told s ws refl some)) lent)
+    (λ none.
+    by-eq (tableRefusal (classesIn table)) 0
+    (λ sound. equal-leaves-lendable (sym (table-set-up-zeroes s table ws none sound)) (zeros-are-lendable (length ws) (lendable-length ws lent)))
+    (λ unsound. equal-leaves-lendable (sym (table-refusal-is-told s table ws none refl unsound)) lent))
+    (λ some. equal-leaves-lendable (sym (settings-refusal-is-told s table ws refl some)) lent)

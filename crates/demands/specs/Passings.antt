@@ -11,7 +11,7 @@
 --
 -- Theorems, in proofs/: `class-window-exact` and `class-window` say both of the rules. `never-charged-breaks-the-class-window` and
 -- `named-alone-breaks-the-class-window` refute two other ways, `charging-the-denied-takes-from-others` a third.
-use Prim.Native.Nat.{ℕ, _+_, _*_, _-_, _≤_, _<_}
+use Prim.Native.Nat.{ℕ, _+_, _≤_, _<_}
 use mathlib.Core.Path.{_≡_}
 use mathlib.Core.Bool.{Bool, false, cond}
 use mathlib.Core.List.{List, [], _∷_}
@@ -19,11 +19,10 @@ use lib.Dec.{leb, eqb}
 use lib.ListN.{length}
 use Rattle.units.specs.declared.Nanos.{Nanos}
 use Rattle.bucket.specs.declared.BucketCore.{BucketCore}
-use Rattle.settings.specs.declared.rate.Rate.{Rate}
-use Rattle.settings.specs.Rate.{burstOf}
 use Rattle.classes.specs.declared.Class.{Class}
 use Rattle.classes.specs.Classes.{classAt, longestChain, tableRefusal}
 use Rattle.classes.specs.Chains.{chain, among, leastBurst, chainWait, charged}
+use Rattle.demands.specs.Demands.{WithinRate}
 
 -- A try that is not refused by number: its moment, the class that it names, its cost, and whether the modem's side granted it, with the chain's wait in hand.
 pub record Passing : Type 0 where
@@ -71,11 +70,6 @@ module _ (cs : List Class) where
 unfoldable pub InOrder : ℕ → List Passing → Type 0
 InOrder n [] = Unit {0}
 InOrder n (p ∷ ps) = (n ≤ p .at .0) × InOrder (p .at .0) ps
-
--- No more tokens from any t to any u than a rate allows, with some moments added to those from t to u.
-abbrev pub WithinRate : ℕ → Rate → (ℕ → ℕ → ℕ) → Type 0
-WithinRate added rate tokens =
-    (t u : ℕ) → t ≤ u → tokens t u * rate .period .0 ≤ burstOf rate * rate .period .0 + (u - t + added) * rate .amount
 
 -- The window of every class, from any buckets.
 abbrev pub ClassWindowAdding : ℕ → (List Class → Way) → Type 0
