@@ -1,13 +1,12 @@
 -- What a chain answers to a cost, case by case as the code comes to them, and what an answer says of the bursts and the waits.
-use Prim.Native.Nat.{ℕ, _-_, _≤_, _<_, min, max}
-use mathlib.Core.Path.{_≡_, refl, sym, _∙_}
+use Prim.Native.Nat.{ℕ, _-_, _≤_, _<_, max}
+use mathlib.Core.Path.{_≡_, sym}
 use mathlib.Core.List.{List, [], _∷_}
 use native.Mathlib.Omega.{arith}
 use borrow.Author.Tests.{lt-ltb, le-ltb}
 use Rattle.arith.proofs.Cases.{by-le}
 use Rattle.units.specs.declared.Nanos.{Nanos}
 use Rattle.bucket.specs.declared.BucketCore.{BucketCore}
-use Rattle.settings.specs.Rate.{rateRefusal}
 use Rattle.settings.proofs.RateLaws.{accepted-rate}
 use Rattle.classes.specs.declared.OptionClass.the-variants.{None, Some}
 use Rattle.classes.specs.declared.Class.{Class}
