@@ -6,6 +6,7 @@ pub mod BucketFits
 pub mod LedgerFits
 pub mod ShardFits
 pub mod LayoutFits
+pub mod ClassFits
 pub mod EvictFits
 pub mod StoreFits
 pub mod LineBound
@@ -26,6 +27,7 @@ pub mod RunLaws
 pub mod ClassKept
 pub mod PassingLaws
 pub mod ClassImpostors
+pub mod ClassTheorem
 pub mod Theorem
 pub mod RefusalTheorem
 pub mod SizeTheorem

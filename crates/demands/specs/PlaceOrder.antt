@@ -41,7 +41,7 @@ pub record Shards : Type 0 where
 -- A fresh one: the shards of a fresh memory, with nothing in them, found in place order, and its class buckets.
 abbrev pub freshShards : Settings → Shards
 freshShards s =
-    let fresh = replicate (memoryWords s) 0 in
+    let fresh : List ℕ = replicate (memoryWords s) 0 in
     record { numbered = λ i. inPlaceOrder (shardNumbered s i fresh); buckets = bucketsAt (shapeOf s) fresh }
 
 -- What is asked of a key, in the shard of the key; the other shards stay as they are. A try through a class that is granted charges the class buckets.
