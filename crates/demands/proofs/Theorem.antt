@@ -98,9 +98,9 @@ module _ {S N : Type 0} (terms : Terms S N) where
   pub rules-keep-the-class-window-exactly : ClassWindowAdding terms 0 (answering terms (rules terms))
   rules-keep-the-class-window-exactly s table ws cs _ _ = rules-stay-within-class-windows terms s table ws cs
 
-  pub within-with-one-more : (s : Settings) {cs : List Class} {answered : List (Answered S N)} → WithinClassWindows terms 0 s cs answered
+  pub within-with-one-more : (s : Settings) (cs : List Class) (answered : List (Answered S N)) → WithinClassWindows terms 0 s cs answered
       → WithinClassWindows terms 1 s cs answered
-  within-with-one-more s exact same tabled rising number d inside t u le = omega (arith, exact same tabled rising number d inside t u le)
+  within-with-one-more s cs answered exact same tabled rising number d inside t u le = omega (arith, exact same tabled rising number d inside t u le)
 
   -- Demand 3, whole.
   pub rules-meet-demand3 : Demand3 terms (answering terms (rules terms))
@@ -108,7 +108,7 @@ module _ {S N : Type 0} (terms : Terms S N) where
     window = λ table s rate ws _ _ _ rated refuses done′ cs _.
         rules-stay-within-the-window (settingsBy terms table s) rate (tableWords table) ws rated refuses done′ cs;
     own-bucket = λ ws cs _ _. rules-decide-by-own-bucket terms ws cs;
-    class-window = λ s table ws cs _ _. within-with-one-more s (rules-stay-within-class-windows terms s table ws cs);
+    class-window = λ s table ws cs _ _. within-with-one-more s table _ (rules-stay-within-class-windows terms s table ws cs);
   }
 
 -- A limiter that meets demand 2 gets through a list as the rules do: they leave words that can be lent again, where names mean numbers that fit.
@@ -145,5 +145,5 @@ module _ {S N : Type 0} (terms : Terms S N) (names : NamesFit terms) (l : Limite
   demand2-gives-demand3 = record {
     window = keeps;
     own-bucket = decides;
-    class-window = λ s table ws cs lent fits. within-with-one-more terms s (demand2-keeps-the-class-window-exactly s table ws cs lent fits);
+    class-window = λ s table ws cs lent fits. within-with-one-more terms s table _ (demand2-keeps-the-class-window-exactly s table ws cs lent fits);
   }
