@@ -26,10 +26,9 @@ use Rattle.settings.specs.Rate.{configOf, burstOf}
 use Rattle.settings.specs.Settings.{shapeOf}
 use Rattle.settings.proofs.RateLaws.{accepted-rate}
 use Rattle.settings.proofs.SettingsLaws.{accepted-parts}
-use Rattle.classes.specs.declared.Class.{Class}
 use Rattle.classes.specs.Classes.{longestChain}
 use Rattle.classes.specs.Layout.{classCount, classesIn, bucketWidth, bucketsIn, wordsOfBuckets, wordsFor}
-use Rattle.classes.specs.Chains as Chains
+use Rattle.classes.specs.Chains.{charged}
 use Rattle.classes.specs.Lent.{ChainLent, leastBurstIn, chainWaitIn, chargedIn}
 use Rattle.classes.proofs.LayoutLaws.{class-count}
 use Rattle.classes.proofs.WordLaws.{words-of-buckets}
@@ -38,7 +37,7 @@ use Rattle.shard_map.specs.Model.{Shard, Sound}
 use Rattle.shard.specs.declared.Identity.{Identity}
 use Rattle.shard.specs.Model as OneShard
 use Rattle.store.specs.declared.Part.{Part}
-use Rattle.store.specs.Memory.{Placed, classesAt, classWords, memoryWords, shardIn, shardAt, inPart, inShard, bucketsAt}
+use Rattle.store.specs.Memory.{Placed, classesAt, classWords, shardIn, shardAt, inPart, inShard, bucketsAt}
 use Rattle.store.proofs.ClassLaws.{with-same-buckets}
 use Rattle.store.proofs.LendingLaws.{accepted-part}
 use Rattle.store.proofs.RefusalLaws.{Accepted}
@@ -112,7 +111,8 @@ module _ {rate : Rate} {s : Settings} {table : List ℕ} {at : Nanos} {id : Iden
   unfolding passedIn askedIn
   too-much-is-told more = unchanged-is-told (a .passing) (Tried Impossible) refl (rw (le-ltb _ _ (a .under-chain), a .is-limit, lt-ltb _ _ more))
 
-  pub nothing-is-granted : {due : Due} → cost ≤ burstOf rate → cost ≡ 0 → due ≡ dueNow at → outcome (Tried (Acquired due)) ws ≡ classTry s table at id class cost ws
+  pub nothing-is-granted : {due : Due} → cost ≤ burstOf rate → cost ≡ 0 → due ≡ dueNow at
+      → outcome (Tried (Acquired due)) ws ≡ classTry s table at id class cost ws
   unfolding passedIn askedIn
   nothing-is-granted within no-cost is =
       rw is (unchanged-is-told (a .passing) (Tried (Acquired (dueNow at))) (rw (eq-eqb _ _ no-cost))
@@ -153,6 +153,9 @@ module _ {rate : Rate} {s : Settings} {table : List ℕ} {at : Nanos} {id : Iden
         let takes = accepted-chain-takes (classesIn table) longestChain class cost (in-time p .accepted) (in-time p .named) (a .at-rate .under-chain) in
         (takes, lent-length ws′ same)
 
+    abbrev chargedFrom : List BucketCore → List BucketCore
+    chargedFrom bs = charged (classesIn table) cost at bs (chainOf (classesIn table) class)
+
     -- What the store answers, with the wait of the chain in hand, is what the rule answers in the key's shard.
     module _ {wait : Nanos} {decision : BucketDecision} {ws′ : List ℕ} (is-wait : wait .0 ≡ chainWaitIn table (lent ws) class longestChain cost at)
         (gave : outcome decision ws′ ≡ inPart part ws (OneShard.withOrInsert (policyOf s rate) id (Through wait) cost at (shardIn part ws)))
@@ -177,9 +180,9 @@ module _ {rate : Rate} {s : Settings} {table : List ℕ} {at : Nanos} {id : Iden
       pub granted-is-told : {due : Due} → decision ≡ Allowed due → (ys : List ℕ) → length ys ≡ length (lent ws′)
           → bucketsIn ys ≡ chargedIn table (lent ws′) class longestChain cost at
           → outcome (Tried (Acquired due)) (putMid first (length ws - first) ws′ ys) ≡ classTry s table at id class cost ws
-      granted-is-told {due} is ys size charged =
+      granted-is-told {due} is ys size gave-buckets =
           let words = words-of-buckets (length (classesIn table)) ys (size ∙ lent-length ws′ same) in
-          let written = sym words ∙ ap wordsOfBuckets (charged ∙ ap (λ (bs : List BucketCore). Chains.charged (classesIn table) cost at bs (chainOf (classesIn table) class)) (lent-buckets ws′)) in
+          let written = sym words ∙ ap wordsOfBuckets (gave-buckets ∙ ap chargedFrom (lent-buckets ws′)) in
           let put : outcome (Tried (Acquired due)) (putMid first (length ws - first) ws′ ys) ≡ stored p (outcome (Tried (Acquired due)) ws′) =
           rw (many, starts, ne-eqb _ _ (a .some), written) in
           pass-is-told p (put ∙ ap (stored p) (rw is at shard-answers))

@@ -79,13 +79,10 @@ pub fn class_try(
 fn further_refusal(table: &[u64], at: Nanos, class: usize) -> u32
     ensures { λ r. ⌜ r ≡ furtherThrough (classesIn (now (table .entry))) class at ⌝ }
 {
-    refusals::first_refusal(
-        refusals::moment_refusal(at),
-        refusals::first_refusal(
-            classes::table_refusal(table),
-            classes::number_refusal(table, class),
-        ),
-    )
+    let late = refusals::moment_refusal(at);
+    let unsound = classes::table_refusal(table);
+    let unknown = classes::number_refusal(table, class);
+    refusals::first_refusal(late, refusals::first_refusal(unsound, unknown))
 }
 
 // A try that is not refused. A cost over a burst on the chain is never granted.

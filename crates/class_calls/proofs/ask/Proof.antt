@@ -1,5 +1,5 @@
 -- `ask` asks the store by the key's place.
-use mathlib.Core.Path.{_≡_, sym, ap, _∙_}
+use mathlib.Core.Path.{sym, ap, _∙_}
 use Rattle.shard.proofs.ModelLaws.{ask-with-slot, ask-without-slot}
 use Rattle.store.specs.Memory.{shardIn, inPart}
 use Rattle.store.proofs.LendingLaws.{found-place-below}

@@ -19,7 +19,10 @@ first-refusal-requires-2 : tie.Need-first-refusal-requires-2
 first-refusal-requires-2 c κs = search needs
 
 returns : tie.Need-returns
-returns c = rw (c .first-refusal2 .ensures, c .before .first-refusal .ensures, c .before .before .number-refusal .ensures, c .before .before .before .table-refusal .ensures, c .before .before .before .before .moment-refusal .ensures)
+returns c =
+    let n = c .before .before in
+    let late = n .before .before .moment-refusal .ensures in
+    rw (c .first-refusal2 .ensures, c .before .first-refusal .ensures, n .number-refusal .ensures, n .before .table-refusal .ensures, late)
 
 pub further-refusal-spec : {M : Type 1} → statement M
 further-refusal-spec =
