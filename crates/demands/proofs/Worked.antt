@@ -15,6 +15,8 @@ use Rattle.settings.specs.declared.decision.Decision.the-variants.{Acquired}
 use Rattle.settings.specs.Powers.{exponentFrom, exponentFor}
 use Rattle.settings.specs.Rate as Rate
 use Rattle.settings.specs.Settings as Settings
+use Rattle.classes.specs.Classes as Classes
+use Rattle.classes.specs.Layout as ClassLayout
 use Rattle.ledger.specs.Layout as Debts
 use Rattle.ledger.specs.Model as Ledger
 use Rattle.held.specs.Round as Round
@@ -81,6 +83,7 @@ unfolding ceilDiv lowestFrom rows unrow tableIn removed Index.onward Index.walkF
     Layout.shard Layout.wordsOf Shard.placeOf Shard.removeAt Shard.insert
     OneShard.makeRoom OneShard.admit OneShard.withOrInsert OneShard.removed
     Refusals.memoryRefusal Refusals.countRefusal Refusals.momentRefusal Refusals.waitRefusal Refusals.mostSlots Refusals.slotsRefusalIn
+    ClassLayout.classesIn Classes.countRefusal Classes.firstFrom
     Asks.askedIn Rules.unlessRefused Rules.setUpIn Rules.keyedRuleIn Rules.lenIn onShards run
 worked = record {
   accepted = refl;

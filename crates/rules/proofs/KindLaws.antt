@@ -70,11 +70,11 @@ at-once-in-kind at asTry = acquired
 at-once-in-kind at asReservation = reserved _
 
 reply-in-kind : (r : Request) {at : Nanos} {d : BucketDecision} → TellsItsMoment r at d → OfKind at (kindIn (mannerOf r)) (Asks.replyTo (mannerOf r) d)
-reply-in-kind Acquire {at} (granted wait within) = no-wait-is-now at wait (omega arith)
+reply-in-kind Acquire {at} (granted wait within others′) = no-wait-is-now at wait (omega arith)
 reply-in-kind Acquire (denied wait) = retried wait
-reply-in-kind (Reserve longest) (granted wait within) = reserved wait
+reply-in-kind (Reserve longest) (granted wait within others′) = reserved wait
 reply-in-kind (Reserve longest) (denied wait) = not-reserved
-reply-in-kind (Through others) {at} (granted wait within) = no-wait-is-now at wait (omega arith)
+reply-in-kind (Through others) {at} (granted wait within others′) = no-wait-is-now at wait (omega arith)
 reply-in-kind (Through others) (denied wait) = retried wait
 
 asked-in-kind : (r : Request) (limit : Limit) (s : Settings) (at : Nanos) (id : Identity) (cost : ℕ) (own : Shard)

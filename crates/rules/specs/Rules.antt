@@ -87,9 +87,12 @@ tableSetUpRefusalIn shape s table ws = firstRefusal (setUpRefusalIn shape s ws) 
 unfoldable pub setUpIn : Shape → Settings → List ℕ → List ℕ → Outcome Reply (List ℕ)
 setUpIn shape s table ws = unlessRefused (tableSetUpRefusalIn shape s table ws) ws (outcome Done (replicate (wordsIn shape) 0))
 
+abbrev pub setUpFor : Settings → List ℕ → List ℕ → Outcome Reply (List ℕ)
+setUpFor s table ws = setUpIn (shapeOf s) s table ws
+
 -- The settings take the number of classes from the table.
 abbrev pub classSetUp : Settings → List ℕ → List ℕ → Outcome Reply (List ℕ)
-classSetUp s table ws = let given = withTable table s in setUpIn (shapeOf given) given table ws
+classSetUp s table ws = setUpFor (withTable table s) table ws
 
 abbrev pub classClear : Settings → List ℕ → List ℕ → Outcome Reply (List ℕ)
 classClear s table ws = classSetUp s table ws
