@@ -3,8 +3,9 @@
 use oracle::layout;
 use oracle::refusals::{LATEST_MOMENT, LONGEST_PERIOD, LONGEST_WAIT, MOST_KEYS, MOST_SHARDS};
 
-use super::classes::{self, Rates};
 use super::damage::damage;
+use super::domain::rate;
+use super::tables::{self, Rates};
 use super::{LARGE, Plan, SMALL, indexes};
 use crate::call::Call;
 use crate::given::Given;
@@ -162,16 +163,13 @@ impl Plan {
     /// The plan with a table of any kind, in which something may be wrong.
     fn with_any_table(self, random: &mut Random) -> Self {
         let rates = random.pick(&[Rates::Generous, Rates::Tight, Rates::Mixed]);
-        let own = self
-            .settings
-            .rate
-            .unwrap_or_else(|| super::domain::rate(random));
-        let mut rows = classes::table(random, rates, &own);
+        let own = self.settings.rate.unwrap_or_else(|| rate(random));
+        let mut rows = tables::table(random, rates, &own);
         for _ in 0..random.pick(&[0, 0, 0, 1, 1, 2, 4]) {
-            classes::spoil(random, &mut rows);
+            tables::spoil(random, &mut rows);
         }
         Self {
-            table: classes::words(random, &rows),
+            table: tables::words(random, &rows),
             through: 80,
             ..self
         }

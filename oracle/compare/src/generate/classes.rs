@@ -1,221 +1,24 @@
-//! Tables of classes, sound and not, and the words of their buckets.
+//! What a plan makes of its table of classes: calls with it, what they are given, and the words of the buckets.
 
 use std::rc::Rc;
 
-use oracle::Rate;
-use oracle::refusals::LONGEST_PERIOD;
+use oracle::Key;
 
+use super::Plan;
 use super::domain::rate;
-use super::{Plan, SECOND};
+use super::tables::{self, AMOUNT, PERIOD, Rates, burst, parent};
 use crate::call::Call;
 use crate::given::Given;
 use crate::library;
 use crate::random::Random;
 use crate::rules::classes::{BUCKET_WORDS, LONGEST_CHAIN, TABLE_WORDS};
 
-/// A class as the table has it.
-type Row = [u64; TABLE_WORDS];
-const AMOUNT: usize = 0;
-const PERIOD: usize = 1;
-const HAS_BURST: usize = 2;
-const BURST: usize = 3;
-const HAS_PARENT: usize = 4;
-const PARENT: usize = 5;
-
-/// How many classes a sound table has.
-const COUNTS: [usize; 12] = [1, 1, 2, 3, 3, 4, 8, 9, 12, 16, 63, 64];
-
-/// How much its classes let pass.
-#[derive(Clone, Copy, PartialEq, Eq)]
-pub enum Rates {
-    /// As much as can be: they deny only where time stands still for thousands of tokens.
-    Generous,
-    /// About as much as a modem's bucket.
-    Tight,
-    /// Any, class by class.
-    Mixed,
-}
-
-/// A table that is not refused.
-pub fn table(random: &mut Random, rates: Rates, own: &Rate) -> Vec<Row> {
-    let count = random.pick(&COUNTS);
-    let mut rows: Vec<Row> = (0..count)
-        .map(|_| {
-            let rates = match rates {
-                Rates::Mixed => random.pick(&[Rates::Generous, Rates::Tight, Rates::Mixed]),
-                same => same,
-            };
-            class(random, rates, own)
-        })
-        .collect();
-    for (number, parent) in parents(random, count).into_iter().enumerate() {
-        if let Some(parent) = parent {
-            put_parent(random, &mut rows[number], parent as u64);
-        }
-    }
-    rows
-}
-
-/// A flag that is set: any number but 0.
-fn flag(random: &mut Random) -> u64 {
-    random.pick(&[1, 2, 0x100, 1 << 32, 1 << 63, u64::MAX])
-}
-
-/// A number that is not read.
-fn unread(random: &mut Random) -> u64 {
-    let any = random.word();
-    random.pick(&[0, 1, 65_536, 1 << 32, u64::MAX, any])
-}
-
-/// A class without a parent.
-fn class(random: &mut Random, rates: Rates, own: &Rate) -> Row {
-    let rate = match rates {
-        Rates::Generous => generous(random),
-        Rates::Tight => tight(random, own),
-        Rates::Mixed => rate(random),
-    };
-    let burst = rate.burst.map(u64::from);
-    let (has_burst, burst) = match burst {
-        Some(burst) => (flag(random), burst),
-        None => (0, unread(random)),
-    };
-    [
-        rate.amount.into(),
-        rate.period,
-        has_burst,
-        burst,
-        0,
-        unread(random),
-    ]
-}
-
-fn generous(random: &mut Random) -> Rate {
-    Rate {
-        amount: 65_535,
-        period: random.pick(&[1, 1, 2, 1_000]),
-        burst: random.pick(&[None, Some(65_535)]),
-        initial: None,
-    }
-}
-
-/// A rate that denies now and then what a bucket of the modem's rate grants: the same, or somewhat more.
-fn tight(random: &mut Random, own: &Rate) -> Rate {
-    let burst = u64::from(own.burst.unwrap_or(own.amount));
-    let times = random.pick(&[1, 1, 2, 3, 5]);
-    let small = random.pick(&[burst, burst * times, burst * times, (burst / 2).max(1)]);
-    let period = random.pick(&[own.period, own.period / 2 + 1, SECOND, own.period * 2]);
-    Rate {
-        amount: own.amount,
-        period: period.min(LONGEST_PERIOD),
-        burst: random.chance(80).then_some(small.min(65_535) as u32),
-        initial: None,
-    }
-}
-
-fn put_parent(random: &mut Random, row: &mut Row, parent: u64) {
-    (row[HAS_PARENT], row[PARENT]) = (flag(random), parent);
-}
-
-/// The numbers of so many classes, in any order.
-fn shuffled(random: &mut Random, count: usize) -> Vec<usize> {
-    let mut numbers: Vec<usize> = (0..count).collect();
-    for last in (1..count).rev() {
-        numbers.swap(last, random.below(last as u64 + 1) as usize);
-    }
-    numbers
-}
-
-/// A parent for each class, or none: no parents, one parent for all, chains of up to 8, or a forest. The numbers are in any order, or each parent before its
-/// children, or after them.
-fn parents(random: &mut Random, count: usize) -> Vec<Option<usize>> {
-    let order = match random.below(3) {
-        0 => (0..count).collect(),
-        1 => (0..count).rev().collect(),
-        _ => shuffled(random, count),
-    };
-    let (kind, length) = (random.below(5), random.pick(&[1, 2, 4, 8, 8]));
-    let mut parents = vec![None; count];
-    let mut depths = vec![1; count];
-    for place in 1..count {
-        // Which earlier class in this order is above.
-        let above = match kind {
-            0 => None,
-            1 => Some(0),
-            2 | 3 => (place % length != 0).then(|| place - 1),
-            _ => random
-                .chance(80)
-                .then(|| random.below(place as u64) as usize),
-        };
-        let above = above.filter(|&above| depths[above] < LONGEST_CHAIN);
-        if let Some(above) = above {
-            depths[place] = depths[above] + 1;
-            parents[order[place]] = Some(order[above]);
-        }
-    }
-    parents
-}
-
-/// Makes something wrong with a table: a rate, a parent, a chain, or too many classes.
-pub fn spoil(random: &mut Random, rows: &mut Vec<Row>) {
-    let own = rate(random);
-    if rows.is_empty() || random.chance(10) {
-        let count = random.pick(&[65, 65, 66, 80]);
-        rows.resize_with(count, || class(random, Rates::Mixed, &own));
-        return;
-    }
-    let (count, any) = (rows.len() as u64, random.word());
-    let row = random.below(count) as usize;
-    let tokens = random.pick(&[0, 65_536, 1 << 32, (1 << 32) + 1, u64::MAX, any]);
-    match random.below(9) {
-        0 => rows[row][AMOUNT] = tokens,
-        1 => rows[row][PERIOD] = random.pick(&[0, LONGEST_PERIOD + 1, 1 << 63, u64::MAX]),
-        2 => (rows[row][HAS_BURST], rows[row][BURST]) = (flag(random), tokens),
-        3 | 4 => {
-            let stray = random.pick(&[count, count + 1, 1 << 32, (1 << 32) + 1, u64::MAX, any]);
-            put_parent(random, &mut rows[row], stray);
-        }
-        5 => put_parent(random, &mut rows[row], row as u64),
-        6 => join(random, rows, row),
-        _ => chain_of(random, rows, LONGEST_CHAIN + 1),
-    }
-}
-
-/// Two classes below each other, or a class below one that may be below it.
-fn join(random: &mut Random, rows: &mut [Row], row: usize) {
-    let other = random.below(rows.len() as u64) as usize;
-    put_parent(random, &mut rows[row], other as u64);
-    if random.chance(50) {
-        put_parent(random, &mut rows[other], row as u64);
-    }
-}
-
-/// A chain of so many classes somewhere in the table, whose last class stays as it is; now and then its last class is below its first.
-fn chain_of(random: &mut Random, rows: &mut Vec<Row>, length: usize) {
-    let own = rate(random);
-    let count = rows.len().max(length);
-    rows.resize_with(count, || class(random, Rates::Mixed, &own));
-    let order = shuffled(random, count);
-    for pair in order[..length].windows(2) {
-        put_parent(random, &mut rows[pair[0]], pair[1] as u64);
-    }
-    if random.chance(20) {
-        put_parent(random, &mut rows[order[length - 1]], order[0] as u64);
-    }
-}
-
-/// The words of a table; now and then some past the last class.
-pub fn words(random: &mut Random, rows: &[Row]) -> Rc<[u64]> {
-    let past = random.pick(&[0, 0, 0, 1, 5]);
-    let past = (0..past).map(|_| random.word());
-    rows.iter().flatten().copied().chain(past).collect()
-}
-
 impl Plan {
     /// The plan with a table, through which so many of a hundred tries go.
     pub(super) fn with_table(mut self, random: &mut Random, rates: Rates, through: u64) -> Self {
         let own = self.settings.rate.unwrap_or_else(|| rate(random));
-        let rows = table(random, rates, &own);
-        self.table = words(random, &rows);
+        let rows = tables::table(random, rates, &own);
+        self.table = tables::words(random, &rows);
         self.through = through;
         self
     }
@@ -223,17 +26,8 @@ impl Plan {
     /// Another table of as many classes. The number of the plan's classes stays.
     pub fn change_table(&mut self, random: &mut Random) {
         let own = self.settings.rate.unwrap_or_else(|| rate(random));
-        let rows: Vec<Row> = (0..self.classes())
-            .map(|_| class(random, Rates::Tight, &own))
-            .collect();
-        let parents = parents(random, rows.len());
-        let mut rows = rows;
-        for (row, parent) in rows.iter_mut().zip(parents) {
-            if let Some(parent) = parent {
-                put_parent(random, row, parent as u64);
-            }
-        }
-        self.table = words(random, &rows);
+        let rows = tables::table_of(random, self.classes(), Rates::Mixed, &own);
+        self.table = tables::words(random, &rows);
     }
 
     /// How many classes the table has.
@@ -241,21 +35,36 @@ impl Plan {
         self.table.len() / TABLE_WORDS
     }
 
-    /// The class that a try names: of the table, and now and then not.
+    /// The words of a class in the table.
+    fn row(&self, class: usize) -> &[u64] {
+        &self.table[class * TABLE_WORDS..][..TABLE_WORDS]
+    }
+
+    /// The class that a try names: of the table, mostly one with a long chain; and now and then not of the table.
     fn class(&self, random: &mut Random) -> u64 {
         let (count, any) = (self.classes() as u64, random.word());
+        let some = [0; 4].map(|_| random.below(count));
         if random.chance(2) {
-            return random.pick(&[count, count + 1, u64::MAX, 1 << 32, any]);
+            return random.pick(&[count, count + 1, u64::MAX, 1 << 32 | some[0], any]);
         }
-        random.below(count)
+        let few = random.pick(&[1, 4]);
+        let longest = some[..few].iter().max_by_key(|&&class| self.chain(class));
+        longest.copied().unwrap_or(0)
+    }
+
+    /// How many classes the chain of a class has, as far as its parents are in the table and up to one more than is accepted.
+    fn chain(&self, class: u64) -> usize {
+        let above = |&class: &u64| {
+            let above = parent(self.row(class as usize));
+            above.filter(|&above| above < self.classes() as u64)
+        };
+        core::iter::successors(Some(class), above)
+            .take(LONGEST_CHAIN + 1)
+            .count()
     }
 
     /// A try as the plan has it: through a class, or not.
-    pub(super) fn try_(
-        &self,
-        random: &mut Random,
-        (now, key, cost): (u64, oracle::Key, u32),
-    ) -> Call {
+    pub(super) fn try_(&self, random: &mut Random, (now, key, cost): (u64, Key, u32)) -> Call {
         if self.classes() == 0 || !random.chance(self.through) {
             return Call::Try { now, key, cost };
         }
@@ -307,12 +116,7 @@ impl Plan {
         let rows = self.table.chunks_exact(TABLE_WORDS);
         let mut words = Vec::new();
         for row in rows {
-            let burst = if row[HAS_BURST] == 0 {
-                row[AMOUNT]
-            } else {
-                row[BURST]
-            };
-            words.extend(self.bucket_of(random, row[PERIOD].saturating_mul(burst)));
+            words.extend(self.bucket_of(random, row[PERIOD].saturating_mul(burst(row))));
         }
         words
     }
@@ -364,15 +168,10 @@ impl Plan {
     /// A moment at which the bucket of a class turns: its stamp, or when it has the next token, or is full.
     pub(super) fn class_turn(&self, random: &mut Random, words: &[u64]) -> u64 {
         let class = random.below(self.classes() as u64) as usize;
-        let row = &self.table[class * TABLE_WORDS..][..TABLE_WORDS];
+        let row = self.row(class);
         let at = self.shape.words() + class * BUCKET_WORDS;
         let (shortfall, stamp, amount) = (words[at], words[at + 1], row[AMOUNT].max(1));
-        let burst = if row[HAS_BURST] == 0 {
-            row[AMOUNT]
-        } else {
-            row[BURST]
-        };
-        let room = row[PERIOD].saturating_mul(burst.saturating_sub(1));
+        let room = row[PERIOD].saturating_mul(burst(row).saturating_sub(1));
         let next = shortfall.saturating_sub(room).div_ceil(amount);
         let full = shortfall.div_ceil(amount);
         stamp.saturating_add(random.pick(&[0, next, next, full]))

@@ -8,6 +8,7 @@ mod contents;
 mod damage;
 mod domain;
 mod indexes;
+mod tables;
 mod time;
 
 use std::rc::Rc;
@@ -17,9 +18,9 @@ use oracle::{Key, Rate, Settings, Shape, WhenFull};
 use crate::random::Random;
 pub use aside::Aside;
 pub use by_address::{addresses, no_address};
-use classes::Rates;
 use domain::{CROWDED, SMALL, Sizes, idle, keys, keys_of, rate, slow_rate, start};
 pub use domain::{LARGE, RAISED};
+use tables::Rates;
 
 const MS: u64 = 1_000_000;
 const SECOND: u64 = 1_000_000_000;
