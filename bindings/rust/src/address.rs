@@ -45,7 +45,8 @@ impl HardwareAddress {
     }
 
     /// The key that a store gives the modem of this address: for [`Store::available`], [`Store::turned_away`] and [`Store::try_acquire_through`], and to choose
-    /// one of several stores by the hash. The library makes both, the hash by FNV-1a over the six bytes, first byte first, and the key as the number with the first byte highest.
+    /// one of several stores by the hash. The library makes both, the hash by FNV-1a over the six bytes, first byte first, and the key as the number with the
+    /// first byte highest.
     ///
     /// ```
     /// # use core::time::Duration;

@@ -122,8 +122,8 @@ impl ClassTable {
     /// # Errors
     ///
     /// As set-up refuses the table: [`Refusal::Class`] for more than 64 classes; then [`Refusal::Amount`], [`Refusal::Period`] or [`Refusal::Burst`] of the
-    /// first class whose rate is out of range; [`Refusal::Class`] for a parent that is not in the table; [`Refusal::Chain`] for a chain of parents that does not
-    /// end within 8 classes.
+    /// first class whose rate is out of range; [`Refusal::Class`] for a parent that is not in the table; [`Refusal::Chain`] for a chain of parents that does
+    /// not end within 8 classes.
     pub fn of(classes: &[Class]) -> Result<Self, Refusal> {
         let mut table = Self::new();
         if classes.len() > LIMITER_MOST_CLASSES {
@@ -334,10 +334,10 @@ impl<W: AsRef<[u64]> + AsMut<[u64]>, C: AsRef<ClassTable>> Store<W, C> {
         Ok(store)
     }
 
-    /// Takes `cost` tokens for `key`, from its bucket and from every bucket on the chain of `class` (the class, its parent and so on), if all have them now; else
-    /// from none. A retry tells the longest of their waits. A retry of a new key can also mean that there is no room for it; then the classes are not asked. The
-    /// try is impossible if the cost is over any of these bursts. [`Store::turned_away`] counts it if the key's own bucket denied it, and not if only a class
-    /// did. A refund gives nothing back to a class.
+    /// Takes `cost` tokens for `key`, from its bucket and from every bucket on the chain of `class` (the class, its parent and so on), if all have them now;
+    /// else from none. A retry tells the longest of their waits. A retry of a new key can also mean that there is no room for it; then the classes are not
+    /// asked. The try is impossible if the cost is over any of these bursts. [`Store::turned_away`] counts it if the key's own bucket denied it, and not if
+    /// only a class did. A refund gives nothing back to a class.
     ///
     /// # Errors
     ///

@@ -142,8 +142,8 @@ impl Settings {
         }
     }
 
-    /// The settings as twelve numbers, in the order of the C struct, whose thirteenth, the number of classes, a table has. Keep them with the words of a store: words mean what they should only under the
-    /// settings that they had. Equal settings have equal numbers, and so have settings that no store can tell apart.
+    /// The settings as twelve numbers, in the order of the C struct, whose thirteenth, the number of classes, a table has. Keep them with the words of a store:
+    /// words mean what they should only under the settings that they had. Equal settings have equal numbers, and so have settings that no store can tell apart.
     #[must_use]
     pub fn numbers(&self) -> [u64; 12] {
         let raw = self.raw();

@@ -103,8 +103,8 @@ impl Call {
         }
     }
 
-    /// The Rust's answer. Set-up is not asked of a limiter that is there: it makes a new one. The Rust has no classes: a try through one is its plain try, which
-    /// is the same where the classes let it pass.
+    /// The Rust's answer. Set-up is not asked of a limiter that is there: it makes a new one. The Rust has no classes: a try through one is its plain try,
+    /// which is the same where the classes let it pass.
     pub fn ask(&self, limiter: &Limiter) -> Answer {
         match *self {
             Self::SetUp | Self::ClassSetUp => unreachable!("a trace starts with set-up"),

@@ -7,8 +7,8 @@
 //! tries that a slot's bucket turned away (`turned_away`); and request 9, the limits above the modem (`classes`).
 //!
 //! The layers, from below: `bucket` (numbers), `index` and `rows` (items in words), `turned_away` and `entry` (a slot), `ledger` (the debts), `shard_map` and
-//! `evict_one` (a shard), `restore_debt`, `store` (what a key holds), `perkey` (the calls); beside them `classes`. `settings` and `decision` are what goes in and
-//! what comes out.
+//! `evict_one` (a shard), `restore_debt`, `store` (what a key holds), `perkey` (the calls); beside them `classes`. `settings` and `decision` are what goes in
+//! and what comes out.
 
 mod bucket;
 pub mod by_address;
