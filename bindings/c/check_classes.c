@@ -136,7 +136,7 @@ static void settings_first(void)
     CHECK(all_refused(s, 65, ONE + 130, LIMITER_BAD_CLASS));
     /* More classes than any memory holds are refused for the memory. */
     CHECK(all_refused(s, SIZE_MAX, ONE, LIMITER_BAD_MEMORY));
-    CHECK(all_refused(s, SIZE_MAX / 6 + 1, ONE, LIMITER_BAD_MEMORY));
+    CHECK(all_refused(s, SIZE_MAX / 6 + 1, ONE, LIMITER_BAD_MEMORY) && all_refused(s, SIZE_MAX / 6 + 4, ONE + 2, LIMITER_BAD_MEMORY));
     /* 64 are not too many: the rate of the first is looked at. */
     CHECK(all_refused(s, 64, ONE + 128, LIMITER_BAD_AMOUNT));
     CHECK(all_refused(limiter_closed_settings(1), 64, ONE + 128, LIMITER_BAD_AMOUNT));

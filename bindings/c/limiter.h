@@ -376,14 +376,14 @@ limiter_reply limiter_length(limiter_settings s, const uint64_t *words, size_t l
  * same one. These three calls take the number of classes from the table and do not read s.classes. All other calls on the words are given settings with
  * s.classes = count (limiter_with_classes), and take no table; they neither ask nor charge a class. The buckets of the classes are never forgotten.
  *
- * The library's functions take the table as words, 6 for each class; these here count classes and call them. */
+ * The library's own functions take the table as words, 6 for each class. The three inline functions below count classes and call them. */
 limiter_reply limiter_table_set_up(limiter_settings s, const uint64_t *table, size_t table_len, uint64_t *words, size_t len)
     __asm__("limiter_class_set_up");
 limiter_reply limiter_table_clear(limiter_settings s, const uint64_t *table, size_t table_len, uint64_t *words, size_t len)
     __asm__("limiter_class_clear");
 limiter_reply limiter_table_try(limiter_settings s, const uint64_t *table, size_t table_len, uint64_t *words, size_t len, uint64_t now, uint64_t hash,
                                 uint64_t key, uint64_t named, uint32_t cost) __asm__("limiter_class_try");
-/* The names of the three below for the linker, which has theirs for the library's. */
+/* What the linker calls the inline functions: their own names are those of the library's. */
 static inline limiter_reply limiter_class_set_up(limiter_settings s, const limiter_class *classes, size_t count, uint64_t *words, size_t len)
     __asm__("limiter_counted_set_up");
 static inline limiter_reply limiter_class_clear(limiter_settings s, const limiter_class *classes, size_t count, uint64_t *words, size_t len)
@@ -391,10 +391,11 @@ static inline limiter_reply limiter_class_clear(limiter_settings s, const limite
 static inline limiter_reply limiter_class_try(limiter_settings s, const limiter_class *classes, size_t count, uint64_t *words, size_t len, uint64_t now,
                                               uint64_t hash, uint64_t key, uint64_t named, uint32_t cost) __asm__("limiter_counted_try");
 
-/* The words of a table of `count` classes. A count whose words no memory holds stays one: such a call is refused as 5, if not before. */
+/* The words of a table of `count` classes. More classes than memory can hold stay too many: the call is refused as 5, if not before. */
 static inline size_t limiter_table_words(size_t count)
 {
-    return count > SIZE_MAX / 6 ? SIZE_MAX : 6 * count;
+    const size_t most = PTRDIFF_MAX / sizeof(uint64_t);
+    return count > most / 6 ? most : 6 * count;
 }
 
 /* Makes the words an empty store with these classes, whose buckets are full. 0, or refused, in this order: as 1 to 4; 5 for the number of words; 14 for more
