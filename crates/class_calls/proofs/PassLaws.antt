@@ -20,6 +20,7 @@ use Rattle.bucket.specs.declared.Request.the-variants.{Through}
 use Rattle.bucket.specs.Bucket as Bucket
 use Rattle.settings.specs.declared.Limit.the-variants.{Closed}
 use Rattle.settings.specs.declared.Settings.{Settings}
+use Rattle.settings.specs.declared.decision.Decision.{Decision}
 use Rattle.settings.specs.declared.decision.Decision.the-variants.{Acquired, Retry, Impossible}
 use Rattle.settings.specs.declared.rate.Rate.{Rate}
 use Rattle.settings.specs.Rate.{configOf, burstOf}
@@ -28,11 +29,14 @@ use Rattle.settings.proofs.RateLaws.{accepted-rate}
 use Rattle.settings.proofs.SettingsLaws.{accepted-parts}
 use Rattle.classes.specs.Classes.{longestChain}
 use Rattle.classes.specs.Layout.{classCount, classesIn, bucketWidth, bucketsIn, wordsOfBuckets, wordsFor}
-use Rattle.classes.specs.Chains.{charged}
-use Rattle.classes.specs.Lent.{ChainLent, leastBurstIn, chainWaitIn, chargedIn}
+use Rattle.classes.specs.declared.ChainAnswer.{ChainAnswer}
+use Rattle.classes.specs.declared.ChainAnswer.the-variants.{Over, Wait}
+use Rattle.classes.specs.Chains.{leastBurst, answer, charged}
+use Rattle.classes.specs.Lent.{NamedLent, ChainLent, chargedIn}
+use Rattle.classes.proofs.AnswerLaws.{over-a-burst, within-the-bursts, wait-is-the-largest}
 use Rattle.classes.proofs.LayoutLaws.{class-count}
 use Rattle.classes.proofs.WordLaws.{words-of-buckets}
-use Rattle.classes.proofs.WholeChain.{accepted-chain-takes}
+use Rattle.classes.proofs.WholeChain.{accepted-class-is-named, accepted-chain-takes}
 use Rattle.shard_map.specs.Model.{Shard, Sound}
 use Rattle.shard.specs.declared.Identity.{Identity}
 use Rattle.shard.specs.Model as OneShard
@@ -46,7 +50,7 @@ use Rattle.rules.specs.declared.Reply.the-variants.{Tried}
 use Rattle.rules.specs.Asks.{Ask, passes, chainOf, asTry, replyTo, repliedAs, dueNow, closed, policyOf, askedIn, throughChain, passedIn, grantsSome, withTable}
 use Rattle.rules.specs.Rules.{shardOutcome, classesStored, classTry}
 use Rattle.rules.proofs.KeyedLaws.{PassesInTime, ask-not-refused, pass-in-time, not-refused-is-asked, in-shard-unchanged}
-use Rattle.class_calls.specs.code.Passing.{Passing, AtRate, Asking}
+use Rattle.class_calls.specs.code.Passing.{Passing, UnderChain, AtRate, Asking}
 
 module _ {s : Settings} {table : List ℕ} {at : Nanos} {id : Identity} {class cost : ℕ} {ws : List ℕ} {part : Part}
     (p : Passing s table at id class cost ws part) where
@@ -62,10 +66,6 @@ module _ {s : Settings} {table : List ℕ} {at : Nanos} {id : Identity} {class c
 
   in-time : PassesInTime (classesIn table) class at
   in-time = pass-in-time (classesIn table) class at (ask-not-refused given id ask ws (p .not-refused) .1)
-
-  -- The class buckets are the last words.
-  pub classes-fit : bucketWidth * classCount table ≤ length ws
-  classes-fit = omega (arith, call .set-up .size)
 
   -- What the call comes to, once the shard has answered: the class buckets are stored.
   abbrev stored : Outcome Reply (List ℕ) → Outcome Reply (List ℕ)
@@ -90,39 +90,93 @@ module _ {s : Settings} {table : List ℕ} {at : Nanos} {id : Identity} {class c
       let same = ap (inShard given (id .hash) ws) stays ∙ in-shard-unchanged given (id .hash) ws call told in
       pass-is-told (sym (ap stored same ∙ not-charged told ws refl none))
 
-  -- So it is with a cost over a burst on the chain,
-  pub over-chain-is-told : leastBurstIn table class longestChain < cost → outcome (Tried Impossible) ws ≡ classTry s table at id class cost ws
-  unfolding passedIn
-  over-chain-is-told more = unchanged-is-told (Tried Impossible) refl (rw (lt-ltb _ _ more))
+  -- The class buckets are the last words, in memory of this length. They are lent from the word after which as many words lie as they have.
+  module _ (ws′ : List ℕ) (same : length ws′ ≡ length ws) where
+    pub classes-fit : bucketWidth * classCount table ≤ length ws′
+    classes-fit = omega (arith, same, call .set-up .size)
 
-  -- and on a closed limiter.
-  module _ (under-chain : cost ≤ leastBurstIn table class longestChain) where
-    pub closed-is-told : {told : Reply} → s .limit ≡ Closed → told ≡ Tried (closed at cost) → outcome told ws ≡ classTry s table at id class cost ws
-    unfolding passedIn askedIn closed
-    closed-is-told is-limit is =
-        let grants-none : grantsSome cost (Tried (closed at cost)) ≡ false =
-        by-eq cost 0 (λ no-cost. rw (eq-eqb _ _ no-cost)) (λ some. rw (ne-eqb _ _ some)) in
-        rw is (unchanged-is-told (Tried (closed at cost)) grants-none (rw (le-ltb _ _ under-chain, is-limit)))
+    module _ (first : ℕ) (is-first : first + bucketWidth * classCount table ≡ length ws′) where
+      starts : first ≡ classesAt (shapeOf given)
+      starts = omega (arith, is-first, same, call .set-up .size)
+
+      many : length ws′ - first ≡ classWords (shapeOf given)
+      many = omega (arith, is-first)
+
+      abbrev lent : List ℕ
+      lent = segment first (length ws′ - first) ws′
+
+      lent-buckets : bucketsIn lent ≡ bucketsAt (shapeOf given) ws′
+      lent-buckets = rw (many, starts)
+
+      lent-length : length lent ≡ wordsFor (classesIn table)
+      lent-length =
+          segment-length first (length ws′ - first) ws′ (omega (arith, is-first)) ∙ many ∙ ap (λ (n : ℕ). bucketWidth * n) (sym (class-count table))
+
+  -- The chain may be asked.
+  abbrev answered : List BucketCore → ChainAnswer
+  answered bs = answer (classesIn table) cost at bs (chainOf (classesIn table) class)
+
+  module _ (first : ℕ) (is-first : first + bucketWidth * classCount table ≡ length ws) where
+    pub chain-may-be-asked : NamedLent table (lent ws refl first is-first) class
+    chain-may-be-asked = (accepted-class-is-named (classesIn table) class (in-time .accepted) (in-time .named), lent-length ws refl first is-first)
+
+    module _ {answer′ : ChainAnswer} (gave : answer′ ≡ answered (bucketsIn (lent ws refl first is-first))) where
+      chain-answers : answered (bucketsAt (shapeOf given) ws) ≡ answer′
+      chain-answers = sym (gave ∙ ap answered (lent-buckets ws refl first is-first))
+
+      pub chain-has-answered : {wait : Nanos} → answer′ ≡ Wait wait → UnderChain wait s table at id class cost ws part
+      chain-has-answered is = record { passing = p; answers = chain-answers ∙ is }
+
+      -- A cost over a burst on the chain leaves every word as it is.
+      pub over-is-told : answer′ ≡ Over → outcome (Tried Impossible) ws ≡ classTry s table at id class cost ws
+      unfolding passedIn
+      over-is-told is =
+          let more = over-a-burst (classesIn table) cost at (bucketsAt (shapeOf given) ws) (chainOf (classesIn table) class) (chain-answers ∙ is) in
+          unchanged-is-told (Tried Impossible) refl (rw (lt-ltb _ _ more))
+
+-- A cost that is not over a burst on the chain asks the key, with the wait of the chain in hand.
+module _ {wait : Nanos} {s : Settings} {table : List ℕ} {at : Nanos} {id : Identity} {class cost : ℕ} {ws : List ℕ} {part : Part}
+    (u : UnderChain wait s table at id class cost ws part) where
+  under-chain : cost ≤ leastBurst (classesIn table) (chainOf (classesIn table) class)
+  under-chain = within-the-bursts (classesIn table) cost at (bucketsAt (shapeOf (withTable table s)) ws) (chainOf (classesIn table) class) (u .answers)
+
+  through : throughChain (classesIn table) class at cost (bucketsAt (shapeOf (withTable table s)) ws) ≡ Through wait
+  through =
+      let largest = wait-is-the-largest (classesIn table) cost at (bucketsAt (shapeOf (withTable table s)) ws) (chainOf (classesIn table) class) (u .answers) in
+      sym (ap (λ (w : Nanos). Through w) largest)
+
+  asks-key : passed (u .passing) ≡ askedIn (Through wait) (s .limit) (withTable table s) at id cost (own (u .passing))
+  unfolding passedIn
+  asks-key = rw (le-ltb _ _ under-chain, through)
+
+  -- On a closed limiter it leaves every word as it is.
+  pub closed-is-told : {told : Decision} → s .limit ≡ Closed → told ≡ closed at cost → outcome (Tried told) ws ≡ classTry s table at id class cost ws
+  unfolding askedIn closed
+  closed-is-told is-limit is =
+      let grants-none : grantsSome cost (Tried (closed at cost)) ≡ false =
+      by-eq cost 0 (λ no-cost. rw (eq-eqb _ _ no-cost)) (λ some. rw (ne-eqb _ _ some)) in
+      rw is (unchanged-is-told (u .passing) (Tried (closed at cost)) grants-none (asks-key ∙ rw is-limit))
 
 -- Where there is a rate, so it is with a cost over its burst and with cost 0.
-module _ {rate : Rate} {s : Settings} {table : List ℕ} {at : Nanos} {id : Identity} {class cost : ℕ} {ws : List ℕ} {part : Part}
-    (a : AtRate rate s table at id class cost ws part) where
+module _ {rate : Rate} {wait : Nanos} {s : Settings} {table : List ℕ} {at : Nanos} {id : Identity} {class cost : ℕ} {ws : List ℕ} {part : Part}
+    (a : AtRate rate wait s table at id class cost ws part) where
   pub too-much-is-told : burstOf rate < cost → outcome (Tried Impossible) ws ≡ classTry s table at id class cost ws
-  unfolding passedIn askedIn
-  too-much-is-told more = unchanged-is-told (a .passing) (Tried Impossible) refl (rw (le-ltb _ _ (a .under-chain), a .is-limit, lt-ltb _ _ more))
+  unfolding askedIn
+  too-much-is-told more =
+      unchanged-is-told (a .under .passing) (Tried Impossible) refl (asks-key (a .under) ∙ rw (a .is-limit, lt-ltb _ _ more))
 
   pub nothing-is-granted : {due : Due} → cost ≤ burstOf rate → cost ≡ 0 → due ≡ dueNow at
       → outcome (Tried (Acquired due)) ws ≡ classTry s table at id class cost ws
-  unfolding passedIn askedIn
+  unfolding askedIn
   nothing-is-granted within no-cost is =
-      rw is (unchanged-is-told (a .passing) (Tried (Acquired (dueNow at))) (rw (eq-eqb _ _ no-cost))
-      (rw (le-ltb _ _ (a .under-chain), a .is-limit, le-ltb _ _ within, eq-eqb _ _ no-cost)))
+      rw is (unchanged-is-told (a .under .passing) (Tried (Acquired (dueNow at))) (rw (eq-eqb _ _ no-cost))
+      (asks-key (a .under) ∙ rw (a .is-limit, le-ltb _ _ within, eq-eqb _ _ no-cost)))
 
 -- Any other asks the key's bucket, which may be asked.
-module _ {rate : Rate} {s : Settings} {table : List ℕ} {at : Nanos} {id : Identity} {class cost : ℕ} {ws : List ℕ} {part : Part}
-    (a : Asking rate s table at id class cost ws part) where
+module _ {rate : Rate} {wait : Nanos} {s : Settings} {table : List ℕ} {at : Nanos} {id : Identity} {class cost : ℕ} {ws : List ℕ} {part : Part}
+    (a : Asking rate wait s table at id class cost ws part) where
   abbrev p : Passing s table at id class cost ws part
-  p = a .at-rate .passing
+  p = a .at-rate .under .passing
 
   pub bucket-may-be-asked : Placed part ws × Sound (shardIn part ws) × Bucket.Accepted (configOf rate) × (cost ≤ configOf rate .capacity)
   bucket-may-be-asked =
@@ -130,59 +184,45 @@ module _ {rate : Rate} {s : Settings} {table : List ℕ} {at : Nanos} {id : Iden
       let rated = accepted-rate rate (rw (a .at-rate .is-limit) at (accepted-parts (given p) (call p .set-up .settings) .0)) in
       (placed .0, placed .1, rated, a .within)
 
-  -- The class buckets begin at the word after which as many words lie as they have. In memory of the same length they are lent from there.
-  module _ (first : ℕ) (is-first : first + bucketWidth * classCount table ≡ length ws) where
-    starts : first ≡ classesAt (shapeOf (given p))
-    starts = omega (arith, is-first, call p .set-up .size)
+  -- What the store answers is what the rule answers in the key's shard.
+  module _ {decision : BucketDecision} {ws′ : List ℕ} (same : length ws′ ≡ length ws)
+      (gave : outcome decision ws′ ≡ inPart part ws (OneShard.withOrInsert (policyOf s rate) id (Through wait) cost at (shardIn part ws))) where
+    in-shard : passed p ≡ repliedAs (replyTo asTry) (OneShard.withOrInsert (policyOf s rate) id (Through wait) cost at (own p))
+    unfolding askedIn
+    in-shard = asks-key (a .at-rate .under) ∙ rw (a .at-rate .is-limit, le-ltb _ _ (a .within), ne-eqb _ _ (a .some))
 
-    many : length ws - first ≡ classWords (shapeOf (given p))
-    many = omega (arith, is-first)
+    shard-answers : outcome (replyTo asTry decision) ws′ ≡ shardOutcome (shapeOf (given p)) (given p) id (ask p) ws
+    shard-answers =
+        ap (λ (o : Outcome BucketDecision (List ℕ)). outcome (replyTo asTry (o .answer)) (o .after)) (rw (p .is-part) at gave)
+        ∙ ap (inShard (given p) (id .hash) ws) (sym in-shard)
 
-    abbrev lent : List ℕ → List ℕ
-    lent ws′ = segment first (length ws - first) ws′
+    -- A denial leaves the class buckets as they are.
+    pub denied-is-told : {after : Due} → decision ≡ Denied after → outcome (Tried (Retry after)) ws′ ≡ classTry s table at id class cost ws
+    denied-is-told {after} is = pass-is-told p (sym (not-charged p (Tried (Retry after)) ws′ same refl) ∙ ap (stored p) (rw is at shard-answers))
 
-    lent-buckets : (ws′ : List ℕ) → bucketsIn (lent ws′) ≡ bucketsAt (shapeOf (given p)) ws′
-    lent-buckets ws′ = rw (many, starts)
+    -- A grant charges the chain: its buckets are lent, and come back in their place.
+    pub buckets-fit : bucketWidth * classCount table ≤ length ws′
+    buckets-fit = classes-fit p ws′ same
 
-    lent-length : (ws′ : List ℕ) → length ws′ ≡ length ws → length (lent ws′) ≡ wordsFor (classesIn table)
-    lent-length ws′ same =
-        segment-length first (length ws - first) ws′ (omega (arith, is-first, same)) ∙ many ∙ ap (λ (n : ℕ). bucketWidth * n) (sym (class-count table))
+    module _ (first : ℕ) (is-first : first + bucketWidth * classCount table ≡ length ws′) where
+      abbrev buckets : List ℕ
+      buckets = lent p ws′ same first is-first
 
-    pub chain-may-be-asked : (ws′ : List ℕ) → length ws′ ≡ length ws → ChainLent table (lent ws′) class longestChain cost
-    chain-may-be-asked ws′ same =
-        let takes = accepted-chain-takes (classesIn table) longestChain class cost (in-time p .accepted) (in-time p .named) (a .at-rate .under-chain) in
-        (takes, lent-length ws′ same)
+      abbrev chargedFrom : List BucketCore → List BucketCore
+      chargedFrom bs = charged (classesIn table) cost at bs (chainOf (classesIn table) class)
 
-    abbrev chargedFrom : List BucketCore → List BucketCore
-    chargedFrom bs = charged (classesIn table) cost at bs (chainOf (classesIn table) class)
+      pub chain-may-be-charged : ChainLent table buckets class longestChain cost
+      chain-may-be-charged =
+          let time = in-time p in
+          let takes = accepted-chain-takes (classesIn table) longestChain class cost (time .accepted) (time .named) (under-chain (a .at-rate .under)) in
+          (takes, lent-length p ws′ same first is-first)
 
-    -- What the store answers, with the wait of the chain in hand, is what the rule answers in the key's shard.
-    module _ {wait : Nanos} {decision : BucketDecision} {ws′ : List ℕ} (is-wait : wait .0 ≡ chainWaitIn table (lent ws) class longestChain cost at)
-        (gave : outcome decision ws′ ≡ inPart part ws (OneShard.withOrInsert (policyOf s rate) id (Through wait) cost at (shardIn part ws)))
-        (same : length ws′ ≡ length ws) where
-      through : Through wait ≡ throughChain (classesIn table) class at cost (bucketsAt (shapeOf (given p)) ws)
-      through = ap (λ (n : ℕ). Through (record { 0 = n })) (rw (lent-buckets ws) at is-wait)
-
-      in-shard : passed p ≡ repliedAs (replyTo asTry) (OneShard.withOrInsert (policyOf s rate) id (Through wait) cost at (own p))
-      unfolding passedIn askedIn
-      in-shard = rw (le-ltb _ _ (a .at-rate .under-chain), a .at-rate .is-limit, le-ltb _ _ (a .within), ne-eqb _ _ (a .some), through)
-
-      shard-answers : outcome (replyTo asTry decision) ws′ ≡ shardOutcome (shapeOf (given p)) (given p) id (ask p) ws
-      shard-answers =
-          ap (λ (o : Outcome BucketDecision (List ℕ)). outcome (replyTo asTry (o .answer)) (o .after)) (rw (p .is-part) at gave)
-          ∙ ap (inShard (given p) (id .hash) ws) (sym in-shard)
-
-      -- A denial leaves the class buckets as they are.
-      pub denied-is-told : {after : Due} → decision ≡ Denied after → outcome (Tried (Retry after)) ws′ ≡ classTry s table at id class cost ws
-      denied-is-told {after} is = pass-is-told p (sym (not-charged p (Tried (Retry after)) ws′ same refl) ∙ ap (stored p) (rw is at shard-answers))
-
-      -- A grant charges the chain: its buckets come back in their place.
-      pub granted-is-told : {due : Due} → decision ≡ Allowed due → (ys : List ℕ) → length ys ≡ length (lent ws′)
-          → bucketsIn ys ≡ chargedIn table (lent ws′) class longestChain cost at
-          → outcome (Tried (Acquired due)) (putMid first (length ws - first) ws′ ys) ≡ classTry s table at id class cost ws
+      pub granted-is-told : {due : Due} → decision ≡ Allowed due → (ys : List ℕ) → length ys ≡ length buckets
+          → bucketsIn ys ≡ chargedIn table buckets class longestChain cost at
+          → outcome (Tried (Acquired due)) (putMid first (length ws′ - first) ws′ ys) ≡ classTry s table at id class cost ws
       granted-is-told {due} is ys size gave-buckets =
-          let words = words-of-buckets (length (classesIn table)) ys (size ∙ lent-length ws′ same) in
-          let written = sym words ∙ ap wordsOfBuckets (gave-buckets ∙ ap chargedFrom (lent-buckets ws′)) in
-          let put : outcome (Tried (Acquired due)) (putMid first (length ws - first) ws′ ys) ≡ stored p (outcome (Tried (Acquired due)) ws′) =
-          rw (many, starts, ne-eqb _ _ (a .some), written) in
+          let words = words-of-buckets (length (classesIn table)) ys (size ∙ lent-length p ws′ same first is-first) in
+          let written = sym words ∙ ap wordsOfBuckets (gave-buckets ∙ ap chargedFrom (lent-buckets p ws′ same first is-first)) in
+          let put : outcome (Tried (Acquired due)) (putMid first (length ws′ - first) ws′ ys) ≡ stored p (outcome (Tried (Acquired due)) ws′) =
+          rw (many p ws′ same first is-first, starts p ws′ same first is-first, ne-eqb _ _ (a .some), written) in
           pass-is-told p (put ∙ ap (stored p) (rw is at shard-answers))

@@ -12,9 +12,10 @@ ghost use Rattle.shard.specs.Model as OneShard;
 ghost use Rattle.store.specs.Memory.{Placed, shardIn, inPart};
 ghost use Rattle.rules.specs.Asks.{policyOf, furtherThrough};
 ghost use Rattle.rules.specs.Rules as Rules;
-ghost use Rattle.class_calls.specs.code.Passing.{Passing, AtRate, Asking};
+ghost use Rattle.class_calls.specs.code.Passing.{Passing, UnderChain, AtRate, Asking};
 use bucket::BucketDecision;
 use bucket::Request;
+use classes::ChainAnswer;
 use rows::Place;
 use rules::Reply;
 use settings::Limit;
@@ -85,7 +86,7 @@ fn further_refusal(table: &[u64], at: Nanos, class: usize) -> u32
     refusals::first_refusal(late, refusals::first_refusal(unsound, unknown))
 }
 
-// A try that is not refused. A cost over a burst on the chain is never granted.
+// A try that is not refused. The classes are asked before the store: it does not write their words, and a refusal for space does not use their wait.
 fn pass(
     settings: Settings,
     table: &[u64],
@@ -99,13 +100,38 @@ fn pass(
     requires { ⌜ Passing settings (now table) at id class cost (now ws) part ⌝ }
     ensures { λ r. ⌜ outcome r (now (ws .exit)) ≡ Rules.classTry settings (now (table .entry)) at id class cost (now (ws .entry)) ⌝ }
 {
-    if classes::least_burst(table, class, classes::LONGEST_CHAIN) < cost {
-        return Reply::Tried(Decision::Impossible);
+    let first = classes_at(table, ws);
+    let end = ws.len();
+    let longest = classes::LONGEST_CHAIN;
+    match classes::ask_chain(table, &ws[first..end], class, longest, cost, at) {
+        ChainAnswer::Over => Reply::Tried(Decision::Impossible),
+        ChainAnswer::Wait(wait) => {
+            pass_chain(settings, table, ws, part, at, id, class, cost, wait)
+        }
     }
+}
+
+// No burst on the chain is less than the cost. `wait` is the largest wait of its classes.
+fn pass_chain(
+    settings: Settings,
+    table: &[u64],
+    ws: &mut [u64],
+    part: Part,
+    at: Nanos,
+    id: Identity,
+    class: usize,
+    cost: u32,
+    wait: Nanos,
+) -> Reply
+    requires { ⌜ UnderChain wait settings (now table) at id class cost (now ws) part ⌝ }
+    ensures { λ r. ⌜ outcome r (now (ws .exit)) ≡ Rules.classTry settings (now (table .entry)) at id class cost (now (ws .entry)) ⌝ }
+{
     let limit = settings.limit;
     match limit {
         Limit::Closed => Reply::Tried(rules::closed(at, cost)),
-        Limit::Open(rate) => pass_at_rate(settings, rate, table, ws, part, at, id, class, cost),
+        Limit::Open(rate) => {
+            pass_at_rate(settings, rate, table, ws, part, at, id, class, cost, wait)
+        }
     }
 }
 
@@ -120,8 +146,9 @@ fn pass_at_rate(
     id: Identity,
     class: usize,
     cost: u32,
+    wait: Nanos,
 ) -> Reply
-    requires { ⌜ AtRate rate settings (now table) at id class cost (now ws) part ⌝ }
+    requires { ⌜ AtRate rate wait settings (now table) at id class cost (now ws) part ⌝ }
     ensures { λ r. ⌜ outcome r (now (ws .exit)) ≡ Rules.classTry settings (now (table .entry)) at id class cost (now (ws .entry)) ⌝ }
 {
     if rate.capacity() < cost {
@@ -130,12 +157,11 @@ fn pass_at_rate(
     if cost == 0 {
         return Reply::Tried(Decision::Acquired(rules::due_now(at)));
     }
-    ask_all(settings, rate, table, ws, part, at, id, class, cost)
+    pass_key(settings, rate, table, ws, part, at, id, class, cost, wait)
 }
 
-// Asks the key's bucket, with the largest wait of the chain in hand, and charges the chain if that grants. The classes are asked before the store: it does not
-// write their words, and a refusal for space does not use their wait.
-fn ask_all(
+// Asks the key's bucket, with the wait of the chain in hand, and charges the chain if it grants.
+fn pass_key(
     settings: Settings,
     rate: Rate,
     table: &[u64],
@@ -145,20 +171,11 @@ fn ask_all(
     id: Identity,
     class: usize,
     cost: u32,
+    wait: Nanos,
 ) -> Reply
-    requires { ⌜ Asking rate settings (now table) at id class cost (now ws) part ⌝ }
+    requires { ⌜ Asking rate wait settings (now table) at id class cost (now ws) part ⌝ }
     ensures { λ r. ⌜ outcome r (now (ws .exit)) ≡ Rules.classTry settings (now (table .entry)) at id class cost (now (ws .entry)) ⌝ }
 {
-    let first = classes_at(table, ws);
-    let end = ws.len();
-    let wait = classes::chain_wait(
-        table,
-        &ws[first..end],
-        class,
-        classes::LONGEST_CHAIN,
-        cost,
-        at,
-    );
     match ask(
         settings,
         rate,
@@ -170,14 +187,10 @@ fn ask_all(
         cost,
     ) {
         BucketDecision::Allowed(due) => {
-            classes::charge(
-                table,
-                &mut ws[first..end],
-                class,
-                classes::LONGEST_CHAIN,
-                cost,
-                at,
-            );
+            let first = classes_at(table, ws);
+            let end = ws.len();
+            let longest = classes::LONGEST_CHAIN;
+            classes::charge(table, &mut ws[first..end], class, longest, cost, at);
             Reply::Tried(Decision::Acquired(due))
         }
         BucketDecision::Denied(after) => Reply::Tried(Decision::Retry { after }),

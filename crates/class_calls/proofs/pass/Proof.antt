@@ -1,56 +1,73 @@
--- `pass` goes by the least burst of the chain, then by the limit, as the rule does.
-use mathlib.Core.Path.{ap}
-use Rattle.settings.specs.declared.decision.Decision.{Decision}
-use Rattle.rules.specs.declared.Reply.the-variants.{Tried}
-use Rattle.class_calls.proofs.PassLaws.{over-chain-is-told, closed-is-told}
+-- `pass` asks the chain, and goes by its answer.
+use mathlib.Core.Path.{refl}
+use Rattle.class_calls.proofs.PassLaws.{classes-fit, chain-may-be-asked, chain-has-answered, over-is-told}
 use borrow.Author.Needs.{needs}
 use Rattle.class_calls.proofs.pass.Statement.{statement}
 use Rattle.class_calls.proofs.pass.Tie as tie
 
-least-burst-requires : tie.Need-least-burst-requires
-least-burst-requires c κs = search needs
+-- Where the call began, as seen once the first word of the class buckets is found.
+abbrev start : tie.After-classes-at → tie.Start
+start f = f .before .before .before .before
 
-returns : tie.Need-returns
-returns c = over-chain-is-told (c .before .before .before .before .pre) (rw (c .before .least-burst .ensures) at (c .if1 .taken))
+classes-at-requires : tie.Need-classes-at-requires
+classes-at-requires c κs = let s = c .before .before .before in classes-fit (s .pre) (s .args .ws .now) refl
+
+mul-ask-chain : tie.Need-mul-ask-chain
+mul-ask-chain c = search needs
+
+sub-ask-chain : tie.Need-sub-ask-chain
+sub-ask-chain c = search needs
+
+part-ask-chain-start : tie.Need-part-ask-chain-start
+part-ask-chain-start c = search needs
+
+part-ask-chain-end : tie.Need-part-ask-chain-end
+part-ask-chain-end c = search needs
+
+ask-chain-requires : tie.Need-ask-chain-requires
+ask-chain-requires c κs = let f = c .before .before in chain-may-be-asked (start f .pre) _ (f .classes-at .ensures)
 
 enum-told : tie.Need-enum-told
 enum-told c = search needs
 
-closed-requires : tie.Need-closed-requires
-closed-requires c κs = search needs
+enum-known-wait : tie.Need-enum-known-wait
+enum-known-wait c = search needs
 
-enum-known-limit : tie.Need-enum-known-limit
-enum-known-limit c = search needs
-
-pass-at-rate-requires : tie.Need-pass-at-rate-requires
-pass-at-rate-requires c κs =
-    let e = c .before .before .before .before in
-    let under-chain′ = rw (e .before .least-burst .ensures) at (e .if1 .left) in
-    record { passing = e .before .before .before .before .pre; is-limit = c .before .before .limit .given .1; under-chain = under-chain′ }
-
-returns-2 : tie.Need-returns-2
-returns-2 c =
-    let e = c .before .before .before in
-    let under-chain′ = rw (e .before .least-burst .ensures) at (e .if1 .left) in
-    let told = ap (λ (d : Decision). Tried d) (c .closed .ensures) in
-    closed-is-told (e .before .before .before .before .pre) under-chain′ (c .before .enum-told .given .1) told
+pass-chain-requires : tie.Need-pass-chain-requires
+pass-chain-requires c κs =
+    let a = c .before .before .before .before in
+    let f = a .before .before .before in
+    chain-has-answered (start f .pre) _ (f .classes-at .ensures) (a .ask-chain .ensures) (c .before .before .wait .given .1)
 
 same-length : tie.Need-same-length
 same-length c = search needs
 
-returns-3 : tie.Need-returns-3
-returns-3 c = search needs
+returns : tie.Need-returns
+returns c =
+    let a = c .before .before in
+    let f = a .before .before .before in
+    over-is-told (start f .pre) _ (f .classes-at .ensures) (a .ask-chain .ensures) (c .enum-told .given .1)
+
+same-length-2 : tie.Need-same-length-2
+same-length-2 c = search needs
+
+returns-2 : tie.Need-returns-2
+returns-2 c = c .before .before .pass-chain .ensures
 
 pub pass-spec : {M : Type 1} → statement M
 pass-spec =
     tie.close
     (tie.spec
-    least-burst-requires
-    returns
+    classes-at-requires
+    mul-ask-chain
+    sub-ask-chain
+    part-ask-chain-start
+    part-ask-chain-end
+    ask-chain-requires
     enum-told
-    closed-requires
-    enum-known-limit
-    pass-at-rate-requires
-    returns-2
+    enum-known-wait
+    pass-chain-requires
     same-length
-    returns-3)
+    returns
+    same-length-2
+    returns-2)

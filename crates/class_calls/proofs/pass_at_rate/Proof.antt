@@ -19,8 +19,8 @@ returns-2 c =
     let k = t .before .before in
     nothing-is-granted (k .before .before .before .pre) (rw (k .capacity .ensures) at (t .before .if1 .left)) (t .if2 .taken) (c .due-now .ensures)
 
-ask-all-requires : tie.Need-ask-all-requires
-ask-all-requires c κs =
+pass-key-requires : tie.Need-pass-key-requires
+pass-key-requires c κs =
     let e = c .before in
     let k = e .before .before in
     record { at-rate = k .before .before .before .pre; within = rw (k .capacity .ensures) at (e .before .if1 .left); some = e .if2 .left }
@@ -29,7 +29,7 @@ same-length : tie.Need-same-length
 same-length c = search needs
 
 returns-3 : tie.Need-returns-3
-returns-3 c = search needs
+returns-3 c = c .before .before .pass-key .ensures
 
 pub pass-at-rate-spec : {M : Type 1} → statement M
 pass-at-rate-spec =
@@ -39,6 +39,6 @@ pass-at-rate-spec =
     returns
     due-now-requires
     returns-2
-    ask-all-requires
+    pass-key-requires
     same-length
     returns-3)
