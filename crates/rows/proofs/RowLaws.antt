@@ -116,7 +116,8 @@ module _ {A : Type 0} (write : A → List ℕ) (w : ℕ) (long : (x : A) → len
   written-length (x ∷ items) = rw (length-append, long x, written-length items, mul-suc) (omega arith)
 
   -- `read` makes an item of its words. The rows of written items, read, are the items.
-  pub rows-of-written : (read : List ℕ → A) → ((x : A) → read (write x) ≡ x) → (items : List A) → map read (rows w (length items) (unrow (map write items))) ≡ items
+  pub rows-of-written : (read : List ℕ → A) → ((x : A) → read (write x) ≡ x) → (items : List A)
+      → map read (rows w (length items) (unrow (map write items))) ≡ items
   unfolding rows unrow
   rows-of-written read back [] = refl
   rows-of-written read back (x ∷ items) =
