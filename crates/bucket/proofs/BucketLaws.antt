@@ -13,9 +13,10 @@ use Rattle.units.specs.declared.Nanos.{Nanos}
 use Rattle.bucket.specs.declared.BucketConfig.{BucketConfig}
 use Rattle.bucket.specs.declared.BucketCore.{BucketCore}
 use Rattle.bucket.specs.declared.Request.{Request}
+use Rattle.bucket.specs.declared.Request.the-variants.{Acquire, Reserve, Through}
 use Rattle.bucket.specs.declared.BucketDecision.the-variants.{Allowed, Denied}
 use Rattle.bucket.specs.Bucket.{Accepted, partsOf, fullParts, mostShortfall, readShortfall, shortfallAt, availableAt, fullAt, lackFor, grown, waitAt}
-use Rattle.bucket.specs.Bucket.{recoveryOf, recoveryAt, dueAfter, dueAt, spent, longestWait, isTry, asked, refunded}
+use Rattle.bucket.specs.Bucket.{recoveryOf, recoveryAt, dueAfter, spent, longestWait, waitTo, requestWait, requestDue, turnsAway, asked, refunded}
 use Rattle.bucket.specs.declared.Due.{Due}
 use Rattle.bucket.proofs.Worked as Worked
 
@@ -143,30 +144,42 @@ recovery-from-the-stamp-on b at a passed =
 pub due-by-number : (at wait : Nanos) {n : ℕ} → wait .0 ≡ n → dueAfter at wait ≡ dueAfter at (record { 0 = n })
 due-by-number at wait e = ap (λ (n : ℕ). dueAfter at (record { 0 = n })) e
 
--- The two answers to a request: granted and charged where the wait is within its longest wait, else denied with the bucket as it was.
-pub granted-within-longest : (c : BucketConfig) (request : Request) (b : BucketCore) (cost : ℕ) (at : Nanos) → waitAt c b cost at ≤ longestWait request →
-    asked c request b cost at ≡ record { decision = Allowed (dueAt c b cost at); bucket = spent c b cost at; «turns_away» = false }
-unfolding asked
-granted-within-longest c request b cost at h = rw (le-leb _ _ h)
+-- The two answers to a request: granted and charged where its wait is within its longest wait, else denied with the bucket as it was.
+module _ (c : BucketConfig) (request : Request) (b : BucketCore) (cost : ℕ) (at : Nanos) where
+  pub granted-within-longest : requestWait c request b cost at ≤ longestWait request
+      → asked c request b cost at ≡ record { decision = Allowed (requestDue c request b cost at); bucket = spent c b cost at; «turns_away» = false }
+  unfolding asked
+  granted-within-longest h = rw (le-leb _ _ h)
 
-pub denied-beyond-longest : (c : BucketConfig) (request : Request) (b : BucketCore) (cost : ℕ) (at : Nanos) → longestWait request < waitAt c b cost at →
-    asked c request b cost at ≡ record { decision = Denied (dueAt c b cost at); bucket = b; «turns_away» = isTry request }
-unfolding asked
-denied-beyond-longest c request b cost at h = rw (lt-leb _ _ h)
+  pub denied-beyond-longest : longestWait request < requestWait c request b cost at
+      → asked c request b cost at
+      ≡ record { decision = Denied (requestDue c request b cost at); bucket = b; «turns_away» = turnsAway request (waitAt c b cost at) }
+  unfolding asked
+  denied-beyond-longest h = rw (lt-leb _ _ h)
+
+-- A request that is granted waits for its own bucket alone: where other buckets let it wait, it is denied.
+pub granted-waits-own : (request : Request) (own : ℕ) → waitTo request own ≤ longestWait request → waitTo request own ≡ own
+granted-waits-own Acquire own within = refl
+granted-waits-own (Reserve longest) own within = refl
+granted-waits-own (Through others) own within = omega arith
 
 -- The same as the code comes to it: the wait by its number, and the bucket as it was worked out before.
-module _ (c : BucketConfig) (request : Request) (b : BucketCore) (cost : ℕ) (at : Nanos) {wait : Nanos} {due : Due}
-    (is-wait : wait .0 ≡ waitAt c b cost at) (is-due : due ≡ dueAfter at wait) where
-  pub due-is-told : due ≡ dueAt c b cost at
-  due-is-told = is-due ∙ due-by-number at wait is-wait
+module _ (c : BucketConfig) (request : Request) (b : BucketCore) (cost : ℕ) (at : Nanos) {own wait : Nanos} {due : Due}
+    (is-own : own .0 ≡ waitAt c b cost at) (is-wait : wait .0 ≡ waitTo request (own .0)) (is-due : due ≡ dueAfter at wait) where
+  wait-is : wait .0 ≡ requestWait c request b cost at
+  wait-is = is-wait ∙ ap (waitTo request) is-own
+
+  due-is-told : due ≡ requestDue c request b cost at
+  due-is-told = is-due ∙ due-by-number at wait wait-is
 
   pub grant-is-told : {after : BucketCore} → after ≡ spent c b cost at → wait .0 ≤ longestWait request
       → record { decision = Allowed due; bucket = after; «turns_away» = false } ≡ asked c request b cost at
-  grant-is-told is-after within = rw (due-is-told, is-after) (sym (granted-within-longest c request b cost at (rw is-wait at within)))
+  grant-is-told is-after within = rw (due-is-told, is-after) (sym (granted-within-longest c request b cost at (rw wait-is at within)))
 
-  pub denial-is-told : {turned : Bool} → turned ≡ isTry request → longestWait request < wait .0
+  pub denial-is-told : {turned : Bool} → turned ≡ turnsAway request (own .0) → longestWait request < wait .0
       → record { decision = Denied due; bucket = b; «turns_away» = turned } ≡ asked c request b cost at
-  denial-is-told is-turned beyond = rw (due-is-told, is-turned) (sym (denied-beyond-longest c request b cost at (rw is-wait at beyond)))
+  denial-is-told is-turned beyond =
+      rw (due-is-told, is-turned, is-own) (sym (denied-beyond-longest c request b cost at (rw wait-is at beyond)))
 
 -- From one moment to a later one no more comes back than the amount for each nanosecond between them. Bounds over a span of time rest on this.
 pub shortfall-falls-slowly : (c : BucketConfig) (b : BucketCore) (earlier later : Nanos) → earlier .0 ≤ later .0 →

@@ -6,6 +6,7 @@ use mathlib.Core.Path.{_≡_, ap, sym, _∙_}
 use mathlib.Core.Bool.{true, false}
 use native.Mathlib.Nat.{mul-le-mul-right}
 use native.Mathlib.Omega.{arith}
+use borrow.Author.Tests.{ne-eqb}
 use Rattle.arith.specs.Arith.{ceilDiv}
 use Rattle.arith.proofs.Cases.{by-le}
 use Rattle.arith.proofs.DivisionLaws.{ceilDiv-reaches, ceilDiv-within}
@@ -17,7 +18,8 @@ use Rattle.bucket.specs.declared.Request.the-variants.{Acquire}
 use Rattle.bucket.specs.declared.BucketDecision.{BucketDecision}
 use Rattle.bucket.specs.declared.BucketDecision.the-variants.{Allowed, Denied}
 use Rattle.bucket.specs.declared.Due.{Due}
-use Rattle.bucket.specs.Bucket.{Accepted, partsOf, fullParts, shortfallAt, lackFor, waitAt, dueAfter, dueAt, spent, longestWait, asked}
+use Rattle.bucket.specs.Bucket.{Accepted, partsOf, fullParts, shortfallAt, lackFor, waitAt, dueAfter, dueAt, spent, longestWait, requestWait, requestDue}
+use Rattle.bucket.specs.Bucket.{asked}
 use Rattle.bucket.proofs.BucketLaws.{parts-within, no-wait-stays-none, wait-grows, no-cost-no-wait, wait-for-lack, enough-no-wait}
 use Rattle.bucket.proofs.BucketLaws.{granted-within-longest, denied-beyond-longest}
 
@@ -95,18 +97,21 @@ module _ {c : BucketConfig} (b : BucketCore) (cost : ℕ) (at : Nanos) (a : Acce
         let none : 0 ≡ waitAt c b cost t = enough-no-wait b cost t a (enough-from-told-on waits below t since) in
         granted-within-longest c Acquire b cost t (omega arith) ∙ rw (← none);
     denied = λ t before.
-        denied-beyond-longest c Acquire b cost t (short-waits t (costs-some waits) (lacking-before-told waits below t before));
+        let late : 0 < waitAt c b cost t = short-waits t (costs-some waits) (lacking-before-told waits below t before) in
+        denied-beyond-longest c Acquire b cost t late ∙ rw (ne-eqb (waitAt c b cost t) 0 (λ none. omega (arith, none, late)));
   }
 
-  -- So it is with every denial, of a try and of a reservation: the moment that it tells is the first at which a try is granted. A reservation that waits may be
-  -- granted before.
-  pub denial-tells-the-first-moment : (request : Request) (due : Due) → asked c request b cost at .decision ≡ Denied due → due .moment .0 < 2 ^ 64 - 1
-      → FirstGranted c b cost (due .moment)
-  denial-tells-the-first-moment request due denied below =
-      by-le (waitAt c b cost at) (longestWait request)
+  -- So it is with every denial, of a try and of a reservation, that waits for this bucket and not longer for others: the moment that it tells is the first at
+  -- which a try is granted. A reservation that waits may be granted before.
+  pub denial-tells-the-first-moment : (request : Request) (due : Due) → requestWait c request b cost at ≡ waitAt c b cost at
+      → asked c request b cost at .decision ≡ Denied due → due .moment .0 < 2 ^ 64 - 1 → FirstGranted c b cost (due .moment)
+  denial-tells-the-first-moment request due alone denied below =
+      by-le (requestWait c request b cost at) (longestWait request)
       (λ soon. allowed-is-no-denial (sym (ap (λ o. o .decision) (granted-within-longest c request b cost at soon)) ∙ denied))
       (λ late.
-      let is : dueAt c b cost at ≡ due = told-by-denial (sym (ap (λ o. o .decision) (denied-beyond-longest c request b cost at late)) ∙ denied) in
+      let told-so : requestDue c request b cost at ≡ due =
+      told-by-denial (sym (ap (λ o. o .decision) (denied-beyond-longest c request b cost at late)) ∙ denied) in
+      let is : dueAt c b cost at ≡ due = rw alone at told-so in
       let same : told ≡ due .moment = ap (λ (d : Due). d .moment) is in
       let waits : 0 < waitAt c b cost at = omega arith in
       rw (← same) (told-moment-is-the-first waits (rw (← same) at below)))

@@ -1,14 +1,14 @@
 -- Worked examples of the bucket and of a restored debt, computed from the definitions.
 use Prim.Native.Nat.{ℕ, _-_, _^_}
 use mathlib.Core.Path.{_≡_, refl}
-use mathlib.Core.Bool.{true, false}
+use mathlib.Core.Bool.{Bool, true, false}
 use Rattle.arith.specs.Arith.{ceilDiv}
 use Rattle.units.specs.declared.Nanos.{Nanos}
 use Rattle.bucket.specs.declared.BucketConfig.{BucketConfig}
 use Rattle.bucket.specs.declared.BucketCore.{BucketCore}
 use Rattle.bucket.specs.declared.BucketDecision.the-variants.{Allowed, Denied}
 use Rattle.bucket.specs.declared.BucketOutcome.{BucketOutcome}
-use Rattle.bucket.specs.declared.Request.the-variants.{Acquire, Reserve}
+use Rattle.bucket.specs.declared.Request.the-variants.{Acquire, Reserve, Through}
 use Rattle.bucket.specs.Bucket.{shortfallAt, availableAt, fresh, grown, waitAt, dueAfter, dueAt, recoveryAt, spent, asked}
 use Rattle.bucket.specs.Debt.{takenOut, lacking, restored}
 
@@ -132,3 +132,32 @@ wait-is-held = refl
 pub moment-is-held : dueAt twoPerSecond farAhead 4 (record { 0 = 2000000001 }) ≡ record { wait = record { 0 = last - 1 }; moment = record { 0 = last } }
 unfolding ceilDiv shortfallAt grown waitAt
 moment-is-held = refl
+
+-- A try through other buckets, of a bucket that lets 1 token wait half a second. Where the others wait less, it waits for its own bucket, which turns it away.
+-- Where they wait longer, it waits for them, and is turned away all the same. A full bucket grants where the others have no wait; where they have one, it is
+-- denied, charges nothing and turns nobody away.
+abbrev through : ℕ → BucketCore → BucketOutcome
+through others b = asked twoPerSecond (Through (record { 0 = others })) b 1 start
+
+abbrev deniedFor : ℕ → BucketCore → Bool → BucketOutcome
+deniedFor wait b away = record { decision = Denied (dueAfter start (record { 0 = wait })); bucket = b; «turns_away» = away }
+
+pub own-bucket-waits-longer : through 1000 empty ≡ deniedFor 500000000 empty true
+unfolding ceilDiv shortfallAt grown waitAt asked
+own-bucket-waits-longer = refl
+
+pub others-wait-longer : through 700000000 empty ≡ deniedFor 700000000 empty true
+unfolding ceilDiv shortfallAt grown waitAt asked
+others-wait-longer = refl
+
+abbrev full : BucketCore
+full = fresh twoPerSecond start
+
+pub others-alone-deny : through 1 full ≡ deniedFor 1 full false
+unfolding ceilDiv shortfallAt grown waitAt asked
+others-alone-deny = refl
+
+pub all-grant :
+    through 0 full ≡ record { decision = Allowed (dueAfter start (record { 0 = 0 })); bucket = spent twoPerSecond full 1 start; «turns_away» = false }
+unfolding ceilDiv shortfallAt grown waitAt asked
+all-grant = refl

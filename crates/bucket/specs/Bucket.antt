@@ -1,13 +1,13 @@
 -- The token bucket, on numbers. A token is P parts, and a bucket is known by its shortfall: how many parts it is below full, and since when.
 use Prim.Native.Nat.{ℕ, _+_, _*_, _-_, _/_, _≤_, _^_, min, max}
-use mathlib.Core.Bool.{Bool, true, false, cond}
+use mathlib.Core.Bool.{Bool, true, false, not, cond, _&&_}
 use lib.Dec.{leb, eqb}
 use Rattle.arith.specs.Arith.{ceilDiv, saturated}
 use Rattle.units.specs.declared.Nanos.{Nanos}
 use Rattle.bucket.specs.declared.BucketConfig.{BucketConfig}
 use Rattle.bucket.specs.declared.BucketCore.{BucketCore}
 use Rattle.bucket.specs.declared.Request.{Request}
-use Rattle.bucket.specs.declared.Request.the-variants.{Acquire, Reserve}
+use Rattle.bucket.specs.declared.Request.the-variants.{Acquire, Reserve, Through}
 use Rattle.bucket.specs.declared.BucketDecision.the-variants.{Allowed, Denied}
 use Rattle.bucket.specs.declared.BucketOutcome.{BucketOutcome}
 use Rattle.bucket.specs.declared.Due.{Due}
@@ -88,23 +88,41 @@ recoveryAt c b at = waitAt c b (c .capacity) at
 abbrev pub spent : BucketConfig → BucketCore → ℕ → Nanos → BucketCore
 spent c b cost at = record { shortfall = shortfallAt c b at + partsOf c cost; stamp = record { 0 = max (b .stamp .0) (at .0) } }
 
--- The longest wait that a request takes: an acquire none, a reservation its own.
+-- The longest wait that a request takes: a try none, a reservation its own.
 abbrev pub longestWait : Request → ℕ
 longestWait Acquire = 0
 longestWait (Reserve longest) = longest .0
+longestWait (Through others) = 0
+
+-- The wait of a request, given the wait for this bucket. A try through other buckets waits until all of them have the cost: for the larger of the two waits.
+abbrev pub waitTo : Request → ℕ → ℕ
+waitTo Acquire own = own
+waitTo (Reserve longest) own = own
+waitTo (Through others) own = max own (others .0)
+
+abbrev pub requestWait : BucketConfig → Request → BucketCore → ℕ → Nanos → ℕ
+requestWait c request b cost at = waitTo request (waitAt c b cost at)
+
+-- When a request is due.
+abbrev pub requestDue : BucketConfig → Request → BucketCore → ℕ → Nanos → Due
+requestDue c request b cost at = dueAfter at (record { 0 = requestWait c request b cost at })
 
 -- A try wants its tokens now. A reservation is no try, whatever wait it takes.
 abbrev pub isTry : Request → Bool
 isTry Acquire = true
 isTry (Reserve longest) = false
+isTry (Through others) = true
 
--- A request is granted where its wait is within its longest wait, and then the bucket is charged. A denial stores nothing. Both tell when the cost is due.
--- A denial of a try turns it away.
+-- Whether a denial turns a try away: the bucket itself makes it wait, and not other buckets alone.
+abbrev pub turnsAway : Request → ℕ → Bool
+turnsAway request own = isTry request && not (eqb own 0)
+
+-- A request is granted where its wait is within its longest wait, and then the bucket is charged. A denial stores nothing. Both tell when the request is due.
 unfoldable pub asked : BucketConfig → Request → BucketCore → ℕ → Nanos → BucketOutcome
 asked c request b cost at =
-    cond (leb (waitAt c b cost at) (longestWait request))
-    (record { decision = Allowed (dueAt c b cost at); bucket = spent c b cost at; «turns_away» = false })
-    (record { decision = Denied (dueAt c b cost at); bucket = b; «turns_away» = isTry request })
+    cond (leb (requestWait c request b cost at) (longestWait request))
+    (record { decision = Allowed (requestDue c request b cost at); bucket = spent c b cost at; «turns_away» = false })
+    (record { decision = Denied (requestDue c request b cost at); bucket = b; «turns_away» = turnsAway request (waitAt c b cost at) })
 
 -- A refund lowers the shortfall, as read, by the parts of the cost, down to 0. The stamp stays.
 abbrev pub refunded : BucketConfig → BucketCore → ℕ → BucketCore

@@ -3,7 +3,7 @@ ghost use mathlib.Core.Path.{_≡_};
 ghost use Prim.Native.Nat.{_≤_, max};
 ghost use Rattle.arith.specs.Arith.{saturated};
 ghost use Rattle.bucket.specs.Bucket.{Accepted, fullParts, mostShortfall, readShortfall, shortfallAt, availableAt, fullAt, fresh, grown, waitAt};
-ghost use Rattle.bucket.specs.Bucket.{dueAfter, dueAt, recoveryOf, recoveryAt, spent, longestWait, isTry, asked, refunded};
+ghost use Rattle.bucket.specs.Bucket.{dueAfter, dueAt, recoveryOf, recoveryAt, spent, longestWait, waitTo, isTry, turnsAway, asked, refunded};
 ghost use Rattle.bucket.specs.Debt.{missingTokens, charged, takenOut, restored};
 use units::Nanos;
 
@@ -21,10 +21,11 @@ pub struct BucketCore {
     pub stamp: Nanos,
 }
 
-// What is asked of a bucket: tokens now, or tokens after a wait of at most so long.
+// What is asked of a bucket: tokens now; tokens after a wait of at most so long; or tokens now of this bucket and of others, whose largest wait is given.
 pub enum Request {
     Acquire,
     Reserve(Nanos),
+    Through(Nanos),
 }
 
 // When tokens or room are due: after the wait, at the moment. Both are held to 64 bits. Where a call comes before a bucket's stamp, as after a clock was set
@@ -233,7 +234,8 @@ impl BucketCore {
         ensures { λ r. ⌜ r ≡ asked config request self cost at ⌝ }
     {
         let wanted = self.wanted_at(config, cost, at);
-        let wait = self.wait_for(config, wanted, cost, at);
+        let own = self.wait_for(config, wanted, cost, at);
+        let wait = request.wait_to(own);
         let due = Due::after(at, wait);
         if wait.0 <= request.longest().0 {
             let bucket = self.granted(wanted, at);
@@ -246,7 +248,7 @@ impl BucketCore {
         BucketOutcome {
             decision: BucketDecision::Denied(due),
             bucket: self,
-            turns_away: request.is_try(),
+            turns_away: request.turns_away(own),
         }
     }
 
@@ -322,22 +324,42 @@ pub fn restore_debt(
 
 impl Request {
     // The longest wait that the request takes.
-    pub fn longest(self) -> Nanos
+    fn longest(self) -> Nanos
         ensures { λ r. ⌜ r .0 ≡ longestWait self ⌝ }
     {
         match self {
             Request::Acquire => Nanos(0),
             Request::Reserve(longest) => longest,
+            Request::Through(_) => Nanos(0),
         }
     }
 
-    // Whether the request is a try: it wants its tokens now.
-    pub fn is_try(self) -> bool
+    // The wait of the request, given the wait for this bucket.
+    fn wait_to(self, own: Nanos) -> Nanos
+        ensures { λ r. ⌜ r .0 ≡ waitTo self (own .0) ⌝ }
+    {
+        match self {
+            Request::Acquire => own,
+            Request::Reserve(_) => own,
+            Request::Through(others) => Nanos(arith::larger(own.0, others.0)),
+        }
+    }
+
+    // Whether a denial turns a try away: this bucket makes it wait.
+    fn turns_away(self, own: Nanos) -> bool
+        ensures { λ r. ⌜ r ≡ turnsAway self (own .0) ⌝ }
+    {
+        self.is_try() && own.0 != 0
+    }
+
+    // Whether the request wants its tokens now.
+    fn is_try(self) -> bool
         ensures { λ r. ⌜ r ≡ isTry self ⌝ }
     {
         match self {
             Request::Acquire => true,
             Request::Reserve(_) => false,
+            Request::Through(_) => true,
         }
     }
 }

@@ -1,1 +1,3 @@
+pub mod Lengths
+pub mod Answers
 pub mod Narrow

@@ -8,7 +8,7 @@ use borrow.Author.Tests.{eqb-true}
 use Rattle.arith.proofs.Cases.{by-test}
 use Rattle.shard.specs.declared.Identity.{Identity}
 use Rattle.rules.specs.declared.Reply.{Reply}
-use Rattle.rules.specs.Asks.{Ask, requests, looks, undoes, refunds, removes}
+use Rattle.rules.specs.Asks.{Ask, requests, looks, undoes, passes, refunds, removes}
 use Rattle.rules.specs.Calls.{Call, keyed, whole, Terms, rules, Answered, replies, ofKey, accepted, Every}
 use Rattle.rules.proofs.CallLaws.{unaccepted-refused}
 use Rattle.demands.specs.Demands.{Agree, NoSharedHash}
@@ -114,6 +114,7 @@ module _ {A P C : ℕ} (B : LineBound A P C) (k : Identity) where
   unnamed-ask-gives-nothing id (looks l) reply g e = refl
   unnamed-ask-gives-nothing id (undoes (refunds cost)) reply g e = unnamed-call id _ g e
   unnamed-ask-gives-nothing id (undoes removes) reply g e = refl
+  unnamed-ask-gives-nothing id (passes table class at cost) reply g e = unnamed-call id _ g e
 
 module _ {S N : Type 0} (terms : Terms S N) {A P C : ℕ} (B : LineBound A P C) (k : Identity) where
   unnamed-gives-nothing : (c : Call S N) (reply : Reply) (g : B .History) → names terms k c ≡ false → given B terms k c reply g ≡ g

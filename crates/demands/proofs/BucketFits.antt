@@ -9,7 +9,7 @@ use Rattle.bucket.specs.declared.BucketConfig.{BucketConfig}
 use Rattle.bucket.specs.declared.BucketCore.{BucketCore}
 use Rattle.bucket.specs.declared.BucketOutcome.{BucketOutcome}
 use Rattle.bucket.specs.declared.Request.{Request}
-use Rattle.bucket.specs.Bucket.{Accepted, availableAt, fresh, waitAt, longestWait, asked, refunded}
+use Rattle.bucket.specs.Bucket.{Accepted, availableAt, fresh, longestWait, requestWait, asked, refunded}
 use Rattle.bucket.specs.Debt.{missingTokens, charged, takenOut, lacking, restored}
 use Rattle.bucket.proofs.BucketLaws.{most-shortfall-fits, parts-fit, grant-fits}
 use Rattle.shard.specs.Model.{returning}
@@ -56,5 +56,5 @@ module _ (c : BucketConfig) (at : Nanos) (a : Accepted c) (early : at .0 ≤ 2 ^
   pub asked-fits : (request : Request) (b : BucketCore) (cost : ℕ) → cost ≤ c .capacity → BucketFits b → BucketFits (asked c request b cost at .bucket)
   unfolding asked
   asked-fits request b cost within f =
-      of-either (λ (o : BucketOutcome). BucketFits (o .bucket)) (leb (waitAt c b cost at) (longestWait request)) _ _
+      of-either (λ (o : BucketOutcome). BucketFits (o .bucket)) (leb (requestWait c request b cost at) (longestWait request)) _ _
       (record { shortfall = grant-fits b cost at a within; stamp = omega (arith, f .stamp) }) f

@@ -12,8 +12,8 @@ use Rattle.bucket.specs.declared.BucketCore.{BucketCore}
 use Rattle.bucket.specs.declared.BucketDecision.{BucketDecision}
 use Rattle.bucket.specs.declared.BucketDecision.the-variants.{Allowed, Denied}
 use Rattle.bucket.specs.declared.Request.{Request}
-use Rattle.bucket.specs.Bucket.{Accepted, partsOf, fullParts, mostShortfall, shortfallAt, waitAt, spent, longestWait, asked, refunded}
-use Rattle.bucket.proofs.BucketLaws.{wait-from-the-stamp-on, granted-within-longest, denied-beyond-longest}
+use Rattle.bucket.specs.Bucket.{Accepted, partsOf, fullParts, mostShortfall, shortfallAt, waitAt, spent, longestWait, requestWait, asked, refunded}
+use Rattle.bucket.proofs.BucketLaws.{wait-from-the-stamp-on, granted-within-longest, denied-beyond-longest, granted-waits-own}
 use Rattle.demands.proofs.LineBound.{Soonest, LineBound, BoundOf}
 
 -- What happened to the key after a decision on a cost at a moment. A key that is denied, by its bucket or for want of space, is granted nothing.
@@ -60,8 +60,10 @@ module _ (c : BucketConfig) (B : BoundOf c) (request : Request) (b : BucketCore)
   pub asked-keeps-bound : {g : B .History} → HoldsAt c B at (shortfallAt c b at) g
       → HoldsAt c B at (shortfallAt c (asked c request b cost at .bucket) at) (decisionAdds B at cost (asked c request b cost at .decision) g)
   asked-keeps-bound {g} holds =
-      by-le (waitAt c b cost at) (longestWait request)
-      (λ soon. rw (granted-within-longest c request b cost at soon) (grant-keeps-bound g soon holds))
+      by-le (requestWait c request b cost at) (longestWait request)
+      (λ soon.
+      let own : requestWait c request b cost at ≡ waitAt c b cost at = granted-waits-own request (waitAt c b cost at) soon in
+      rw (granted-within-longest c request b cost at soon, own) (grant-keeps-bound g (rw own at soon) holds))
       (λ late. rw (denied-beyond-longest c request b cost at late) holds)
 
 -- A refund lowers what a bucket lacks by no more than the parts refunded.

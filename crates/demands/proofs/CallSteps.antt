@@ -4,6 +4,7 @@ use mathlib.Core.Path.{_≡_, refl, sym, ap, subst}
 use mathlib.Core.Bool.{true, false}
 use mathlib.Core.List.{List}
 use native.Mathlib.Omega.{arith}
+use lib.Dec.{ltb}
 use borrow.Author.Tests.{lt-ltb, le-ltb, eq-eqb, ne-eqb}
 use Rattle.arith.proofs.Cases.{by-test, by-eq, by-le}
 use Rattle.rows.specs.Outcome.{Outcome, outcome}
@@ -16,30 +17,36 @@ use Rattle.settings.specs.declared.Limit.the-variants.{Open}
 use Rattle.settings.specs.declared.Settings.{Settings}
 use Rattle.settings.specs.declared.rate.Rate.{Rate}
 use Rattle.settings.specs.Rate.{burstOf, configOf}
-use Rattle.settings.specs.Settings.{shardOf}
+use Rattle.settings.specs.Settings.{shapeOf, shardOf}
+use Rattle.settings.specs.declared.decision.Decision.the-variants.{Impossible}
+use Rattle.classes.specs.declared.Class.{Class}
+use Rattle.classes.specs.Chains.{leastBurst}
+use Rattle.classes.specs.Layout.{classesIn}
 use Rattle.shard_map.specs.Model as Shard
 use Rattle.shard_map.proofs.KeptLaws.{Keeps}
 use Rattle.shard.specs.declared.Identity.{Identity}
 use Rattle.bucket.specs.declared.BucketDecision.{BucketDecision}
 use Rattle.shard.specs.Model as OneShard
 use Rattle.shard.proofs.ShardLaws.{SameRoom, ask-same-room, refund-same-room, remove-same-room}
-use Rattle.store.specs.Memory.{shardAt, inShard}
+use Rattle.store.specs.Memory.{shardAt, inShard, bucketsAt}
 use Rattle.rules.specs.declared.Reply.{Reply}
-use Rattle.rules.specs.Asks.{Ask, requests, looks, undoes, Undo, refunds, removes, clockAfterAsk, mannerOf, tooMuch, atOnce, replyTo, policyOf, knownReply}
-use Rattle.rules.specs.Asks.{Look, clockAfterLook, lookedIn, furtherOf, askedIn, undoneIn, inItsShard}
+use Rattle.rules.specs.declared.Reply.the-variants.{Tried}
+use Rattle.rules.specs.Asks.{Ask, requests, looks, undoes, passes, Undo, refunds, removes, clockAfterAsk, mannerOf, tooMuch, atOnce, replyTo, policyOf}
+use Rattle.rules.specs.Asks.{knownReply}
+use Rattle.rules.specs.Asks.{Look, clockAfterLook, lookedIn, inForce, furtherOf, askedIn, undoneIn, chainOf, throughChain, passedIn, inItsShard}
 use Rattle.rules.specs.Calls.{Call, keyed, whole, Terms, rules, Answered, settingsOf, clockAfter, ofKey, ofUndone, accepted}
 use Rattle.demands.specs.Demands.{clock}
 use Rattle.demands.proofs.LineBound.{LineBound, BoundOf}
 use Rattle.demands.proofs.RequestLaws.{invariant-keeps, own-request, other-request, other-refund, other-removal}
 use Rattle.demands.proofs.RefundLaws.{refundAdds, own-refund}
-use Rattle.rules.proofs.KeyedLaws.{ask-not-refused, request-in-time, in-shard-unchanged}
+use Rattle.rules.proofs.KeyedLaws.{ask-not-refused, request-in-time, pass-in-time, in-shard-unchanged}
 use Rattle.store.proofs.RefusalLaws as Store
 use Rattle.rules.proofs.CallLaws.{refusalOf, not-refused-is-ruled, keyed-not-refused, looks-at-all, looks-change-nothing}
 use Rattle.rules.proofs.CallLaws.{accepted-not-refused, unaccepted-refused}
 use Rattle.demands.proofs.OwnBucket.{ruled}
 use Rattle.demands.proofs.TryLaws.{store-grants-as-asked}
 use Rattle.demands.proofs.StampLaws.{StampsBy, ask-keeps-stamps, refund-keeps-stamps, remove-keeps-stamps}
-use Rattle.demands.proofs.StandingLaws.{moment, Bounds, Standing, standing-later, operation-stands}
+use Rattle.demands.proofs.StandingLaws.{moment, Bounds, Standing, standing-later, stored-stands, operation-stands}
 use Rattle.demands.proofs.GivenLaws.{ifOwn, toldKnown, granting, askGave, given}
 use Rattle.demands.proofs.GivenLaws.{own-call, other-hash, same-either-way, refusal-gives-nothing, reply-grants, too-much-grants-nothing, at-once-grants}
 use Rattle.demands.proofs.GivenLaws.{known-is-told}
@@ -54,6 +61,7 @@ module _ {A P C : ℕ} (B : LineBound A P C) (k : Identity) where
   UndoneSo id (requests r at cost) = Unit {0}
   UndoneSo id (looks l) = Unit {0}
   UndoneSo id (undoes u) = id .hash ≡ k .hash → id .key ≡ k .key → allows u
+  UndoneSo id (passes table class at cost) = Unit {0}
 
   module _ {S N : Type 0} (terms : Terms S N) where
     abbrev pub UndoneAsAllowed : Call S N → Type 0
@@ -64,6 +72,7 @@ module _ {A P C : ℕ} (B : LineBound A P C) (k : Identity) where
     never-undone-is-as-allowed (keyed s n (requests r at cost)) never = tt
     never-undone-is-as-allowed (keyed s n (looks l)) never = tt
     never-undone-is-as-allowed (keyed s n (undoes u)) never = λ hash key. absurd (never hash key)
+    never-undone-is-as-allowed (keyed s n (passes table class at cost)) never = tt
     never-undone-is-as-allowed (whole s what) never = tt
 
 module _ (s : Settings) (rate : Rate) (k : Identity) (B : BoundOf (configOf rate)) (a : Accepted (configOf rate))
@@ -182,13 +191,28 @@ module _ (s : Settings) (rate : Rate) (k : Identity) (B : BoundOf (configOf rate
     AfterWith ask o = Stands (clockAfterAsk ask n) (inShard s (id .hash) ws o .after) (askGave B k id ask (o .answer) g)
 
     abbrev After : Ask → Type 0
-    After ask = AfterWith ask (inItsShard s id ask own)
+    After ask = AfterWith ask (inItsShard s id ask (bucketsAt (shapeOf s) ws) own)
 
     look-stands : (l : Look) → n ≤ clockAfterLook l n → After (looks l)
     look-stands l later =
         let reply = lookedIn l (s .limit) id (shardAt s (id .hash) ws) in
         rw (ap (λ (o : Outcome Reply (List ℕ)). o .after) (in-shard-unchanged s (id .hash) ws accepted reply))
         (standing-later s rate k B n (clockAfterLook l n) ws later v)
+
+    -- A try through a class: a cost over a burst on the chain changes nothing; else it is a request that waits for the chain too.
+    pass-stands : (table : List ℕ) (class : ℕ) (at : Nanos) (cost : ℕ) → at .0 ≤ 2 ^ 62 → Stands (at .0) ws g → After (passes table class at cost)
+    unfolding passedIn
+    pass-stands table class at cost early now′ =
+        let cs : List Class = classesIn table in
+        let ask : Ask = passes table class at cost in
+        let through : Request = throughChain cs class at cost (bucketsAt (shapeOf s) ws) in
+        by-test (ltb (leastBurst cs (chainOf cs class)) cost)
+        (λ over.
+        rw (over, ap (λ (o : Outcome Reply (List ℕ)). o .after) (in-shard-unchanged s (id .hash) ws accepted (Tried Impossible)), same-either-way k id g) now′)
+        (λ within.
+        rw within
+        (subst (λ (limit : Limit). AfterWith ask (askedIn through limit s at id cost own)) (sym rated)
+        (any-request-stands through at id cost ws g early (omega arith) accepted alone now′)))
 
     ask-stands : (ask : Ask) → furtherOf ask ≡ 0 → n ≤ clockAfterAsk ask n → UndoneSo B k id ask → After ask
     ask-stands (requests r at cost) none later undone =
@@ -201,6 +225,8 @@ module _ (s : Settings) (rate : Rate) (k : Identity) (B : BoundOf (configOf rate
         subst (λ (limit : Limit). AfterWith (undoes (refunds cost)) (undoneIn (refunds cost) limit id own)) (sym rated)
         (refund-stands id n ws g (accepted .sound) alone v cost undone)
     ask-stands (undoes removes) none later undone = removal-stands id n ws g (accepted .sound) alone v undone
+    ask-stands (passes table class at cost) none later undone =
+        pass-stands table class at cost (pass-in-time (classesIn table) class at none .early) (standing-later s rate k B n (at .0) ws later v)
 
   -- Accepted calls, with the settings of set-up.
   module _ {S N : Type 0} (terms : Terms S N) (rated : s .limit ≡ Open rate) where
@@ -216,9 +242,11 @@ module _ (s : Settings) (rate : Rate) (k : Identity) (B : BoundOf (configOf rate
           → Stands (clockAfter c n) (rules terms c ws .after) (given B terms k c (rules terms c ws .answer) g)
       accepted-stands (keyed s′ name ask) none fair =
           let id = terms .identity name in
-          let asked = ask-not-refused (terms .settings s′) id ask ws (keyed-not-refused terms s′ name ask ws none .1) in
+          let asked = ask-not-refused (inForce ask (terms .settings s′)) id ask ws (keyed-not-refused terms s′ name ask ws none .1) in
+          let reply = inItsShard s id ask (bucketsAt (shapeOf s) ws) (shardAt s (id .hash) ws) .answer in
           rw (not-refused-is-ruled terms (keyed s′ name ask) ws none, fair .settings)
-          (ask-stands rated id n ws g v (fair .alone) (rw (fair .settings) at (asked .0)) ask (asked .1) (fair .later) (fair .undone))
+          (stored-stands s rate k B (clockAfterAsk ask n) ask reply _
+          (ask-stands rated id n ws g v (fair .alone) (rw (fair .settings) at (asked .0)) ask (asked .1) (fair .later) (fair .undone)))
       accepted-stands (whole s′ what) none fair = rw (looks-change-nothing terms (whole s′ what) ws looks-at-all) v
 
       -- Every call: accepted ones as above; refused ones change nothing.

@@ -17,6 +17,8 @@ use Rattle.settings.specs.declared.rate.Rate.{Rate}
 use Rattle.settings.specs.Powers.{exponentFrom, exponentFor}
 use Rattle.settings.specs.Rate as Rate
 use Rattle.settings.specs.Settings as Settings
+use Rattle.classes.specs.Classes as Classes
+use Rattle.classes.specs.Layout as ClassLayout
 use Rattle.ledger.specs.Layout as Debts
 use Rattle.ledger.specs.Model as Ledger
 use Rattle.shard_map.specs.Layout as Layout
@@ -92,6 +94,7 @@ unfolding ceilDiv rows unrow tableIn removed Index.onward Index.walkFrom Index.w
     Layout.shard Layout.wordsOf Shard.placeOf Shard.removeAt Shard.insert
     noted walkFrom walked evicted OneShard.makeRoom OneShard.withExisting OneShard.admit OneShard.withOrInsert OneShard.viewed OneShard.holds
     Refusals.memoryRefusal Refusals.countRefusal Refusals.momentRefusal Refusals.waitRefusal Refusals.mostSlots Refusals.slotsRefusalIn
+    ClassLayout.classesIn Classes.countRefusal Classes.firstFrom
     Asks.askedIn Rules.unlessRefused Rules.setUpIn Rules.keyedRuleIn Rules.lenIn
     mixed hashFrom keyFrom addressRefusal Calls.accepted Calls.replies usable Demands.tokensUsable after
 computed = record {

@@ -29,7 +29,7 @@ use Rattle.rules.specs.Widths.{settingsFit, lendable}
 use Rattle.demands.specs.Demands as Demands
 use Rattle.demands.specs.ByKey.{Call, Implementation, rules, Answered, replies, accepted, SameSettings, TimesNeverFall, Agree, NoSharedHash}
 use Rattle.demands.specs.ByKey.{NeverRefundedOrRemoved, tokensUsable, answering, Demand2, WindowAdding, OwnBucket, fits, allFit}
-use Rattle.demands.specs.Demands.{ownReply}
+use Rattle.demands.specs.Demands.{untabled, ownReply}
 use Rattle.store.specs.Memory.{memoryWords}
 
 -- A store of one shard, by its rate and by how many keys it has room for; in most examples two tokens a second, up to four.
@@ -173,7 +173,7 @@ pub overgranting-breaks-the-window : {moments : ℕ} {f : Implementation} {rate 
 overgranting-breaks-the-window {moments} {f} {rate} {keys} {xs} {key} {moment} shown window =
     let s : Settings = storeFor rate keys in
     let ws : List ℕ = fresh s in
-    let fair = window s rate (memory s) (shown .settings) (shown .lent) refl refl (shown .set-up) (reservations s xs) (shown .fit)
+    let fair = window untabled s rate (memory s) refl (shown .settings) (shown .lent) refl refl (shown .set-up) (reservations s xs) (shown .fit)
     (have-same-settings f s xs ws ws) (have-rising-times f s xs ws ws)
     (have-no-shared-hash f s xs ws ws) in
     let bound = fair (keyOf key) (never-return f s (keyOf key) xs ws ws) moment moment (omega arith) in

@@ -11,13 +11,14 @@ use Rattle.units.specs.declared.Nanos.{Nanos}
 use Rattle.bucket.specs.declared.BucketDecision.{BucketDecision}
 use Rattle.bucket.specs.declared.BucketDecision.the-variants.{Allowed, Denied}
 use Rattle.bucket.specs.declared.Request.{Request}
-use Rattle.bucket.specs.declared.Request.the-variants.{Acquire, Reserve}
+use Rattle.bucket.specs.declared.Request.the-variants.{Acquire, Reserve, Through}
 use Rattle.settings.specs.declared.decision.Decision.the-variants.{Acquired, Retry, Impossible}
 use Rattle.shard.specs.declared.Identity.{Identity}
 use Rattle.rules.specs.declared.Reply.{Reply}
 use Rattle.rules.specs.declared.Reply.the-variants.{Tried, Reserved, Nothing, Done, Count, Refused}
 use Rattle.rules.specs.Replies.{ofGrant}
-use Rattle.rules.specs.Asks.{refunds, removes, Ask, requests, looks, undoes, Manner, asTry, asReservation, mannerOf, replyTo, tooMuch, atOnce, knownReply}
+use Rattle.rules.specs.Asks.{refunds, removes, Ask, requests, looks, undoes, passes, Manner, asTry, asReservation, mannerOf, replyTo, tooMuch, atOnce}
+use Rattle.rules.specs.Asks.{knownReply}
 use Rattle.rules.specs.Calls.{Call, keyed, whole, Terms, Answered}
 use Rattle.demands.specs.Demands.{usable, usableFrom, askTokens, tokensOf, tokensUsable}
 use Rattle.demands.proofs.TryLaws.{AsAsked}
@@ -55,6 +56,7 @@ module _ {A P C : ℕ} (B : LineBound A P C) where
   askGave k id (looks l) reply g = g
   askGave k id (undoes (refunds cost)) reply g = ifOwn k id (refundAdds B cost (toldKnown reply) g) g
   askGave k id (undoes removes) reply g = g
+  askGave k id (passes table class at cost) reply g = ifOwn k id (granting asTry at cost g reply) g
 
   module _ {S N : Type 0} (terms : Terms S N) where
     -- What happened to it after a call, and after a list of calls.
@@ -87,6 +89,7 @@ module _ {A P C : ℕ} (B : LineBound A P C) where
   ask-refused-gives-nothing k id (looks l) n g = refl
   ask-refused-gives-nothing k id (undoes (refunds cost)) n g = same-either-way k id g
   ask-refused-gives-nothing k id (undoes removes) n g = refl
+  ask-refused-gives-nothing k id (passes table class at cost) n g = same-either-way k id g
 
   pub refusal-gives-nothing : {S N : Type 0} (terms : Terms S N) (k : Identity) (c : Call S N) (n : ℕ) (g : B .History) → given B terms k c (Refused n) g ≡ g
   refusal-gives-nothing terms k (keyed s name ask) n g = ask-refused-gives-nothing k (terms .identity name) ask n g
@@ -99,6 +102,8 @@ module _ {A P C : ℕ} (B : LineBound A P C) where
   reply-grants Acquire at cost g (Denied due) none = refl
   reply-grants (Reserve longest) at cost g (Allowed due) none = refl
   reply-grants (Reserve longest) at cost g (Denied due) none = refl
+  reply-grants (Through others) at cost g (Allowed due) none = ap (λ (w : ℕ). B .grant (at .0) w cost g) (sym none)
+  reply-grants (Through others) at cost g (Denied due) none = refl
 
   -- Too large a cost is granted nothing; no cost at all is granted at once.
   pub too-much-grants-nothing : (m : Manner) (at : Nanos) (cost : ℕ) (g : B .History) → granting B m at cost g (tooMuch m) ≡ g
@@ -154,6 +159,7 @@ module _ (A P C : ℕ) (k : Identity) (t u : ℕ) (gs : List Grant) where
   ask-within id (looks l) reply = omega arith
   ask-within id (undoes (refunds cost)) reply = rw (refund-leaves-grants cost (toldKnown reply), same-either-way k id gs) (omega arith)
   ask-within id (undoes removes) reply = omega arith
+  ask-within id (passes table class at cost) reply = request-within asTry at id cost reply
 
 module _ {S N : Type 0} (terms : Terms S N) (A P C : ℕ) (k : Identity) (t u : ℕ) where
   given-within : (c : Call S N) (reply : Reply) (gs : List Grant)

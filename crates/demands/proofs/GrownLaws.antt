@@ -3,7 +3,7 @@
 use Prim.Native.Nat.{ℕ, zero, suc, _*_, _/_, _%_, _≤_, _<_, _^_}
 use native.Mathlib.Omega.{arith}
 use native.Mathlib.Nat.{mul-div-cancel, mod-eq-of-lt, max-le}
-use mathlib.Core.Path.{_≡_, ap, subst, _∙_}
+use mathlib.Core.Path.{_≡_, refl, sym, ap, subst, _∙_}
 use mathlib.Core.List.{List}
 use lib.ListN.{length, replicate, length-replicate}
 use Rattle.arith.proofs.Cases.{by-eq}
@@ -13,22 +13,24 @@ use Rattle.held.specs.Held.{Held, Items, hashAt, Complete, in-order-is-complete
 use Rattle.held.specs.Layout.{indexWords}
 use Rattle.held.proofs.FindingLaws.{ordered, indexed, kindOf}
 use Rattle.settings.specs.declared.Settings.{Settings}
-use Rattle.settings.specs.Settings.{firstRefusal, settingsRefusal, shardCount, capOf, shardOf}
+use Rattle.settings.specs.Settings.{firstRefusal, settingsRefusal, shapeOf, shardCount, capOf, shardOf}
+use Rattle.classes.specs.Classes.{tableRefusal}
+use Rattle.classes.specs.Layout.{classesIn}
 use Rattle.settings.proofs.SettingsLaws.{no-refusal-hands-on, shard-is-remainder}
 use Rattle.ledger.specs.Model.{debtItems}
 use Rattle.shard_map.specs.Model.{slotItems}
 use Rattle.shard_map.proofs.PlaceOrderLaws.{FindsEach, found-is-sound, found-is-complete, empty-finds-each}
 use Rattle.shard.specs.declared.Identity.{Identity}
-use Rattle.store.specs.Memory.{memoryWords, shardAt, slotCount}
+use Rattle.store.specs.Memory.{memoryWords, shardAt, bucketsAt, slotCount}
 use Rattle.store.specs.Refusals.{setUpRefusal, keyedRefusal, mostSlots, slotsRefusal}
 use Rattle.store.proofs.MemoryLaws.{shard-at-cap, shard-at-sized, fresh-sound, fresh-shards-are-complete, fresh-shards-are-empty}
 use Rattle.store.proofs.RefusalLaws.{set-up-is-accepted, keyed-is-accepted, shards-are-accepted}
 use Rattle.rules.specs.declared.Reply.{Reply}
-use Rattle.rules.specs.declared.Reply.the-variants.{Done}
-use Rattle.rules.specs.Asks.{Ask, furtherOf, inItsShard}
-use Rattle.rules.specs.Rules.{setUpIn, setUp, clear}
+use Rattle.rules.specs.declared.Reply.the-variants.{Done, Refused}
+use Rattle.rules.specs.Asks.{Ask, inForce, furtherOf, inItsShard}
+use Rattle.rules.specs.Rules.{setUpFor}
 use Rattle.rules.specs.Calls.{Call, keyed, whole, len, Terms, rules, settingsOf}
-use Rattle.rules.proofs.RefusedLaws.{unless-refused-accepts}
+use Rattle.rules.proofs.RefusedLaws.{table-refusal-is-told, table-set-up-zeroes}
 use Rattle.rules.proofs.KeyedLaws.{ask-not-refused}
 use Rattle.rules.proofs.CallLaws.{refusalOf, not-refused-is-ruled, keyed-not-refused, taken-not-refused, looks-at-all, looks-change-nothing}
 use Rattle.demands.specs.Grown.{Grown, set-up, cleared, called, KeptByCalls}
@@ -37,8 +39,8 @@ use Rattle.demands.proofs.Theorem.{set-up-done}
 use Rattle.demands.proofs.OneShardLaws.{WorksInOneShard, asks-work-in-one-shard, call-same-as-place-order}
 
 pub grown-keeps : {S N : Type 0} (terms : Terms S N) {s : Settings} {ws : List ℕ} {P : List ℕ → Type 0} → KeptByCalls terms s P → Grown terms s ws → P ws
-grown-keeps terms kept (set-up ws done) = kept .fresh ws done
-grown-keeps terms kept (cleared ws grown done) = kept .fresh ws done
+grown-keeps terms kept (set-up table ws own done) = kept .fresh table ws done
+grown-keeps terms kept (cleared table ws own grown done) = kept .fresh table ws done
 grown-keeps terms kept (called c ws grown same taken) = kept .call c ws same taken (grown-keeps terms kept grown)
 
 -- Accepted settings and a memory of the right size, in whose shards lookup finds each slot and each debt. Such shards are sound and complete.
@@ -49,13 +51,16 @@ pub record SoundMemory (s : Settings) (ws : List ℕ) : Type 0 where
 
 -- A call on a key leaves such a shard for the key, and the other shards as they are; a look at the length changes nothing.
 keyed-call-keeps-sound : (s : Settings) (id : Identity) (ask : Ask) (ws : List ℕ) {gives : Outcome Reply (List ℕ)}
-    → WorksInOneShard s (id .hash) ws gives (inItsShard s id ask (shardAt s (id .hash) ws)) → SoundMemory s ws → SoundMemory s (gives .after)
+    → WorksInOneShard s (id .hash) ask ws gives (inItsShard s id ask (bucketsAt (shapeOf s) ws) (shardAt s (id .hash) ws)) → SoundMemory s ws
+    → SoundMemory s (gives .after)
 keyed-call-keeps-sound s id ask ws works memory = record {
   settings = memory .settings;
   size = works .size;
   finds-each = λ other.
       by-eq (shardOf s other) (shardOf s (id .hash))
-      (λ same. rw (works .own other same) (call-same-as-place-order (shardAt s (id .hash) ws) (memory .finds-each (id .hash)) s id ask .finds-each))
+      (λ same.
+      rw (works .own other same)
+      (call-same-as-place-order (shardAt s (id .hash) ws) (memory .finds-each (id .hash)) s id ask (bucketsAt (shapeOf s) ws) .finds-each))
       (λ apart. rw (works .others other apart) (memory .finds-each other));
 }
 
@@ -63,7 +68,7 @@ module _ {S N : Type 0} (terms : Terms S N) where
   call-keeps-sound : (c : Call S N) (ws : List ℕ) → refusalOf terms c ws ≡ 0 → SoundMemory (settingsOf terms c) ws
       → SoundMemory (settingsOf terms c) (rules terms c ws .after)
   call-keeps-sound (keyed s n ask) ws none memory =
-      let settings = terms .settings s in
+      let settings = inForce ask (terms .settings s) in
       let id = terms .identity n in
       let accepted = ask-not-refused settings id ask ws (keyed-not-refused terms s n ask ws none .1) .0 in
       rw (not-refused-is-ruled terms (keyed s n ask) ws none)
@@ -78,8 +83,8 @@ fresh-shard-finds-each s hash =
 module _ {S N : Type 0} (terms : Terms S N) where
   pub sound-kept-by-calls : (s : Settings) → KeptByCalls terms s (SoundMemory s)
   sound-kept-by-calls s = record {
-    fresh = λ ws done.
-        let up = set-up-done s ws done in
+    fresh = λ table ws done.
+        let up = set-up-done s table ws done in
         rw (up .words) (record { settings = up .settings; size = length-replicate (memoryWords s) 0; finds-each = fresh-shard-finds-each s });
     call = λ c ws same taken memory. rw same at (call-keeps-sound terms c ws (taken-not-refused terms c ws taken) (rw same memory));
   }
@@ -145,16 +150,19 @@ module _ (s : Settings) (ws : List ℕ) (memory : SoundMemory s ws) where
   most-slots-are-within-the-cap zero within = omega arith
   most-slots-are-within-the-cap (suc n) within = max-le (most-slots-are-within-the-cap n (omega arith)) (slots-are-within-the-cap n (omega arith))
 
-  -- A clear is accepted.
-  pub clear-is-accepted : clear s ws .answer ≡ Done
-  unfolding setUpIn
-  clear-is-accepted = ap (λ (o : Outcome Reply (List ℕ)). o .answer)
-      (unless-refused-accepts (setUpRefusal s ws) ws (outcome Done (replicate (memoryWords s) 0)) settings-and-length-are-not-refused)
+  -- A clear is refused for its table alone.
+  pub clear-is-accepted : (table : List ℕ) → tableRefusal (classesIn table) ≡ 0 → setUpFor s table ws .answer ≡ Done
+  clear-is-accepted table sound =
+      ap (λ (o : Outcome Reply (List ℕ)). o .answer) (sym (table-set-up-zeroes s table ws settings-and-length-are-not-refused sound))
+
+  pub clear-is-refused : (table : List ℕ) → (tableRefusal (classesIn table) ≡ 0 → ⊥)
+      → setUpFor s table ws ≡ outcome (Refused (tableRefusal (classesIn table))) ws
+  clear-is-refused table unsound = sym (table-refusal-is-told s table ws settings-and-length-are-not-refused refl unsound)
 
 module _ {S N : Type 0} (terms : Terms S N) where
   refusal-is-the-calls-own : (c : Call S N) (ws : List ℕ) → SoundMemory (settingsOf terms c) ws → refusalOf terms c ws ≡ refusedAs terms c
   refusal-is-the-calls-own (keyed s n ask) ws memory =
-      let settings = terms .settings s in
+      let settings = inForce ask (terms .settings s) in
       ap (firstRefusal (terms .refusal n)) (no-refusal-hands-on _ (furtherOf ask) (key-is-not-refused settings ws memory (terms .identity n .hash)))
   refusal-is-the-calls-own (whole s len) ws memory =
       let settings = terms .settings s in
@@ -170,5 +178,6 @@ module _ {S N : Type 0} (terms : Terms S N) where
       → refusalOf terms c ws ≡ refusedAs terms c
   grown-refusal-is-the-calls-own grown c same = sound-refusal-is-the-calls-own (grown-memory-is-sound terms grown) c same
 
-  pub grown-clear-is-accepted : {s : Settings} {ws : List ℕ} → Grown terms s ws → clear s ws .answer ≡ Done
+  pub grown-clear-is-accepted : {s : Settings} {ws : List ℕ} → Grown terms s ws → (table : List ℕ) → tableRefusal (classesIn table) ≡ 0
+      → setUpFor s table ws .answer ≡ Done
   grown-clear-is-accepted {s} {ws} grown = clear-is-accepted s ws (grown-memory-is-sound terms grown)

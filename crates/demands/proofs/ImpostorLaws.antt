@@ -7,8 +7,7 @@ use mathlib.Core.Path.{_≡_, refl}
 use mathlib.Core.List.{List, [], _∷_}
 use Rattle.shard.specs.declared.Identity.{Identity}
 use Rattle.settings.specs.declared.Settings.{Settings}
-use Rattle.rules.specs.Asks.{Ask, requests, looks, undoes}
-use Rattle.rules.specs.Rules.{setUp}
+use Rattle.rules.specs.Asks.{Ask, requests, looks, undoes, passes}
 use Rattle.rules.specs.Calls as Calls
 use Rattle.rules.specs.Widths.{settingsFit}
 use Rattle.rules.specs.Calls.{keyed, whole, byKey}
@@ -48,6 +47,7 @@ impossible-is-no-grant : (k : Identity) (t u : ℕ) (c : Call) (ws : List ℕ) �
 impossible-is-no-grant k t u (keyed s id (requests r at cost)) ws = refl
 impossible-is-no-grant k t u (keyed s id (looks l)) ws = refl
 impossible-is-no-grant k t u (keyed s id (undoes undo)) ws = refl
+impossible-is-no-grant k t u (keyed s id (passes table class at cost)) ws = refl
 impossible-is-no-grant k t u (whole s what) ws = refl
 
 nothing-usable : (k : Identity) (t u : ℕ) (cs : List Call) (ws law : List ℕ) → tokensUsable k t u (replies impossibleToAll cs ws law) ≡ 0
@@ -56,8 +56,9 @@ nothing-usable k t u [] ws law = refl
 nothing-usable k t u (c ∷ cs) ws law = rw (impossible-is-no-grant k t u c ws, nothing-usable k t u cs ws (rules c law .after)) refl
 
 pub impossible-to-all-keeps-the-window : Window (answering impossibleToAll)
-impossible-to-all-keeps-the-window s rate ws _ _ rated refuses done′ cs _ same rising apart k not-undone t u le =
-    rw (nothing-usable k t u cs (setUp s ws .after) (setUp s ws .after)) (omega arith)
+impossible-to-all-keeps-the-window table s rate ws _ _ _ rated refuses done′ cs _ same rising apart k not-undone t u le =
+    let fresh : List ℕ = Demands.setUpBy byKey table s ws .after in
+    rw (nothing-usable k t u cs fresh fresh) (omega arith)
 
 -- The second: the same key is turned away.
 pub retry-before-a-look-fails-demand3 : Demand3 (answering retryBeforeALook) → ⊥

@@ -100,7 +100,7 @@ slot-words-fit slot f = (f .hash, (f .key, (f .bucket .shortfall, (f .bucket .st
 debt-words-fit : (d : Debt) → DebtFits d → Every Word (Debts.debtWords d)
 debt-words-fit d f = (f .hash, (f .settles, tt))
 
-items-written-fit : {A : Type 0} (Q : A → Type 0) (write : A → List ℕ) → ((x : A) → Q x → Every Word (write x)) → (items : List A) → Every Q items
+pub items-written-fit : {A : Type 0} (Q : A → Type 0) (write : A → List ℕ) → ((x : A) → Q x → Every Word (write x)) → (items : List A) → Every Q items
     → Every Word (unrow (map write items))
 items-written-fit Q write writes items every = every-of-rows Word (map write items) (every-made Q (Every Word) write writes items every)
 

@@ -10,6 +10,7 @@ use borrow.Author.Tests.{ltb-true, ltb-false}
 use Rattle.arith.proofs.Cases.{by-test, by-eq}
 use Rattle.rows.specs.Outcome.{Outcome, outcome}
 use Rattle.units.specs.declared.Nanos.{Nanos}
+use Rattle.bucket.specs.declared.BucketCore.{BucketCore}
 use Rattle.bucket.specs.declared.Request.{Request}
 use Rattle.settings.specs.declared.Limit.{Limit}
 use Rattle.settings.specs.declared.Limit.the-variants.{Closed, Open}
@@ -19,28 +20,39 @@ use Rattle.settings.specs.Rate.{burstOf, configOf}
 use Rattle.settings.specs.Settings.{limitRefusal, mostKeysInShard, capOf, shapeOf}
 use Rattle.settings.proofs.RateLaws.{accepted-rate}
 use Rattle.settings.proofs.SettingsLaws.{accepted-parts, cap-most}
+use Rattle.classes.specs.declared.Class.{Class}
+use Rattle.classes.specs.Classes.{longestChain, tableRefusal}
+use Rattle.classes.specs.Chains.{leastBurst}
+use Rattle.classes.specs.Layout.{classesIn, wordsOfBuckets}
+use Rattle.classes.proofs.WholeChain.{accepted-chain-takes}
 use Rattle.shard_map.specs.Model.{Shard}
 use Rattle.shard_map.specs.Layout as Layout
 use Rattle.shard.specs.declared.Identity.{Identity}
 use Rattle.shard.specs.Model as OneShard
 use Rattle.shard.proofs.ShardLaws.{SameRoom, ask-same-room, refund-same-room, remove-same-room}
-use Rattle.store.specs.Memory.{withSegment, partStart, shardAt, inShard}
+use Rattle.store.specs.Memory.{withSegment, partStart, shardAt, inShard, classesAt, classWords, bucketsAt, withBuckets}
 use Rattle.store.specs.Refusals.{setUpRefusal}
 use Rattle.store.proofs.MemoryLaws.{same-room-sized, in-shard-length}
+use Rattle.store.proofs.ClassLaws.{buckets-at-length, with-buckets-length}
 use Rattle.store.proofs.RefusalLaws.{Accepted}
 use Rattle.rules.specs.declared.Reply.{Reply}
 use Rattle.rules.specs.declared.Reply.the-variants.{Nothing}
-use Rattle.rules.specs.Asks.{Ask, requests, looks, undoes, Undo, refunds, removes, furtherOf, mannerOf, replyTo, repliedAs, policyOf, knownReply, askedIn}
-use Rattle.rules.specs.Asks.{undoneIn, inItsShard}
-use Rattle.rules.specs.Rules.{setUp}
+use Rattle.rules.specs.Asks.{Ask, requests, looks, undoes, passes, Undo, refunds, removes, inForce, furtherOf, mannerOf, replyTo, repliedAs, policyOf}
+use Rattle.rules.specs.Asks.{knownReply, askedIn, undoneIn, chainOf, throughChain, passedIn, inItsShard, grantsSome, bucketsAfter}
+use Rattle.rules.specs.Rules.{keyedOutcome, setUpFor}
 use Rattle.rules.specs.Widths.{fits64, keyFits, lendable}
 use Rattle.rules.specs.Calls.{Call, keyed, whole, len, Terms, rules, fits, Every}
-use Rattle.rules.proofs.RefusedLaws.{set-up-refusal-is-told, set-up-zeroes}
-use Rattle.rules.proofs.KeyedLaws.{ask-not-refused, request-in-time, in-shard-unchanged}
+use Rattle.rules.proofs.RefusedLaws.{settings-refusal-is-told, table-refusal-is-told, table-set-up-zeroes}
+use Rattle.rules.proofs.KeyedLaws.{ask-not-refused, request-in-time, pass-in-time, in-shard-unchanged}
+use Rattle.rules.proofs.PassLaws.{granted-pass}
+use Rattle.rules.proofs.StoredLaws.{buckets-after-length}
 use Rattle.rules.proofs.CallLaws.{refusalOf, ruleOf, not-refused-is-ruled, refused-is-told, keyed-not-refused}
 use Rattle.demands.proofs.WidthLaws.{both-true, name-of-call-fits, NamesFit}
 use Rattle.demands.proofs.EveryLaws.{of-either, every-taken, every-left, every-joined, every-copy, every-in-part}
 use Rattle.demands.proofs.WordFits.{Word, lendable-length, lendable-words, words-are-lendable}
+use Rattle.demands.proofs.BucketFits.{BucketFits}
+use Rattle.demands.proofs.ClassFits.{buckets-read-fit, bucket-words-fit, charged-buckets-fit, chain-takes-each}
+use Rattle.demands.proofs.OneShardLaws.{ask-sized}
 use Rattle.demands.proofs.ShardFits.{ShardFits}
 use Rattle.demands.proofs.LayoutFits.{shard-read-fits, shard-words-fit}
 use Rattle.demands.proofs.StoreFits.{ask-fits, refund-fits, removal-fits}
@@ -69,6 +81,19 @@ module _ (s : Settings) (hash : ℕ) (ws : List ℕ) (lent : lendable ws ≡ tru
       words-are-lendable (inShard s hash ws o .after)
       (omega (arith, same, accepted .set-up .size, lendable-length ws lent))
       (part-replaced-fits (partStart (shapeOf s) hash) (shardWords (capOf s)) ws (Layout.wordsOf (o .after)) (lendable-words ws lent) new)
+
+-- Other class buckets in words that can be lent.
+buckets-stored-are-lendable : (s : Settings) (ws : List ℕ) (bs : List BucketCore) → length ws ≡ memoryWords s → length bs ≡ s .classes → lendable ws ≡ true
+    → Every BucketFits bs → lendable (withBuckets (shapeOf s) ws bs) ≡ true
+buckets-stored-are-lendable s ws bs size each lent fit =
+    let same = with-buckets-length s ws size bs each in
+    words-are-lendable (withBuckets (shapeOf s) ws bs)
+    (omega (arith, same, size, lendable-length ws lent))
+    (part-replaced-fits (classesAt (shapeOf s)) (classWords (shapeOf s)) ws (wordsOfBuckets bs) (lendable-words ws lent) (bucket-words-fit bs fit))
+
+-- The class buckets in words that can be lent fit.
+buckets-at-fit : (s : Settings) (ws : List ℕ) → lendable ws ≡ true → Every BucketFits (bucketsAt (shapeOf s) ws)
+buckets-at-fit s ws lent = buckets-read-fit _ (every-in-part Word (classesAt (shapeOf s)) (classWords (shapeOf s)) ws (lendable-words ws lent))
 
 -- What is asked of a key, where it is not refused.
 module _ (s : Settings) (id : Identity) (ws : List ℕ) (lent : lendable ws ≡ true) (accepted : Accepted s (id .hash) ws) where
@@ -117,10 +142,52 @@ module _ (s : Settings) (id : Identity) (ws : List ℕ) (lent : lendable ws ≡ 
       operation-leaves-lendable s (id .hash) ws lent accepted (OneShard.removed id own)
       (remove-same-room _ (accepted .sound) id) (removal-fits id _ (shard-fits s (id .hash) ws lent accepted))
 
-  ask-leaves-lendable : (ask : Ask) → furtherOf ask ≡ 0 → keyFits id ≡ true → LeavesLendable (inItsShard s id ask own)
+  pass-leaves-lendable : (cs : List Class) (class : ℕ) (at : Nanos) (cost : ℕ) → at .0 ≤ 2 ^ 62 → keyFits id ≡ true
+      → LeavesLendable (passedIn s id cs class at cost (bucketsAt (shapeOf s) ws) own)
+  unfolding passedIn
+  pass-leaves-lendable cs class at cost early key =
+      by-test (ltb (leastBurst cs (chainOf cs class)) cost)
+      (λ over. rw over unchanged-leaves-lendable)
+      (λ within.
+      rw within (request-leaves-lendable (throughChain cs class at cost (bucketsAt (shapeOf s) ws)) at cost early key (s .limit) rate-not-refused))
+
+  ask-leaves-lendable : (ask : Ask) → furtherOf ask ≡ 0 → keyFits id ≡ true → LeavesLendable (inItsShard s id ask (bucketsAt (shapeOf s) ws) own)
   ask-leaves-lendable (requests r at cost) none key = request-leaves-lendable r at cost (request-in-time r at none .0) key (s .limit) rate-not-refused
   ask-leaves-lendable (looks l) none key = unchanged-leaves-lendable
   ask-leaves-lendable (undoes u) none key = undone-leaves-lendable u (s .limit)
+  ask-leaves-lendable (passes table class at cost) none key =
+      pass-leaves-lendable (classesIn table) class at cost (pass-in-time (classesIn table) class at none .early) key
+
+  -- Then the class buckets are stored: those that a granted try charges fit.
+  pass-charges-fit : (table : List ℕ) (class : ℕ) (at : Nanos) (cost : ℕ) → furtherOf (passes table class at cost) ≡ 0 → (bs : List BucketCore)
+      → Every BucketFits bs →
+      let reply = inItsShard s id (passes table class at cost) (bucketsAt (shapeOf s) ws) own .answer in
+      Every BucketFits (bucketsAfter (passes table class at cost) reply bs)
+  pass-charges-fit table class at cost none bs fit =
+      let cs : List Class = classesIn table in
+      let timely = pass-in-time cs class at none in
+      let buckets : List BucketCore = bucketsAt (shapeOf s) ws in
+      let reply = passedIn s id cs class at cost buckets own .answer in
+      by-test (grantsSome cost reply)
+      (λ grants.
+      let within = granted-pass s id cs class at cost buckets own grants .within in
+      let takes = accepted-chain-takes cs longestChain class cost (timely .accepted) (timely .named) within in
+      rw grants (charged-buckets-fit cs cost at (timely .early) (chainOf cs class) (chain-takes-each cs cost longestChain class takes) bs fit))
+      (λ denied. rw denied fit)
+
+  stored-leaves-lendable : (ask : Ask) → furtherOf ask ≡ 0 → keyFits id ≡ true → lendable (keyedOutcome (shapeOf s) s id ask ws .after) ≡ true
+  stored-leaves-lendable (requests r at cost) none key = ask-leaves-lendable (requests r at cost) none key
+  stored-leaves-lendable (looks l) none key = ask-leaves-lendable (looks l) none key
+  stored-leaves-lendable (undoes u) none key = ask-leaves-lendable (undoes u) none key
+  stored-leaves-lendable (passes table class at cost) none key =
+      let ask : Ask = passes table class at cost in
+      let o = inItsShard s id ask (bucketsAt (shapeOf s) ws) own in
+      let left : List ℕ = inShard s (id .hash) ws o .after in
+      let size = in-shard-length s (id .hash) ws o (accepted .set-up .size) (ask-sized s id ws accepted ask) in
+      let lent′ = ask-leaves-lendable ask none key in
+      buckets-stored-are-lendable s left (bucketsAfter ask (o .answer) (bucketsAt (shapeOf s) left)) size
+      (buckets-after-length ask (o .answer) (bucketsAt (shapeOf s) left) ∙ buckets-at-length s left size) lent′
+      (pass-charges-fit table class at cost none (bucketsAt (shapeOf s) left) (buckets-at-fit s left lent′))
 
 -- What an equal outcome leaves.
 equal-leaves-lendable : {o given : Outcome Reply (List ℕ)} → o ≡ given → lendable (given .after) ≡ true → lendable (o .after) ≡ true
@@ -131,11 +198,11 @@ module _ {S N : Type 0} (terms : Terms S N) (names : NamesFit terms) where
   rule-leaves-words-lendable : (c : Call S N) (ws : List ℕ) → refusalOf terms c ws ≡ 0 → fits terms c ≡ true → lendable ws ≡ true
       → lendable (ruleOf terms c ws .after) ≡ true
   rule-leaves-words-lendable (keyed s n ask) ws none fit lent =
-      let settings = terms .settings s in
+      let settings = inForce ask (terms .settings s) in
       let id = terms .identity n in
       let free = keyed-not-refused terms s n ask ws none in
       let asked = ask-not-refused settings id ask ws (free .1) in
-      ask-leaves-lendable settings id ws lent (asked .0) ask (asked .1) (names n (name-of-call-fits terms s n ask fit) (free .0))
+      stored-leaves-lendable settings id ws lent (asked .0) ask (asked .1) (names n (name-of-call-fits terms s n ask fit) (free .0))
   rule-leaves-words-lendable (whole s len) ws none fit lent = lent
 
   pub rules-leave-words-lendable : (c : Call S N) (ws : List ℕ) → fits terms c ≡ true → lendable ws ≡ true → lendable (rules terms c ws .after) ≡ true
@@ -148,8 +215,11 @@ module _ {S N : Type 0} (terms : Terms S N) (names : NamesFit terms) where
 zeros-are-lendable : (n : ℕ) → Word n → lendable (replicate n 0) ≡ true
 zeros-are-lendable n few = words-are-lendable (replicate n 0) (rw (length-replicate {A = ℕ} n 0) few) (every-copy Word n 0 (omega arith))
 
-pub set-up-leaves-words-lendable : (s : Settings) (ws : List ℕ) → lendable ws ≡ true → lendable (setUp s ws .after) ≡ true
-set-up-leaves-words-lendable s ws lent =
+pub set-up-leaves-words-lendable : (s : Settings) (table ws : List ℕ) → lendable ws ≡ true → lendable (setUpFor s table ws .after) ≡ true
+set-up-leaves-words-lendable s table ws lent =
     by-eq (setUpRefusal s ws) 0
-    (λ none. equal-leaves-lendable (sym (set-up-zeroes s ws refl none)) (zeros-are-lendable (length ws) (lendable-length ws lent)))
-    (λ some. equal-leaves-lendable (sym (set-up-refusal-is-told s ws refl some)) lent)
+    (λ none.
+    by-eq (tableRefusal (classesIn table)) 0
+    (λ sound. equal-leaves-lendable (sym (table-set-up-zeroes s table ws none sound)) (zeros-are-lendable (length ws) (lendable-length ws lent)))
+    (λ unsound. equal-leaves-lendable (sym (table-refusal-is-told s table ws none refl unsound)) lent))
+    (λ some. equal-leaves-lendable (sym (settings-refusal-is-told s table ws refl some)) lent)

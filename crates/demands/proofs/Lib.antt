@@ -6,10 +6,12 @@ pub mod BucketFits
 pub mod LedgerFits
 pub mod ShardFits
 pub mod LayoutFits
+pub mod ClassFits
 pub mod EvictFits
 pub mod StoreFits
 pub mod LineBound
 pub mod GrantLaws
+pub mod RefundBound
 pub mod BucketKept
 pub mod RequestLaws
 pub mod RefundLaws
@@ -22,6 +24,10 @@ pub mod GivenLaws
 pub mod CallSteps
 pub mod AppearsLaws
 pub mod RunLaws
+pub mod ClassKept
+pub mod PassingLaws
+pub mod ClassImpostors
+pub mod ClassTheorem
 pub mod Theorem
 pub mod RefusalTheorem
 pub mod SizeTheorem

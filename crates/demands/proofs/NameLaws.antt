@@ -11,7 +11,7 @@ use Rattle.rows.specs.Outcome.{Outcome}
 use Rattle.settings.specs.declared.Settings.{Settings}
 use Rattle.hash.specs.Fnv.{mixed, hashFrom}
 use Rattle.shard.specs.declared.Identity.{Identity}
-use Rattle.rules.specs.Asks.{Ask}
+use Rattle.rules.specs.Asks.{Ask, inForce}
 use Rattle.rules.specs.Rules.{keyedRule}
 use Rattle.rules.specs.Widths.{fits64, keyFits}
 use Rattle.rules.specs.Calls.{keyed, rules}
@@ -44,5 +44,5 @@ names-fit means fit (address bytes) lent none = addresses-fit means fit bytes le
 
 -- A call that names a key follows the rule of what it asks.
 pub key-is-the-rule : {S : Type 0} (means : S → Settings) (fit : S → Bool) (s : S) (id : Identity) (ask : Ask) (ws : List ℕ)
-    → rules (namedIn means fit) (keyed s (key id) ask) ws ≡ keyedRule (means s) id ask ws
-key-is-the-rule means fit s id ask ws = unless-refused-accepts 0 ws (keyedRule (means s) id ask ws) refl
+    → rules (namedIn means fit) (keyed s (key id) ask) ws ≡ keyedRule (inForce ask (means s)) id ask ws
+key-is-the-rule means fit s id ask ws = unless-refused-accepts 0 ws (keyedRule (inForce ask (means s)) id ask ws) refl

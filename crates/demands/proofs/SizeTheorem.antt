@@ -10,7 +10,8 @@ use Rattle.settings.specs.Settings.{shapeOf}
 use Rattle.settings.specs.Before as Before
 use Rattle.settings.proofs.BeforeLaws.{accepted-before-is-as-before}
 use Rattle.store.specs.Memory.{wordsIn, memoryWords}
-use Rattle.rules.specs.Rules.{setUpIn, setUp, unlessRefused, keyedRuleIn, lenIn}
+use Rattle.rules.specs.Asks.{inForce}
+use Rattle.rules.specs.Rules.{setUpIn, setUpFor, unlessRefused, keyedRuleIn, lenIn}
 use Rattle.rules.specs.Calls.{Call, keyed, whole, len, Terms, settingsOf, rulesIn, rules, fits}
 use Rattle.rules.specs.Widths.{lendable}
 use Rattle.demands.specs.Demands.{Limiter, Demand2}
@@ -19,14 +20,14 @@ use Rattle.demands.specs.Demands.{Limiter, Demand2}
 pub record AsAtTheShapeOfBefore {S N : Type 0} (terms : Terms S N) (s : Settings) : Type 0 where
   pub shape : shapeOf s ≡ Before.shapeOf s
   pub words : memoryWords s ≡ wordsIn (Before.shapeOf s)
-  pub set-up : (ws : List ℕ) → setUp s ws ≡ setUpIn (Before.shapeOf s) s ws
+  pub set-up : (table ws : List ℕ) → setUpFor s table ws ≡ setUpIn (Before.shapeOf s) s table ws
   pub answers : (c : Call S N) (ws : List ℕ) → settingsOf terms c ≡ s → rules terms c ws ≡ rulesIn terms Before.shapeOf c ws
 
 module _ {S N : Type 0} (terms : Terms S N) where
   -- A call, where its settings have the same shape by both functions.
   answers-by-shape : (c : Call S N) (ws : List ℕ) → Before.settingsRefusal (settingsOf terms c) ≡ 0 → rules terms c ws ≡ rulesIn terms Before.shapeOf c ws
   answers-by-shape (keyed s n ask) ws accepted =
-      let settings = terms .settings s in
+      let settings = inForce ask (terms .settings s) in
       ap (λ (shape : Shape). unlessRefused (terms .refusal n) ws (keyedRuleIn shape settings (terms .identity n) ask ws))
       (accepted-before-is-as-before settings accepted .shape)
   answers-by-shape (whole s len) ws accepted =
@@ -39,7 +40,7 @@ module _ {S N : Type 0} (terms : Terms S N) where
       record {
         shape = shape;
         words = ap wordsIn shape;
-        set-up = λ ws. ap (λ (shape : Shape). setUpIn shape s ws) shape;
+        set-up = λ table ws. ap (λ (shape : Shape). setUpIn shape s table ws) shape;
         answers = λ c ws same. answers-by-shape c ws (rw same accepted);
       }
 

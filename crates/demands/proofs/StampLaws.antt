@@ -14,7 +14,7 @@ use Rattle.bucket.specs.declared.BucketConfig.{BucketConfig}
 use Rattle.bucket.specs.declared.BucketCore.{BucketCore}
 use Rattle.bucket.specs.declared.BucketDecision.{BucketDecision}
 use Rattle.bucket.specs.declared.Request.{Request}
-use Rattle.bucket.specs.Bucket.{Accepted, waitAt, longestWait, asked}
+use Rattle.bucket.specs.Bucket.{Accepted, longestWait, requestWait, asked}
 use Rattle.bucket.proofs.BucketLaws.{granted-within-longest, denied-beyond-longest}
 use Rattle.bucket.proofs.DebtLaws.{restored-fresh}
 use Rattle.rows.specs.Outcome.{Outcome}
@@ -101,7 +101,7 @@ module _ (n : ℕ) where
 asked-stamp : (c : BucketConfig) (request : Request) (b : BucketCore) (cost : ℕ) (at : Nanos) → b .stamp .0 ≤ at .0
     → asked c request b cost at .bucket .stamp .0 ≤ at .0
 asked-stamp c request b cost at past =
-    by-le (waitAt c b cost at) (longestWait request)
+    by-le (requestWait c request b cost at) (longestWait request)
     (λ soon. rw (granted-within-longest c request b cost at soon) (omega arith))
     (λ late. rw (denied-beyond-longest c request b cost at late) past)
 

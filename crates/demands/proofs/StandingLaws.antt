@@ -10,13 +10,17 @@ use Rattle.units.specs.declared.Nanos.{Nanos}
 use Rattle.settings.specs.declared.Settings.{Settings}
 use Rattle.settings.specs.declared.rate.Rate.{Rate}
 use Rattle.settings.specs.Rate.{configOf}
-use Rattle.settings.specs.Settings.{capOf, shardOf}
+use Rattle.settings.specs.Settings.{capOf, shapeOf, shardOf}
 use Rattle.shard_map.specs.Model as Shard
 use Rattle.shard_map.proofs.ReadBack.{Sized}
 use Rattle.shard.specs.declared.Identity.{Identity}
 use Rattle.shard.proofs.ShardLaws.{SameRoom}
 use Rattle.store.specs.Memory.{memoryWords, shardAt, inShard}
 use Rattle.store.proofs.MemoryLaws.{same-shard, same-room-sized, in-shard-length, in-shard-reads-back-for, in-shard-leaves-others}
+use Rattle.rules.specs.declared.Reply.{Reply}
+use Rattle.rules.specs.Asks.{Ask}
+use Rattle.rules.specs.Rules.{classesStored}
+use Rattle.rules.proofs.StoredLaws.{classes-are-stored}
 use Rattle.demands.proofs.LineBound.{BoundOf}
 use Rattle.demands.proofs.StampLaws.{StampsBy, stamps-by-later}
 use Rattle.demands.proofs.RequestLaws.{Invariant, invariant-later}
@@ -49,6 +53,19 @@ module _ (s : Settings) (rate : Rate) (k : Identity) (B : BoundOf (configOf rate
     past = stamps-by-later n m (own ws) later (v .past);
     bounds = invariant-later (configOf rate) B (k .hash) (k .key) (moment n) (moment m) (own ws) later (v .bounds);
   }
+
+  -- What an ask stores of the class buckets leaves the length and every shard.
+  pub stored-stands : (n : ℕ) (ask : Ask) (reply : Reply) (ws : List ℕ) {g : B .History} → Standing n ws g
+      → Standing n (classesStored (shapeOf s) ask reply ws) g
+  stored-stands n ask reply ws v =
+      let stored = classes-are-stored s ask reply ws (v .size) in
+      record {
+        size = stored .size;
+        sound = rw (stored .shards (k .hash)) (v .sound);
+        complete = rw (stored .shards (k .hash)) (v .complete);
+        past = rw (stored .shards (k .hash)) (v .past);
+        bounds = rw (stored .shards (k .hash)) (v .bounds);
+      }
 
   -- An operation in the shard of a hash. In the key's own shard it has to keep the bound; elsewhere nothing happens to the key.
   module _ {A : Type 0} (hash n : ℕ) (ws : List ℕ) {g : B .History} (v : Standing n ws g) (o : Outcome A Shard.Shard)

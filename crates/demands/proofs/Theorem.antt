@@ -13,23 +13,26 @@ use Rattle.settings.specs.declared.Settings.{Settings}
 use Rattle.settings.specs.declared.eviction.WhenFull.the-variants.{RefuseNew}
 use Rattle.settings.specs.declared.rate.Rate.{Rate}
 use Rattle.settings.specs.Rate.{burstOf, configOf}
-use Rattle.settings.specs.Settings.{settingsRefusal}
+use Rattle.settings.specs.Settings.{settingsRefusal, shapeOf}
+use Rattle.classes.specs.declared.Class.{Class}
 use Rattle.settings.proofs.RateLaws.{accepted-rate}
-use Rattle.settings.proofs.SettingsLaws.{accepted-parts}
+use Rattle.settings.proofs.SettingsLaws.{accepted-parts, neither-refuses}
 use Rattle.shard.specs.declared.Identity.{Identity}
 use Rattle.store.specs.Refusals.{setUpRefusal}
 use Rattle.store.proofs.RefusalLaws.{set-up-not-refused}
 use Rattle.rules.specs.declared.Reply.{Reply}
 use Rattle.rules.specs.declared.Reply.the-variants.{Done, Refused}
 use Rattle.rules.specs.Asks.{forgets, policyOf}
-use Rattle.rules.specs.Rules.{setUpIn, setUp}
+use Rattle.rules.specs.Rules.{tableSetUpRefusalIn, setUpIn, setUpFor}
 use Rattle.rules.specs.Widths.{lendable}
 use Rattle.rules.specs.Calls.{Call, Terms, rules, Answered, replies, fits, allFit}
 use Rattle.rules.proofs.RefusedLaws.{unless-refused-accepts, unless-refused-refuses}
 use Rattle.demands.proofs.EveryLaws.{every-implies}
 use Rattle.demands.proofs.WidthLaws.{both-true, NamesFit}
 use Rattle.demands.specs.Demands.{SameSettings, TimesNeverFall, NoSharedHash, NeverRefundedOrRemoved, tokensUsable, WithinWindow}
-use Rattle.demands.specs.Demands.{Limiter, answering, Demand2, Window, OwnBucket, Demand3}
+use Rattle.demands.specs.Demands.{tableWords, Limiter, setUpBy, settingsBy, answering, Demand2, Window, OwnBucket, WithinClassWindows, ClassWindowAdding}
+use Rattle.demands.specs.Demands.{Demand3}
+use Rattle.demands.proofs.ClassTheorem.{rules-stay-within-class-windows}
 use Rattle.demands.proofs.LendableTheorem.{rules-leave-words-lendable, set-up-leaves-words-lendable}
 use Rattle.demands.proofs.LineBound.{BoundOf}
 use Rattle.demands.proofs.GrantLaws.{within, window-from-bound, windowBound}
@@ -40,22 +43,22 @@ use Rattle.demands.proofs.RunLaws.{AlwaysAsAllowed, bound-holds-from-fr
 use Rattle.store.specs.Memory.{memoryWords}
 
 -- Set-up that is accepted leaves zeros, of the length that the settings ask for.
-pub record SetUp (s : Settings) (ws : List ℕ) : Type 0 where
+pub record SetUp (s : Settings) (table ws : List ℕ) : Type 0 where
   pub settings : settingsRefusal s ≡ 0
-  pub words : setUp s ws .after ≡ replicate (memoryWords s) 0
+  pub words : setUpFor s table ws .after ≡ replicate (memoryWords s) 0
 
-pub set-up-done : (s : Settings) (ws : List ℕ) → setUp s ws .answer ≡ Done → SetUp s ws
+pub set-up-done : (s : Settings) (table ws : List ℕ) → setUpFor s table ws .answer ≡ Done → SetUp s table ws
 unfolding setUpIn
-set-up-done s ws done′ =
-    by-eq (setUpRefusal s ws) 0
+set-up-done s table ws done′ =
+    let number : ℕ = tableSetUpRefusalIn (shapeOf s) s table ws in
+    let zeros : Outcome Reply (List ℕ) = outcome Done (replicate (memoryWords s) 0) in
+    by-eq number 0
     (λ none. record {
-      settings = set-up-not-refused s ws none .settings;
-      words = ap (λ (o : Outcome Reply (List ℕ)). o .after) (unless-refused-accepts (setUpRefusal s ws) ws (outcome Done (replicate (memoryWords s) 0)) none);
+      settings = set-up-not-refused s ws (neither-refuses (setUpRefusal s ws) _ none .0) .settings;
+      words = ap (λ (o : Outcome Reply (List ℕ)). o .after) (unless-refused-accepts number ws zeros none);
     })
     (λ some.
-    let told : Refused (setUpRefusal s ws) ≡ Done =
-    ap (λ (o : Outcome Reply (List ℕ)). o .answer) (sym (unless-refused-refuses (setUpRefusal s ws) ws (outcome Done (replicate (memoryWords s) 0)) some))
-    ∙ done′ in
+    let told : Refused number ≡ Done = ap (λ (o : Outcome Reply (List ℕ)). o .answer) (sym (unless-refused-refuses number ws zeros some)) ∙ done′ in
     let z : _≡_ {A = ℕ} 0 1 = cc in absurd (omega arith))
 
 -- The window over a list from a fresh memory: the bound of the window holds of the grants to the key, and their sums are the tokens that demand 3 counts.
@@ -82,21 +85,31 @@ module _ {S N : Type 0} (terms : Terms S N) (s : Settings) (rate : Rate) (k : Id
 
 module _ {S N : Type 0} (terms : Terms S N) where
   -- The first part, for settings, calls and words of any numbers.
-  pub rules-stay-within-the-window : (s : Settings) (rate : Rate) (ws : List ℕ) → s .limit ≡ Open rate → s .eviction .«when_full» ≡ RefuseNew
-      → setUp s ws .answer ≡ Done → (cs : List (Call S N))
-      → WithinWindow terms 1 s rate (replies terms (rules terms) cs (setUp s ws .after) (setUp s ws .after))
-  rules-stay-within-the-window s rate ws rated refuses done′ cs same rising apart k not-undone t u le =
-      let up = set-up-done s ws done′ in
+  pub rules-stay-within-the-window : (s : Settings) (rate : Rate) (table ws : List ℕ) → s .limit ≡ Open rate → s .eviction .«when_full» ≡ RefuseNew
+      → setUpFor s table ws .answer ≡ Done → (cs : List (Call S N))
+      → WithinWindow terms 1 s rate (replies terms (rules terms) cs (setUpFor s table ws .after) (setUpFor s table ws .after))
+  rules-stay-within-the-window s rate table ws rated refuses done′ cs same rising apart k not-undone t u le =
+      let up = set-up-done s table ws done′ in
       let a : Accepted (configOf rate) = accepted-rate rate (rw rated at (accepted-parts s (up .settings) .0)) in
       rw (up .words)
       (fresh-window terms s rate k a (ap forgets refuses) rated cs (rw (up .words) at same) (rw (up .words) at rising) (rw (up .words) at apart)
       (rw (up .words) at not-undone) t u le)
 
+  -- The third part, with nothing added; one moment more allows no less.
+  pub rules-keep-the-class-window-exactly : ClassWindowAdding terms 0 (answering terms (rules terms))
+  rules-keep-the-class-window-exactly s table ws cs _ _ = rules-stay-within-class-windows terms s table ws cs
+
+  pub within-with-one-more : (s : Settings) (cs : List Class) (answered : List (Answered S N)) → WithinClassWindows terms 0 s cs answered
+      → WithinClassWindows terms 1 s cs answered
+  within-with-one-more s cs answered exact same tabled rising number d inside t u le = omega (arith, exact same tabled rising number d inside t u le)
+
   -- Demand 3, whole.
   pub rules-meet-demand3 : Demand3 terms (answering terms (rules terms))
   rules-meet-demand3 = record {
-    window = λ s rate ws _ _ rated refuses done′ cs _. rules-stay-within-the-window (terms .settings s) rate ws rated refuses done′ cs;
+    window = λ table s rate ws _ _ _ rated refuses done′ cs _.
+        rules-stay-within-the-window (settingsBy terms table s) rate (tableWords table) ws rated refuses done′ cs;
     own-bucket = λ ws cs _ _. rules-decide-by-own-bucket terms ws cs;
+    class-window = λ s table ws cs _ _. within-with-one-more s table _ (rules-stay-within-class-windows terms s table ws cs);
   }
 
 -- A limiter that meets demand 2 gets through a list as the rules do: they leave words that can be lent again, where names mean numbers that fit.
@@ -114,15 +127,24 @@ module _ {S N : Type 0} (terms : Terms S N) (names : NamesFit terms) (l : Limite
 
   -- So it meets demand 3 as well, from the words that its own set-up leaves.
   keeps : Window terms l
-  keeps s rate ws fit lent rated refuses =
-      let fresh = set-up-leaves-words-lendable (terms .settings s) ws lent in
-      rw (equal .sets-up s ws fit lent)
+  keeps table s rate ws few fit lent rated refuses =
+      let settings : Settings = settingsBy terms table s in
+      let left : List ℕ = setUpBy terms table s ws .after in
+      let fresh = set-up-leaves-words-lendable settings (tableWords table) ws lent in
+      rw (equal .sets-up table s ws few fit lent)
       (λ done′ cs fits.
-      rw (same-replies cs (setUp (terms .settings s) ws .after) (setUp (terms .settings s) ws .after) fits fresh)
-      (rules-stay-within-the-window terms (terms .settings s) rate ws rated refuses done′ cs))
+      rw (same-replies cs left left fits fresh) (rules-stay-within-the-window terms settings rate (tableWords table) ws rated refuses done′ cs))
 
   decides : OwnBucket terms l
   decides ws cs lent fits = rw (same-replies cs ws ws fits lent) (rules-decide-by-own-bucket terms ws cs)
 
+  pub demand2-keeps-the-class-window-exactly : ClassWindowAdding terms 0 l
+  demand2-keeps-the-class-window-exactly s table ws cs lent fits =
+      rw (same-replies cs ws ws fits lent) (rules-stay-within-class-windows terms s table ws cs)
+
   pub demand2-gives-demand3 : Demand3 terms l
-  demand2-gives-demand3 = record { window = keeps; own-bucket = decides }
+  demand2-gives-demand3 = record {
+    window = keeps;
+    own-bucket = decides;
+    class-window = λ s table ws cs lent fits. within-with-one-more terms s table _ (demand2-keeps-the-class-window-exactly s table ws cs lent fits);
+  }

@@ -1,12 +1,13 @@
 -- A try is granted without a wait, if it is granted.
 use Prim.Native.Nat.{ℕ}
-use mathlib.Core.Path.{_≡_}
+use mathlib.Core.Path.{_≡_, refl}
 use native.Mathlib.Omega.{arith}
 use Rattle.units.specs.declared.Nanos.{Nanos}
 use Rattle.bucket.specs.declared.BucketDecision.{BucketDecision}
 use Rattle.bucket.specs.declared.BucketDecision.the-variants.{Allowed, Denied}
 use Rattle.bucket.specs.declared.Request.{Request}
-use Rattle.bucket.specs.declared.Request.the-variants.{Acquire, Reserve}
+use Rattle.bucket.specs.declared.Request.the-variants.{Acquire, Reserve, Through}
+use Rattle.bucket.specs.Bucket.{longestWait}
 use Rattle.shard_map.specs.Model.{Shard}
 use Rattle.shard.specs.declared.Identity.{Identity}
 use Rattle.shard.specs.declared.Policy.{Policy}
@@ -21,11 +22,13 @@ AtOnce (Denied due) = Unit {0}
 abbrev pub AsAsked : Request → BucketDecision → Type 0
 AsAsked Acquire decision = AtOnce decision
 AsAsked (Reserve longest) decision = Unit {0}
+AsAsked (Through others) decision = AtOnce decision
 
-try-grants-at-once : {at : Nanos} {d : BucketDecision} → TellsItsMoment Acquire at d → AtOnce d
-try-grants-at-once (granted wait within) = omega arith
-try-grants-at-once (denied wait) = tt
+try-grants-at-once : {r : Request} {at : Nanos} {d : BucketDecision} → longestWait r ≡ 0 → TellsItsMoment r at d → AtOnce d
+try-grants-at-once none (granted wait within others′) = omega (arith, none)
+try-grants-at-once none (denied wait) = tt
 
 pub store-grants-as-asked : (p : Policy) (id : Identity) (r : Request) (cost : ℕ) (at : Nanos) (s : Shard) → AsAsked r (withOrInsert p id r cost at s .answer)
 store-grants-as-asked p id (Reserve longest) cost at s = tt
-store-grants-as-asked p id Acquire cost at s = try-grants-at-once (every-answer-tells-its-moment p id Acquire cost at s)
+store-grants-as-asked p id Acquire cost at s = try-grants-at-once refl (every-answer-tells-its-moment p id Acquire cost at s)
+store-grants-as-asked p id (Through others) cost at s = try-grants-at-once refl (every-answer-tells-its-moment p id (Through others) cost at s)

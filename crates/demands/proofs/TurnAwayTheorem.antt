@@ -8,23 +8,26 @@ use lib.Dec.{eqb}
 use Rattle.arith.proofs.Cases.{by-eq}
 use Rattle.rows.specs.Outcome.{Outcome}
 use Rattle.rows.proofs.SumLaws.{sum-same}
+use Rattle.bucket.specs.declared.BucketCore.{BucketCore}
 use Rattle.settings.specs.declared.Settings.{Settings}
-use Rattle.settings.specs.Settings.{firstRefusal, settingsRefusal, shardCount, capOf, shardOf}
+use Rattle.settings.specs.Settings.{firstRefusal, settingsRefusal, shapeOf, shardCount, capOf, shardOf}
+use Rattle.classes.specs.Classes.{tableRefusal}
+use Rattle.classes.specs.Layout.{classesIn}
 use Rattle.shard_map.specs.Model.{Shard, uncounted}
 use Rattle.shard_map.proofs.TurnAwayLaws.{equal-but-for-turn-aways}
 use Rattle.shard.specs.declared.Identity.{Identity}
-use Rattle.store.specs.Memory.{memoryWords, shardAt, slotCount}
+use Rattle.store.specs.Memory.{memoryWords, shardAt, bucketsAt, slotCount}
 use Rattle.store.specs.Refusals.{memoryRefusal, countRefusal, mostSlots, slotsRefusal, setUpRefusal}
 use Rattle.rules.specs.declared.Reply.{Reply}
 use Rattle.rules.specs.declared.Reply.the-variants.{Count}
-use Rattle.rules.specs.Asks.{Ask, requests, looks, undoes, furtherOf, inItsShard}
-use Rattle.rules.specs.Rules.{askRefusal, setUpIn, clear}
+use Rattle.rules.specs.Asks.{Ask, requests, looks, undoes, passes, inForce, furtherOf, inItsShard, bucketsAfter}
+use Rattle.rules.specs.Rules.{askRefusal, tableSetUpRefusalIn, setUpIn, setUpFor}
 use Rattle.rules.specs.Widths.{lendable}
 use Rattle.rules.specs.Calls.{Call, keyed, whole, len, Terms, rules, settingsOf, Every}
 use Rattle.rules.proofs.RefusedLaws.{unless-refused-accepts, unless-refused-refuses}
 use Rattle.rules.proofs.KeyedLaws.{ask-not-refused}
 use Rattle.rules.proofs.CallLaws.{refusalOf, ruleOf, not-refused-is-ruled, refused-is-told, keyed-not-refused}
-use Rattle.demands.specs.Demands.{Limiter, Demand2}
+use Rattle.demands.specs.Demands.{Table, tableWords, Limiter, settingsBy, Demand2}
 use Rattle.demands.specs.PlaceOrder.{Turn, calls, clears, byRules, run, OfStore, AllOf}
 use Rattle.demands.specs.TurnAways.{readsTurnAways, callReadsTurnAways, turnReadsTurnAways, EqualButForTurnAways, DecidedAlike, ListDecidedAlike}
 use Rattle.demands.proofs.OneShardLaws.{WorksInOneShard, asks-work-in-one-shard, call-same-without-turn-aways}
@@ -33,22 +36,33 @@ use Rattle.demands.proofs.WidthLaws.{NamesFit}
 use Rattle.demands.proofs.PlaceOrderTheorem.{byLimiter, TurnFits, runs-alike}
 
 -- In one shard: the answer of a call that reads no such count, and what any call leaves.
-module _ (s : Settings) (id : Identity) (ask : Ask) (a b : Shard) (same : uncounted a ≡ uncounted b) where
-  answer-decided-alike : readsTurnAways ask ≡ false → inItsShard s id ask a .answer ≡ inItsShard s id ask b .answer
+module _ (s : Settings) (id : Identity) (ask : Ask) (buckets : List BucketCore) (a b : Shard) (same : uncounted a ≡ uncounted b) where
+  answer-decided-alike : readsTurnAways ask ≡ false → inItsShard s id ask buckets a .answer ≡ inItsShard s id ask buckets b .answer
   answer-decided-alike blind =
-      sym (call-same-without-turn-aways a s id ask blind .answer) ∙ ap (λ t. inItsShard s id ask t .answer) same
-      ∙ call-same-without-turn-aways b s id ask blind .answer
+      sym (call-same-without-turn-aways a s id ask buckets blind .answer) ∙ ap (λ t. inItsShard s id ask buckets t .answer) same
+      ∙ call-same-without-turn-aways b s id ask buckets blind .answer
 
-  blind-leaves-alike : readsTurnAways ask ≡ false → uncounted (inItsShard s id ask a .after) ≡ uncounted (inItsShard s id ask b .after)
+  blind-leaves-alike : readsTurnAways ask ≡ false → uncounted (inItsShard s id ask buckets a .after) ≡ uncounted (inItsShard s id ask buckets b .after)
   blind-leaves-alike blind =
-      sym (equal-but-for-turn-aways (call-same-without-turn-aways a s id ask blind .after)) ∙ ap (λ t. uncounted (inItsShard s id ask t .after)) same
-      ∙ equal-but-for-turn-aways (call-same-without-turn-aways b s id ask blind .after)
+      sym (equal-but-for-turn-aways (call-same-without-turn-aways a s id ask buckets blind .after))
+      ∙ ap (λ t. uncounted (inItsShard s id ask buckets t .after)) same
+      ∙ equal-but-for-turn-aways (call-same-without-turn-aways b s id ask buckets blind .after)
 
-leaves-alike : (s : Settings) (id : Identity) (ask : Ask) (a b : Shard) → uncounted a ≡ uncounted b
-    → uncounted (inItsShard s id ask a .after) ≡ uncounted (inItsShard s id ask b .after)
-leaves-alike s id (requests r at cost) a b same = blind-leaves-alike s id (requests r at cost) a b same refl
-leaves-alike s id (looks l) a b same = same
-leaves-alike s id (undoes u) a b same = blind-leaves-alike s id (undoes u) a b same refl
+leaves-alike : (s : Settings) (id : Identity) (ask : Ask) (buckets : List BucketCore) (a b : Shard) → uncounted a ≡ uncounted b
+    → uncounted (inItsShard s id ask buckets a .after) ≡ uncounted (inItsShard s id ask buckets b .after)
+leaves-alike s id (requests r at cost) buckets a b same = blind-leaves-alike s id (requests r at cost) buckets a b same refl
+leaves-alike s id (looks l) buckets a b same = same
+leaves-alike s id (undoes u) buckets a b same = blind-leaves-alike s id (undoes u) buckets a b same refl
+leaves-alike s id (passes table class at cost) buckets a b same = blind-leaves-alike s id (passes table class at cost) buckets a b same refl
+
+-- The class buckets after an ask: where they depend on the answer, the ask reads no such count.
+buckets-alike : (ask : Ask) {r q : Reply} (buckets : List BucketCore) → (readsTurnAways ask ≡ false → r ≡ q)
+    → bucketsAfter ask r buckets ≡ bucketsAfter ask q buckets
+buckets-alike (requests r at cost) buckets same = refl
+buckets-alike (looks l) buckets same = refl
+buckets-alike (undoes u) buckets same = refl
+buckets-alike (passes table class at cost) buckets same =
+    ap (λ (reply : Reply). bucketsAfter (passes table class at cost) reply buckets) (same refl)
 
 -- Refusals look at no count of tries.
 module _ (s : Settings) (ws vs : List ℕ) (like : EqualButForTurnAways s ws vs) where
@@ -81,27 +95,37 @@ module _ (s : Settings) (ws vs : List ℕ) (like : EqualButForTurnAways s ws vs)
 
 -- What is asked of a key, and not refused.
 keyed-decided-alike : (s : Settings) (id : Identity) (ask : Ask) (ws vs : List ℕ) → EqualButForTurnAways s ws vs
-    → {o q : Outcome Reply (List ℕ)} → WorksInOneShard s (id .hash) ws o (inItsShard s id ask (shardAt s (id .hash) ws))
-    → WorksInOneShard s (id .hash) vs q (inItsShard s id ask (shardAt s (id .hash) vs)) → DecidedAlike s (readsTurnAways ask) o q
+    → {o q : Outcome Reply (List ℕ)} → WorksInOneShard s (id .hash) ask ws o (inItsShard s id ask (bucketsAt (shapeOf s) ws) (shardAt s (id .hash) ws))
+    → WorksInOneShard s (id .hash) ask vs q (inItsShard s id ask (bucketsAt (shapeOf s) vs) (shardAt s (id .hash) vs))
+    → DecidedAlike s (readsTurnAways ask) o q
 keyed-decided-alike s id ask ws vs like first second =
     let a = shardAt s (id .hash) ws in
     let b = shardAt s (id .hash) vs in
     let same = like .shards (id .hash) in
+    let buckets : List BucketCore = bucketsAt (shapeOf s) ws in
+    let own-buckets : inItsShard s id ask buckets b ≡ inItsShard s id ask (bucketsAt (shapeOf s) vs) b =
+    ap (λ (bs : List BucketCore). inItsShard s id ask bs b) (like .buckets) in
+    let answers : readsTurnAways ask ≡ false
+    → inItsShard s id ask buckets a .answer ≡ inItsShard s id ask (bucketsAt (shapeOf s) vs) b .answer =
+    λ blind. answer-decided-alike s id ask buckets a b same blind ∙ ap (λ (o : Outcome Reply Shard). o .answer) own-buckets in
     record {
-      answer = λ blind. first .answer ∙ answer-decided-alike s id ask a b same blind ∙ sym (second .answer);
+      answer = λ blind. first .answer ∙ answers blind ∙ sym (second .answer);
       after = record {
         size = first .size ∙ sym (second .size);
         shards = λ other.
             by-eq (shardOf s other) (shardOf s (id .hash))
-            (λ own. rw (first .own other own, second .own other own) (leaves-alike s id ask a b same))
+            (λ own.
+            rw (first .own other own, second .own other own)
+            (leaves-alike s id ask buckets a b same ∙ ap (λ (o : Outcome Reply Shard). uncounted (o .after)) own-buckets))
             (λ apart. rw (first .others other apart, second .others other apart) (like .shards other));
+        buckets = first .buckets ∙ buckets-alike ask buckets answers ∙ ap (bucketsAfter ask _) (like .buckets) ∙ sym (second .buckets);
       };
     }
 
 module _ {S N : Type 0} (terms : Terms S N) where
   refused-alike : (c : Call S N) (ws vs : List ℕ) → EqualButForTurnAways (settingsOf terms c) ws vs → refusalOf terms c ws ≡ refusalOf terms c vs
   refused-alike (keyed s n ask) ws vs like =
-      ap (firstRefusal (terms .refusal n)) (ask-refused-alike (terms .settings s) ws vs like (terms .identity n) ask)
+      ap (firstRefusal (terms .refusal n)) (ask-refused-alike (inForce ask (terms .settings s)) ws vs like (terms .identity n) ask)
   refused-alike (whole s len) ws vs like =
       let settings = terms .settings s in
       λ j. firstRefusal (set-up-refused-alike settings ws vs like j) (slots-refused-alike settings ws vs like j)
@@ -109,7 +133,7 @@ module _ {S N : Type 0} (terms : Terms S N) where
   ruled-alike : (c : Call S N) (ws vs : List ℕ) → EqualButForTurnAways (settingsOf terms c) ws vs → refusalOf terms c ws ≡ 0 → refusalOf terms c vs ≡ 0
       → DecidedAlike (settingsOf terms c) (callReadsTurnAways c) (ruleOf terms c ws) (ruleOf terms c vs)
   ruled-alike (keyed s n ask) ws vs like none also =
-      let settings = terms .settings s in
+      let settings = inForce ask (terms .settings s) in
       let id = terms .identity n in
       let accepted = ask-not-refused settings id ask ws (keyed-not-refused terms s n ask ws none .1) .0 in
       let accepted-too = ask-not-refused settings id ask vs (keyed-not-refused terms s n ask vs also .1) .0 in
@@ -130,20 +154,21 @@ module _ {S N : Type 0} (terms : Terms S N) where
       (record { answer = λ blind. refl; after = like }))
 
   module _ (s : Settings) where
-    clear-alike : (ws vs : List ℕ) → EqualButForTurnAways s ws vs → DecidedAlike s false (clear s ws) (clear s vs)
+    clear-alike : (table ws vs : List ℕ) → EqualButForTurnAways s ws vs → DecidedAlike s false (setUpFor s table ws) (setUpFor s table vs)
     unfolding setUpIn
-    clear-alike ws vs like =
-        let same = set-up-refused-alike s ws vs like in
-        by-eq (setUpRefusal s vs) 0
+    clear-alike table ws vs like =
+        let same : tableSetUpRefusalIn (shapeOf s) s table ws ≡ tableSetUpRefusalIn (shapeOf s) s table vs =
+        ap (λ (n : ℕ). firstRefusal n (tableRefusal (classesIn table))) (set-up-refused-alike s ws vs like) in
+        by-eq (tableSetUpRefusalIn (shapeOf s) s table vs) 0
         (λ none. rw (unless-refused-accepts _ ws _ (same ∙ none), unless-refused-accepts _ vs _ none)
-        (record { answer = λ blind. refl; after = record { size = refl; shards = λ hash. refl } }))
+        (record { answer = λ blind. refl; after = record { size = refl; shards = λ hash. refl; buckets = refl } }))
         (λ some. rw (unless-refused-refuses _ ws _ (λ none. some (sym same ∙ none)), unless-refused-refuses _ vs _ some, same)
         (record { answer = λ blind. refl; after = like }))
 
     turn-decided-alike : (t : Turn S N) (ws vs : List ℕ) → OfStore terms s t → EqualButForTurnAways s ws vs
         → DecidedAlike s (turnReadsTurnAways t) (byRules terms s t ws) (byRules terms s t vs)
     turn-decided-alike (calls c) ws vs same like = rw same at (turn-aways-decide-no-call c ws vs (rw same like))
-    turn-decided-alike clears ws vs same like = clear-alike ws vs like
+    turn-decided-alike (clears table) ws vs same like = clear-alike (tableWords table) ws vs like
 
     -- A list of calls, all with the settings of the store, and clears.
     pub turn-aways-decide-no-list : (ts : List (Turn S N)) (ws vs : List ℕ) → AllOf terms s ts → EqualButForTurnAways s ws vs
@@ -156,10 +181,13 @@ module _ {S N : Type 0} (terms : Terms S N) where
         record { answers = (first .answer, rest .answers); after = rest .after }
 
   -- So with every limiter that meets demand 2, whose calls can be made.
-  module _ (names : NamesFit terms) (l : Limiter S N) (meets : Demand2 terms l) (written : S) (fit : terms .settingsFit written ≡ true) where
-    pub limiter-decides-alike : (ts : List (Turn S N)) (ws vs : List ℕ) → Every (TurnFits terms) ts → AllOf terms (terms .settings written) ts
-        → lendable ws ≡ true → lendable vs ≡ true → EqualButForTurnAways (terms .settings written) ws vs
-        → ListDecidedAlike (terms .settings written) ts (run (byLimiter l written) ts ws) (run (byLimiter l written) ts vs)
+  module _ (names : NamesFit terms) (l : Limiter S N) (meets : Demand2 terms l) (written : S) (fit : terms .settingsFit written ≡ true) (first : Table) where
+    abbrev store : Settings
+    store = settingsBy terms first written
+
+    pub limiter-decides-alike : (ts : List (Turn S N)) (ws vs : List ℕ) → Every (TurnFits terms) ts → AllOf terms store ts
+        → lendable ws ≡ true → lendable vs ≡ true → EqualButForTurnAways store ws vs
+        → ListDecidedAlike store ts (run (byLimiter l written) ts ws) (run (byLimiter l written) ts vs)
     limiter-decides-alike ts ws vs fits′ all lent lent-too like =
-        rw (runs-alike terms names l meets written fit ts ws fits′ lent, runs-alike terms names l meets written fit ts vs fits′ lent-too)
-        (turn-aways-decide-no-list (terms .settings written) ts ws vs all like)
+        rw (runs-alike terms names l meets written fit first ts ws fits′ all lent, runs-alike terms names l meets written fit first ts vs fits′ all lent-too)
+        (turn-aways-decide-no-list store ts ws vs all like)

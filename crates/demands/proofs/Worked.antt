@@ -15,6 +15,8 @@ use Rattle.settings.specs.declared.decision.Decision.the-variants.{Acquired}
 use Rattle.settings.specs.Powers.{exponentFrom, exponentFor}
 use Rattle.settings.specs.Rate as Rate
 use Rattle.settings.specs.Settings as Settings
+use Rattle.classes.specs.Classes as Classes
+use Rattle.classes.specs.Layout as ClassLayout
 use Rattle.ledger.specs.Layout as Debts
 use Rattle.ledger.specs.Model as Ledger
 use Rattle.held.specs.Round as Round
@@ -81,6 +83,7 @@ unfolding ceilDiv lowestFrom rows unrow tableIn removed Index.onward Index.walkF
     Layout.shard Layout.wordsOf Shard.placeOf Shard.removeAt Shard.insert
     OneShard.makeRoom OneShard.admit OneShard.withOrInsert OneShard.removed
     Refusals.memoryRefusal Refusals.countRefusal Refusals.momentRefusal Refusals.waitRefusal Refusals.mostSlots Refusals.slotsRefusalIn
+    ClassLayout.classesIn Classes.countRefusal Classes.firstFrom
     Asks.askedIn Rules.unlessRefused Rules.setUpIn Rules.keyedRuleIn Rules.lenIn onShards run
 worked = record {
   accepted = refl;
@@ -93,4 +96,5 @@ worked = record {
 
 -- The theorem is of this run.
 pub worked-is-as-without-indexes : SameWithoutIndexes byKey (byRules byKey (roomFor 2)) (roomFor 2) workedTurns (fresh (roomFor 2))
-worked-is-as-without-indexes = grown-store-is-as-without-indexes byKey (roomFor 2) (memory (roomFor 2)) (worked .accepted) workedTurns (worked .of-store)
+worked-is-as-without-indexes =
+    grown-store-is-as-without-indexes byKey (roomFor 2) [] (memory (roomFor 2)) refl (worked .accepted) workedTurns (worked .of-store)

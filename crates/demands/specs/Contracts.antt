@@ -1,7 +1,7 @@
--- Code as its caller knows it: what the contracts of the ten operations of `perkey` and of the five of `modems` tell. Both answer calls of one list, in which
--- each call names a modem by key or by address (`byName`).
--- `Asked` and `Learnt` are an operation's `requires` and `ensures` (crates/perkey/src/lib.rt, crates/modems/src/lib.rt) as the check gives them to its callers:
--- `Asked` of the arguments, `Learnt` of the arguments at entry, the result, and the arguments at exit.
+-- Code as its caller knows it: what the contracts of the ten operations of `perkey`, of the five of `modems` and of the three of `class_calls` tell. They
+-- answer calls of one list, in which each call names a modem by key or by address (`byName`). `Asked` and `Learnt` are an operation's `requires` and `ensures`
+-- (src/lib.rt of these crates) as the check gives them to its callers: `Asked` of the arguments, `Learnt` of the arguments at entry, the result, and the
+-- arguments at exit.
 use Prim.Native.Nat.{ℕ}
 use mathlib.Core.Path.{_≡_}
 use mathlib.Core.Bool.{true}
@@ -12,7 +12,7 @@ use Rattle.units.specs.declared.Nanos.{Nanos}
 use Rattle.settings.specs.declared.Settings.{Settings}
 use Rattle.shard.specs.declared.Identity.{Identity}
 use Rattle.rules.specs.Widths.{settingsFit, lendable}
-use Rattle.rules.specs.Calls.{try, reserve, peek, available, timesTurnedAway, length, refund, remove, fits}
+use Rattle.rules.specs.Calls.{try, reserve, peek, available, timesTurnedAway, length, refund, remove, classTry, fits}
 use Rattle.modems.specs.Names.{Name, key, address, byName}
 use Rattle.perkey.proofs.set_up.Reads as SetUp
 use Rattle.perkey.proofs.clear.Reads as Clear
@@ -29,7 +29,10 @@ use Rattle.modems.proofs.reserve.Reads as ModemReserve
 use Rattle.modems.proofs.peek.Reads as ModemPeek
 use Rattle.modems.proofs.refund.Reads as ModemRefund
 use Rattle.modems.proofs.remove.Reads as ModemRemove
-use Rattle.demands.specs.Demands.{Limiter}
+use Rattle.class_calls.proofs.class_set_up.Reads as ClassSetUp
+use Rattle.class_calls.proofs.class_clear.Reads as ClassClear
+use Rattle.class_calls.proofs.class_try.Reads as ClassTry
+use Rattle.demands.specs.Demands.{untabled, tabled, Limiter}
 
 -- Words or bytes that are lent, at some place.
 abbrev pub lentAt : ℕ × ℕ → ℕ → List ℕ → RefT (List ℕ)
@@ -43,11 +46,11 @@ module _ (κs : Lfts 1) (ptr : ℕ × ℕ) (name : ℕ) where
   -- Of each operation of `perkey`: where its numbers fit and what it asks is shown, its contract holds of what the code gives.
   pub record KeyContracts (l : Limiter Settings Name) : Type 0 where
     pub sets-up : (s : Settings) (ws : List ℕ) → settingsFit s ≡ true → lendable ws ≡ true →
-        let o = l .sets-up s ws in
+        let o = l .sets-up untabled s ws in
         SetUp.Asked κs (s, (lent ws, tt)) →
         SetUp.Learnt κs (s, (lent ws, tt)) (o .answer) (s, (lent (o .after), tt))
     pub clears : (s : Settings) (ws : List ℕ) → settingsFit s ≡ true → lendable ws ≡ true →
-        let o = l .clears s ws in
+        let o = l .clears untabled s ws in
         Clear.Asked κs (s, (lent ws, tt)) →
         Clear.Learnt κs (s, (lent ws, tt)) (o .answer) (s, (lent (o .after), tt))
     pub tries : (s : Settings) (at : Nanos) (id : Identity) (cost : ℕ) (ws : List ℕ) → fits byName (try s at (key id) cost) ≡ true → lendable ws ≡ true →
@@ -118,8 +121,30 @@ module _ (κs : Lfts 2) (ptr bytesPtr : ℕ × ℕ) (name bytesName : ℕ) where
         ModemRemove.Asked κs (onAddress s ws bytes tt) →
         ModemRemove.Learnt κs (onAddress s ws bytes tt) (o .answer) (onAddress s (o .after) bytes tt)
 
--- Of both crates.
-module _ (κs : Lfts 1) (κs₂ : Lfts 2) (ptr bytesPtr : ℕ × ℕ) (name bytesName : ℕ) where
+-- The operations of `class_calls` are lent the class table, too.
+module _ (κs : Lfts 2) (ptr tablePtr : ℕ × ℕ) (name tableName : ℕ) where
+  -- The arguments of an operation as its contract has them: the settings, the table, the words, and what else is asked.
+  abbrev withTable : {A : Type 0} → Settings → List ℕ → List ℕ → A → Settings × (RefT (List ℕ) × (RefT (List ℕ) × A))
+  withTable s table ws more = (s, (lentAt tablePtr tableName table, (lentAt ptr name ws, more)))
+
+  pub record ClassContracts (l : Limiter Settings Name) : Type 0 where
+    pub sets-up : (s : Settings) (table ws : List ℕ) → settingsFit s ≡ true → lendable table ≡ true → lendable ws ≡ true →
+        let o = l .sets-up (tabled table) s ws in
+        ClassSetUp.Asked κs (withTable s table ws tt) →
+        ClassSetUp.Learnt κs (withTable s table ws tt) (o .answer) (withTable s table (o .after) tt)
+    pub clears : (s : Settings) (table ws : List ℕ) → settingsFit s ≡ true → lendable table ≡ true → lendable ws ≡ true →
+        let o = l .clears (tabled table) s ws in
+        ClassClear.Asked κs (withTable s table ws tt) →
+        ClassClear.Learnt κs (withTable s table ws tt) (o .answer) (withTable s table (o .after) tt)
+    pub tries : (s : Settings) (table : List ℕ) (class : ℕ) (at : Nanos) (id : Identity) (cost : ℕ) (ws : List ℕ) →
+        fits byName (classTry s table class at (key id) cost) ≡ true → lendable ws ≡ true →
+        let o = l .answers (classTry s table class at (key id) cost) ws in
+        ClassTry.Asked κs (withTable s table ws (at, (id, (class, (cost, tt))))) →
+        ClassTry.Learnt κs (withTable s table ws (at, (id, (class, (cost, tt))))) (o .answer) (withTable s table (o .after) (at, (id, (class, (cost, tt)))))
+
+-- Of all three crates.
+module _ (κs : Lfts 1) (κs₂ : Lfts 2) (ptr otherPtr : ℕ × ℕ) (name otherName : ℕ) where
   pub record Contracts (l : Limiter Settings Name) : Type 0 where
     pub by-key : KeyContracts κs ptr name l
-    pub by-address : AddressContracts κs₂ ptr bytesPtr name bytesName l
+    pub by-address : AddressContracts κs₂ ptr otherPtr name otherName l
+    pub by-class : ClassContracts κs₂ ptr otherPtr name otherName l

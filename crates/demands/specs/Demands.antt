@@ -1,17 +1,19 @@
 -- What is promised of a limiter, as claims about any limiter: of demand 1, that a call which is refused by number changes no word (`RefusedChangesNothing`);
--- demand 2, that it does what the rules say; demand 3, the window and the own bucket. That no call faults, overflows or fails to end is what `rt` proves of
--- every function. No operation and no export has a `requires`: the contracts in src/ of `perkey`, `modems`, `limiter`, `limiter_modems` show that.
+-- demand 2, that it does what the rules say; demand 3, the window, the own bucket and the window of a class. That no call faults, overflows or fails to end is
+-- what `rt` proves of every function. No operation and no export has a `requires`: the contracts in src/ of `perkey`, `modems`, `class_calls`, `limiter`,
+-- `limiter_modems` and `limiter_classes` show that.
 --
 -- Demand 3 in plain English. Behind each clause stands the name that states it.
 --
--- Take any list of tries, reservations, peeks, looks at available, at counts or at length, refunds and
--- removals,                                                                                               Call
+-- Take any list of tries, tries through a class, reservations, peeks, looks at available, at counts or at
+-- length, refunds and removals,                                                                          Call
 -- each with its own settings and naming a modem by key or by hardware address,                            Terms (Calls)
 -- calls that are refused by number among them, with any numbers that code can be given.                  fits, lendable
 -- Each call gets the words that the call before it left.                                                 replies
 --
 -- The window.                                                                                            Window
--- The settings have a rate and turn new keys away when full, set-up accepts them, and the list starts from the words that the limiter's own set-up leaves.
+-- The settings have a rate and turn new keys away when full. Set-up accepts them, with a class table
+-- or without one. The list starts from the words that the limiter's own set-up leaves.                   Table
 -- Of the calls that are not refused by number                                                            accepted
 -- all have these settings,                                                                               SameSettings
 -- the moments never fall,                                                                                TimesNeverFall
@@ -26,27 +28,39 @@
 -- A try or a reservation is not refused by number, has a rate, and costs from 1 to the burst;
 -- its key holds a slot or a debt, in the words that the rules make of the list so far.                    holds
 -- Then it is answered as that slot's bucket answers it, or a fresh bucket in that debt:                   ByOwnBucket, ownReply
--- never for lack of space.
+-- never for lack of space. A try through a class, of a cost that is also over no burst on the chain, is answered so by that bucket and those on the chain:
+-- it waits for the largest of their waits.                                                                ByOwnBucketAndChain
 --
--- Both claims are over any terms: they hold of lists in which every call names a key (`byKey` of `rules`), of lists in which every call names an address
+-- The window of a class.                                                                                 ClassWindow
+-- The list starts from any words, and has any rule when full and any hashes, and a rate or none.
+-- Of the calls that are not refused by number all have one settings record,                              SameSettings
+-- all tries through a class have one class table,                                                        SameTable
+-- and the moments never fall.                                                                            TimesNeverFall
+-- Add up the tokens of the granted tries with class d on their chain, at moments from t to u.             tokensThrough
+-- Times the period of d, the sum is at most burst × period + (u - t + 1) × amount, by the rate of d.      WithinRate 1
+--
+-- All three parts are over any terms: they hold of lists in which every call names a key (`byKey` of `rules`), of lists in which every call names an address
 -- (`byAddress` of `modems`), of lists that mix both (`byName` of `modems`), and of lists whose calls also write their settings as the numbers of a C struct,
 -- each in its own way (`exported`).
 --
 -- Theorems, in proofs/:
 -- * `rules-meet-demand3`: the rules meet it. `demand2-gives-demand3`: so does every limiter that meets demand 2.
 -- * `demand2-changes-nothing-where-refused`: a limiter that meets demand 2 changes no word where it refuses.
--- * `contracts-meet-demand2`, `contracts-meet-demand3`: so does code that is as the contracts of `perkey` and `modems` tell its callers, in lists that mix
--- both.
+-- * `contracts-meet-demand2`, `contracts-meet-demand3`: so does code that is as the contracts of `perkey`, `modems` and `class_calls` tell its callers, in
+-- lists that mix their calls.
 -- * `exports-meet-demand2`: what C and Rust call gives the rules' replies as numbers. `exports-meet-demand3`: so their callers have a limiter that meets it.
 -- * `window-adding-none-is-false-of-the-rules`: the + 1 cannot be left out.
 -- * `demand2-tells-moments`, `told-moments-count-alike`: the tokens that the window counts are those counted by the moments that grants tell (Moments).
--- * Impostors are refuted in ImpostorLaws. Demand 3 alone admits a limiter that turns every newcomer away at first (`turns-newcomers-away-meets-demand3`);
+-- * `rules-keep-the-class-window-exactly`, `demand2-keeps-the-class-window-exactly`: the window of a class holds without the + 1 as well.
+-- * Impostors are refuted in ImpostorLaws and ClassImpostors. Demand 3 alone admits a limiter that turns every newcomer away at first
+-- (`turns-newcomers-away-meets-demand3`);
 --   demand 2 shuts it out (`turns-newcomers-away-fails-demand2`).
-use Prim.Native.Nat.{ℕ, _+_, _*_, _-_, _≤_}
+use Prim.Native.Nat.{ℕ, _+_, _*_, _-_, _≤_, _<_}
 use mathlib.Core.Path.{_≡_}
-use mathlib.Core.Bool.{true, cond}
+use mathlib.Core.Bool.{Bool, true, cond}
 use mathlib.Core.List.{List, [], _∷_}
 use lib.Dec.{leb, eqb}
+use lib.ListN.{length}
 use Rattle.rows.specs.Outcome.{Outcome}
 use Rattle.units.specs.declared.Nanos.{Nanos}
 use Rattle.bucket.specs.declared.Request.{Request}
@@ -55,22 +69,39 @@ use Rattle.settings.specs.declared.Settings.{Settings}
 use Rattle.settings.specs.declared.eviction.WhenFull.the-variants.{RefuseNew}
 use Rattle.settings.specs.declared.rate.Rate.{Rate}
 use Rattle.settings.specs.Rate.{burstOf, configOf}
+use Rattle.settings.specs.Settings.{shapeOf}
+use Rattle.classes.specs.declared.Class.{Class}
+use Rattle.classes.specs.Classes.{classAt}
+use Rattle.classes.specs.Chains.{among, leastBurst}
+use Rattle.classes.specs.Layout.{classesIn}
 use Rattle.shard.specs.declared.Identity.{Identity}
 use Rattle.shard.specs.Model.{ownDecision, holds}
-use Rattle.store.specs.Memory.{shardAt}
+use Rattle.store.specs.Memory.{shardAt, bucketsAt}
 use Rattle.rules.specs.declared.Reply.{Reply}
 use Rattle.rules.specs.declared.Reply.the-variants.{Done}
 use Rattle.rules.specs.Replies.{ofGrant, numbered}
-use Rattle.rules.specs.Asks.{Ask, requests, looks, undoes, Manner, asTry, asReservation, mannerOf, replyTo}
-use Rattle.rules.specs.Rules.{setUp, clear}
+use Rattle.rules.specs.Asks.{Ask, requests, looks, undoes, passes, Manner, asTry, asReservation, mannerOf, replyTo, withTable, chainOf, throughChain}
+use Rattle.rules.specs.Rules.{classSetUp}
 use Rattle.rules.specs.Widths.{lendable}
 use Rattle.rules.specs.Calls.{Call, keyed, whole, Terms, Implementation, Answered, Every, clockAfter}
 use Rattle.rules.specs.Calls.{settingsOf, rules, replies, accepted, ofKey, ofUndone, fits, allFit}
 
+-- Set-up and clear are called without a class table, or with one. Without one they mean the empty table.
+pub data Table : Type 0 where
+  untabled : Table
+  tabled : List ℕ → Table
+
+abbrev pub tableWords : Table → List ℕ
+tableWords untabled = []
+tableWords (tabled words) = words
+
+abbrev pub tableFits : Table → Bool
+tableFits table = lendable (tableWords table)
+
 -- A limiter, as its caller has it: set-up, clear, and an answer to every other call. Each gives a reply and leaves words.
 pub record Limiter (S N : Type 0) : Type 0 where
-  pub sets-up : S → List ℕ → Outcome Reply (List ℕ)
-  pub clears : S → List ℕ → Outcome Reply (List ℕ)
+  pub sets-up : Table → S → List ℕ → Outcome Reply (List ℕ)
+  pub clears : Table → S → List ℕ → Outcome Reply (List ℕ)
   pub answers : Implementation S N
 
 -- The tokens of one grant, if it is the key's and they first become usable from t to u.
@@ -87,28 +118,60 @@ abbrev pub askTokens : Identity → ℕ → ℕ → Identity → Ask → Reply �
 askTokens k t u id (requests r at cost) reply = ofGrant (λ wait. usable k t u id (usableFrom (mannerOf r) at wait) cost) 0 reply
 askTokens k t u id (looks l) reply = 0
 askTokens k t u id (undoes undo) reply = 0
+askTokens k t u id (passes table class at cost) reply = ofGrant (λ wait. usable k t u id (usableFrom asTry at wait) cost) 0 reply
+
+-- The tokens of a granted try through a class, if its chain has class d and its moment is from t to u.
+unfoldable pub through : List Class → ℕ → ℕ → ℕ → ℕ → ℕ → ℕ → ℕ
+through cs d t u class moment cost = cond (among d (chainOf cs class)) (cond (leb t moment) (cond (leb moment u) cost 0) 0) 0
+
+abbrev pub askTokensThrough : List Class → ℕ → ℕ → ℕ → Ask → Reply → ℕ
+askTokensThrough cs d t u (requests r at cost) reply = 0
+askTokensThrough cs d t u (looks l) reply = 0
+askTokensThrough cs d t u (undoes undo) reply = 0
+askTokensThrough cs d t u (passes table class at cost) reply = ofGrant (λ wait. through cs d t u class (at .0) cost) 0 reply
+
+-- No more tokens from any t to any u than a rate allows, with some moments added to those from t to u.
+abbrev pub WithinRate : ℕ → Rate → (ℕ → ℕ → ℕ) → Type 0
+WithinRate added rate tokens =
+    (t u : ℕ) → t ≤ u → tokens t u * rate .period .0 ≤ burstOf rate * rate .period .0 + (u - t + added) * rate .amount
+
+-- What is said of the class table of an ask, if it has one.
+abbrev pub ofTable : (List Class → Type 0) → Ask → Type 0
+ofTable Q (requests r at cost) = Unit {0}
+ofTable Q (looks l) = Unit {0}
+ofTable Q (undoes undo) = Unit {0}
+ofTable Q (passes table class at cost) = Q (classesIn table)
 
 -- What a key's own bucket answers to a request: its slot's bucket, else a fresh one in its debt.
 abbrev pub ownReply : Settings → Rate → Nanos → Identity → Request → ℕ → List ℕ → Reply
 ownReply s rate at id r cost ws = replyTo (mannerOf r) (ownDecision (configOf rate) id r cost at (shardAt s (id .hash) ws))
 
 module _ {S N : Type 0} (terms : Terms S N) where
+  -- Set-up by the rules. Clear is the same. The settings that a store has after it: those with the number of classes of the table.
+  abbrev pub setUpBy : Table → S → List ℕ → Outcome Reply (List ℕ)
+  setUpBy table s ws = classSetUp (terms .settings s) (tableWords table) ws
+
+  abbrev pub settingsBy : Table → S → Settings
+  settingsBy table s = withTable (tableWords table) (terms .settings s)
+
   -- A limiter that is set up and cleared as the rules say, and answers calls in a way of its own. The rules are such a limiter.
   abbrev pub answering : Implementation S N → Limiter S N
-  answering f = record { sets-up = λ s ws. setUp (terms .settings s) ws; clears = λ s ws. clear (terms .settings s) ws; answers = f }
+  answering f = record { sets-up = setUpBy; clears = setUpBy; answers = f }
 
   -- Demand 2, for all that code can be given: every reply, and all words after it, are those of the rules.
   pub record Demand2 (l : Limiter S N) : Type 0 where
-    pub sets-up : (s : S) (ws : List ℕ) → terms .settingsFit s ≡ true → lendable ws ≡ true → l .sets-up s ws ≡ setUp (terms .settings s) ws
-    pub clears : (s : S) (ws : List ℕ) → terms .settingsFit s ≡ true → lendable ws ≡ true → l .clears s ws ≡ clear (terms .settings s) ws
+    pub sets-up : (table : Table) (s : S) (ws : List ℕ) → tableFits table ≡ true → terms .settingsFit s ≡ true → lendable ws ≡ true
+        → l .sets-up table s ws ≡ setUpBy table s ws
+    pub clears : (table : Table) (s : S) (ws : List ℕ) → tableFits table ≡ true → terms .settingsFit s ≡ true → lendable ws ≡ true
+        → l .clears table s ws ≡ setUpBy table s ws
     pub answers : (c : Call S N) (ws : List ℕ) → fits terms c ≡ true → lendable ws ≡ true → l .answers c ws ≡ rules terms c ws
 
   -- Of demand 1: where the reply is a refusal by number, all words are as they were.
   pub record RefusedChangesNothing (l : Limiter S N) : Type 0 where
-    pub sets-up : (s : S) (ws : List ℕ) → terms .settingsFit s ≡ true → lendable ws ≡ true → numbered (l .sets-up s ws .answer) ≡ true
-        → l .sets-up s ws .after ≡ ws
-    pub clears : (s : S) (ws : List ℕ) → terms .settingsFit s ≡ true → lendable ws ≡ true → numbered (l .clears s ws .answer) ≡ true
-        → l .clears s ws .after ≡ ws
+    pub sets-up : (table : Table) (s : S) (ws : List ℕ) → tableFits table ≡ true → terms .settingsFit s ≡ true → lendable ws ≡ true
+        → numbered (l .sets-up table s ws .answer) ≡ true → l .sets-up table s ws .after ≡ ws
+    pub clears : (table : Table) (s : S) (ws : List ℕ) → tableFits table ≡ true → terms .settingsFit s ≡ true → lendable ws ≡ true
+        → numbered (l .clears table s ws .answer) ≡ true → l .clears table s ws .after ≡ ws
     pub answers : (c : Call S N) (ws : List ℕ) → fits terms c ≡ true → lendable ws ≡ true → numbered (l .answers c ws .answer) ≡ true
         → l .answers c ws .after ≡ ws
 
@@ -158,10 +221,10 @@ module _ {S N : Type 0} (terms : Terms S N) where
   -- it.
   abbrev pub WindowAdding : ℕ → Limiter S N → Type 0
   WindowAdding added l =
-      (s : S) (rate : Rate) (ws : List ℕ) → terms .settingsFit s ≡ true → lendable ws ≡ true →
-      terms .settings s .limit ≡ Open rate → terms .settings s .eviction .«when_full» ≡ RefuseNew → setUp (terms .settings s) ws .answer ≡ Done →
+      (table : Table) (s : S) (rate : Rate) (ws : List ℕ) → tableFits table ≡ true → terms .settingsFit s ≡ true → lendable ws ≡ true →
+      terms .settings s .limit ≡ Open rate → terms .settings s .eviction .«when_full» ≡ RefuseNew → setUpBy table s ws .answer ≡ Done →
       (cs : List (Call S N)) → allFit terms cs ≡ true →
-      WithinWindow added (terms .settings s) rate (replies terms (l .answers) cs (l .sets-up s ws .after) (l .sets-up s ws .after))
+      WithinWindow added (settingsBy table s) rate (replies terms (l .answers) cs (l .sets-up table s ws .after) (l .sets-up table s ws .after))
 
   -- Demand 3, first part: the window. No key is granted more in any window than its burst and what comes back in that time and in one moment more. That
   -- moment cannot be left out: waits are rounded up to whole nanoseconds, so tokens that came back within the nanosecond before t can first be usable at t.
@@ -175,10 +238,18 @@ module _ {S N : Type 0} (terms : Terms S N) where
       holds id (shardAt s (id .hash) (a .rulesWords)) ≡ true →
       a .reply ≡ ownReply s rate at id r cost (a .rulesWords)
 
+  -- So is a try through a class, where no burst on the chain is less than its cost: by its own bucket and the buckets on the chain, in the rules' words.
+  abbrev pub ByOwnBucketAndChain : Answered S N → Settings → Identity → List Class → ℕ → Nanos → ℕ → Type 0
+  ByOwnBucketAndChain a s id cs class at cost =
+      cost ≤ leastBurst cs (chainOf cs class) →
+      ByOwnBucket a s id (throughChain cs class at cost (bucketsAt (shapeOf s) (a .rulesWords))) at cost
+
   abbrev pub decidedBy : Answered S N → Call S N → Type 0
   decidedBy a (keyed s n (requests r at cost)) = ByOwnBucket a (terms .settings s) (terms .identity n) r at cost
   decidedBy a (keyed s n (looks l)) = Unit {0}
   decidedBy a (keyed s n (undoes u)) = Unit {0}
+  decidedBy a (keyed s n (passes table class at cost)) =
+      ByOwnBucketAndChain a (withTable table (terms .settings s)) (terms .identity n) (classesIn table) class at cost
   decidedBy a (whole s what) = Unit {0}
 
   -- Demand 3, second part: the own bucket. From any words, whatever the settings, times and hashes, no such request is decided by lack of space.
@@ -187,7 +258,41 @@ module _ {S N : Type 0} (terms : Terms S N) where
       (ws : List ℕ) (cs : List (Call S N)) → lendable ws ≡ true → allFit terms cs ≡ true →
       Every (λ a. decidedBy a (a .call)) (replies terms (l .answers) cs ws ws)
 
-  -- Demand 3 is both parts.
+  -- The condition on class tables binds accepted calls only: all tries through a class have one table.
+  abbrev pub callOfTable : (List Class → Type 0) → Call S N → Type 0
+  callOfTable Q (keyed s n ask) = ofTable Q ask
+  callOfTable Q (whole s what) = Unit {0}
+
+  abbrev pub SameTable : List Class → List (Answered S N) → Type 0
+  SameTable cs = Every (λ a. accepted terms a ≡ true → callOfTable (λ own. own ≡ cs) (a .call))
+
+  -- The tokens that pass through class d from t to u, of a call and of a list.
+  abbrev pub tokensThroughOf : List Class → ℕ → ℕ → ℕ → Call S N → Reply → ℕ
+  tokensThroughOf cs d t u (keyed s n ask) reply = askTokensThrough cs d t u ask reply
+  tokensThroughOf cs d t u (whole s what) reply = 0
+
+  unfoldable pub tokensThrough : List Class → ℕ → ℕ → ℕ → List (Answered S N) → ℕ
+  tokensThrough cs d t u [] = 0
+  tokensThrough cs d t u (a ∷ rest) = tokensThroughOf cs d t u (a .call) (a .reply) + tokensThrough cs d t u rest
+
+  -- One list stays within the rate of every class, with some moments added to those from t to u.
+  abbrev pub WithinClassWindows : ℕ → Settings → List Class → List (Answered S N) → Type 0
+  WithinClassWindows added s cs answered =
+      SameSettings s answered → SameTable cs answered → TimesNeverFall 0 answered → s .classes ≡ length cs →
+      (d : ℕ) → d < length cs → WithinRate added (classAt cs d .rate) (λ t u. tokensThrough cs d t u answered)
+
+  abbrev pub ClassWindowAdding : ℕ → Limiter S N → Type 0
+  ClassWindowAdding added l =
+      (s : Settings) (table : List Class) (ws : List ℕ) (cs : List (Call S N)) → lendable ws ≡ true → allFit terms cs ≡ true →
+      WithinClassWindows added s table (replies terms (l .answers) cs ws ws)
+
+  -- Demand 3, third part (request 9): the window of a class. From any words, no class passes more in any window than its burst and what comes back in that
+  -- time and in one moment more.
+  abbrev pub ClassWindow : Limiter S N → Type 0
+  ClassWindow l = ClassWindowAdding 1 l
+
+  -- Demand 3 is all three parts.
   pub record Demand3 (l : Limiter S N) : Type 0 where
     pub window : Window l
     pub own-bucket : OwnBucket l
+    pub class-window : ClassWindow l

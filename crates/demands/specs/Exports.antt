@@ -1,7 +1,7 @@
--- The limiter as C and Rust call it: the ten exports of `limiter` that are lent words, on plain numbers, and the five of `limiter_modems`, on numbers and the
--- bytes of an address; demand 2 of them; and the limiter that a caller has in them, who reads replies from their numbers. Each call of a list writes its
--- settings as numbers of its own. The other exports are lent no words, so they are no calls of a list: the number of words, the hash of a key, the identity of
--- an address, the version.
+-- The limiter as C and Rust call it: the ten exports of `limiter` that are lent words, on plain numbers, the five of `limiter_modems`, on numbers and the bytes
+-- of an address, and the three of `limiter_classes`, on numbers and the words of a class table; demand 2 of them; and the limiter that a caller has in them,
+-- who reads replies from their numbers. Each call of a list writes its settings as numbers of its own. The other exports are lent no words, so they are no
+-- calls of a list: the number of words, the hash of a key, the identity of an address, the version.
 use Prim.Native.Nat.{ℕ, _-_}
 use mathlib.Core.Path.{_≡_}
 use mathlib.Core.Bool.{Bool, true, cond, _&&_}
@@ -11,7 +11,7 @@ use contract.Lifetimes.{Lfts}
 use denote.Ref.{RefT}
 use Rattle.rows.specs.Outcome.{Outcome, outcome}
 use Rattle.units.specs.declared.Nanos.{Nanos}
-use Rattle.bucket.specs.declared.Request.the-variants.{Acquire, Reserve}
+use Rattle.bucket.specs.declared.Request.the-variants.{Acquire, Reserve, Through}
 use Rattle.bucket.specs.declared.Due.{Due}
 use Rattle.settings.specs.declared.decision.Decision.the-variants.{Acquired, Retry, Impossible}
 use Rattle.shard.specs.declared.Identity.{Identity}
@@ -19,10 +19,10 @@ use Rattle.rules.specs.declared.Reply.{Reply}
 use Rattle.rules.specs.declared.Reply.the-variants.{Tried, Reserved, Nothing, Done, Count, Refused}
 use Rattle.rules.specs.declared.codes.Told.{Told}
 use Rattle.rules.specs.Replies.{toldOf, told, Kind, decides, reserves, counts, knows}
-use Rattle.rules.specs.Asks.{requests, looks, undoes, peeks, tokens, turnedAway, refunds, removes}
-use Rattle.rules.specs.Rules.{setUp, clear}
+use Rattle.rules.specs.Asks.{requests, looks, undoes, passes, peeks, tokens, turnedAway, refunds, removes}
 use Rattle.rules.specs.Widths.{fits64, fits32, lendable}
-use Rattle.rules.specs.Calls.{Call, keyed, whole, len, Terms, try, reserve, peek, available, timesTurnedAway, length, refund, remove, kindOf, rules, fits}
+use Rattle.rules.specs.Calls.{Call, keyed, whole, len, Terms, try, reserve, peek, available, timesTurnedAway, length, refund, remove, classTry, kindOf, rules}
+use Rattle.rules.specs.Calls.{fits}
 use Rattle.modems.specs.Names.{Name, key, address, namedIn}
 use Rattle.limiter.specs.declared.LimiterSettings.{LimiterSettings}
 use Rattle.limiter.specs.Exported.{settingsOf}
@@ -41,7 +41,10 @@ use Rattle.limiter_modems.proofs.limiter_modem_reserve.Reads as ModemReserve
 use Rattle.limiter_modems.proofs.limiter_modem_peek.Reads as ModemPeek
 use Rattle.limiter_modems.proofs.limiter_modem_refund.Reads as ModemRefund
 use Rattle.limiter_modems.proofs.limiter_modem_remove.Reads as ModemRemove
-use Rattle.demands.specs.Demands.{Limiter}
+use Rattle.limiter_classes.proofs.limiter_table_set_up.Reads as ClassSetUp
+use Rattle.limiter_classes.proofs.limiter_table_clear.Reads as ClassClear
+use Rattle.limiter_classes.proofs.limiter_table_try.Reads as ClassTry
+use Rattle.demands.specs.Demands.{Table, untabled, tabled, tableFits, Limiter, setUpBy}
 use Rattle.demands.specs.Contracts.{lentAt}
 
 -- What each export gives for its numbers, bytes and words: three numbers, and words.
@@ -64,43 +67,62 @@ pub record Exports : Type 0 where
   pub modem-peek : LimiterSettings → (at : ℕ) → List ℕ → (cost : ℕ) → Gives
   pub modem-refund : LimiterSettings → List ℕ → (cost : ℕ) → Gives
   pub modem-remove : LimiterSettings → List ℕ → Gives
+  pub class-set-up : LimiterSettings → (table : List ℕ) → Gives
+  pub class-clear : LimiterSettings → (table : List ℕ) → Gives
+  pub class-try : LimiterSettings → (table : List ℕ) → (at hash key class cost : ℕ) → Gives
 
 -- The numbers of a settings struct fit their widths.
 abbrev pub numbersFit : LimiterSettings → Bool
 numbersFit n =
     fits64 (n .period) && fits64 (n .«max_keys») && fits64 (n .shards) && fits64 (n .idle) && fits32 (n .closed) && fits32 (n .amount)
     && fits32 (n .«has_burst») && fits32 (n .burst) && fits32 (n .«has_initial») && fits32 (n .initial) && fits32 (n .«has_idle») && fits32 (n .«forget_debt»)
+    && fits32 (n .classes)
 
 -- Settings as such a struct, whatever numbers mean them, and modems by key or by address.
 abbrev pub exported : Terms LimiterSettings Name
 exported = namedIn settingsOf numbersFit
 
--- The export by which a call is made, with the call's own numbers. There is none for the tokens and the count of an address. No list has such a call,
--- since it does not fit (`offeredByAddress` of `modems` is false of it).
+-- The export by which a call is made, with the call's own numbers. There is none for the tokens and the count of an address, for a try through a class by
+-- address, and for a try that waits for other buckets. No list has such a call: `offeredByAddress` of `modems` or `requestFits` of `rules` is false of it.
 abbrev noExport : Gives
 noExport ws = outcome (toldOf Nothing) ws
 
 abbrev pub through : Exports → Call LimiterSettings Name → Gives
 through e (keyed n (key id) (requests Acquire at cost)) = e .try n (at .0) (id .hash) (id .key) cost
 through e (keyed n (key id) (requests (Reserve longest) at cost)) = e .reserve n (at .0) (id .hash) (id .key) cost (longest .0)
+through e (keyed n (key id) (requests (Through others) at cost)) = noExport
 through e (keyed n (key id) (looks (peeks at cost))) = e .peek n (at .0) (id .hash) (id .key) cost
 through e (keyed n (key id) (looks (tokens at))) = e .available n (at .0) (id .hash) (id .key)
 through e (keyed n (key id) (looks turnedAway)) = e .turned-away n (id .hash) (id .key)
 through e (keyed n (key id) (undoes (refunds cost))) = e .refund n (id .hash) (id .key) cost
 through e (keyed n (key id) (undoes removes)) = e .remove n (id .hash) (id .key)
+through e (keyed n (key id) (passes table class at cost)) = e .class-try n table (at .0) (id .hash) (id .key) class cost
 through e (keyed n (address bytes) (requests Acquire at cost)) = e .modem-try n (at .0) bytes cost
 through e (keyed n (address bytes) (requests (Reserve longest) at cost)) = e .modem-reserve n (at .0) bytes cost (longest .0)
+through e (keyed n (address bytes) (requests (Through others) at cost)) = noExport
 through e (keyed n (address bytes) (looks (peeks at cost))) = e .modem-peek n (at .0) bytes cost
 through e (keyed n (address bytes) (looks (tokens at))) = noExport
 through e (keyed n (address bytes) (looks turnedAway)) = noExport
 through e (keyed n (address bytes) (undoes (refunds cost))) = e .modem-refund n bytes cost
 through e (keyed n (address bytes) (undoes removes)) = e .modem-remove n bytes
+through e (keyed n (address bytes) (passes table class at cost)) = noExport
 through e (whole n len) = e .length n
+
+-- The exports by which a store is set up and cleared, without a table and with one.
+abbrev pub setUpThrough : Exports → Table → LimiterSettings → Gives
+setUpThrough e untabled n = e .set-up n
+setUpThrough e (tabled table) n = e .class-set-up n table
+
+abbrev pub clearThrough : Exports → Table → LimiterSettings → Gives
+clearThrough e untabled n = e .clear n
+clearThrough e (tabled table) n = e .class-clear n table
 
 -- Demand 2 of the exports: whatever numbers the settings are written in, all numbers of a reply are those of the rules' reply, and all words are theirs.
 pub record ExportDemand2 (e : Exports) : Type 0 where
-  pub sets-up : (n : LimiterSettings) (ws : List ℕ) → numbersFit n ≡ true → lendable ws ≡ true → e .set-up n ws ≡ told (setUp (settingsOf n) ws)
-  pub clears : (n : LimiterSettings) (ws : List ℕ) → numbersFit n ≡ true → lendable ws ≡ true → e .clear n ws ≡ told (clear (settingsOf n) ws)
+  pub sets-up : (table : Table) (n : LimiterSettings) (ws : List ℕ) → tableFits table ≡ true → numbersFit n ≡ true → lendable ws ≡ true
+      → setUpThrough e table n ws ≡ told (setUpBy exported table n ws)
+  pub clears : (table : Table) (n : LimiterSettings) (ws : List ℕ) → tableFits table ≡ true → numbersFit n ≡ true → lendable ws ≡ true
+      → clearThrough e table n ws ≡ told (setUpBy exported table n ws)
   pub answers : (c : Call LimiterSettings Name) (ws : List ℕ) → fits exported c ≡ true → lendable ws ≡ true → through e c ws ≡ told (rules exported c ws)
 
 -- How a caller reads a reply, by the kind of the call. The code tells which reply of that kind it is. A number or a moment that this reply does not have is not
@@ -127,8 +149,8 @@ readAs kind o = outcome (reading kind (o .answer)) (o .after)
 -- The limiter that a caller has who reads so.
 abbrev pub called : Exports → Limiter LimiterSettings Name
 called e = record {
-  sets-up = λ n ws. readAs knows (e .set-up n ws);
-  clears = λ n ws. readAs knows (e .clear n ws);
+  sets-up = λ table n ws. readAs knows (setUpThrough e table n ws);
+  clears = λ table n ws. readAs knows (clearThrough e table n ws);
   answers = λ c ws. readAs (kindOf c) (through e c ws);
 }
 
@@ -230,8 +252,31 @@ module _ (κs : Lfts 2) (ptr bytesPtr : ℕ × ℕ) (name bytesName : ℕ) where
         ModemRemove.Asked κs (onAddress n ws bytes tt) →
         ModemRemove.Learnt κs (onAddress n ws bytes tt) (o .answer) (onAddress n (o .after) bytes tt)
 
--- Of both objects of the archive.
-module _ (κs : Lfts 1) (κs₂ : Lfts 2) (ptr bytesPtr : ℕ × ℕ) (name bytesName : ℕ) where
+-- The exports of `limiter_classes` are lent the class table, too.
+module _ (κs : Lfts 2) (ptr tablePtr : ℕ × ℕ) (name tableName : ℕ) where
+  abbrev withTable : {A : Type 0} → LimiterSettings → List ℕ → List ℕ → A → LimiterSettings × (RefT (List ℕ) × (RefT (List ℕ) × A))
+  withTable n table ws more = (n, (lentAt tablePtr tableName table, (lentAt ptr name ws, more)))
+
+  -- The numbers of a try through a class: the moment, the key, the class and the cost.
+  abbrev numbersOf : Nanos → Identity → ℕ → ℕ → ℕ × (ℕ × (ℕ × (ℕ × (ℕ × Unit {0}))))
+  numbersOf at id class cost = (at .0, (id .hash, (id .key, (class, (cost, tt)))))
+
+  pub record ClassExportContracts (e : Exports) : Type 0 where
+    pub sets-up : (n : LimiterSettings) (table ws : List ℕ) → numbersFit n ≡ true → lendable table ≡ true → lendable ws ≡ true →
+        let o = e .class-set-up n table ws in
+        ClassSetUp.Asked κs (withTable n table ws tt) → ClassSetUp.Learnt κs (withTable n table ws tt) (o .answer) (withTable n table (o .after) tt)
+    pub clears : (n : LimiterSettings) (table ws : List ℕ) → numbersFit n ≡ true → lendable table ≡ true → lendable ws ≡ true →
+        let o = e .class-clear n table ws in
+        ClassClear.Asked κs (withTable n table ws tt) → ClassClear.Learnt κs (withTable n table ws tt) (o .answer) (withTable n table (o .after) tt)
+    pub tries : (n : LimiterSettings) (table : List ℕ) (class : ℕ) (at : Nanos) (id : Identity) (cost : ℕ) (ws : List ℕ) →
+        fits exported (classTry n table class at (key id) cost) ≡ true → lendable ws ≡ true →
+        let o = e .class-try n table (at .0) (id .hash) (id .key) class cost ws in
+        ClassTry.Asked κs (withTable n table ws (numbersOf at id class cost)) →
+        ClassTry.Learnt κs (withTable n table ws (numbersOf at id class cost)) (o .answer) (withTable n table (o .after) (numbersOf at id class cost))
+
+-- Of these three objects of the archive.
+module _ (κs : Lfts 1) (κs₂ : Lfts 2) (ptr otherPtr : ℕ × ℕ) (name otherName : ℕ) where
   pub record ExportContracts (e : Exports) : Type 0 where
     pub by-key : KeyExportContracts κs ptr name e
-    pub by-address : AddressExportContracts κs₂ ptr bytesPtr name bytesName e
+    pub by-address : AddressExportContracts κs₂ ptr otherPtr name otherName e
+    pub by-class : ClassExportContracts κs₂ ptr otherPtr name otherName e

@@ -21,17 +21,18 @@ use Rattle.store.specs.Memory.{shardAt, inShard}
 use Rattle.units.specs.declared.Nanos.{Nanos}
 use Rattle.settings.specs.declared.Settings.{Settings}
 use Rattle.rules.specs.Replies.{numberOf, numbered}
-use Rattle.rules.specs.Asks.{Ask, requests, looks, undoes, mannerOf, dueNow, replyTo}
-use Rattle.rules.specs.Calls.{keyed, whole, clockAfter, writtenOf}
+use Rattle.rules.specs.Asks.{Ask, requests, looks, undoes, passes, asTry, mannerOf, dueNow, replyTo}
+use Rattle.rules.specs.Calls.{keyed, whole, byKey, clockAfter}
 use Rattle.rules.specs.Calls as Calls
 use Rattle.modems.specs.Names.{Name, key, address, byName}
 use Rattle.demands.specs.ByKey.{Call, Implementation, rules}
 
--- By the kind of a call: a value for a request, given how its answer is told; for a length; and for any other call.
+-- By the kind of a call: a value for a request and for a try through a class, given how its answer is told; for a length; and for any other call.
 abbrev byKind : {A : Type 0} → ((BucketDecision → Reply) → A) → A → A → Call → A
 byKind requested length other (keyed s id (requests r at cost)) = requested (replyTo (mannerOf r))
 byKind requested length other (keyed s id (looks l)) = other
 byKind requested length other (keyed s id (undoes u)) = other
+byKind requested length other (keyed s id (passes table class at cost)) = requested (replyTo asTry)
 byKind requested length other (whole s what) = length
 
 -- The key that a call names. A length names none, and has the hash 0 here, whose shard is the first.
@@ -45,7 +46,7 @@ momentIn c = record { 0 = clockAfter c 0 }
 
 -- The shard of that key.
 abbrev ownShard : Call → List ℕ → Shard
-ownShard c ws = shardAt (writtenOf c) (identityOf c .hash) ws
+ownShard c ws = shardAt (Calls.settingsOf byKey c) (identityOf c .hash) ws
 
 -- The answer to a request that is turned away for lack of space, and to one that is granted at once.
 abbrev noSpace : Call → BucketDecision
@@ -79,7 +80,7 @@ abbrev withFirstDebt : Shard → Shard
 withFirstDebt s = withLedger s (Ledger.withCount (s .ledger) (min 1 (s .ledger .debts .count)))
 
 abbrev pub firstDebtOnly : Implementation
-firstDebtOnly c ws = rules c (inShard (writtenOf c) (identityOf c .hash) ws (outcome (tt {0}) (withFirstDebt (ownShard c ws))) .after)
+firstDebtOnly c ws = rules c (inShard (Calls.settingsOf byKey c) (identityOf c .hash) ws (outcome (tt {0}) (withFirstDebt (ownShard c ws))) .after)
 
 -- Those made by `telling` leave the words that the rules leave, and tell something else.
 abbrev pub telling : (Call → List ℕ → Reply) → Implementation

@@ -7,3 +7,4 @@ pub mod TurnAways
 pub mod Contracts
 pub mod Exports
 pub mod Moments
+pub mod Passings

@@ -12,7 +12,7 @@ use Rattle.shard.specs.declared.Identity.{Identity}
 use Rattle.rules.specs.declared.Reply.{Reply}
 use Rattle.rules.specs.declared.Reply.the-variants.{Tried, Reserved, Nothing, Done, Count, Refused}
 use Rattle.rules.specs.Replies.{momentOf, ofGrant}
-use Rattle.rules.specs.Asks.{Look, peeks, tokens, turnedAway, Ask, requests, looks, undoes, Manner, asTry, mannerOf}
+use Rattle.rules.specs.Asks.{Look, peeks, tokens, turnedAway, Ask, requests, looks, undoes, passes, Manner, asTry, mannerOf}
 use Rattle.rules.specs.Widths.{lendable}
 use Rattle.rules.specs.Calls.{Call, keyed, whole, Terms, Answered, replies, allFit, Every}
 use Rattle.demands.specs.Demands.{Limiter, usable, usableFrom}
@@ -39,6 +39,7 @@ abbrev pub askTells : Ask → Reply → Type 0
 askTells (requests r at cost) reply = momentTold (mannerOf r) at reply
 askTells (looks l) reply = lookTells l reply
 askTells (undoes u) reply = momentOf reply ≡ 0
+askTells (passes table class at cost) reply = momentTold asTry at reply
 
 abbrev pub tellsItsMoment : {S N : Type 0} → Call S N → Reply → Type 0
 tellsItsMoment (keyed s n ask) reply = askTells ask reply
@@ -56,6 +57,7 @@ module _ {S N : Type 0} (terms : Terms S N) where
   tokensToldOf k t u (keyed s n (requests r at cost)) reply = ofGrant (λ wait. usable k t u (terms .identity n) (momentOf reply) cost) 0 reply
   tokensToldOf k t u (keyed s n (looks l)) reply = 0
   tokensToldOf k t u (keyed s n (undoes undo)) reply = 0
+  tokensToldOf k t u (keyed s n (passes table class at cost)) reply = ofGrant (λ wait. usable k t u (terms .identity n) (momentOf reply) cost) 0 reply
   tokensToldOf k t u (whole s what) reply = 0
 
   unfoldable pub tokensTold : Identity → ℕ → ℕ → List (Answered S N) → ℕ

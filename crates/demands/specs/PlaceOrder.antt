@@ -9,8 +9,11 @@ use lib.ListN.{replicate}
 use Rattle.rows.specs.Places.{sum}
 use Rattle.rows.specs.Segments.{segment}
 use Rattle.rows.specs.Outcome.{Outcome, outcome}
+use Rattle.bucket.specs.declared.BucketCore.{BucketCore}
 use Rattle.settings.specs.declared.Settings.{Settings}
-use Rattle.settings.specs.Settings.{firstRefusal, shardCount, capOf, shardOf}
+use Rattle.settings.specs.Settings.{firstRefusal, shapeOf, shardCount, capOf, shardOf}
+use Rattle.classes.specs.Classes.{tableRefusal}
+use Rattle.classes.specs.Layout.{classCount, classesIn}
 use Rattle.index.specs.Exact.{Exact}
 use Rattle.held.specs.Held.{inOrder, hashAt}
 use Rattle.held.specs.Layout.{indexWords}
@@ -18,35 +21,43 @@ use Rattle.ledger.specs.Model.{debtItems}
 use Rattle.shard_map.specs.Model.{Shard, slotItems, inPlaceOrder}
 use Rattle.shard_map.specs.Layout.{shard, shardWords}
 use Rattle.shard.specs.declared.Identity.{Identity}
-use Rattle.store.specs.Memory.{memoryWords, shardStart}
+use Rattle.store.specs.Memory.{memoryWords, shardStart, bucketsAt}
 use Rattle.rules.specs.declared.Reply.{Reply}
 use Rattle.rules.specs.declared.Reply.the-variants.{Done, Count, Refused}
-use Rattle.rules.specs.Asks.{furtherOf, inItsShard}
-use Rattle.rules.specs.Rules.{setUp, clear}
+use Rattle.rules.specs.Asks.{Ask, inForce, furtherOf, inItsShard, bucketsAfter}
+use Rattle.rules.specs.Rules.{setUpFor}
 use Rattle.rules.specs.Calls.{Call, keyed, whole, len, Terms, rules, settingsOf, Every}
+use Rattle.demands.specs.Demands.{Table, tableWords}
 
 -- The shard in the words of a store, by its number.
 abbrev pub shardNumbered : Settings → ℕ → List ℕ → Shard
 shardNumbered s i ws = shard (capOf s) (segment (shardStart (capOf s) i) (shardWords (capOf s)) ws)
 
--- A store without indexes: its shards by their numbers. No words and no index stand in it.
-abbrev pub Shards : Type 0
-Shards = ℕ → Shard
+-- A store without indexes: its shards by their numbers, and the class buckets. No words and no index stand in it.
+pub record Shards : Type 0 where
+  pub numbered : ℕ → Shard
+  pub buckets : List BucketCore
 
--- A fresh one: the shards of a fresh memory, with nothing in them, found in place order.
+-- A fresh one: the shards of a fresh memory, with nothing in them, found in place order, and its class buckets.
 abbrev pub freshShards : Settings → Shards
-freshShards s i = inPlaceOrder (shardNumbered s i (replicate (memoryWords s) 0))
+freshShards s =
+    let fresh : List ℕ = replicate (memoryWords s) 0 in
+    record { numbered = λ i. inPlaceOrder (shardNumbered s i fresh); buckets = bucketsAt (shapeOf s) fresh }
 
--- An operation in the shard of a key; the other shards stay as they are.
-abbrev pub inShardOf : Settings → Identity → (Shard → Outcome Reply Shard) → Shards → Outcome Reply Shards
-inShardOf s id operation shards =
-    let o = operation (shards (shardOf s (id .hash))) in
-    outcome (o .answer) (λ i. cond (eqb i (shardOf s (id .hash))) (o .after) (shards i))
+-- What is asked of a key, in the shard of the key; the other shards stay as they are. A granted try through a class charges the buckets on its
+-- chain.
+abbrev pub askedOnShards : Settings → Identity → Ask → Shards → Outcome Reply Shards
+askedOnShards s id ask store =
+    let o = inItsShard s id ask (store .buckets) (store .numbered (shardOf s (id .hash))) in
+    outcome (o .answer) (record {
+      numbered = λ i. cond (eqb i (shardOf s (id .hash))) (o .after) (store .numbered i);
+      buckets = bucketsAfter ask (o .answer) (store .buckets);
+    })
 
 -- A turn: a call, or a clear.
 pub data Turn (S N : Type 0) : Type 0 where
   calls : Call S N → Turn S N
-  clears : Turn S N
+  clears : Table → Turn S N
 
 -- A list of turns, each on what the turn before it left: the answers in their order, and what is left in the end.
 unfoldable pub run : {T X : Type 0} → (T → X → Outcome Reply X) → List T → X → Outcome (List Reply) X
@@ -75,45 +86,52 @@ module _ {S N : Type 0} (terms : Terms S N) where
 
   -- A call that is not refused, on a store without indexes. The length is the number of slots in all shards.
   abbrev pub takenOnShards : Call S N → Shards → Outcome Reply Shards
-  takenOnShards (keyed s n ask) shards =
-      let settings = terms .settings s in
-      let id = terms .identity n in
-      inShardOf settings id (inItsShard settings id ask) shards
-  takenOnShards (whole s len) shards = outcome (Count (sum (shardCount (terms .settings s)) (λ i. shards i .slots .count))) shards
+  takenOnShards (keyed s n ask) store = askedOnShards (inForce ask (terms .settings s)) (terms .identity n) ask store
+  takenOnShards (whole s len) store = outcome (Count (sum (shardCount (terms .settings s)) (λ i. store .numbered i .slots .count))) store
 
   -- A call on a store without indexes. One that is refused answers its number and changes no shard.
   unfoldable pub onShards : Call S N → Shards → Outcome Reply Shards
-  onShards c shards = cond (eqb (refusedAs c) 0) (takenOnShards c shards) (outcome (Refused (refusedAs c)) shards)
+  onShards c store = cond (eqb (refusedAs c) 0) (takenOnShards c store) (outcome (Refused (refusedAs c)) store)
+
+  -- A clear on a store without indexes is refused for its table alone.
+  unfoldable pub clearedOnShards : Settings → Table → Shards → Outcome Reply Shards
+  clearedOnShards s table store =
+      let refusal = tableRefusal (classesIn (tableWords table)) in
+      cond (eqb refusal 0) (outcome Done (freshShards s)) (outcome (Refused refusal) store)
 
   -- A turn by the rules, on words; and on a store without indexes.
   abbrev pub byRules : Settings → Turn S N → List ℕ → Outcome Reply (List ℕ)
   byRules s (calls c) ws = rules terms c ws
-  byRules s clears ws = clear s ws
+  byRules s (clears table) ws = setUpFor s (tableWords table) ws
 
   abbrev pub stepWithoutIndexes : Settings → Turn S N → Shards → Outcome Reply Shards
-  stepWithoutIndexes s (calls c) shards = onShards c shards
-  stepWithoutIndexes s clears shards = outcome Done (freshShards s)
+  stepWithoutIndexes s (calls c) store = onShards c store
+  stepWithoutIndexes s (clears table) store = clearedOnShards s table store
 
-  -- A turn of a store: its call has the settings of the store. The call may be refused.
+  -- A turn of a store: its call has the settings of the store, and a clear has a table with the store's number of classes. Both may be refused.
   abbrev pub OfStore : Settings → Turn S N → Type 0
   OfStore s (calls c) = settingsOf terms c ≡ s
-  OfStore s clears = Unit {0}
+  OfStore s (clears table) = classCount (tableWords table) ≡ s .classes
 
   abbrev pub AllOf : Settings → List (Turn S N) → Type 0
   AllOf s ts = Every (OfStore s) ts
 
   -- Some words are left by an accepted set-up and a list of turns of the store.
   pub record LeftByTurns (s : Settings) (ws : List ℕ) : Type 0 where
+    pub table : List ℕ
     pub before : List ℕ
-    pub done : setUp s before .answer ≡ Done
+    pub own-table : classCount table ≡ s .classes
+    pub done : setUpFor s table before .answer ≡ Done
     pub turns : List (Turn S N)
     pub of-store : AllOf s turns
-    pub left : run (byRules s) turns (setUp s before .after) .after ≡ ws
+    pub left : run (byRules s) turns (setUpFor s table before .after) .after ≡ ws
 
   -- Indexes change nothing in a list of turns on words. A limiter's steps give the answers that the list gives on a fresh store without indexes. In the end
-  -- every shard in the words is, in place order, the shard of that store: all slots, debts, counts, hands, sweeps and cursors are the same. And all indexes are
-  -- exact.
+  -- every shard in the words is, in place order, the shard of that store: all slots, debts, counts, hands, sweeps and cursors are the same. So are the class
+  -- buckets. And all indexes are exact.
   pub record SameWithoutIndexes (step : Turn S N → List ℕ → Outcome Reply (List ℕ)) (s : Settings) (ts : List (Turn S N)) (ws : List ℕ) : Type 0 where
     pub answers : run step ts ws .answer ≡ run (stepWithoutIndexes s) ts (freshShards s) .answer
-    pub shards : (i : ℕ) → i < shardCount s → inPlaceOrder (shardNumbered s i (run step ts ws .after)) ≡ run (stepWithoutIndexes s) ts (freshShards s) .after i
+    pub shards : (i : ℕ) → i < shardCount s
+        → inPlaceOrder (shardNumbered s i (run step ts ws .after)) ≡ run (stepWithoutIndexes s) ts (freshShards s) .after .numbered i
+    pub buckets : bucketsAt (shapeOf s) (run step ts ws .after) ≡ run (stepWithoutIndexes s) ts (freshShards s) .after .buckets
     pub indexes : (i : ℕ) → i < shardCount s → IndexesExact (shardNumbered s i (run step ts ws .after))

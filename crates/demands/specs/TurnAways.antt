@@ -8,10 +8,11 @@ use mathlib.Core.List.{List, [], _∷_}
 use lib.ListN.{length}
 use Rattle.rows.specs.Outcome.{Outcome}
 use Rattle.settings.specs.declared.Settings.{Settings}
+use Rattle.settings.specs.Settings.{shapeOf}
 use Rattle.shard_map.specs.Model.{uncounted}
-use Rattle.store.specs.Memory.{shardAt}
+use Rattle.store.specs.Memory.{shardAt, bucketsAt}
 use Rattle.rules.specs.declared.Reply.{Reply}
-use Rattle.rules.specs.Asks.{peeks, tokens, turnedAway, Ask, requests, looks, undoes}
+use Rattle.rules.specs.Asks.{peeks, tokens, turnedAway, Ask, requests, looks, undoes, passes}
 use Rattle.rules.specs.Calls.{Call, keyed, whole}
 use Rattle.demands.specs.PlaceOrder.{Turn, calls, clears}
 
@@ -22,6 +23,7 @@ readsTurnAways (looks (peeks at cost)) = false
 readsTurnAways (looks (tokens at)) = false
 readsTurnAways (looks turnedAway) = true
 readsTurnAways (undoes u) = false
+readsTurnAways (passes table class at cost) = false
 
 module _ {S N : Type 0} where
   abbrev pub callReadsTurnAways : Call S N → Bool
@@ -30,7 +32,7 @@ module _ {S N : Type 0} where
 
   abbrev pub turnReadsTurnAways : Turn S N → Bool
   turnReadsTurnAways (calls c) = callReadsTurnAways c
-  turnReadsTurnAways clears = false
+  turnReadsTurnAways (clears table) = false
 
   -- The replies to a list are the same, reply by reply, but for those of the look.
   abbrev pub SameReplies : List (Turn S N) → List Reply → List Reply → Type 0
@@ -41,10 +43,12 @@ module _ {S N : Type 0} where
   SameReplies (t ∷ ts) [] qs = ⊥
   SameReplies (t ∷ ts) (r ∷ rs) [] = ⊥
 
--- Two memories of a store are equal but for these counts: they have as many words, and the shards of each hash are equal once all such counts are 0.
+-- Two memories of a store are equal but for these counts: they have as many words, the shards of each hash are equal once all such counts are 0, and the
+-- class buckets are equal.
 pub record EqualButForTurnAways (s : Settings) (ws vs : List ℕ) : Type 0 where
   pub size : length ws ≡ length vs
   pub shards : (hash : ℕ) → uncounted (shardAt s hash ws) ≡ uncounted (shardAt s hash vs)
+  pub buckets : bucketsAt (shapeOf s) ws ≡ bucketsAt (shapeOf s) vs
 
 -- A call on two such memories: the same answer on both, unless it reads such a count, and two such memories after it.
 pub record DecidedAlike (s : Settings) (reads : Bool) (o q : Outcome Reply (List ℕ)) : Type 0 where

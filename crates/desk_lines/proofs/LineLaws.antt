@@ -109,18 +109,19 @@ module _ (line : List ℕ) (rest : Rest) where
     set-up-rest = restOf rule-taken
 
     pub set-up-line : {e : Eviction} → e ≡ bounds (keys .value) (idle .value) (whenFullOf (rule .value))
-        → SetUp (record { limit = Open (rate .value); eviction = e; shards = shards .value })
+        → SetUp (record { limit = Open (rate .value); eviction = e; shards = shards .value; classes = 0 })
         ≡ SetUp (record {
           limit = Open (takenRate (readingAt line rest) .value);
           eviction = bounds (keysTaken .value) (idleTaken .value) (whenFullOf (ruleTaken .value));
           shards = shardsTaken .value;
+          classes = 0;
         })
     set-up-line is =
         let taken′ : bounds (keys .value) (idle .value) (whenFullOf (rule .value))
         ≡ bounds (keysTaken .value) (idleTaken .value) (whenFullOf (ruleTaken .value)) =
         λ j. bounds (keys-taken j .value) (idle-taken j .value) (whenFullOf (rule-taken j .value)) in
         let bounded = is ∙ taken′ in
-        λ j. SetUp (record { limit = Open (e₁ j .value); eviction = bounded j; shards = shards-taken j .value })
+        λ j. SetUp (record { limit = Open (e₁ j .value); eviction = bounded j; shards = shards-taken j .value; classes = 0 })
 
 -- By the letter.
 module _ (letter : ℕ) (r : Reading) where

@@ -25,6 +25,7 @@ twoKeys = record {
   limit = Open (record { amount = 2; period = nanosOf 1000000000; burst = tokens.Some 4; initial = tokens.Some 4 });
   eviction = record { «max_keys» = 2; «idle_ttl» = nanos.None; «when_full» = RefuseNew };
   shards = 1;
+  classes = 0;
 }
 
 -- "s 2 1000000000 4 4 2 1 - 0"

@@ -140,6 +140,7 @@ setUp r =
       limit = Open (rate .value);
       eviction = bounds (keys .value) (idle .value) (whenFullOf (rule .value));
       shards = shards .value;
+      classes = 0;
     }))
 
 -- The first field is one letter, which says what the other fields are: by their bytes `a`, `p`, `r`, `f`, `d`, `s`.

@@ -161,6 +161,7 @@ fn set_up_line(line: &[u8], rest: Rest) -> Line
             limit: Limit::Open(value),
             eviction: eviction(keys.value as usize, idle_ttl, rule.value),
             shards: shards.value as usize,
+            classes: 0,
         });
     }
     Line::Malformed

@@ -10,7 +10,7 @@ use Rattle.store.specs.Memory.{memoryWords}
 
 -- Settings for so many modems in so many shards. How many words they need depends on nothing else in them.
 abbrev pub sized : ℕ → ℕ → Settings
-sized keys shards = record { limit = Closed; eviction = capacityOf keys; shards = shards }
+sized keys shards = record { limit = Closed; eviction = capacityOf keys; shards = shards; classes = 0 }
 
 -- Whether a store for so many modems is accepted, and needs no more words.
 unfoldable pub fits : ℕ → ℕ → ℕ → Bool

@@ -42,5 +42,6 @@ fn sized(keys: usize, shards: usize) -> Settings
         limit: Limit::Closed,
         eviction,
         shards,
+        classes: 0,
     }
 }

@@ -1,13 +1,14 @@
 -- What the flags of a settings struct say, off and on, how an outcome of the rules is told, and the words to lend.
-use Prim.Native.Nat.{ℕ}
+use Prim.Native.Nat.{ℕ, _≤_, _<_}
 use mathlib.Core.Path.{_≡_}
-use borrow.Author.Tests.{eq-eqb, ne-eqb}
+use borrow.Author.Tests.{lt-ltb, le-ltb, eq-eqb, ne-eqb}
 use Rattle.units.specs.declared.OptionNanos.the-variants as nanos
 use Rattle.units.specs.Units.{nanosOf}
 use Rattle.settings.specs.declared.Limit.the-variants.{Closed, Open}
 use Rattle.settings.specs.declared.Settings.{Settings}
 use Rattle.settings.specs.declared.rate.OptionTokens.the-variants as tokens
 use Rattle.settings.specs.Settings.{sizeRefusal}
+use Rattle.classes.specs.Classes.{mostClasses}
 use Rattle.limiter.specs.declared.LimiterSettings.{LimiterSettings}
 use Rattle.limiter.specs.Exported.{tokensOf, idleOf, rateOf, limitOf, wordsToLend}
 use Rattle.store.specs.Memory.{memoryWords}
@@ -38,12 +39,16 @@ module _ (s : LimiterSettings) where
   unfolding limitOf
   has-no-rate on = rw (ne-eqb _ _ on)
 
--- The words to lend where the sizes are refused, and where they are not.
+-- The words to lend where the sizes are refused, where there are too many classes, and where neither is so.
 module _ (s : Settings) where
   pub refused-sizes-have-no-words : (sizeRefusal s ≡ 0 → ⊥) → 0 ≡ wordsToLend s
   unfolding wordsToLend
   refused-sizes-have-no-words refused = rw (ne-eqb _ _ refused)
 
-  pub accepted-sizes-have-the-stores-words : sizeRefusal s ≡ 0 → memoryWords s ≡ wordsToLend s
+  pub too-many-classes-have-no-words : sizeRefusal s ≡ 0 → mostClasses < s .classes → 0 ≡ wordsToLend s
   unfolding wordsToLend
-  accepted-sizes-have-the-stores-words accepted = rw (eq-eqb _ _ accepted)
+  too-many-classes-have-no-words accepted more = rw (eq-eqb _ _ accepted, lt-ltb _ _ more)
+
+  pub accepted-sizes-have-the-stores-words : sizeRefusal s ≡ 0 → s .classes ≤ mostClasses → memoryWords s ≡ wordsToLend s
+  unfolding wordsToLend
+  accepted-sizes-have-the-stores-words accepted few = rw (eq-eqb _ _ accepted, le-ltb _ _ few)

@@ -2,7 +2,7 @@
 -- hash of a key, and the version of the interface.
 use Prim.Native.Nat.{ℕ, _+_, _*_}
 use mathlib.Core.Bool.{cond}
-use lib.Dec.{eqb}
+use lib.Dec.{ltb, eqb}
 use Rattle.units.specs.declared.OptionNanos.{OptionNanos}
 use Rattle.units.specs.declared.OptionNanos.the-variants as nanos
 use Rattle.settings.specs.declared.Limit.{Limit}
@@ -15,6 +15,7 @@ use Rattle.settings.specs.declared.rate.Rate.{Rate}
 use Rattle.settings.specs.declared.eviction.WhenFull.the-variants.{RefuseNew}
 use Rattle.settings.specs.Eviction.{bounds, whenFullOf, withWhenFull}
 use Rattle.settings.specs.Settings.{sizeRefusal}
+use Rattle.classes.specs.Classes.{mostClasses}
 use Rattle.hash.specs.Fnv.{fnv1a, lowestFirst}
 use Rattle.shard.specs.declared.Identity.{Identity}
 use Rattle.limiter.specs.declared.LimiterSettings.{LimiterSettings}
@@ -47,20 +48,20 @@ evictionOf s = withWhenFull (boundsOf s) (whenFullOf (s .«forget_debt»))
 
 -- The settings that the numbers are.
 abbrev pub settingsOf : LimiterSettings → Settings
-settingsOf s = record { limit = limitOf s; eviction = evictionOf s; shards = s .shards }
+settingsOf s = record { limit = limitOf s; eviction = evictionOf s; shards = s .shards; classes = s .classes }
 
 -- A key's identity.
 abbrev pub identityOf : ℕ → ℕ → Identity
 identityOf hash key = record { hash = hash; key = key }
 
--- The words to lend: those of the whole store, and 0 for sizes that are refused.
+-- The words to lend: those of the whole store, and 0 for sizes that are refused and for more classes than a table may have.
 unfoldable pub wordsToLend : Settings → ℕ
-wordsToLend s = cond (eqb (sizeRefusal s) 0) (memoryWords s) 0
+wordsToLend s = cond (eqb (sizeRefusal s) 0) (cond (ltb mostClasses (s .classes)) 0 (memoryWords s)) 0
 
 -- The hash of a key that is offered to callers: FNV-1a over its eight bytes, lowest first.
 abbrev pub hashOf : ℕ → ℕ
 hashOf key = fnv1a (lowestFirst 8 key)
 
--- The version 0.5.0 as one number: 65,536 times the major number, 256 times the minor one, and the patch.
+-- The version 0.7.0 as one number: 65,536 times the major number, 256 times the minor one, and the patch.
 abbrev pub versionNumber : ℕ
-versionNumber = 65536 * 0 + 256 * 6 + 0
+versionNumber = 65536 * 0 + 256 * 7 + 0

@@ -25,7 +25,7 @@ use units::Nanos;
 // The version of the interface: bindings/c/limiter.h and bindings/rust have the same.
 const MAJOR: u32 = 0;
 
-const MINOR: u32 = 6;
+const MINOR: u32 = 7;
 
 const PATCH: u32 = 0;
 
@@ -50,6 +50,8 @@ pub struct LimiterSettings {
     pub has_idle: u32,
     // When full: off is RefuseNew, on is ForgetDebt.
     pub forget_debt: u32,
+    // How many classes the class table has: they count in the words. Set-up and clear without a table take 0, and the calls with a table its own number.
+    pub classes: u32,
 }
 
 // Makes the words an empty store of these settings. Where it is accepted every word is written; what stood in them does not matter.
@@ -210,13 +212,16 @@ pub extern "C" fn limiter_length(settings: LimiterSettings, ws: &[u64]) -> Told
 }
 
 // The words to lend for these settings: the length that every operation asks of `ws`. It follows from the sizes alone, so where only the rate is
-// refused it is the same as with a rate that is accepted. 0 where the sizes are refused: no length is right then, and no store has 0 words.
+// refused it is the same as with a rate that is accepted. 0 where the sizes are refused, and for more classes than a table may have: no store has 0 words.
 #[no_mangle]
 pub extern "C" fn limiter_words(settings: LimiterSettings) -> u64
     ensures { λ r. ⌜ r ≡ wordsToLend (settingsOf settings) ⌝ }
 {
     let settings = settings_of(settings);
     if settings.size_refusal() != 0 {
+        return 0;
+    }
+    if classes::MOST_CLASSES < settings.classes as usize {
         return 0;
     }
     store::words::memory_words(settings) as u64
@@ -234,7 +239,7 @@ pub extern "C" fn limiter_key_hash(key: u64) -> u64
 // The version of this interface. The name holds the numbers that have to be equal in a caller's header and in the library: a caller's objects refer to it, so a
 // library of another version does not link.
 #[no_mangle]
-pub extern "C" fn limiter_version_0_6() -> u32
+pub extern "C" fn limiter_version_0_7() -> u32
     ensures { λ r. ⌜ r ≡ versionNumber ⌝ }
 {
     65_536 * MAJOR + 256 * MINOR + PATCH
@@ -273,6 +278,7 @@ pub fn settings_of(settings: LimiterSettings) -> Settings
         limit: limit(settings),
         eviction: eviction(settings),
         shards: settings.shards as usize,
+        classes: settings.classes,
     }
 }
 

@@ -6,7 +6,7 @@ use mathlib.Core.List.{List}
 use lib.ListN.{length}
 use Rattle.settings.specs.declared.Settings.{Settings}
 use Rattle.shard.specs.declared.Identity.{Identity}
-use Rattle.rules.specs.Asks.{Look, peeks, tokens, turnedAway, Ask, requests, looks, undoes}
+use Rattle.rules.specs.Asks.{Look, peeks, tokens, turnedAway, Ask, requests, looks, undoes, passes}
 use Rattle.rules.specs.Widths.{fits64, settingsFit, keyFits}
 use Rattle.rules.specs.Calls.{Terms}
 use Rattle.modems.specs.Address.{areBytes, identityOf, addressRefusal}
@@ -22,6 +22,7 @@ offeredByAddress (looks (peeks at cost)) = true
 offeredByAddress (looks (tokens at)) = false
 offeredByAddress (looks turnedAway) = false
 offeredByAddress (undoes u) = true
+offeredByAddress (passes table class at cost) = false
 
 -- Settings as they are written in some way, and the bytes that are lent as an address, whether or not they are one.
 abbrev pub addressedIn : {S : Type 0} → (S → Settings) → (S → Bool) → Terms S (List ℕ)

@@ -12,6 +12,8 @@ use Rattle.bucket.specs.Debt.{takenOut, lacking, restored}
 use Rattle.settings.specs.Powers.{exponentFrom, exponentFor}
 use Rattle.settings.specs.Rate as Rate
 use Rattle.settings.specs.Settings as Settings
+use Rattle.classes.specs.Classes as Classes
+use Rattle.classes.specs.Layout as ClassLayout
 use Rattle.hash.specs.Fnv.{hashFrom}
 use Rattle.ledger.specs.Layout as Debts
 use Rattle.ledger.specs.Model as Ledger
@@ -35,5 +37,6 @@ unfolding ceilDiv rows unrow tableIn removed Index.onward Index.walkFrom Index.w
     noted walkFrom walked evicted OneShard.makeRoom OneShard.withExisting OneShard.admit OneShard.withOrInsert OneShard.viewed
     OneShard.turnedAway OneShard.refunded OneShard.removed
     Refusals.memoryRefusal Refusals.countRefusal Refusals.momentRefusal Refusals.waitRefusal
+    ClassLayout.classesIn Classes.countRefusal Classes.firstFrom
     Asks.askedIn Rules.unlessRefused Rules.setUpIn Rules.keyedRuleIn
 every-edge-holds = refl

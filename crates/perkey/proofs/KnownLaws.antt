@@ -4,6 +4,7 @@ use mathlib.Core.Path.{_≡_, ap}
 use mathlib.Core.Bool.{Bool}
 use mathlib.Core.List.{List}
 use Rattle.rows.specs.Outcome.{Outcome, outcome}
+use Rattle.bucket.specs.declared.BucketCore.{BucketCore}
 use Rattle.settings.specs.declared.Limit.the-variants.{Closed, Open}
 use Rattle.settings.specs.declared.Settings.{Settings}
 use Rattle.settings.specs.declared.rate.Rate.{Rate}
@@ -20,9 +21,9 @@ pub key-is-told : {answer known : Bool} {after ws′ : List ℕ} {told : Reply} 
 key-is-told gave is-reply = rw is-reply (ap (λ (o : Outcome Bool (List ℕ)). outcome (knownReply (o .answer)) (o .after)) gave)
 
 -- A refund on a closed limiter leaves the shard as it is.
-pub closed-refund : (s : Settings) (id : Identity) (cost : ℕ) (own : Shard) → s .limit ≡ Closed
-    → inItsShard s id (undoes (refunds cost)) own ≡ outcome Nothing own
-closed-refund s id cost own is-limit = rw is-limit
+pub closed-refund : (s : Settings) (id : Identity) (cost : ℕ) (buckets : List BucketCore) (own : Shard) → s .limit ≡ Closed
+    → inItsShard s id (undoes (refunds cost)) buckets own ≡ outcome Nothing own
+closed-refund s id cost buckets own is-limit = rw is-limit
 
 -- A refund at the rate that the settings have.
 pub refund-by-limit : (s : Settings) (id : Identity) (cost : ℕ) (part′ : Part) (ws : List ℕ) {rate : Rate} {o : Outcome Reply (List ℕ)} → s .limit ≡ Open rate

@@ -1,5 +1,6 @@
 -- A peek case by case, as the code comes to it.
 use Prim.Native.Nat.{ℕ, _≤_, _<_}
+use mathlib.Core.List.{List}
 use mathlib.Core.Path.{_≡_, ap, _∙_}
 use borrow.Author.Tests.{le-ltb, lt-ltb, eq-eqb, ne-eqb}
 use Rattle.units.specs.declared.Nanos.{Nanos}
@@ -46,10 +47,10 @@ module _ (rate : Rate) (at : Nanos) (cost : ℕ) (id : Identity) (own : Shard) w
       rw (le-ltb _ _ within) (is-reply ∙ ap dueReply dues)
 
 -- A peek on a closed limiter leaves the shard as it is.
-pub closed-peek : (s : Settings) (id : Identity) (at : Nanos) (cost : ℕ) (own : Shard) {decision : Decision} → s .limit ≡ Closed → decision ≡ closed at cost
-    → inItsShard s id (looks (peeks at cost)) own ≡ outcome (Tried decision) own
+pub closed-peek : (s : Settings) (id : Identity) (at : Nanos) (cost : ℕ) (buckets : List BucketCore) (own : Shard) {decision : Decision} → s .limit ≡ Closed
+    → decision ≡ closed at cost → inItsShard s id (looks (peeks at cost)) buckets own ≡ outcome (Tried decision) own
 unfolding peekedIn
-closed-peek s id at cost own is-limit is = rw (is-limit, is)
+closed-peek s id at cost buckets own is-limit is = rw (is-limit, is)
 
 -- A peek at the rate that the settings have.
 pub peek-by-limit : (s : Settings) (at : Nanos) (cost : ℕ) (id : Identity) (own : Shard) {rate : Rate} {reply : Reply} → s .limit ≡ Open rate

@@ -39,7 +39,7 @@ fastest = record { amount = 65535; period = record { 0 = 1000000000 }; burst = N
 
 -- Settings with such a rate. Both builders of the bounds turn new keys away when full.
 abbrev pub limited : Rate → Eviction → ℕ → Settings
-limited rate bounds shards = record { limit = Open rate; eviction = bounds; shards = shards }
+limited rate bounds shards = record { limit = Open rate; eviction = bounds; shards = shards; classes = 0 }
 
 -- One shard with room for one key.
 abbrev forOneKey : Rate → Settings

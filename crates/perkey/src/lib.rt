@@ -26,11 +26,11 @@ use store::lending::Lending;
 use store::refusals;
 use units::Nanos;
 
-// Sets the store up in the lent words.
+// Sets the store up in the lent words, without classes.
 pub fn set_up(settings: Settings, ws: &mut [u64]) -> Reply
     ensures { λ r. ⌜ outcome r (now (ws .exit)) ≡ Rules.setUp settings (now (ws .entry)) ⌝ }
 {
-    let refusal = refusals::set_up_refusal(settings, ws);
+    let refusal = refusals::set_up_refusal(settings, 0, ws);
     if refusal != 0 {
         return Reply::Refused(refusal);
     }

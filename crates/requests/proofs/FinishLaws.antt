@@ -17,7 +17,7 @@ use Rattle.settings.specs.declared.Limit.the-variants.{Closed, Open}
 use Rattle.settings.specs.declared.Settings.{Settings}
 use Rattle.settings.specs.declared.Shape.{Shape}
 use Rattle.settings.specs.declared.rate.Rate.{Rate}
-use Rattle.settings.specs.Settings.{firstRefusal, shapeOf, ShapeOfAccepted}
+use Rattle.settings.specs.Settings.{firstRefusal, shapeOf, mostCounted, ShapeOfAccepted}
 use Rattle.settings.specs.Rate.{burstOf}
 use Rattle.shard.specs.declared.Identity.{Identity}
 use Rattle.shard.specs.declared.Policy.{Policy}
@@ -121,8 +121,8 @@ module _ {r : Request} {s : Settings} {at : Nanos} {id : Identity} {cost : ℕ} 
   new-key-is-accepted : Accepted s (id .hash) ws
   new-key-is-accepted = ask-not-refused s id (requests r at cost) ws (new .not-refused) .0
 
-  pub new-key-has-shape : {shape : Shape} → shape ≡ shapeOf s → ShapeOfAccepted shape
-  new-key-has-shape is = accepted-shape s (new-key-is-accepted .set-up .settings) is
+  pub new-key-has-shape : s .classes ≤ mostCounted → {shape : Shape} → shape ≡ shapeOf s → ShapeOfAccepted shape
+  new-key-has-shape few is = accepted-shape s (new-key-is-accepted .set-up .settings) few is
 
   module _ {rate : Rate} {part′ : Part} (is-limit : s .limit ≡ Open rate) (is-part : part′ ≡ partOf s (id .hash)) where
     pub new-key-asks : Asking s id cost ws rate part′

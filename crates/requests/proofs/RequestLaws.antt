@@ -67,7 +67,7 @@ pub closed-request-is-told : (r : Request) (s : Settings) (at : Nanos) (id : Ide
     → o ≡ unlessRefused (firstRefusal refusal (firstRefusal (shapeRefusal shape (id .hash) ws) further)) ws (outcome reply ws) → o ≡ ruleTo r s at id cost ws
 unfolding askedIn
 closed-request-is-told r s at id cost ws {reply = reply} is-limit is-reply is-refusal is-shape is-further gave =
-    unchanged-is-told s id (requests r at cost) ws reply (rw (is-limit, is-reply)) is-refusal is-shape is-further gave
+    unchanged-is-told s id (requests r at cost) ws reply refl (rw (is-limit, is-reply)) is-refusal is-shape is-further gave
 
 -- A request at a rate, for some tokens that a full bucket holds, that is not refused by number.
 pub record Asking (s : Settings) (id : Identity) (cost : ℕ) (ws : List ℕ) (rate : Rate) (part′ : Part) : Type 0 where

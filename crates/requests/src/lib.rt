@@ -264,6 +264,7 @@ fn further_refusal(request: Request, at: Nanos) -> u32
     match request {
         Request::Acquire => refusals::moment_refusal(at),
         Request::Reserve(max_wait) => reserve_further(at, max_wait),
+        Request::Through(_) => refusals::moment_refusal(at),
     }
 }
 
@@ -306,6 +307,7 @@ fn reply_to(request: Request, decision: BucketDecision) -> Reply
     match request {
         Request::Acquire => try_reply(decision),
         Request::Reserve(_) => reserve_reply(decision),
+        Request::Through(_) => try_reply(decision),
     }
 }
 
@@ -330,7 +332,7 @@ fn reserve_reply(decision: BucketDecision) -> Reply
 }
 
 // The settings that a shard needs.
-fn policy(settings: Settings, rate: Rate) -> Policy
+pub fn policy(settings: Settings, rate: Rate) -> Policy
     ensures { λ r. ⌜ r ≡ Asks.policyOf settings rate ⌝ }
 {
     let eviction = settings.eviction;

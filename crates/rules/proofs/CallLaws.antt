@@ -12,12 +12,12 @@ use Rattle.settings.specs.declared.Settings.{Settings}
 use Rattle.settings.specs.Settings.{firstRefusal, shapeOf, shardCount, capOf}
 use Rattle.settings.proofs.SettingsLaws.{neither-refuses}
 use Rattle.shard.specs.declared.Identity.{Identity}
-use Rattle.store.specs.Memory.{shardAt, slotCount}
+use Rattle.store.specs.Memory.{shardAt, bucketsAt, slotCount}
 use Rattle.store.specs.Refusals.{lenRefusal}
 use Rattle.rules.specs.declared.Reply.{Reply}
 use Rattle.rules.specs.declared.Reply.the-variants.{Count, Refused}
 use Rattle.rules.specs.Replies.{numbered}
-use Rattle.rules.specs.Asks.{Look, Ask, looks, lookedIn}
+use Rattle.rules.specs.Asks.{Look, Ask, looks, inForce, lookedIn}
 use Rattle.rules.specs.Rules.{unlessRefused, askRefusal, keyedOutcome, keyedRuleIn, keyedRule, lenIn}
 use Rattle.rules.specs.Calls.{Call, keyed, whole, Whole, len, Terms, byKey, Answered, clockAfter, kindOf, rules, accepted}
 use Rattle.rules.proofs.RefusedLaws.{unless-refused-accepts, unless-refused-refuses, first-of-two-refuses}
@@ -28,9 +28,9 @@ use Rattle.rules.proofs.KindLaws.{OfKind, counted, asks-are-answered-in
 abbrev pub momentOfCall : {S N : Type 0} → Call S N → Nanos
 momentOfCall c = record { 0 = clockAfter c 0 }
 
--- A call by key follows the rule of what it asks.
-pub by-key-is-the-rule : (s : Settings) (id : Identity) (ask : Ask) (ws : List ℕ) → rules byKey (keyed s id ask) ws ≡ keyedRule s id ask ws
-by-key-is-the-rule s id ask ws = unless-refused-accepts 0 ws (keyedRule s id ask ws) refl
+-- A call by key follows the rule of what it asks, by the settings that it goes by.
+pub by-key-is-the-rule : (s : Settings) (id : Identity) (ask : Ask) (ws : List ℕ) → rules byKey (keyed s id ask) ws ≡ keyedRule (inForce ask s) id ask ws
+by-key-is-the-rule s id ask ws = unless-refused-accepts 0 ws (keyedRule (inForce ask s) id ask ws) refl
 
 -- Looks change no word: a look at a key, and a look at the whole store.
 pub data Reads {S N : Type 0} : Call S N → Type 0 where
@@ -40,18 +40,18 @@ pub data Reads {S N : Type 0} : Call S N → Type 0 where
 module _ {S N : Type 0} (terms : Terms S N) where
   -- The number by which a call is refused, 0 if it is not.
   abbrev pub refusalOf : Call S N → List ℕ → ℕ
-  refusalOf (keyed s n ask) ws = firstRefusal (terms .refusal n) (askRefusal (terms .settings s) (terms .identity n) ask ws)
+  refusalOf (keyed s n ask) ws = firstRefusal (terms .refusal n) (askRefusal (inForce ask (terms .settings s)) (terms .identity n) ask ws)
   refusalOf (whole s len) ws = lenRefusal (terms .settings s) ws
 
   -- What a call gives where it is not refused.
   abbrev pub ruleOf : Call S N → List ℕ → Outcome Reply (List ℕ)
-  ruleOf (keyed s n ask) ws = keyedOutcome (shapeOf (terms .settings s)) (terms .settings s) (terms .identity n) ask ws
+  ruleOf (keyed s n ask) ws = let settings = inForce ask (terms .settings s) in keyedOutcome (shapeOf settings) settings (terms .identity n) ask ws
   ruleOf (whole s len) ws = outcome (Count (sum (shardCount (terms .settings s)) (λ i. slotCount (capOf (terms .settings s)) i ws))) ws
 
   rules-are : (c : Call S N) (ws : List ℕ) → rules terms c ws ≡ unlessRefused (refusalOf c ws) ws (ruleOf c ws)
   unfolding keyedRuleIn lenIn
   rules-are (keyed s n ask) ws =
-      first-of-two-refuses (terms .refusal n) (askRefusal (terms .settings s) (terms .identity n) ask ws) ws (ruleOf (keyed s n ask) ws)
+      first-of-two-refuses (terms .refusal n) (askRefusal (inForce ask (terms .settings s)) (terms .identity n) ask ws) ws (ruleOf (keyed s n ask) ws)
   rules-are (whole s len) ws = refl
 
   pub not-refused-is-ruled : (c : Call S N) (ws : List ℕ) → refusalOf c ws ≡ 0 → rules terms c ws ≡ ruleOf c ws
@@ -62,13 +62,14 @@ module _ {S N : Type 0} (terms : Terms S N) where
 
   -- A call on a key that is not refused: neither its name is, nor what it asks.
   pub keyed-not-refused : (s : S) (n : N) (ask : Ask) (ws : List ℕ) → refusalOf (keyed s n ask) ws ≡ 0
-      → (terms .refusal n ≡ 0) × (askRefusal (terms .settings s) (terms .identity n) ask ws ≡ 0)
-  keyed-not-refused s n ask ws none = neither-refuses (terms .refusal n) (askRefusal (terms .settings s) (terms .identity n) ask ws) none
+      → (terms .refusal n ≡ 0) × (askRefusal (inForce ask (terms .settings s)) (terms .identity n) ask ws ≡ 0)
+  keyed-not-refused s n ask ws none = neither-refuses (terms .refusal n) (askRefusal (inForce ask (terms .settings s)) (terms .identity n) ask ws) none
 
   -- Every rule answers in the kind of its call.
   pub rule-answers-in-kind : (c : Call S N) (ws : List ℕ) → OfKind (momentOfCall c) (kindOf c) (ruleOf c ws .answer)
   rule-answers-in-kind (keyed s n ask) ws =
-      asks-are-answered-in-kind (terms .settings s) (terms .identity n) ask (shardAt (terms .settings s) (terms .identity n .hash) ws)
+      let settings = inForce ask (terms .settings s) in
+      asks-are-answered-in-kind settings (terms .identity n) ask (bucketsAt (shapeOf settings) ws) (shardAt settings (terms .identity n .hash) ws)
   rule-answers-in-kind (whole s len) ws = counted _
 
   rule-not-numbered : (c : Call S N) (ws : List ℕ) → numbered (ruleOf c ws .answer) ≡ false

@@ -2,14 +2,16 @@
 use Prim.Native.Nat.{ℕ}
 use mathlib.Core.Path.{_≡_, refl}
 use mathlib.Core.Bool.{Bool, true, false}
+use mathlib.Core.List.{List}
 use lib.Dec.{ltb, eqb}
 use native.Mathlib.Omega.{arith}
 use borrow.Author.Tests.{eqb-true}
 use Rattle.arith.proofs.Cases.{by-test}
 use Rattle.units.specs.declared.Nanos.{Nanos}
+use Rattle.bucket.specs.declared.BucketCore.{BucketCore}
 use Rattle.bucket.specs.declared.BucketDecision.{BucketDecision}
 use Rattle.bucket.specs.declared.Request.{Request}
-use Rattle.bucket.specs.declared.Request.the-variants.{Acquire, Reserve}
+use Rattle.bucket.specs.declared.Request.the-variants.{Acquire, Reserve, Through}
 use Rattle.bucket.specs.Bucket.{dueAfter}
 use Rattle.bucket.proofs.BucketLaws.{due-by-number}
 use Rattle.settings.specs.declared.Limit.{Limit}
@@ -17,6 +19,9 @@ use Rattle.settings.specs.declared.Limit.the-variants.{Closed, Open}
 use Rattle.settings.specs.declared.Settings.{Settings}
 use Rattle.settings.specs.declared.decision.Decision.the-variants.{Acquired, Retry, Impossible}
 use Rattle.settings.specs.Rate.{configOf}
+use Rattle.classes.specs.declared.Class.{Class}
+use Rattle.classes.specs.Chains.{leastBurst}
+use Rattle.classes.specs.Layout.{classesIn}
 use Rattle.shard_map.specs.Model.{Shard}
 use Rattle.shard.specs.declared.Identity.{Identity}
 use Rattle.shard.specs.Model as OneShard
@@ -25,7 +30,7 @@ use Rattle.rules.specs.declared.Reply.{Reply}
 use Rattle.rules.specs.declared.Reply.the-variants.{Tried, Reserved, Nothing, Done, Count}
 use Rattle.rules.specs.Replies.{numbered, Kind, decides, reserves, counts, knows}
 use Rattle.rules.specs.Asks as Asks
-use Rattle.rules.specs.Asks.{Look, peeks, tokens, turnedAway, Undo, refunds, removes, Ask, requests, looks, undoes, Manner, asTry, asReservation}
+use Rattle.rules.specs.Asks.{Look, peeks, tokens, turnedAway, Undo, refunds, removes, Ask, requests, looks, undoes, passes, Manner, asTry, asReservation}
 use Rattle.rules.specs.Asks.{mannerOf}
 use Rattle.rules.specs.Asks.{clockAfterAsk, kindIn, kindOfLook, kindOfAsk, inItsShard}
 
@@ -65,10 +70,12 @@ at-once-in-kind at asTry = acquired
 at-once-in-kind at asReservation = reserved _
 
 reply-in-kind : (r : Request) {at : Nanos} {d : BucketDecision} → TellsItsMoment r at d → OfKind at (kindIn (mannerOf r)) (Asks.replyTo (mannerOf r) d)
-reply-in-kind Acquire {at} (granted wait within) = no-wait-is-now at wait (omega arith)
+reply-in-kind Acquire {at} (granted wait within others′) = no-wait-is-now at wait (omega arith)
 reply-in-kind Acquire (denied wait) = retried wait
-reply-in-kind (Reserve longest) (granted wait within) = reserved wait
+reply-in-kind (Reserve longest) (granted wait within others′) = reserved wait
 reply-in-kind (Reserve longest) (denied wait) = not-reserved
+reply-in-kind (Through others) {at} (granted wait within others′) = no-wait-is-now at wait (omega arith)
+reply-in-kind (Through others) (denied wait) = retried wait
 
 asked-in-kind : (r : Request) (limit : Limit) (s : Settings) (at : Nanos) (id : Identity) (cost : ℕ) (own : Shard)
     → OfKind at (kindIn (mannerOf r)) (Asks.askedIn r limit s at id cost own .answer)
@@ -108,11 +115,21 @@ undone-in-kind at (refunds cost) Closed id own = unknown
 undone-in-kind at (refunds cost) (Open rate) id own = key-is-known-or-not at (OneShard.refunded (configOf rate) id cost own .answer)
 undone-in-kind at removes limit id own = key-is-known-or-not at (OneShard.removed id own .answer)
 
-pub asks-are-answered-in-kind : (s : Settings) (id : Identity) (ask : Ask) (own : Shard)
-    → OfKind (momentIn ask) (kindOfAsk ask) (inItsShard s id ask own .answer)
-asks-are-answered-in-kind s id (requests r at cost) own = asked-in-kind r (s .limit) s at id cost own
-asks-are-answered-in-kind s id (looks l) own = looked-in-kind l (s .limit) id own
-asks-are-answered-in-kind s id (undoes u) own = undone-in-kind _ u (s .limit) id own
+-- A try through a class.
+passed-in-kind : (s : Settings) (id : Identity) (cs : List Class) (class : ℕ) (at : Nanos) (cost : ℕ) (buckets : List BucketCore) (own : Shard)
+    → OfKind at decides (Asks.passedIn s id cs class at cost buckets own .answer)
+unfolding Asks.passedIn
+passed-in-kind s id cs class at cost buckets own =
+    by-test (ltb (leastBurst cs (Asks.chainOf cs class)) cost)
+    (λ over. rw over impossible)
+    (λ within. rw within (asked-in-kind (Asks.throughChain cs class at cost buckets) (s .limit) s at id cost own))
+
+pub asks-are-answered-in-kind : (s : Settings) (id : Identity) (ask : Ask) (buckets : List BucketCore) (own : Shard)
+    → OfKind (momentIn ask) (kindOfAsk ask) (inItsShard s id ask buckets own .answer)
+asks-are-answered-in-kind s id (requests r at cost) buckets own = asked-in-kind r (s .limit) s at id cost own
+asks-are-answered-in-kind s id (looks l) buckets own = looked-in-kind l (s .limit) id own
+asks-are-answered-in-kind s id (undoes u) buckets own = undone-in-kind _ u (s .limit) id own
+asks-are-answered-in-kind s id (passes table class at cost) buckets own = passed-in-kind s id (classesIn table) class at cost buckets own
 
 -- No reply of a kind is a number of a refusal.
 pub in-kind-not-numbered : {at : Nanos} {kind : Kind} {r : Reply} → OfKind at kind r → numbered r ≡ false

@@ -4,3 +4,5 @@ pub mod KeyedLaws
 pub mod KindLaws
 pub mod CallLaws
 pub mod WaitLaws
+pub mod StoredLaws
+pub mod PassLaws

@@ -10,7 +10,7 @@ use Rattle.rules.specs.declared.Reply.{Reply}
 use Rattle.rules.specs.declared.Reply.the-variants.{Refused}
 use Rattle.rules.specs.declared.codes.Told.{Told}
 use Rattle.rules.specs.Replies.{toldOf, Kind, decides, reserves, counts, knows}
-use Rattle.rules.specs.Asks.{Ask, kindOfAsk}
+use Rattle.rules.specs.Asks.{Ask, inForce, kindOfAsk}
 use Rattle.rules.specs.Rules.{keyedRule}
 use Rattle.rules.specs.Calls.{Call, keyed, Terms, byKey, rules, kindOf}
 use Rattle.rules.proofs.KindLaws.{OfKind, acquired, retried, impossible, reserved, not-reserved, counted, known, unknown}
@@ -49,5 +49,5 @@ rules-are-prompt terms c ws =
     (λ none. rw (not-refused-is-ruled terms c ws none) (in-kind-is-prompt (rule-answers-in-kind terms c ws)))
     (λ some. rw (refused-is-told terms c ws some) (refusal-is-prompt (kindOf c) (refusalOf terms c ws)))
 
-pub asks-are-prompt : (s : Settings) (id : Identity) (ask : Ask) (ws : List ℕ) → Prompt (kindOfAsk ask) (keyedRule s id ask ws .answer)
+pub asks-are-prompt : (s : Settings) (id : Identity) (ask : Ask) (ws : List ℕ) → Prompt (kindOfAsk ask) (keyedRule (inForce ask s) id ask ws .answer)
 asks-are-prompt s id ask ws = rw (by-key-is-the-rule s id ask ws) at (rules-are-prompt byKey (keyed s id ask) ws)

@@ -1,13 +1,16 @@
--- What a call asks of a key, and the rule of it in the key's shard. No words appear here: `Rules` lends a call the shard of its key.
+-- What a call asks of a key, and the rule of it in the key's shard, given the class buckets. No words of the store appear here: `Rules` lends a call the shard
+-- of its key.
 use Prim.Native.Nat.{ℕ}
-use mathlib.Core.Bool.{Bool, true, false, cond}
+use mathlib.Core.Bool.{Bool, true, false, not, cond}
+use mathlib.Core.List.{List}
 use lib.Dec.{ltb, eqb}
 use Rattle.rows.specs.Outcome.{Outcome, outcome}
 use Rattle.units.specs.declared.Nanos.{Nanos}
+use Rattle.bucket.specs.declared.BucketCore.{BucketCore}
 use Rattle.bucket.specs.declared.BucketDecision.{BucketDecision}
 use Rattle.bucket.specs.declared.BucketDecision.the-variants.{Allowed, Denied}
 use Rattle.bucket.specs.declared.Request.{Request}
-use Rattle.bucket.specs.declared.Request.the-variants.{Acquire, Reserve}
+use Rattle.bucket.specs.declared.Request.the-variants.{Acquire, Reserve, Through}
 use Rattle.bucket.specs.declared.Due.{Due}
 use Rattle.bucket.specs.Bucket.{dueAfter, dueAt, availableAt}
 use Rattle.settings.specs.declared.Limit.{Limit}
@@ -19,7 +22,11 @@ use Rattle.settings.specs.declared.eviction.WhenFull.{WhenFull}
 use Rattle.settings.specs.declared.eviction.WhenFull.the-variants.{RefuseNew, ForgetDebt}
 use Rattle.settings.specs.declared.rate.Rate.{Rate}
 use Rattle.settings.specs.Rate.{configOf}
-use Rattle.settings.specs.Settings.{firstRefusal}
+use Rattle.settings.specs.Settings.{firstRefusal, withClasses}
+use Rattle.classes.specs.declared.Class.{Class}
+use Rattle.classes.specs.Classes.{longestChain, tableRefusal, numberRefusal}
+use Rattle.classes.specs.Chains.{chain, leastBurst, chainWait, charged}
+use Rattle.classes.specs.Layout.{classCount, classesIn}
 use Rattle.shard_map.specs.Model.{Shard}
 use Rattle.shard.specs.declared.Identity.{Identity}
 use Rattle.shard.specs.declared.Policy.{Policy}
@@ -27,7 +34,7 @@ use Rattle.shard.specs.Model as OneShard
 use Rattle.store.specs.Refusals.{momentRefusal, waitRefusal}
 use Rattle.rules.specs.declared.Reply.{Reply}
 use Rattle.rules.specs.declared.Reply.the-variants.{Tried, Reserved, Nothing, Done, Count}
-use Rattle.rules.specs.Replies.{Kind, decides, reserves, counts, knows}
+use Rattle.rules.specs.Replies.{ofGrant, Kind, decides, reserves, counts, knows}
 
 -- What a look at a key asks: at a moment, what a try for N tokens would be answered, or how many tokens there are; at no moment, how many tries of the key
 -- its bucket has turned away.
@@ -41,11 +48,24 @@ pub data Undo : Type 0 where
   refunds : ℕ → Undo
   removes : Undo
 
--- What a call asks of a key: a request (a try or a reservation) at a moment for N tokens, a look, or the undoing of what the key spent.
+-- What a call asks of a key: a request (a try or a reservation) at a moment for N tokens, a look, the undoing of what the key spent, or a try that passes
+-- through a class: with the words of the class table, the number of the class, the moment and N tokens.
 pub data Ask : Type 0 where
   requests : Request → Nanos → ℕ → Ask
   looks : Look → Ask
   undoes : Undo → Ask
+  passes : List ℕ → ℕ → Nanos → ℕ → Ask
+
+-- The settings that a class table belongs to have its number of classes.
+abbrev pub withTable : List ℕ → Settings → Settings
+withTable table s = withClasses (classCount table) s
+
+-- The settings that an ask goes by: those that it is given; a try through a class takes the number of classes from its table.
+abbrev pub inForce : Ask → Settings → Settings
+inForce (requests r at cost) s = s
+inForce (looks l) s = s
+inForce (undoes u) s = s
+inForce (passes table class at cost) s = withTable table s
 
 -- A request is answered as a try, which is granted now or not at all, or as a reservation, which is granted for later.
 pub data Manner : Type 0 where
@@ -55,6 +75,7 @@ pub data Manner : Type 0 where
 abbrev pub mannerOf : Request → Manner
 mannerOf Acquire = asTry
 mannerOf (Reserve longest) = asReservation
+mannerOf (Through others) = asTry
 
 -- The clock after an ask, given the clock before: the moment of the ask, if it has one.
 abbrev pub clockAfterLook : Look → ℕ → ℕ
@@ -66,6 +87,7 @@ abbrev pub clockAfterAsk : Ask → ℕ → ℕ
 clockAfterAsk (requests r at cost) before = at .0
 clockAfterAsk (looks l) before = clockAfterLook l before
 clockAfterAsk (undoes u) before = before
+clockAfterAsk (passes table class at cost) before = at .0
 
 -- The kind of the reply to an ask.
 abbrev pub kindIn : Manner → Kind
@@ -81,21 +103,28 @@ abbrev pub kindOfAsk : Ask → Kind
 kindOfAsk (requests r at cost) = kindIn (mannerOf r)
 kindOfAsk (looks l) = kindOfLook l
 kindOfAsk (undoes u) = knows
+kindOfAsk (passes table class at cost) = decides
 
--- The number by which an ask is refused, after the settings and the memory: 6 for a late moment, then 7 for a longest wait that is too long; 0 if it is not.
+-- The number by which an ask is refused after the settings and the memory; 0 if it is not refused. 6 is for a late moment. Then a reservation has 7 for a
+-- longest wait that is too long. A try through a class has the number of its table, and last 14 for a class that is not in it.
 abbrev pub furtherTo : Request → Nanos → ℕ
 furtherTo Acquire at = momentRefusal at
 furtherTo (Reserve longest) at = firstRefusal (momentRefusal at) (waitRefusal longest)
+furtherTo (Through others) at = momentRefusal at
 
 abbrev pub furtherOfLook : Look → ℕ
 furtherOfLook (peeks at cost) = momentRefusal at
 furtherOfLook (tokens at) = momentRefusal at
 furtherOfLook turnedAway = 0
 
+abbrev pub furtherThrough : List Class → ℕ → Nanos → ℕ
+furtherThrough cs class at = firstRefusal (momentRefusal at) (firstRefusal (tableRefusal cs) (numberRefusal cs class))
+
 abbrev pub furtherOf : Ask → ℕ
 furtherOf (requests r at cost) = furtherTo r at
 furtherOf (looks l) = furtherOfLook l
 furtherOf (undoes u) = 0
+furtherOf (passes table class at cost) = furtherThrough (classesIn table) class at
 
 -- Whether a full ledger forgets a debt rather than turning a new key away; and the settings that a shard needs.
 abbrev pub forgets : WhenFull → Bool
@@ -178,8 +207,36 @@ undoneIn (refunds cost) Closed id own = outcome Nothing own
 undoneIn (refunds cost) (Open rate) id own = repliedAs knownReply (OneShard.refunded (configOf rate) id cost own)
 undoneIn removes limit id own = repliedAs knownReply (OneShard.removed id own)
 
+-- The chain of a class: the class, its parent, and so on.
+abbrev pub chainOf : List Class → ℕ → List ℕ
+chainOf cs class = chain longestChain cs class
+
+-- A try that waits for the buckets on the chain of a class, too.
+abbrev pub throughChain : List Class → ℕ → Nanos → ℕ → List BucketCore → Request
+throughChain cs class at cost buckets = Through (record { 0 = chainWait cs cost at buckets (chainOf cs class) })
+
+-- A try through a class, in the key's shard. A cost over a burst on the chain is impossible. Any other is asked as such a try.
+unfoldable pub passedIn : Settings → Identity → List Class → ℕ → Nanos → ℕ → List BucketCore → Shard → Outcome Reply Shard
+passedIn s id cs class at cost buckets own =
+    cond (ltb (leastBurst cs (chainOf cs class)) cost) (outcome (Tried Impossible) own)
+    (askedIn (throughChain cs class at cost buckets) (s .limit) s at id cost own)
+
 -- What a call that is not refused answers, and what it leaves in the shard of its key. A look leaves the shard as it is.
-abbrev pub inItsShard : Settings → Identity → Ask → Shard → Outcome Reply Shard
-inItsShard s id (requests r at cost) own = askedIn r (s .limit) s at id cost own
-inItsShard s id (looks l) own = outcome (lookedIn l (s .limit) id own) own
-inItsShard s id (undoes u) own = undoneIn u (s .limit) id own
+abbrev pub inItsShard : Settings → Identity → Ask → List BucketCore → Shard → Outcome Reply Shard
+inItsShard s id (requests r at cost) buckets own = askedIn r (s .limit) s at id cost own
+inItsShard s id (looks l) buckets own = outcome (lookedIn l (s .limit) id own) own
+inItsShard s id (undoes u) buckets own = undoneIn u (s .limit) id own
+inItsShard s id (passes table class at cost) buckets own = passedIn s id (classesIn table) class at cost buckets own
+
+-- Whether a reply grants at least one token.
+abbrev pub grantsSome : ℕ → Reply → Bool
+grantsSome cost reply = ofGrant (λ wait. not (eqb cost 0)) false reply
+
+-- The class buckets after an ask, by its reply: a granted try through a class, of a cost that is not 0, charges every bucket on the chain. No other ask touches
+-- them.
+abbrev pub bucketsAfter : Ask → Reply → List BucketCore → List BucketCore
+bucketsAfter (requests r at cost) reply buckets = buckets
+bucketsAfter (looks l) reply buckets = buckets
+bucketsAfter (undoes u) reply buckets = buckets
+bucketsAfter (passes table class at cost) reply buckets =
+    cond (grantsSome cost reply) (charged (classesIn table) cost at buckets (chainOf (classesIn table) class)) buckets

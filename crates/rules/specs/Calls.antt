@@ -14,7 +14,7 @@ use Rattle.settings.specs.Settings.{shapeOf}
 use Rattle.shard.specs.declared.Identity.{Identity}
 use Rattle.rules.specs.declared.Reply.{Reply}
 use Rattle.rules.specs.Replies.{numbered, Kind, counts}
-use Rattle.rules.specs.Asks.{Ask, requests, looks, undoes, peeks, tokens, turnedAway, refunds, removes, clockAfterAsk, kindOfAsk}
+use Rattle.rules.specs.Asks.{Ask, requests, looks, undoes, passes, peeks, tokens, turnedAway, refunds, removes, inForce, clockAfterAsk, kindOfAsk}
 use Rattle.rules.specs.Rules.{unlessRefused, keyedRuleIn, lenIn}
 use Rattle.rules.specs.Widths.{settingsFit, keyFits, askFits}
 
@@ -74,6 +74,9 @@ module _ {S N : Type 0} where
   abbrev pub remove : S → N → Call S N
   remove s n = keyed s n (undoes removes)
 
+  abbrev pub classTry : S → List ℕ → ℕ → Nanos → N → ℕ → Call S N
+  classTry s table class at n cost = keyed s n (passes table class at cost)
+
   abbrev pub length : S → Call S N
   length s = whole s len
 
@@ -91,14 +94,15 @@ module _ {S N : Type 0} where
   kindOf (whole s len) = counts
 
 module _ {S N : Type 0} (terms : Terms S N) where
-  -- What the settings of a call mean.
+  -- The settings that a call goes by: those that it writes. A try through a class takes the number of classes from its table instead.
   abbrev pub settingsOf : Call S N → Settings
-  settingsOf c = terms .settings (writtenOf c)
+  settingsOf (keyed s n ask) = inForce ask (terms .settings s)
+  settingsOf (whole s what) = terms .settings s
 
   -- The rules, over memory of the shape that some function gives the settings. A call is refused for its name before anything else is looked at.
   abbrev pub rulesIn : (Settings → Shape) → Implementation S N
   rulesIn shapes (keyed s n ask) ws =
-      let settings = terms .settings s in
+      let settings = inForce ask (terms .settings s) in
       unlessRefused (terms .refusal n) ws (keyedRuleIn (shapes settings) settings (terms .identity n) ask ws)
   rulesIn shapes (whole s len) ws = let settings = terms .settings s in lenIn (shapes settings) settings ws
 
@@ -125,6 +129,7 @@ module _ {S N : Type 0} (terms : Terms S N) where
   ofUndone Q (keyed s n (requests r at cost)) = Unit {0}
   ofUndone Q (keyed s n (looks l)) = Unit {0}
   ofUndone Q (keyed s n (undoes u)) = Q (terms .identity n)
+  ofUndone Q (keyed s n (passes table class at cost)) = Unit {0}
   ofUndone Q (whole s what) = Unit {0}
 
   -- A call can be made where its settings, its name and its numbers fit, and what it asks can be asked of such a name.

@@ -12,7 +12,8 @@ use Rattle.arith.proofs.DivisionLaws.{ceilDiv-least, ceilDiv-reaches, ceilDiv-o
 use Rattle.settings.specs.declared.Settings.{Settings}
 use Rattle.settings.specs.declared.Shape.{Shape}
 use Rattle.settings.specs.Settings.{mostKeys, mostShards, mostKeysInShard, limitRefusal, sizeRefusal, firstRefusal, settingsRefusal}
-use Rattle.settings.specs.Settings.{share, leastShards, askedShards, shardCount, shardExponent, capOf, shapeOf, shardOf, ShapeOfAccepted}
+use Rattle.settings.specs.Settings.{share, leastShards, askedShards, shardCount, shardExponent, capOf, shapeOf, shardOf, withClasses, mostCounted}
+use Rattle.settings.specs.Settings.{ShapeOfAccepted}
 use Rattle.settings.specs.Settings.{idleLimitMillis}
 use Rattle.settings.proofs.PowerLaws.{PowerOfTwo, exponent-is-least, step-up-reaches}
 
@@ -117,9 +118,17 @@ module _ (s : Settings) where
       (ceilDiv-least keys (shardCount s) mostKeysInShard (shards-least s) (omega (arith, reached, enough)))
       (omega arith)
 
+-- The number of classes refuses no settings.
+pub size-refused-with-any-classes : (n : ℕ) (s : Settings) → sizeRefusal (withClasses n s) ≡ sizeRefusal s
+unfolding sizeRefusal
+size-refused-with-any-classes n s = refl
+
+pub refused-with-any-classes : (n : ℕ) (s : Settings) → settingsRefusal (withClasses n s) ≡ settingsRefusal s
+refused-with-any-classes n s = rw (size-refused-with-any-classes n s)
+
 -- The shape of settings of an accepted size.
-pub shape-of-accepted : (s : Settings) {shape : Shape} → sizeRefusal s ≡ 0 → shape ≡ shapeOf s → ShapeOfAccepted shape
-shape-of-accepted s accepted is = record { settings = s; accepted = accepted; is = is }
+pub shape-of-accepted : (s : Settings) {shape : Shape} → sizeRefusal s ≡ 0 → s .classes ≤ mostCounted → shape ≡ shapeOf s → ShapeOfAccepted shape
+shape-of-accepted s accepted few is = record { settings = s; accepted = accepted; is = is; few-classes = few }
 
 -- What holds of such a shape by itself.
 module _ {shape : Shape} (a : ShapeOfAccepted shape) where
@@ -128,6 +137,9 @@ module _ {shape : Shape} (a : ShapeOfAccepted shape) where
 
   pub accepted-cap-most : shape .cap ≤ mostKeysInShard
   accepted-cap-most = rw (a .is) (cap-most (a .settings) (a .accepted))
+
+  pub accepted-classes-few : shape .classes ≤ mostCounted
+  accepted-classes-few = rw (a .is) (a .few-classes)
 
 -- The idle limit of no span at all is 1.
 pub no-span-limit : idleLimitMillis 0 ≡ 1

@@ -23,10 +23,10 @@ abbrev twoASecond : Rate
 twoASecond = record { amount = 2; period = record { 0 = 1000000000 }; burst = Some 4; initial = None }
 
 abbrev sized : Limit → ℕ → ℕ → Settings
-sized limit keys shards = record { limit = limit; eviction = bounds keys nanos.None RefuseNew; shards = shards }
+sized limit keys shards = record { limit = limit; eviction = bounds keys nanos.None RefuseNew; shards = shards; classes = 0 }
 
 abbrev idleFor : ℕ → Settings
-idleFor ttl = record { limit = Open twoASecond; eviction = bounds 4 (nanos.Some (record { 0 = ttl })) RefuseNew; shards = 1 }
+idleFor ttl = record { limit = Open twoASecond; eviction = bounds 4 (nanos.Some (record { 0 = ttl })) RefuseNew; shards = 1; classes = 0 }
 
 -- Shards and places per shard.
 pub nothing-asked-for : (shardCount (sized Closed 0 0) ≡ 1) × (capOf (sized Closed 0 0) ≡ 1)
@@ -54,7 +54,7 @@ abbrev shapesOf : ℕ → List Shape
 shapesOf keys = shapeOf (sized Closed keys 0) ∷ shapeOf (sized Closed keys 1) ∷ shapeOf (sized Closed keys 3) ∷ shapeOf (sized Closed keys 64) ∷ []
 
 abbrev shaped : ℕ → ℕ → Shape
-shaped shards cap = record { shards = shards; cap = cap }
+shaped shards cap = record { shards = shards; cap = cap; classes = 0 }
 
 pub keys-4097 : shapesOf 4097 ≡ shaped 1 4097 ∷ shaped 1 4097 ∷ shaped 4 1025 ∷ shaped 64 65 ∷ []
 unfolding exponentFrom exponentFor ceilDiv

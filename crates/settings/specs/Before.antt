@@ -24,4 +24,4 @@ abbrev pub capOf : Settings → ℕ
 capOf s = max (ceilDiv (s .eviction .«max_keys») (shardCount s)) 1
 
 abbrev pub shapeOf : Settings → Shape
-shapeOf s = record { shards = shardCount s; cap = capOf s }
+shapeOf s = record { shards = shardCount s; cap = capOf s; classes = s .classes }

@@ -1,5 +1,5 @@
--- The settings of a whole store: refusals, shards, places per shard, words, and the idle limit.
-use Prim.Native.Nat.{ℕ, _+_, _-_, _/_, _^_, min, max}
+-- The settings of a whole store: refusals, shards, places per shard, the number of classes, and the idle limit.
+use Prim.Native.Nat.{ℕ, _+_, _-_, _/_, _≤_, _^_, min, max}
 use mathlib.Core.Path.{_≡_}
 use mathlib.Core.Bool.{cond}
 use lib.Dec.{ltb, eqb}
@@ -71,9 +71,16 @@ shardExponent s = exponentFor (askedShards s)
 abbrev pub capOf : Settings → ℕ
 capOf s = share (s .eviction .«max_keys») (shardCount s)
 
--- The shards, and the keys that each holds.
+-- The shards, the keys that each holds, and the classes.
 abbrev pub shapeOf : Settings → Shape
-shapeOf s = record { shards = shardCount s; cap = capOf s }
+shapeOf s = record { shards = shardCount s; cap = capOf s; classes = s .classes }
+
+-- The same settings, and the same shards, with another number of classes. A call that is given a class table takes the number from the table.
+abbrev pub withClasses : ℕ → Settings → Settings
+withClasses n s = record { limit = s .limit; eviction = s .eviction; shards = s .shards; classes = n }
+
+abbrev pub shapeWith : ℕ → Shape → Shape
+shapeWith n shape = record { shards = shape .shards; cap = shape .cap; classes = n }
 
 -- The shard of a hash: as many of its bits, from bit 40 on (counted from 0), as the shard count needs.
 abbrev pub indexIn : Shape → ℕ → ℕ
@@ -82,11 +89,16 @@ indexIn shape hash = bitAnd (hash / 2 ^ 40) (shape .shards - 1)
 abbrev pub shardOf : Settings → ℕ → ℕ
 shardOf s hash = indexIn (shapeOf s) hash
 
+-- The most classes whose words are counted. No number of 32 bits is more, nor is the number of classes that a lent table has.
+abbrev pub mostCounted : ℕ
+mostCounted = 2 ^ 62
+
 -- A shape that settings of an accepted size have. So its numbers are small.
 pub record ShapeOfAccepted (shape : Shape) : Type 0 where
   pub settings : Settings
   pub accepted : sizeRefusal settings ≡ 0
   pub is : shape ≡ shapeOf settings
+  pub few-classes : settings .classes ≤ mostCounted
 
 -- The least idle time that counts: how long an empty bucket takes to be full. A closed limiter has no bucket.
 abbrev pub leastIdle : Limit → ℕ

@@ -5,7 +5,7 @@ ghost use Rattle.bucket.specs.Bucket.{Accepted};
 ghost use Rattle.settings.specs.Powers.{exponentFor};
 ghost use Rattle.settings.specs.Rate.{timeToFull};
 ghost use Prim.Native.Nat.{_≤_, _^_};
-ghost use Rattle.settings.specs.Settings.{limitRefusal, sizeRefusal, settingsRefusal, share, shardExponent, shapeOf, ShapeOfAccepted, indexIn};
+ghost use Rattle.settings.specs.Settings.{limitRefusal, sizeRefusal, settingsRefusal, share, shardExponent, shapeOf, shapeWith, ShapeOfAccepted, indexIn};
 ghost use Rattle.settings.specs.Settings.{idleLimitFor, idleLimitMillis};
 use crate::eviction::Eviction;
 use crate::rate::Rate;
@@ -23,17 +23,19 @@ pub enum Limit {
     Open(Rate),
 }
 
-// The settings that every call is given.
+// The settings that every call is given. `classes` is how many classes the table has that belongs to the settings.
 pub struct Settings {
     pub limit: Limit,
     pub eviction: Eviction,
     pub shards: usize,
+    pub classes: u32,
 }
 
-// How the lent words are divided: so many shards, each with places for so many keys.
+// How the lent words are divided: the number of shards, the keys that each has places for, and the number of classes.
 pub struct Shape {
     pub shards: usize,
     pub cap: usize,
+    pub classes: usize,
 }
 
 impl Limit {
@@ -92,11 +94,23 @@ impl Settings {
         Shape {
             shards: 1 << exponent,
             cap,
+            classes: self.classes as usize,
         }
     }
 }
 
 impl Shape {
+    // The same shards, with another number of classes.
+    pub fn with_classes(self, classes: usize) -> Shape
+        ensures { λ r. ⌜ r ≡ shapeWith classes self ⌝ }
+    {
+        Shape {
+            shards: self.shards,
+            cap: self.cap,
+            classes,
+        }
+    }
+
     // The shard that a hash belongs to.
     pub fn shard_index(self, hash: u64) -> usize
         requires { ⌜ ShapeOfAccepted self ⌝ }

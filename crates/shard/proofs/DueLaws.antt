@@ -1,6 +1,7 @@
 -- Every answer to a request tells the moment of the call plus its wait, on any shard.
 use Prim.Native.Nat.{ℕ, _≤_}
 use mathlib.Core.Path.{_≡_, refl}
+use native.Mathlib.Omega.{arith}
 use borrow.Author.Tests.{lt-ltb, le-ltb}
 use Rattle.arith.proofs.Cases.{by-le}
 use Rattle.units.specs.declared.Nanos.{Nanos}
@@ -9,7 +10,8 @@ use Rattle.bucket.specs.declared.BucketCore.{BucketCore}
 use Rattle.bucket.specs.declared.BucketDecision.{BucketDecision}
 use Rattle.bucket.specs.declared.BucketDecision.the-variants.{Allowed, Denied}
 use Rattle.bucket.specs.declared.Request.{Request}
-use Rattle.bucket.specs.Bucket.{dueAfter, longestWait, waitAt, asked}
+use Rattle.bucket.specs.declared.Request.the-variants.{Acquire, Reserve, Through}
+use Rattle.bucket.specs.Bucket.{dueAfter, longestWait, waitAt, waitTo, requestWait, asked}
 use Rattle.bucket.proofs.BucketLaws.{granted-within-longest, denied-beyond-longest}
 use Rattle.rows.specs.declared.Place.{Place}
 use Rattle.rows.specs.declared.Place.the-variants.{At, Nowhere}
@@ -22,17 +24,30 @@ use Rattle.shard.specs.declared.Identity.{Identity}
 use Rattle.shard.specs.declared.Policy.{Policy}
 use Rattle.shard.specs.Model.{withExisting, swept, makeRoom, admitted, admit, askedFrom, withOrInsert}
 
--- An answer at a moment: a grant within the longest wait of the request, or a denial, by the bucket or for want of space. Each is due after its wait.
+-- How long other buckets let a request wait.
+abbrev pub othersWait : Request → ℕ
+othersWait Acquire = 0
+othersWait (Reserve longest) = 0
+othersWait (Through others) = others .0
+
+others-wait-no-longer : (request : Request) (own : ℕ) → othersWait request ≤ waitTo request own
+others-wait-no-longer Acquire own = omega arith
+others-wait-no-longer (Reserve longest) own = omega arith
+others-wait-no-longer (Through others) own = omega arith
+
+-- An answer at a moment: a grant within the longest wait of the request, and no sooner than other buckets grant; or a denial, by the bucket or for lack of
+-- space. Each is due after its wait.
 pub data TellsItsMoment (request : Request) (at : Nanos) : BucketDecision → Type 0 where
-  granted : (wait : Nanos) → wait .0 ≤ longestWait request → TellsItsMoment request at (Allowed (dueAfter at wait))
+  granted : (wait : Nanos) → wait .0 ≤ longestWait request → othersWait request ≤ wait .0 → TellsItsMoment request at (Allowed (dueAfter at wait))
   denied : (wait : Nanos) → TellsItsMoment request at (Denied (dueAfter at wait))
 
 bucket-tells-its-moment : (c : BucketConfig) (request : Request) (b : BucketCore) (cost : ℕ) (at : Nanos)
     → TellsItsMoment request at (asked c request b cost at .decision)
 bucket-tells-its-moment c request b cost at =
-    by-le (waitAt c b cost at) (longestWait request)
-    (λ soon. rw (granted-within-longest c request b cost at soon) (granted (record { 0 = waitAt c b cost at }) soon))
-    (λ late. rw (denied-beyond-longest c request b cost at late) (denied (record { 0 = waitAt c b cost at })))
+    by-le (requestWait c request b cost at) (longestWait request)
+    (λ soon. rw (granted-within-longest c request b cost at soon)
+    (granted (record { 0 = requestWait c request b cost at }) soon (others-wait-no-longer request (waitAt c b cost at))))
+    (λ late. rw (denied-beyond-longest c request b cost at late) (denied (record { 0 = requestWait c request b cost at })))
 
 making-room-tells-its-moment : (p : Policy) (at : Nanos) (s : Shard) → TellsRoom at (makeRoom p at s .answer)
 unfolding makeRoom

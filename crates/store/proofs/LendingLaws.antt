@@ -15,7 +15,7 @@ use Rattle.rows.specs.Outcome.{Outcome, outcome}
 use Rattle.rows.proofs.SegmentLaws.{segment-length}
 use Rattle.settings.specs.declared.Settings.{Settings}
 use Rattle.settings.specs.declared.Shape.{Shape}
-use Rattle.settings.specs.Settings.{settingsRefusal, firstRefusal, ShapeOfAccepted, mostKeysInShard, mostShards, capOf, shapeOf}
+use Rattle.settings.specs.Settings.{settingsRefusal, firstRefusal, ShapeOfAccepted, mostKeysInShard, mostShards, capOf, shapeOf, mostCounted}
 use Rattle.settings.proofs.SettingsLaws.{accepted-parts, shape-of-accepted, cap-most, shards-most, no-refusal-hands-on}
 use Rattle.rows.specs.declared.Place.the-variants.{At}
 use Rattle.shard_map.specs.Model as Shard
@@ -75,8 +75,8 @@ module _ {p : Part} {ws : List ℕ} (placed : Placed p ws) where
 
 -- Settings that are accepted come to a shape of an accepted size, and leave the refusal to the memory.
 module _ (s : Settings) (none : settingsRefusal s ≡ 0) where
-  pub accepted-shape : {shape : Shape} → shape ≡ shapeOf s → ShapeOfAccepted shape
-  accepted-shape is = shape-of-accepted s (accepted-parts s none .1) is
+  pub accepted-shape : s .classes ≤ mostCounted → {shape : Shape} → shape ≡ shapeOf s → ShapeOfAccepted shape
+  accepted-shape few is = shape-of-accepted s (accepted-parts s none .1) few is
 
   pub memory-refuses : (hash : ℕ) (ws : List ℕ) → keyedRefusal s hash ws ≡ shapeRefusal (shapeOf s) hash ws
   memory-refuses hash ws = ap (λ (n : ℕ). firstRefusal n (countRefusal (capOf s) (shardAt s hash ws))) (no-refusal-hands-on (settingsRefusal s) _ none)

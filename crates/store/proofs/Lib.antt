@@ -1,3 +1,4 @@
 pub mod MemoryLaws
 pub mod RefusalLaws
 pub mod LendingLaws
+pub mod ClassLaws

@@ -14,7 +14,7 @@ use Rattle.rows.proofs.ZeroLaws.{zeros-segment}
 use Rattle.settings.specs.declared.Settings.{Settings}
 use Rattle.settings.specs.declared.Shape.{Shape}
 use Rattle.settings.specs.Settings.{sizeRefusal, mostKeysInShard, mostShards, capOf, shapeOf, ShapeOfAccepted, shardOf, shardCount}
-use Rattle.settings.proofs.SettingsLaws.{shards-most, shard-below, cap-least, cap-most, accepted-cap-most}
+use Rattle.settings.proofs.SettingsLaws.{shards-most, shard-below, cap-least, cap-most, accepted-cap-most, accepted-classes-few}
 use Rattle.ledger.specs.Model as Ledger
 use Rattle.shard_map.specs.Model as Shard
 use Rattle.shard_map.specs.Layout as Layout
@@ -22,10 +22,10 @@ use Rattle.shard_map.specs.Layout.{shardWords}
 use Rattle.shard_map.proofs.LayoutLaws.{cap-is}
 use Rattle.shard_map.proofs.ReadBack.{Sized, Empty, words-length, shard-of-words, debt-cap-is, shard-sized, zeros-empty, zeros-complete}
 use Rattle.shard.proofs.ShardLaws.{SameRoom}
-use Rattle.store.specs.Memory.{withSegment, shardStart, shardEnd, wordsIn, memoryWords, partStart, partOf, Placed, shardAt, inShard}
+use Rattle.store.specs.Memory.{withSegment, shardStart, shardEnd, classesAt, wordsIn, memoryWords, partStart, partOf, Placed, shardAt, inShard}
 
 -- A shard ends before one of a higher number begins.
-shard-ends-before : (cap i j : ℕ) → i < j → shardEnd cap i ≤ shardStart cap j
+pub shard-ends-before : (cap i j : ℕ) → i < j → shardEnd cap i ≤ shardStart cap j
 shard-ends-before cap i j below = omega (arith, mul-le-mul-right (shardWords cap) below)
 
 -- The words of shard i replaced: those of every other shard are as they were.
@@ -37,27 +37,30 @@ other-shard-kept cap i j ws new fits same other =
     (λ past. segment-kept-above (shardStart cap i) w ws new fits same (shardStart cap j) w (shard-ends-before cap i j (omega arith)))
     (λ before. segment-kept-below (shardStart cap i) w ws new fits same (shardStart cap j) w (shard-ends-before cap j i before))
 
--- The words of a memory are few enough to be counted in 64 bits, if the sizes are accepted.
-words-most : (s : Settings) → sizeRefusal s ≡ 0 → memoryWords s ≤ mostShards * shardWords mostKeysInShard
-words-most s accepted =
+-- The words of all shards are few enough to be counted in 64 bits, if the sizes are accepted, and so are those of the class buckets with them.
+shards-end-early : (s : Settings) → sizeRefusal s ≡ 0 → classesAt (shapeOf s) ≤ mostShards * shardWords mostKeysInShard
+shards-end-early s accepted =
     omega (arith, mul-le-mul {m₁ = shardWords (capOf s)} {m₂ = shardWords mostKeysInShard} (shards-most s) (omega (arith, cap-most s accepted)))
 
-pub accepted-words-most : {shape : Shape} → ShapeOfAccepted shape → wordsIn shape ≤ mostShards * shardWords mostKeysInShard
-accepted-words-most shaped = rw (shaped .is) (words-most (shaped .settings) (shaped .accepted))
+pub accepted-shards-end-early : {shape : Shape} → ShapeOfAccepted shape → classesAt shape ≤ mostShards * shardWords mostKeysInShard
+accepted-shards-end-early shaped = rw (shaped .is) (shards-end-early (shaped .settings) (shaped .accepted))
+
+pub accepted-words-fit : {shape : Shape} → ShapeOfAccepted shape → wordsIn shape < 2 ^ 64
+accepted-words-fit shaped = omega (arith, accepted-shards-end-early shaped, accepted-classes-few shaped)
 
 pub shard-words-few : {shape : Shape} → ShapeOfAccepted shape → shardWords (shape .cap) < 2 ^ 64
 shard-words-few shaped = omega (arith, accepted-cap-most shaped)
 
 -- The part of a hash's shard lies within memory of the length that the settings ask for.
 pub shard-fits : (s : Settings) (hash : ℕ) (ws : List ℕ) → length ws ≡ memoryWords s → partStart (shapeOf s) hash + shardWords (capOf s) ≤ length ws
-shard-fits s hash ws size = rw size (shard-ends-before (capOf s) (shardOf s hash) (shardCount s) (shard-below s hash))
+shard-fits s hash ws size = omega (arith, size, shard-ends-before (capOf s) (shardOf s hash) (shardCount s) (shard-below s hash))
 
 pub part-placed : (s : Settings) (hash : ℕ) (ws : List ℕ) → length ws ≡ memoryWords s → Placed (partOf s hash) ws
 part-placed s hash ws size = record { ends = refl; within = shard-fits s hash ws size }
 
 -- It ends at a small number if the sizes are accepted.
 shard-start-most : (s : Settings) (hash : ℕ) → sizeRefusal s ≡ 0 → partStart (shapeOf s) hash + shardWords (capOf s) ≤ mostShards * shardWords mostKeysInShard
-shard-start-most s hash accepted = le-trans (shard-ends-before (capOf s) (shardOf s hash) (shardCount s) (shard-below s hash)) (words-most s accepted)
+shard-start-most s hash accepted = le-trans (shard-ends-before (capOf s) (shardOf s hash) (shardCount s) (shard-below s hash)) (shards-end-early s accepted)
 
 pub part-ends-early : {shape : Shape} (hash : ℕ) → ShapeOfAccepted shape
     → partStart shape hash + shardWords (shape .cap) ≤ mostShards * shardWords mostKeysInShard
@@ -65,7 +68,7 @@ part-ends-early hash shaped = rw (shaped .is) (shard-start-most (shaped .setting
 
 -- So does the part of a shard by its number.
 pub shard-ends : (s : Settings) (i : ℕ) (ws : List ℕ) → length ws ≡ memoryWords s → i < shardCount s → shardEnd (capOf s) i ≤ length ws
-shard-ends s i ws size below = rw size (shard-ends-before (capOf s) i (shardCount s) below)
+shard-ends s i ws size below = omega (arith, size, shard-ends-before (capOf s) i (shardCount s) below)
 
 -- Hashes of one shard have the same shard.
 pub same-shard : (s : Settings) (hash other : ℕ) (ws : List ℕ) → shardOf s other ≡ shardOf s hash → shardAt s other ws ≡ shardAt s hash ws

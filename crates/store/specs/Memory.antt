@@ -5,9 +5,11 @@ use mathlib.Core.List.{List, _++_}
 use lib.ListN.{take, drop, length}
 use Rattle.rows.specs.Segments.{segment}
 use Rattle.rows.specs.Outcome.{Outcome, outcome}
+use Rattle.bucket.specs.declared.BucketCore.{BucketCore}
 use Rattle.settings.specs.declared.Settings.{Settings}
 use Rattle.settings.specs.declared.Shape.{Shape}
 use Rattle.settings.specs.Settings.{shapeOf, indexIn}
+use Rattle.classes.specs.Layout.{bucketWidth, bucketsIn, wordsOfBuckets}
 use Rattle.shard_map.specs.Model.{Shard}
 use Rattle.shard_map.specs.Layout.{shardWords, shard, wordsOf}
 use Rattle.store.specs.declared.Part.{Part}
@@ -26,12 +28,16 @@ shardStart cap i = shardsAt + i * shardWords cap
 abbrev pub shardEnd : ℕ → ℕ → ℕ
 shardEnd cap i = shardStart cap i + shardWords cap
 
--- The word after the last shard, where words for classes would begin. There are none, so the memory ends there. The words that settings ask for.
+-- The class buckets begin at the word after the last shard. They are the last words of the memory.
 abbrev pub classesAt : Shape → ℕ
 classesAt shape = shardStart (shape .cap) (shape .shards)
 
+abbrev pub classWords : Shape → ℕ
+classWords shape = bucketWidth * shape .classes
+
+-- The words of a memory, and those that settings ask for.
 abbrev pub wordsIn : Shape → ℕ
-wordsIn shape = classesAt shape
+wordsIn shape = classesAt shape + classWords shape
 
 abbrev pub memoryWords : Settings → ℕ
 memoryWords s = wordsIn (shapeOf s)
@@ -59,6 +65,13 @@ inPart p ws o = outcome (o .answer) (withSegment (p .start) (shardWords (p .cap)
 
 abbrev pub inShard : {A : Type 0} → Settings → ℕ → List ℕ → Outcome A Shard → Outcome A (List ℕ)
 inShard s hash ws o = inPart (partOf s hash) ws o
+
+-- The class buckets in the memory, and the memory with other class buckets: all shards stay as they are.
+abbrev pub bucketsAt : Shape → List ℕ → List BucketCore
+bucketsAt shape ws = bucketsIn (segment (classesAt shape) (classWords shape) ws)
+
+abbrev pub withBuckets : Shape → List ℕ → List BucketCore → List ℕ
+withBuckets shape ws bs = withSegment (classesAt shape) (classWords shape) ws (wordsOfBuckets bs)
 
 -- A part has the words of its shard and lies in the memory.
 pub record Placed (p : Part) (ws : List ℕ) : Type 0 where

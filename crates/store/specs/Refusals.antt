@@ -22,7 +22,7 @@ longestMaxWait = 2 ^ 46
 unfoldable pub memoryRefusal : ℕ → List ℕ → ℕ
 memoryRefusal words ws = cond (eqb (length ws) words) 0 5
 
--- Set-up and clear, in memory of a shape: the settings, then the length.
+-- Set-up and clear, in memory of a shape: the settings, then the length. A set-up without a class table is in memory of the shape with no classes.
 abbrev pub setUpRefusalIn : Shape → Settings → List ℕ → ℕ
 setUpRefusalIn shape s ws = firstRefusal (settingsRefusal s) (memoryRefusal (wordsIn shape) ws)
 
@@ -37,8 +37,8 @@ countRefusal cap s = cond (ltb cap (s .slots .count)) 5 (cond (ltb cap (s .ledge
 abbrev pub shapeRefusal : Shape → ℕ → List ℕ → ℕ
 shapeRefusal shape hash ws = firstRefusal (memoryRefusal (wordsIn shape) ws) (countRefusal (shape .cap) (shardIn (partIn shape hash) ws))
 
--- A call on a key: as set-up, then the counts of the key's shard. Of its other arguments, 6 for a moment that is too late, and 7 for a longest wait that is too
--- long.
+-- A call on a key: the settings, then the length by the classes of its settings, then the counts of the key's shard. Of its other arguments, 6 for a moment
+-- that is too late, and 7 for a longest wait that is too long.
 abbrev pub keyedRefusalIn : Shape → Settings → ℕ → List ℕ → ℕ
 keyedRefusalIn shape s hash ws = firstRefusal (setUpRefusalIn shape s ws) (countRefusal (shape .cap) (shardIn (partIn shape hash) ws))
 

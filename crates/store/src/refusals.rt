@@ -1,8 +1,9 @@
 // The refusals by number; 0 is none. Each check has a function, and so has the whole refusal of the operations that name no key: set-up, clear and length.
 // Of several checks the first that applies gives the number.
 ghost use mathlib.Core.Path.{_≡_};
+ghost use Prim.Native.Nat.{_≤_};
 ghost use lib.ListN.{length};
-ghost use Rattle.settings.specs.Settings.{firstRefusal};
+ghost use Rattle.settings.specs.Settings.{firstRefusal, withClasses, mostCounted};
 ghost use Rattle.shard_map.specs.Layout.{shard, shardWords};
 ghost use Rattle.store.specs.Refusals.{memoryRefusal, setUpRefusal, countRefusal, momentRefusal, waitRefusal, slotsRefusal, lenRefusal};
 use crate::words;
@@ -58,15 +59,17 @@ pub fn wait_refusal(max_wait: Nanos) -> u32
     if LONGEST_MAX_WAIT < max_wait.0 { 7 } else { 0 }
 }
 
-// The refusal of set-up and of clear: the settings, then the length.
-pub fn set_up_refusal(settings: Settings, ws: &[u64]) -> u32
-    ensures { λ r. ⌜ r ≡ setUpRefusal settings (now (ws .entry)) ⌝ }
+// The refusal of set-up and of clear, for a number of classes: the settings, then the length.
+pub fn set_up_refusal(settings: Settings, classes: usize, ws: &[u64]) -> u32
+    requires { ⌜ classes ≤ mostCounted ⌝ }
+    ensures { λ r. ⌜ r ≡ setUpRefusal (withClasses classes settings) (now (ws .entry)) ⌝ }
 {
     let refusal = settings.refusal();
     if refusal != 0 {
         return refusal;
     }
-    memory_refusal(words::memory_words(settings), ws)
+    let shape = settings.shape();
+    memory_refusal(words::words_in(shape.with_classes(classes)), ws)
 }
 
 // 5 where the slot count of any shard is over the cap.
@@ -89,7 +92,7 @@ fn slots_refusal(settings: Settings, ws: &[u64]) -> u32
 pub fn len_refusal(settings: Settings, ws: &[u64]) -> u32
     ensures { λ r. ⌜ r ≡ lenRefusal settings (now (ws .entry)) ⌝ }
 {
-    let refusal = set_up_refusal(settings, ws);
+    let refusal = set_up_refusal(settings, settings.classes as usize, ws);
     if refusal != 0 {
         return refusal;
     }

@@ -18,12 +18,12 @@ pub fn memory_words(settings: Settings) -> usize
     words_in(settings.shape())
 }
 
-// The words of a memory of a shape.
+// The words of a memory of a shape: its shards, and its class buckets.
 pub(crate) fn words_in(shape: Shape) -> usize
     requires { ⌜ ShapeOfAccepted shape ⌝ }
     ensures { λ r. ⌜ r ≡ wordsIn shape ⌝ }
 {
-    SHARDS_AT + shape.shards * words::shard_words(shape.cap)
+    shard_start(shape.cap, shape.shards) + classes::bucket_words(shape.classes)
 }
 
 // The word at which a shard begins, by its number.

@@ -23,6 +23,7 @@ fn open(max_keys: usize, shards: usize) -> Settings {
         limit: Limit::Open(two_per_second()),
         eviction: Eviction::capacity(max_keys),
         shards,
+        classes: 0,
     }
 }
 
@@ -92,6 +93,7 @@ pub(crate) fn refused_sizes() {
         limit: Limit::Closed,
         eviction: Eviction::idle(Nanos(1)),
         shards: 1,
+        classes: 0,
     };
     line(b"idle alone", idle.refusal() as u64);
 }

@@ -78,6 +78,7 @@ pub(crate) fn read_store(line: &[u8], from: usize) -> Store {
             initial: rate.initial,
             has_idle: test_scan::narrow(has_idle.value),
             forget_debt: test_scan::narrow(forget_debt.value),
+            classes: 0,
         },
     }
 }

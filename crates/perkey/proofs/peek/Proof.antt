@@ -1,9 +1,12 @@
 -- `peek` gives a closed limiter's answer, unless the call is refused, and what `peek_open` answers where there is a rate.
-use mathlib.Core.Path.{sym, _∙_}
+use mathlib.Core.Path.{sym, _∙_, refl}
 use Rattle.store.proofs.LendingLaws.{accepted-shape}
 use Rattle.rules.specs.Asks.{looks, peeks}
+use Rattle.settings.specs.Settings.{shapeOf}
+use Rattle.store.specs.Memory.{bucketsAt}
 use Rattle.rules.proofs.KeyedLaws.{unchanged-is-told}
 use Rattle.perkey.proofs.PeekLaws.{closed-peek}
+use native.Mathlib.Omega.{arith}
 use borrow.Author.Needs.{needs}
 use Rattle.perkey.proofs.peek.Statement.{statement}
 use Rattle.perkey.proofs.peek.Tie as tie
@@ -26,7 +29,8 @@ shape-requires c κs = search needs
 unless-refused-requires : tie.Need-unless-refused-requires
 unless-refused-requires c κs =
     let r = c .before in
-    λ none. accepted-shape (r .before .before .before .before .before .before .args .settings) (sym (r .refusal .ensures) ∙ none) (c .shape .ensures)
+    let s = r .before .before .before .before .before .before in
+    λ none. accepted-shape (s .args .settings) (sym (r .refusal .ensures) ∙ none) (omega (arith, s .good)) (c .shape .ensures)
 
 enum-known-limit : tie.Need-enum-known-limit
 enum-known-limit c = search needs
@@ -38,8 +42,9 @@ returns : tie.Need-returns
 returns c =
     let r = c .before .before in
     let a = r .before .before .before .before .before .before .args in
-    let stays = closed-peek (a .settings) (a .id) (a .at) (a .cost) _ (r .before .before .before .enum-told .given .1) (r .before .closed .ensures) in
-    unchanged-is-told (a .settings) (a .id) (looks (peeks (a .at) (a .cost))) (a .ws .now) _ stays (r .refusal .ensures) (c .before .shape .ensures)
+    let stays = closed-peek (a .settings) (a .id) (a .at) (a .cost) (bucketsAt (shapeOf (a .settings)) (a .ws .now)) _
+    (r .before .before .before .enum-told .given .1) (r .before .closed .ensures) in
+    unchanged-is-told (a .settings) (a .id) (looks (peeks (a .at) (a .cost))) (a .ws .now) _ refl stays (r .refusal .ensures) (c .before .shape .ensures)
     (r .before .before .moment-refusal .ensures) (c .unless-refused .ensures)
 
 returns-2 : tie.Need-returns-2

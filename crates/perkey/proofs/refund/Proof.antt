@@ -2,8 +2,11 @@
 use mathlib.Core.Path.{refl, sym, _∙_}
 use Rattle.store.proofs.LendingLaws.{accepted-shape}
 use Rattle.rules.specs.Asks.{undoes, refunds}
+use Rattle.settings.specs.Settings.{shapeOf}
+use Rattle.store.specs.Memory.{bucketsAt}
 use Rattle.rules.proofs.KeyedLaws.{unchanged-is-told}
 use Rattle.perkey.proofs.KnownLaws.{closed-refund}
+use native.Mathlib.Omega.{arith}
 use borrow.Author.Needs.{needs}
 use Rattle.perkey.proofs.refund.Statement.{statement}
 use Rattle.perkey.proofs.refund.Tie as tie
@@ -20,7 +23,8 @@ shape-requires c κs = search needs
 unless-refused-requires : tie.Need-unless-refused-requires
 unless-refused-requires c κs =
     let r = c .before .before in
-    λ none. accepted-shape (r .before .before .before .before .args .settings) (sym (r .refusal .ensures) ∙ none) (c .before .shape .ensures)
+    let s = r .before .before .before .before in
+    λ none. accepted-shape (s .args .settings) (sym (r .refusal .ensures) ∙ none) (omega (arith, s .good)) (c .before .shape .ensures)
 
 enum-known-limit : tie.Need-enum-known-limit
 enum-known-limit c = search needs
@@ -35,8 +39,8 @@ returns : tie.Need-returns
 returns c =
     let r = c .before .before .before in
     let a = r .before .before .before .before .args in
-    let stays = closed-refund (a .settings) (a .id) (a .cost) _ (r .before .enum-told .given .1) in
-    unchanged-is-told (a .settings) (a .id) (undoes (refunds (a .cost))) (a .ws .now) _ stays (r .refusal .ensures) (c .before .before .shape .ensures)
+    let stays = closed-refund (a .settings) (a .id) (a .cost) (bucketsAt (shapeOf (a .settings)) (a .ws .now)) _ (r .before .enum-told .given .1) in
+    unchanged-is-told (a .settings) (a .id) (undoes (refunds (a .cost))) (a .ws .now) _ refl stays (r .refusal .ensures) (c .before .before .shape .ensures)
     refl (c .unless-refused .ensures)
 
 same-length-2 : tie.Need-same-length-2

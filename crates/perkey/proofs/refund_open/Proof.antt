@@ -3,6 +3,7 @@ use Rattle.settings.proofs.RateLaws.{accepted-rate}
 use Rattle.rules.specs.Asks.{Ask, undoes, refunds}
 use Rattle.rules.proofs.KeyedLaws.{unlent-is-told, lent-may-be-asked, lent-limit-accepted, lent-is-told}
 use Rattle.perkey.proofs.KnownLaws.{refund-by-limit}
+use mathlib.Core.Path.{refl}
 use borrow.Author.Needs.{needs}
 use Rattle.perkey.proofs.refund_open.Statement.{statement}
 use Rattle.perkey.proofs.refund_open.Tie as tie
@@ -50,7 +51,7 @@ returns-2 c =
     let p = c .before .before .before .before .before in
     let l = p .before .before in
     let a = start l .args in
-    lent-is-told (a .settings) (a .id) (ask (start l)) (a .ws .now) (l .lend-for .ensures) (p .part .given .1)
+    lent-is-told (a .settings) (a .id) (ask (start l)) (a .ws .now) (l .lend-for .ensures) (p .part .given .1) refl
     (refund-by-limit (a .settings) (a .id) (a .cost) (p .part .given .0 .0) (a .ws .now) (start l .pre) (c .before .before .give-back .ensures))
 
 pub refund-open-spec : {M : Type 1} → statement M

@@ -2,6 +2,7 @@
 use Rattle.rules.specs.Asks.{Ask, undoes, removes}
 use Rattle.rules.proofs.KeyedLaws.{unlent-is-told, lent-may-be-asked, lent-is-told}
 use Rattle.perkey.proofs.KnownLaws.{key-is-told}
+use mathlib.Core.Path.{refl}
 use borrow.Author.Needs.{needs}
 use Rattle.perkey.proofs.remove.Statement.{statement}
 use Rattle.perkey.proofs.remove.Tie as tie
@@ -49,7 +50,7 @@ returns-2 c =
     let l = p .before .before in
     let a = start l .args in
     let removed = key-is-told (c .before .before .before .remove .ensures) (c .known-reply .ensures) in
-    lent-is-told (a .settings) (a .id) ask (a .ws .now) (l .lend-for .ensures) (p .part .given .1) removed
+    lent-is-told (a .settings) (a .id) ask (a .ws .now) (l .lend-for .ensures) (p .part .given .1) refl removed
 
 pub remove-spec : {M : Type 1} → statement M
 remove-spec =

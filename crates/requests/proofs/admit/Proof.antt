@@ -4,6 +4,7 @@ use Rattle.settings.specs.declared.Shape.{Shape}
 use Rattle.store.specs.Memory.{partIn, partOf}
 use Rattle.requests.proofs.FinishLaws.{new-key-has-shape, new-key-asks, new-key-is-told}
 use Rattle.requests.proofs.RequestLaws.{new-may-be-asked}
+use native.Mathlib.Omega.{arith}
 use borrow.Author.Needs.{needs}
 use Rattle.requests.proofs.admit.Statement.{statement}
 use Rattle.requests.proofs.admit.Tie as tie
@@ -28,7 +29,7 @@ shape-requires : tie.Need-shape-requires
 shape-requires c κs = search needs
 
 part-of-requires : tie.Need-part-of-requires
-part-of-requires c κs = new-key-has-shape (c .before .before .before .before .before .pre) (c .shape .ensures)
+part-of-requires c κs = let s = c .before .before .before .before .before in new-key-has-shape (s .pre) (omega (arith, s .good)) (c .shape .ensures)
 
 policy-requires : tie.Need-policy-requires
 policy-requires c κs = search needs

@@ -15,11 +15,20 @@ enum-known-request c = search needs
 reserve-further-requires : tie.Need-reserve-further-requires
 reserve-further-requires c κs = search needs
 
+enum-told-2 : tie.Need-enum-told-2
+enum-told-2 c = search needs
+
+moment-refusal-requires-2 : tie.Need-moment-refusal-requires-2
+moment-refusal-requires-2 c κs = search needs
+
 returns : tie.Need-returns
 returns c = rw (c .before .enum-told .given .1) (c .moment-refusal .ensures)
 
 returns-2 : tie.Need-returns-2
 returns-2 c = rw (c .before .before .request .given .1) (c .reserve-further .ensures)
+
+returns-3 : tie.Need-returns-3
+returns-3 c = rw (c .before .enum-told2 .given .1) (c .moment-refusal2 .ensures)
 
 pub further-refusal-spec : {M : Type 1} → statement M
 further-refusal-spec =
@@ -29,5 +38,8 @@ further-refusal-spec =
     moment-refusal-requires
     enum-known-request
     reserve-further-requires
+    enum-told-2
+    moment-refusal-requires-2
     returns
-    returns-2)
+    returns-2
+    returns-3)

@@ -11,6 +11,9 @@ wanted-at-requires c κs = search needs
 wait-for-requires : tie.Need-wait-for-requires
 wait-for-requires c κs = (c .before .pre .0, c .wanted-at .ensures)
 
+wait-to-requires : tie.Need-wait-to-requires
+wait-to-requires c κs = search needs
+
 after-requires : tie.Need-after-requires
 after-requires c κs = search needs
 
@@ -20,23 +23,29 @@ longest-requires c κs = search needs
 granted-requires : tie.Need-granted-requires
 granted-requires c κs = search needs
 
-is-try-requires : tie.Need-is-try-requires
-is-try-requires c κs = search needs
+turns-away-requires : tie.Need-turns-away-requires
+turns-away-requires c κs = search needs
 
--- Once it is known when the cost is due.
+-- Once it is known when the request is due.
 returns : tie.Need-returns
 returns c =
-    let d = c .before .before .before .before .before in
+    let l = c .before .before .before .before in
+    let d = l .before in
     let w = d .before in
-    let stored = rw (w .before .wanted-at .ensures) at (c .granted .ensures) in
-    grant-is-told _ _ _ _ _ (w .wait-for .ensures) (d .after .ensures) stored (omega arith)
+    let o = w .before in
+    let stored = rw (o .before .wanted-at .ensures) at (c .granted .ensures) in
+    grant-is-told _ _ _ _ _ (o .wait-for .ensures) (w .wait-to .ensures) (d .after .ensures) stored
+    (omega (arith, l .longest .ensures, c .before .if1))
 
 returns-2 : tie.Need-returns-2
 returns-2 c =
-    let d = c .before .before .before .before .before in
-    denial-is-told _ _ _ _ _ (d .before .wait-for .ensures) (d .after .ensures) (c .is-try .ensures) (omega arith)
+    let l = c .before .before .before .before in
+    let d = l .before in
+    let w = d .before in
+    denial-is-told _ _ _ _ _ (w .before .wait-for .ensures) (w .wait-to .ensures) (d .after .ensures) (c .turns-away .ensures)
+    (omega (arith, l .longest .ensures, c .before .if1))
 
 pub ask-at-spec : {M : Type 1} → statement M
 ask-at-spec =
     tie.close
-    (tie.spec wanted-at-requires wait-for-requires after-requires longest-requires granted-requires returns is-try-requires returns-2)
+    (tie.spec wanted-at-requires wait-for-requires wait-to-requires after-requires longest-requires granted-requires returns turns-away-requires returns-2)

@@ -17,10 +17,14 @@ cast-t6 c = search needs
 shl-t7 : tie.Need-shl-t7
 shl-t7 c = rw (c .before .shard-exponent .ensures) (omega (arith, shard-exponent-most (c .before .before .args .self)))
 
+cast-t8 : tie.Need-cast-t8
+cast-t8 c = search needs
+
 returns : tie.Need-returns
 returns c =
-    let self = c .before .before .args .self in
-    rw (c .share .ensures, c .before .shard-exponent .ensures, shards-by-shift self)
+    let shared = c .before in
+    let self = shared .before .before .args .self in
+    rw (shared .share .ensures, shared .before .shard-exponent .ensures, shards-by-shift self)
 
 pub shape-spec : {M : Type 1} → statement M
-shape-spec = tie.close (tie.spec shard-exponent-requires share-requires cast-t6 shl-t7 returns)
+shape-spec = tie.close (tie.spec shard-exponent-requires share-requires cast-t6 shl-t7 cast-t8 returns)

@@ -3,6 +3,7 @@ use mathlib.Core.Path.{_≡_, sym, _∙_}
 use Rattle.settings.specs.Settings.{settingsRefusal}
 use Rattle.store.proofs.LendingLaws.{accepted-shape, lent-by-settings, refused-lends-nothing}
 use Rattle.store.proofs.RefusalLaws.{settings-refuse-keyed, first-is-told}
+use native.Mathlib.Omega.{arith}
 use borrow.Author.Needs.{needs}
 use Rattle.store.proofs.lending.lend_for.Statement.{statement}
 use Rattle.store.proofs.lending.lend_for.Tie as tie
@@ -26,7 +27,8 @@ shape-requires c κs = search needs
 lend-requires : tie.Need-lend-requires
 lend-requires c κs =
     let e = c .before in
-    accepted-shape (e .before .before .before .args .settings) (accepted e) (c .shape .ensures)
+    let s = e .before .before .before in
+    accepted-shape (s .args .settings) (accepted e) (omega (arith, s .good)) (c .shape .ensures)
 
 returns-2 : tie.Need-returns-2
 returns-2 c =

@@ -5,6 +5,9 @@ use borrow.Author.Needs.{needs}
 use Rattle.store.proofs.refusals.len_refusal.Statement.{statement}
 use Rattle.store.proofs.refusals.len_refusal.Tie as tie
 
+cast-set-up-refusal : tie.Need-cast-set-up-refusal
+cast-set-up-refusal c = search needs
+
 set-up-refusal-requires : tie.Need-set-up-refusal-requires
 set-up-refusal-requires c κs = search needs
 
@@ -19,4 +22,4 @@ returns-2 c = second-is-told (c .before .before .set-up-refusal .ensures) (c .be
 
 pub len-refusal-spec : {M : Type 1} → statement M
 len-refusal-spec =
-    tie.close (tie.spec set-up-refusal-requires returns slots-refusal-requires returns-2)
+    tie.close (tie.spec cast-set-up-refusal set-up-refusal-requires returns slots-refusal-requires returns-2)
