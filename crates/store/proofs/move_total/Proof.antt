@@ -1,0 +1,56 @@
+use borrow.Author.Needs.{needs}
+use Rattle.store.proofs.move_total.Statement.{statement}
+use Rattle.store.proofs.move_total.Tie as tie
+use Rattle.store.proofs.move_total.Reads as reads
+use Rattle.store.proofs.move_total.Lts as lts
+use Rattle.shard_map.proofs.len.Reads as len-reads
+
+-- src/lib.rt:121:30
+mul-len : tie.Need-mul-len
+mul-len c = search needs
+
+-- src/lib.rt:121:30
+sub-len : tie.Need-sub-len
+sub-len c = search needs
+
+-- src/lib.rt:121:30
+part-len-start : tie.Need-part-len-start
+part-len-start c = search needs
+
+-- src/lib.rt:121:30
+part-len-end : tie.Need-part-len-end
+part-len-end c = search needs
+
+-- src/lib.rt:121:15
+len-requires : tie.Need-len-requires
+len-requires c κs = search needs
+
+-- src/lib.rt:122:27
+add-ws : tie.Need-add-ws
+add-ws c = search needs
+
+-- src/lib.rt:122:5
+slice-write-ws : tie.Need-slice-write-ws
+slice-write-ws c = search needs
+
+-- src/lib.rt:115:1
+same-length : tie.Need-same-length
+same-length c = search needs
+
+-- src/lib.rt:115:1
+returns : tie.Need-returns
+returns c = search needs
+
+pub move-total-spec : {M : Type 1} → statement M
+move-total-spec =
+    tie.close
+    (tie.spec
+    mul-len
+    sub-len
+    part-len-start
+    part-len-end
+    len-requires
+    add-ws
+    slice-write-ws
+    same-length
+    returns)

@@ -1,0 +1,16 @@
+use borrow.Author.Needs.{needs}
+use Rattle.store.proofs.words.places_in.Statement.{statement}
+use Rattle.store.proofs.words.places_in.Tie as tie
+use Rattle.store.proofs.words.places_in.Reads as reads
+use Rattle.store.proofs.words.places_in.Lts as lts
+
+-- src/words.rt:36:5
+mul-result : tie.Need-mul-result
+mul-result c = search needs
+
+-- src/words.rt:32:1
+returns : tie.Need-returns
+returns c = search needs
+
+pub places-in-spec : {M : Type 1} → statement M
+places-in-spec = tie.close (tie.spec mul-result returns)
