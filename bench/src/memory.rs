@@ -5,7 +5,7 @@ use std::sync::atomic::{AtomicUsize, Ordering};
 
 use crate::scenario::known::fitting;
 use crate::scenario::rows::SIZES;
-use crate::scenario::{self, Call, Hash, Setup};
+use crate::scenario::{self, Call, Classes, Hash, Setup};
 use crate::sides::{CCall, Rust, Side, drive};
 
 /// The system's allocator, counting what is held.
@@ -56,6 +56,7 @@ fn per_key(max_keys: usize, shards: usize) -> Bytes {
         shards,
         idle: None,
         forget_debt: true,
+        classes: Classes::NONE,
     };
     let keys = fitting(&setup, max_keys, Hash::Fnv1a);
     let full: Vec<Call> = keys

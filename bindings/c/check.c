@@ -89,6 +89,9 @@ static void words_to_lend(void)
     s = small();
     s.amount = 0;
     CHECK(limiter_words(s) == ONE);
+    /* Two words for each class. */
+    CHECK(limiter_words(limiter_with_classes(s, 1)) == ONE + 2 && limiter_words(limiter_with_classes(s, 64)) == ONE + 128);
+    CHECK(limiter_words(limiter_with_classes(s, 65)) == 0 && limiter_words(limiter_with_classes(s, UINT32_MAX)) == 0);
 }
 
 /* The shards asked for are first raised to max_keys / 16,384, rounded up: the keys, and then the shards and the places of each for 0, 1, 3 and 64
@@ -352,8 +355,8 @@ static void texts(void)
 {
     static const uint64_t codes[] = { LIMITER_DONE, LIMITER_RETRY, LIMITER_IMPOSSIBLE, LIMITER_NONE, LIMITER_BAD_AMOUNT, LIMITER_BAD_PERIOD,
         LIMITER_BAD_BURST, LIMITER_BAD_SIZES, LIMITER_BAD_MEMORY, LIMITER_BAD_MOMENT, LIMITER_BAD_MAX_WAIT, LIMITER_BAD_ADDRESS,
-        LIMITER_GROUP_ADDRESS, LIMITER_BAD_BUFFER };
-    static const uint64_t others[] = { 4, 10, 18, 20, 24, UINT64_MAX };
+        LIMITER_GROUP_ADDRESS, LIMITER_BAD_BUFFER, LIMITER_BAD_CLASS, LIMITER_BAD_CHAIN };
+    static const uint64_t others[] = { 4, 10, 18, 20, 26, UINT64_MAX };
     const char *unknown = limiter_code_text(9);
     size_t one, other;
     for (one = 0; one < sizeof codes / sizeof *codes; one++) {
@@ -377,21 +380,21 @@ static void versions(void)
     CHECK(strcmp(text, LIMITER_VERSION) == 0);
 }
 
-/* Whether settings are these twelve numbers, in the order of the struct. */
+/* Whether settings are these thirteen numbers, in the order of the struct. */
 static int are(limiter_settings s, const uint64_t *numbers)
 {
     return s.period == numbers[0] && s.max_keys == numbers[1] && s.shards == numbers[2] && s.idle == numbers[3] && s.closed == numbers[4]
         && s.amount == numbers[5] && s.has_burst == numbers[6] && s.burst == numbers[7] && s.has_initial == numbers[8] && s.initial == numbers[9]
-        && s.has_idle == numbers[10] && s.forget_debt == numbers[11];
+        && s.has_idle == numbers[10] && s.forget_debt == numbers[11] && s.classes == numbers[12];
 }
 
 /* Each function that writes settings writes its value with its flag, and no other field. */
 static void written_settings(void)
 {
-    static const uint64_t plain[12] = { 9, 8, 1, 0, 0, 7, 0, 0, 0, 0, 0, 0 }, burst[12] = { 9, 8, 1, 0, 0, 7, 1, 4, 0, 0, 0, 0 },
-                          initial[12] = { 9, 8, 1, 0, 0, 7, 0, 0, 1, 3, 0, 0 }, idle[12] = { 9, 8, 1, 6, 0, 7, 0, 0, 0, 0, 1, 0 },
-                          shards[12] = { 9, 8, 5, 0, 0, 7, 0, 0, 0, 0, 0, 0 }, forgetting[12] = { 9, 8, 1, 0, 0, 7, 0, 0, 0, 0, 0, 1 },
-                          closed[12] = { 0, 8, 1, 0, 1, 0, 0, 0, 0, 0, 0, 0 };
+    static const uint64_t plain[13] = { 9, 8, 1, 0, 0, 7, 0, 0, 0, 0, 0, 0, 0 }, burst[13] = { 9, 8, 1, 0, 0, 7, 1, 4, 0, 0, 0, 0, 0 },
+                          initial[13] = { 9, 8, 1, 0, 0, 7, 0, 0, 1, 3, 0, 0, 0 }, idle[13] = { 9, 8, 1, 6, 0, 7, 0, 0, 0, 0, 1, 0, 0 },
+                          shards[13] = { 9, 8, 5, 0, 0, 7, 0, 0, 0, 0, 0, 0, 0 }, forgetting[13] = { 9, 8, 1, 0, 0, 7, 0, 0, 0, 0, 0, 1, 0 },
+                          closed[13] = { 0, 8, 1, 0, 1, 0, 0, 0, 0, 0, 0, 0, 0 }, classes[13] = { 9, 8, 1, 0, 0, 7, 0, 0, 0, 0, 0, 0, 2 };
     limiter_settings s = limiter_settings_of(7, 9, 8);
     CHECK(are(s, plain));
     CHECK(are(limiter_with_burst(s, 4), burst));
@@ -399,6 +402,7 @@ static void written_settings(void)
     CHECK(are(limiter_with_idle(s, 6), idle));
     CHECK(are(limiter_with_shards(s, 5), shards));
     CHECK(are(limiter_forgetting_debts(s), forgetting));
+    CHECK(are(limiter_with_classes(s, 2), classes));
     CHECK(are(limiter_closed_settings(8), closed));
     CHECK(set_up(limiter_closed_settings(1)) == ONE);
 }

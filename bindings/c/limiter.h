@@ -1,7 +1,8 @@
 /* The per-modem limiter store: C interface of liblimiter.a (bindings/build), x86-64. C99 or later, or C++.
  *
  * Every key (a modem) has a token bucket. The store answers whether a request for some tokens is granted now, later, or never. It has
- * no memory, clock or lock of its own: a call gets the settings, the lent words, and the moment and the key where they matter.
+ * no memory, clock or lock of its own: a call gets the settings, the lent words, and the moment and the key where they matter. A store may have
+ * classes, limits above the keys (a fibre node, and the hub above it): see limiter_class.
  *
  * No argument is required to be sound. Settings of any content, any moment, hash, key and cost, and words of any content are safe:
  * the call ends, touches nothing but the memory that it is lent, and either does what it says or refuses by number and changes nothing.
@@ -22,11 +23,11 @@
 
 /* The version of this interface. A change that a caller has to know of raises the minor number while the major one is 0. */
 #define LIMITER_VERSION_MAJOR 0
-#define LIMITER_VERSION_MINOR 6
+#define LIMITER_VERSION_MINOR 7
 #define LIMITER_VERSION_PATCH 0
-#define LIMITER_VERSION "0.6.0"
+#define LIMITER_VERSION "0.7.0"
 /* The same as one number: 65,536 times the major number, 256 times the minor one, and the patch. */
-#define LIMITER_VERSION_NUMBER 0x000600
+#define LIMITER_VERSION_NUMBER 0x000700
 
 #ifdef __cplusplus
 extern "C" {
@@ -34,23 +35,23 @@ extern "C" {
 
 /* The version of the library that is linked, as LIMITER_VERSION_NUMBER has it. The name has the major and the minor number in it: a library of
  * another minor version does not define it. Every object that is compiled with this header refers to it, so header and library of two
- * versions do not link ("undefined reference to limiter_version_0_6"). The patch may differ. */
-uint32_t limiter_version_0_6(void);
+ * versions do not link ("undefined reference to limiter_version_0_7"). The patch may differ. */
+uint32_t limiter_version_0_7(void);
 #if defined(__has_attribute)
 #if __has_attribute(retain)
-static uint32_t (*const limiter_version_needed)(void) __attribute__((used, retain)) = limiter_version_0_6;
+static uint32_t (*const limiter_version_needed)(void) __attribute__((used, retain)) = limiter_version_0_7;
 #define LIMITER_VERSION_IS_NEEDED
 #endif
 #endif
 #if defined(__GNUC__) && !defined(LIMITER_VERSION_IS_NEEDED)
-static uint32_t (*const limiter_version_needed)(void) __attribute__((used)) = limiter_version_0_6;
+static uint32_t (*const limiter_version_needed)(void) __attribute__((used)) = limiter_version_0_7;
 #endif
 #undef LIMITER_VERSION_IS_NEEDED
 
 /* The version of the library that is linked, for a log. */
 static inline uint32_t limiter_version(void)
 {
-    return limiter_version_0_6();
+    return limiter_version_0_7();
 }
 
 /* What a store is set up with. Times are in nanoseconds. A flag is set if it is not 0. A value whose flag is not set is not read: write settings
@@ -71,12 +72,14 @@ typedef struct limiter_settings {
     uint32_t has_idle;    /* not set: no key is forgotten for being idle */
     uint32_t forget_debt; /* when a new key needs a slot and its shard cannot keep the debt of the key that would go: not set, the new key is turned
                              away; set, a debt is forgotten */
+    uint32_t classes;     /* how many classes the store has: 0 to 64. It counts in the words of every call, 2 for each class. The calls that take a table
+                             of classes count the classes of the table instead, and limiter_set_up and limiter_clear take 0 */
 } limiter_settings;
 
 /* `amount` tokens in every `period_ns`, for up to `max_keys` keys in one shard. The burst is the amount, and a new bucket is full. */
 static inline limiter_settings limiter_settings_of(uint32_t amount, uint64_t period_ns, uint64_t max_keys)
 {
-    limiter_settings s = { 0, 0, 0, 0, 0, 0, 0, 0, 0, 0, 0, 0 };
+    limiter_settings s = { 0, 0, 0, 0, 0, 0, 0, 0, 0, 0, 0, 0, 0 };
     s.amount = amount;
     s.period = period_ns;
     s.max_keys = max_keys;
@@ -123,11 +126,57 @@ static inline limiter_settings limiter_with_shards(limiter_settings s, uint64_t 
     return s;
 }
 
-/* and with the rule that a full shard forgets a debt rather than turn a new key away. */
+/* with the rule that a full shard forgets a debt rather than turn a new key away, */
 static inline limiter_settings limiter_forgetting_debts(limiter_settings s)
 {
     s.forget_debt = 1;
     return s;
+}
+
+/* and for a store with a table of this many classes. */
+static inline limiter_settings limiter_with_classes(limiter_settings s, uint32_t classes)
+{
+    s.classes = classes;
+    return s;
+}
+
+/* A class: a limit above the keys, with one bucket for all keys that ask through it. A table is an array of classes, numbered from 0. The chain of a class is
+ * the class, its parent, the parent's parent and so on. A try through a class is granted if the key's bucket and every bucket on the chain grant it.
+ *
+ * Times are in nanoseconds. A flag is set if it is not 0, and a value whose flag is not set is not read: write classes with the functions below. The numbers
+ * have 64 bits, so that none is cut. There are no initial tokens: the buckets of classes begin full. */
+typedef struct limiter_class {
+    uint64_t amount;     /* tokens that come back in a period: 1 to 65,535 */
+    uint64_t period;     /* the time in which `amount` tokens come back: 1 to 2^46 */
+    uint64_t has_burst;  /* not set: the burst is the amount */
+    uint64_t burst;      /* the most tokens in the bucket: 1 to 65,535; read only if has_burst is set */
+    uint64_t has_parent; /* not set: no class is above this one */
+    uint64_t parent;     /* the number of the class above, which may stand before or after this one; read only if has_parent is set */
+} limiter_class;
+
+/* A class of `amount` tokens in every `period_ns`, with no parent. The burst is the amount. */
+static inline limiter_class limiter_class_of(uint64_t amount, uint64_t period_ns)
+{
+    limiter_class c = { 0, 0, 0, 0, 0, 0 };
+    c.amount = amount;
+    c.period = period_ns;
+    return c;
+}
+
+/* The same class with at most `burst` tokens in its bucket, */
+static inline limiter_class limiter_class_with_burst(limiter_class c, uint64_t burst)
+{
+    c.has_burst = 1;
+    c.burst = burst;
+    return c;
+}
+
+/* and below the class of the number `parent`. */
+static inline limiter_class limiter_class_with_parent(limiter_class c, uint64_t parent)
+{
+    c.has_parent = 1;
+    c.parent = parent;
+    return c;
 }
 
 /* An answer. */
@@ -155,7 +204,7 @@ typedef struct limiter_identity {
 #endif
 #define LIMITER_OFFSET(type, field, bytes) LIMITER_ASSERT(type##_##field, offsetof(limiter_##type, field) == (bytes))
 LIMITER_ASSERT(size_t, sizeof(size_t) == 8);
-LIMITER_ASSERT(settings, sizeof(limiter_settings) == 64);
+LIMITER_ASSERT(settings, sizeof(limiter_settings) == 72);
 LIMITER_OFFSET(settings, period, 0);
 LIMITER_OFFSET(settings, max_keys, 8);
 LIMITER_OFFSET(settings, shards, 16);
@@ -168,6 +217,14 @@ LIMITER_OFFSET(settings, has_initial, 48);
 LIMITER_OFFSET(settings, initial, 52);
 LIMITER_OFFSET(settings, has_idle, 56);
 LIMITER_OFFSET(settings, forget_debt, 60);
+LIMITER_OFFSET(settings, classes, 64);
+LIMITER_ASSERT(class, sizeof(limiter_class) == 48);
+LIMITER_OFFSET(class, amount, 0);
+LIMITER_OFFSET(class, period, 8);
+LIMITER_OFFSET(class, has_burst, 16);
+LIMITER_OFFSET(class, burst, 24);
+LIMITER_OFFSET(class, has_parent, 32);
+LIMITER_OFFSET(class, parent, 40);
 LIMITER_ASSERT(reply, sizeof(limiter_reply) == 24);
 LIMITER_OFFSET(reply, code, 0);
 LIMITER_OFFSET(reply, number, 8);
@@ -179,29 +236,37 @@ LIMITER_OFFSET(identity, key, 16);
 #undef LIMITER_OFFSET
 #undef LIMITER_ASSERT
 
-/* What a reply's `code` can be. Compare it with these names. Codes above 10 are refusals: 10 and the number of the refusal. A call by address is
- * refused for its address before all else. */
+/* What a reply's `code` can be. Compare it with these names. Codes above 10 are refusals: 10 and the number of the refusal.
+ *
+ * A call is refused for the first thing that is wrong, in the order 1 to 7 for most calls. A call by address is refused for its address (11, 12) before
+ * that. A call with a table of classes looks at the table after that, so that 1 to 3 come again, for the rates of the classes: limiter_class_set_up has the
+ * order. */
 enum {
     LIMITER_DONE = 0,           /* granted, from moment on; or accepted, known, counted */
     LIMITER_RETRY = 1,          /* not now; number is the wait in ns, and moment when it is over */
-    LIMITER_IMPOSSIBLE = 2,     /* never: the cost is over the burst, or the limiter is closed */
+    LIMITER_IMPOSSIBLE = 2,     /* never: the cost is over the burst, the key's or that of a class on the chain, or the limiter is closed */
     LIMITER_NONE = 3,           /* no reservation; or the key is unknown */
 
-    LIMITER_BAD_AMOUNT = 11,    /* refused as 1: the amount is not 1 to 65,535 */
-    LIMITER_BAD_PERIOD = 12,    /* refused as 2: the period is not 1 to 2^46 ns */
-    LIMITER_BAD_BURST = 13,     /* refused as 3: the burst is not 1 to 65,535 */
+    LIMITER_BAD_AMOUNT = 11,    /* refused as 1: the amount is not 1 to 65,535; of the settings, or of a class */
+    LIMITER_BAD_PERIOD = 12,    /* refused as 2: the period is not 1 to 2^46 ns; of the settings, or of a class */
+    LIMITER_BAD_BURST = 13,     /* refused as 3: the burst is not 1 to 65,535; of the settings, or of a class */
     LIMITER_BAD_SIZES = 14,     /* refused as 4: max_keys over 65,536 or shards over 64 */
-    LIMITER_BAD_MEMORY = 15,    /* refused as 5: another length than limiter_words(s); or the count of slots or of debts of the key's shard (for
-                                   limiter_length, of slots of any shard) is more than the shard can hold. Set-up and clear look at neither */
+    LIMITER_BAD_MEMORY = 15,    /* refused as 5: another length than limiter_words(s) (limiter_set_up and limiter_clear: than that without classes); or the
+                                   count of slots or of debts of the key's shard (for limiter_length, of slots of any shard) is more than the shard can
+                                   hold. Set-up and clear look at neither count */
     LIMITER_BAD_MOMENT = 16,    /* refused as 6: now is after 2^62 ns */
     LIMITER_BAD_MAX_WAIT = 17,  /* refused as 7: max_wait is over 2^46 ns */
     LIMITER_BAD_ADDRESS = 21,   /* refused as 11: the address is not six bytes */
     LIMITER_GROUP_ADDRESS = 22, /* refused as 12: the address is that of a group: the lowest bit of its first byte is set */
-    LIMITER_BAD_BUFFER = 23     /* refused as 13: the buffer is shorter than the line */
+    LIMITER_BAD_BUFFER = 23,    /* refused as 13: the buffer is shorter than the line */
+    LIMITER_BAD_CLASS = 24,     /* refused as 14: more than 64 classes; or a parent, or the class of a try, that is not in the table */
+    LIMITER_BAD_CHAIN = 25      /* refused as 15: a chain of parents that does not end within 8 classes, the first included; a loop is one */
 };
 
 enum {
-    LIMITER_LONGEST_LINE = 76 /* the bytes of the longest desk line that is written, LF counted */
+    LIMITER_LONGEST_LINE = 76, /* the bytes of the longest desk line that is written, LF counted */
+    LIMITER_MOST_CLASSES = 64, /* the most classes of a table */
+    LIMITER_LONGEST_CHAIN = 8  /* the most classes of a chain, the first included */
 };
 
 /* Whether a code is a refusal: the call did nothing. Every code from 11 on is one, also one that a later version adds. */
@@ -216,7 +281,7 @@ static inline const char *limiter_code_text(uint64_t code)
     switch (code) {
     case LIMITER_DONE: return "granted or done";
     case LIMITER_RETRY: return "not now";
-    case LIMITER_IMPOSSIBLE: return "never: the cost is over the burst, or the limiter is closed";
+    case LIMITER_IMPOSSIBLE: return "never: the cost is over a burst, or the limiter is closed";
     case LIMITER_NONE: return "no reservation, or an unknown key";
     case LIMITER_BAD_AMOUNT: return "the amount is not 1 to 65,535";
     case LIMITER_BAD_PERIOD: return "the period is not 1 to 2^46 ns";
@@ -228,12 +293,14 @@ static inline const char *limiter_code_text(uint64_t code)
     case LIMITER_BAD_ADDRESS: return "the address is not six bytes";
     case LIMITER_GROUP_ADDRESS: return "the address is that of a group";
     case LIMITER_BAD_BUFFER: return "the buffer is shorter than the line";
+    case LIMITER_BAD_CLASS: return "more than 64 classes, or a class that is not in the table";
+    case LIMITER_BAD_CHAIN: return "a chain of parents that does not end within 8 classes";
     default: return "a code that this header does not know";
     }
 }
 
-/* How many words to lend for these settings: at least 1, or 0 for sizes that are refused (LIMITER_BAD_SIZES). It follows from max_keys and
- * shards alone; where only the rate is refused it is what it would be with another rate. */
+/* How many words to lend for these settings: at least 1, or 0 for sizes that are refused (LIMITER_BAD_SIZES) and for more than 64 classes. It follows from
+ * max_keys, shards and classes alone; where only the rate is refused it is what it would be with another rate. */
 uint64_t limiter_words(limiter_settings s);
 
 /* A hash of a key, for callers who have none of their own: FNV-1a over its eight bytes, lowest first. It has no secret. */
@@ -254,7 +321,7 @@ uint64_t limiter_key_hash(uint64_t key);
  * `cost` has 32 bits. C cuts a wider number without a word: a cost of 2^32 becomes 0, is granted and takes nothing. Compare such a number
  * with UINT32_MAX first; gcc and clang find the place with -Wconversion. */
 
-/* Makes the words an empty store. 0, or refused as 1 to 5. */
+/* Makes the words an empty store without classes, whatever s.classes says. 0, or refused as 1 to 5. */
 limiter_reply limiter_set_up(limiter_settings s, uint64_t *words, size_t len);
 
 /* Takes `cost` tokens if they are there now. 0 granted, and `moment` is now, for a cost of 0 too; 1 retry after `number` ns, at
@@ -290,7 +357,8 @@ limiter_reply limiter_refund(limiter_settings s, uint64_t *words, size_t len, ui
 /* Forgets a key, and the debt that is remembered for its hash. 0 known, 3 unknown, or refused as 1 to 5. */
 limiter_reply limiter_remove(limiter_settings s, uint64_t *words, size_t len, uint64_t hash, uint64_t key);
 
-/* Forgets all keys and debts. 0, or refused as 1 to 5. */
+/* Forgets all keys and debts of a store without classes, whatever s.classes says. 0, or refused as 1 to 5: as 5 on the words of a store with classes, for
+ * which limiter_class_clear is. */
 limiter_reply limiter_clear(limiter_settings s, uint64_t *words, size_t len);
 
 /* The number of keys that have a slot. 0 with `number` keys, or refused as 1 to 5.
@@ -298,9 +366,64 @@ limiter_reply limiter_clear(limiter_settings s, uint64_t *words, size_t len);
  * It is also the check of words that were saved and loaded again: it refuses settings out of range, another number of words, and a count of
  * slots that is more than a shard holds. It looks at nothing else: not at other settings, which no call can tell, and not at any other word. Of
  * the 84,480 bits of a store for 100 modems in 4 shards it notices 244 when one is flipped. So save the settings and a checksum with the words,
- * and compare both before you use the words: bindings/c/save.c does. Words that version 0.5 saved are fewer, and are refused as 5. The store is
- * then set up anew, and all keys and debts are forgotten. */
+ * and compare both before you use the words: bindings/c/save.c does. Save the table of classes too, if there is one. Words that version 0.6 saved are
+ * those of a store without classes; words of version 0.5 are fewer, and are refused as 5. The store is then set up anew, and all keys and debts are
+ * forgotten. */
 limiter_reply limiter_length(limiter_settings s, const uint64_t *words, size_t len);
+
+/* Limits above the keys: a node, and the hub above it. In the calls below `classes` and `count` are the table: an array of `count` classes, which is only read
+ * and must not lie in `words`. NULL with count 0 is safe: a store without classes. The table belongs to the settings: give all calls on the same words the
+ * same one. These three calls take the number of classes from the table and do not read s.classes. All other calls on the words are given settings with
+ * s.classes = count (limiter_with_classes), and take no table; they neither ask nor charge a class. The buckets of the classes are never forgotten.
+ *
+ * The library's own functions take the table as words, 6 for each class. The three inline functions below count classes and call them. */
+limiter_reply limiter_table_set_up(limiter_settings s, const uint64_t *table, size_t table_len, uint64_t *words, size_t len)
+    __asm__("limiter_class_set_up");
+limiter_reply limiter_table_clear(limiter_settings s, const uint64_t *table, size_t table_len, uint64_t *words, size_t len)
+    __asm__("limiter_class_clear");
+limiter_reply limiter_table_try(limiter_settings s, const uint64_t *table, size_t table_len, uint64_t *words, size_t len, uint64_t now, uint64_t hash,
+                                uint64_t key, uint64_t named, uint32_t cost) __asm__("limiter_class_try");
+/* What the linker calls the inline functions: their own names are those of the library's. */
+static inline limiter_reply limiter_class_set_up(limiter_settings s, const limiter_class *classes, size_t count, uint64_t *words, size_t len)
+    __asm__("limiter_counted_set_up");
+static inline limiter_reply limiter_class_clear(limiter_settings s, const limiter_class *classes, size_t count, uint64_t *words, size_t len)
+    __asm__("limiter_counted_clear");
+static inline limiter_reply limiter_class_try(limiter_settings s, const limiter_class *classes, size_t count, uint64_t *words, size_t len, uint64_t now,
+                                              uint64_t hash, uint64_t key, uint64_t named, uint32_t cost) __asm__("limiter_counted_try");
+
+/* The words of a table of `count` classes. More classes than memory can hold stay too many: the call is refused as 5, if not before. */
+static inline size_t limiter_table_words(size_t count)
+{
+    const size_t most = PTRDIFF_MAX / sizeof(uint64_t);
+    return count > most / 6 ? most : 6 * count;
+}
+
+/* Makes the words an empty store with these classes, whose buckets are full. 0, or refused, in this order: as 1 to 4; 5 for the number of words; 14 for more
+ * than 64 classes; 1 to 3 for the rate of a class, lower class first, also if the limiter is closed; 14 for a parent that is not in the table; 15 for a chain
+ * that does not end within 8 classes. */
+static inline limiter_reply limiter_class_set_up(limiter_settings s, const limiter_class *classes, size_t count, uint64_t *words, size_t len)
+{
+    return limiter_table_set_up(s, (const uint64_t *)classes, limiter_table_words(count), words, len);
+}
+
+/* Forgets all keys and debts, and fills the buckets of the classes. 0, or refused as limiter_class_set_up is. */
+static inline limiter_reply limiter_class_clear(limiter_settings s, const limiter_class *classes, size_t count, uint64_t *words, size_t len)
+{
+    return limiter_table_clear(s, (const uint64_t *)classes, limiter_table_words(count), words, len);
+}
+
+/* Takes `cost` tokens from the key's bucket and from every bucket on the chain of the class `named`, if all have them now; else from none. 0 granted; 1 retry
+ * after `number` ns, the longest of their waits, at `moment`; 2 impossible: the cost is over the key's burst or over one on the chain. A key without room is
+ * answered 1 before the classes are asked, as in limiter_try. limiter_turned_away counts the try if the key's own bucket denied it, and not if only a class
+ * did. A refund gives nothing back to a class.
+ *
+ * Refused as 1 to 6 as limiter_try is; then for the whole table as limiter_class_set_up is, from its first 14 on; last as 14 if `named` is not in the
+ * table. */
+static inline limiter_reply limiter_class_try(limiter_settings s, const limiter_class *classes, size_t count, uint64_t *words, size_t len, uint64_t now,
+                                              uint64_t hash, uint64_t key, uint64_t named, uint32_t cost)
+{
+    return limiter_table_try(s, (const uint64_t *)classes, limiter_table_words(count), words, len, now, hash, key, named, cost);
+}
 
 /* Modems by hardware address. In the calls below `address` and `address_len` are the bytes of an address, in the order in which it is written;
  * `address` points at `address_len` bytes, which are only read and must not lie in `words`. A call is that of the same name on the modem's key:

@@ -16,7 +16,8 @@
 #define FIELDS 12
 
 /* The file: this mark, the settings as twelve numbers, the words, and the checksum. Each number takes eight bytes, lowest first. Another mark means another
- * form of the file. A file that version 0.5 saved has this mark and fewer words, so it is not resumed. */
+ * form of the file. A file that version 0.5 saved has this mark and fewer words, so it is not resumed. One that version 0.6 saved is. The number of classes is
+ * not among the twelve: this store has none. A server that has classes saves their table too, and compares it. */
 static const char mark[] = "limiter2";
 #define AROUND (1 + FIELDS + 1)
 

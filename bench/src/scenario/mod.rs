@@ -1,5 +1,6 @@
 //! The scenarios: settings, calls that bring a store into its state, and the calls that are timed.
 
+mod classes;
 mod hash;
 pub mod hot;
 pub mod known;
@@ -9,9 +10,10 @@ mod whole;
 
 use published::Key;
 
+pub use classes::Classes;
 pub use hash::Hash;
 
-/// The settings of both sides. The period is a second.
+/// The settings of both sides. The period is a second. The Rust has no classes.
 #[derive(Clone, Copy)]
 pub struct Setup {
     pub amount: u32,
@@ -20,6 +22,7 @@ pub struct Setup {
     pub shards: usize,
     pub idle: Option<u64>,
     pub forget_debt: bool,
+    pub classes: Classes,
 }
 
 impl Setup {
@@ -34,6 +37,8 @@ impl Setup {
 pub enum Op {
     SetUp,
     Try,
+    /// A try through the last of the classes; of the Rust, which has none, a plain try.
+    Through,
     /// A reservation with a wait of up to [`MAX_WAIT`].
     Reserve,
     Peek,
@@ -73,6 +78,7 @@ const BASE: Setup = Setup {
     shards: 64,
     idle: None,
     forget_debt: false,
+    classes: Classes::NONE,
 };
 
 /// A try.

@@ -1,16 +1,18 @@
 //! The rows of the table.
 
+use super::classes::through;
 use super::hot::{hot, hot_denied};
 use super::known::{known, removals};
 use super::new_keys::{all_owe, recovered};
 use super::whole::whole;
-use super::{Hash, Op, Scenario, Setup};
+use super::{Classes, Hash, Op, Scenario, Setup};
 
 /// What a row is of.
 #[derive(Clone, Copy)]
 pub enum Kind {
     Hot(Op),
     HotDenied,
+    HotThrough(Classes),
     Known(Op),
     Removals,
     AllOwe,
@@ -30,7 +32,7 @@ pub struct Row {
 }
 
 use Hash::Mixed;
-use Kind::{AllOwe, Hot, HotDenied, Known, Recovered, Removals, Whole};
+use Kind::{AllOwe, Hot, HotDenied, HotThrough, Known, Recovered, Removals, Whole};
 
 /// Known keys: how many, over how many shards.
 pub const SIZES: [(usize, usize); 6] = [MANY, MANY_IN_ONE, MOST, MOST_IN_ONE, ALL, ALL_IN_FOUR];
@@ -44,12 +46,16 @@ const FEW_IN_ONE: (usize, usize) = (64, 1);
 const SOME_IN_ONE: (usize, usize) = (512, 1);
 
 /// Every row, in the order of the table.
-pub const ROWS: [Row; 47] = [
+pub const ROWS: [Row; 51] = [
     row(Hot(Op::Try), MANY),
     row(Hot(Op::Try), MANY).idle(),
     row(HotDenied, MANY),
     row(Hot(Op::Reserve), MANY),
     row(Hot(Op::Peek), MANY),
+    row(HotThrough(chains(1, 1)), MANY),
+    row(HotThrough(chains(4, 1)), MANY),
+    row(HotThrough(chains(8, 1)), MANY),
+    row(HotThrough(chains(8, 8)), MANY),
     row(Known(Op::Try), MANY),
     row(Known(Op::Try), MANY).hashed(Mixed),
     row(Known(Op::Try), FEW_IN_ONE),
@@ -93,6 +99,14 @@ pub const ROWS: [Row; 47] = [
     row(Whole(Op::SetUp), MOST),
     row(Whole(Op::SetUp), ALL),
 ];
+
+/// So many chains of a length.
+const fn chains(chain: usize, chains: usize) -> Classes {
+    Classes {
+        count: chain * chains,
+        chain,
+    }
+}
 
 const fn row(kind: Kind, sizes: (usize, usize)) -> Row {
     Row {
@@ -151,6 +165,9 @@ impl Row {
         let mut name = match self.kind {
             Hot(op) => format!("hot key, {}", done(op)),
             HotDenied => "hot key, denied".to_owned(),
+            HotThrough(Classes { count, chain }) => {
+                format!("hot key, granted through a chain of {chain}, table of {count}")
+            }
             Known(op) => format!("known keys, {}, {sizes}", done(op)),
             Removals => format!("known keys, removed and back, {sizes}"),
             AllOwe => format!("new keys, all owe, {rule}, {sizes}"),
@@ -171,6 +188,7 @@ impl Row {
         let scenario = match self.kind {
             Hot(op) => hot(op, calls, self.idle_time()),
             HotDenied => hot_denied(calls),
+            HotThrough(classes) => through(calls, classes),
             Known(op) => known(op, calls, self.sizes, self.hash),
             Removals => removals(calls, self.sizes),
             AllOwe => all_owe(calls, self),
@@ -187,7 +205,7 @@ impl Row {
 /// What becomes of the keys of a row with this call.
 const fn done(op: Op) -> &'static str {
     match op {
-        Op::Try => "granted",
+        Op::Try | Op::Through => "granted",
         Op::Reserve => "reserved",
         Op::Peek => "peeked",
         Op::Refund => "refunded",

@@ -1,15 +1,31 @@
 //! Our library over its C interface, as limiter-sys declares it.
 
-use limiter_sys::{LimiterReply, LimiterSettings, limiter_words, slices};
+use limiter_sys::{LimiterClass, LimiterReply, LimiterSettings, classes, limiter_words, slices};
 use published::{Answer, Key};
 
 use super::Store;
-use crate::scenario::{MAX_WAIT, Setup};
+use crate::scenario::{Classes, MAX_WAIT, Setup};
 
-/// Settings, and the words lent to the library.
+/// Settings, the words of the table of classes, the class that is named, and the words lent to the library.
 pub struct CCall {
     settings: LimiterSettings,
+    table: Vec<u64>,
+    named: u64,
     words: Vec<u64>,
+}
+
+/// The words of the table.
+fn table(classes: Classes) -> Vec<u64> {
+    let class = |parent: Option<u64>| LimiterClass {
+        amount: Classes::AMOUNT.into(),
+        period: 1_000_000_000,
+        has_burst: 0,
+        burst: 0,
+        has_parent: parent.is_some().into(),
+        parent: parent.unwrap_or(0),
+    };
+    let parents = classes.parents();
+    parents.flat_map(|parent| class(parent).words()).collect()
 }
 
 impl Store for CCall {
@@ -24,11 +40,21 @@ impl Store for CCall {
             burst: setup.burst,
             has_idle: u32::from(setup.idle.is_some()),
             forget_debt: u32::from(setup.forget_debt),
+            classes: setup.classes.count as u32,
             ..LimiterSettings::default()
         };
-        let words = vec![0; limiter_words(settings) as usize];
-        let mut side = Self { settings, words };
-        assert_eq!(side.set_up().0, 0, "the library accepts the settings");
+        let mut side = Self {
+            settings,
+            table: table(setup.classes),
+            named: setup.classes.named(),
+            words: vec![0; limiter_words(settings) as usize],
+        };
+        let accepted = if side.table.is_empty() {
+            side.set_up()
+        } else {
+            answer(classes::set_up(settings, &side.table, &mut side.words))
+        };
+        assert_eq!(accepted.0, 0, "the library accepts the settings");
         side
     }
 
@@ -42,6 +68,14 @@ impl Store for CCall {
         let (settings, words) = (self.settings, &mut self.words);
         answer(slices::try_acquire(
             settings, words, now, key.hash, key.key, cost,
+        ))
+    }
+
+    #[inline]
+    fn through(&mut self, now: u64, key: Key, cost: u32) -> Answer {
+        let (settings, table, words) = (self.settings, &self.table, &mut self.words);
+        answer(classes::try_acquire(
+            settings, table, words, now, key.hash, key.key, self.named, cost,
         ))
     }
 

@@ -26,6 +26,7 @@ pub trait Store {
     fn fresh(setup: &Setup) -> Self;
     fn set_up(&mut self) -> Answer;
     fn try_(&mut self, now: u64, key: Key, cost: u32) -> Answer;
+    fn through(&mut self, now: u64, key: Key, cost: u32) -> Answer;
     fn reserve(&mut self, now: u64, key: Key, cost: u32) -> Answer;
     fn peek(&mut self, now: u64, key: Key, cost: u32) -> Answer;
     fn refund(&mut self, key: Key, cost: u32) -> Answer;
@@ -43,6 +44,7 @@ impl<S: Store> Side for S {
         match call.op {
             Op::SetUp => self.set_up(),
             Op::Try => self.try_(call.now, call.key, call.cost),
+            Op::Through => self.through(call.now, call.key, call.cost),
             Op::Reserve => self.reserve(call.now, call.key, call.cost),
             Op::Peek => self.peek(call.now, call.key, call.cost),
             Op::Refund => self.refund(call.key, call.cost),

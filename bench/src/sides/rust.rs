@@ -53,6 +53,12 @@ impl Store for Rust {
         self.limiter.try_(now, key, cost)
     }
 
+    /// It has no classes.
+    #[inline]
+    fn through(&mut self, now: u64, key: Key, cost: u32) -> Answer {
+        self.limiter.try_(now, key, cost)
+    }
+
     #[inline]
     fn reserve(&mut self, now: u64, key: Key, cost: u32) -> Answer {
         self.limiter.reserve(now, key, cost, MAX_WAIT)

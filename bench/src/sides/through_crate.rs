@@ -2,14 +2,31 @@
 
 use core::time::Duration;
 
-use limiter::{Decision, OwnedStore, Rate, Refusal, Settings, WhenFull};
+use limiter::{
+    Class, ClassNumber, ClassTable, Decision, OwnedStore, Rate, Refusal, Settings, WhenFull,
+};
 use published::{Answer, Key};
 
 use super::Store;
-use crate::scenario::{MAX_WAIT, Setup};
+use crate::scenario::{Classes, MAX_WAIT, Setup};
 
-/// A store that owns its words.
-pub struct ThroughCrate(OwnedStore);
+/// A store that owns its words; and one that has classes too, for tries through the one that is named.
+pub struct ThroughCrate {
+    store: OwnedStore,
+    classed: limiter::Store<Box<[u64]>, ClassTable>,
+    named: ClassNumber,
+}
+
+/// The table of the classes.
+fn table(classes: Classes) -> ClassTable {
+    let class = Class::per_second(Classes::AMOUNT);
+    let below = |parent| class.parent(ClassNumber::new(parent));
+    let classes: Vec<Class> = classes
+        .parents()
+        .map(|parent| parent.map_or(class, below))
+        .collect();
+    ClassTable::of(&classes).expect("chains of at most eight")
+}
 
 impl Store for ThroughCrate {
     fn fresh(setup: &Setup) -> Self {
@@ -19,27 +36,41 @@ impl Store for ThroughCrate {
         if setup.forget_debt {
             settings.when_full = WhenFull::ForgetDebt;
         }
-        Self(OwnedStore::new(settings).expect("the library accepts the settings"))
+        let classed = OwnedStore::with_classes(settings, table(setup.classes));
+        Self {
+            store: OwnedStore::new(settings).expect("the library accepts the settings"),
+            classed: classed.expect("the library accepts the classes"),
+            named: ClassNumber::new(setup.classes.named()),
+        }
     }
 
     /// A new store in place of the old one.
     #[inline]
     fn set_up(&mut self) -> Answer {
-        let settings = *self.0.settings();
+        let settings = *self.store.settings();
         counted(OwnedStore::new(settings).map(|store| {
-            self.0 = store;
+            self.store = store;
             0
         }))
     }
 
     #[inline]
     fn try_(&mut self, now: u64, key: Key, cost: u32) -> Answer {
-        decided(self.0.try_acquire(nanos(now), its(key), cost))
+        decided(self.store.try_acquire(nanos(now), its(key), cost))
+    }
+
+    #[inline]
+    fn through(&mut self, now: u64, key: Key, cost: u32) -> Answer {
+        let store = &mut self.classed;
+        decided(store.try_acquire_through(self.named, nanos(now), its(key), cost))
     }
 
     #[inline]
     fn reserve(&mut self, now: u64, key: Key, cost: u32) -> Answer {
-        match self.0.reserve(nanos(now), its(key), cost, nanos(MAX_WAIT)) {
+        match self
+            .store
+            .reserve(nanos(now), its(key), cost, nanos(MAX_WAIT))
+        {
             Ok(Some(reservation)) => (0, wait(reservation.wait)),
             Ok(None) => (3, 0),
             Err(refusal) => (refusal.code(), 0),
@@ -48,22 +79,22 @@ impl Store for ThroughCrate {
 
     #[inline]
     fn peek(&mut self, now: u64, key: Key, cost: u32) -> Answer {
-        decided(self.0.peek(nanos(now), its(key), cost))
+        decided(self.store.peek(nanos(now), its(key), cost))
     }
 
     #[inline]
     fn refund(&mut self, key: Key, cost: u32) -> Answer {
-        known(self.0.refund(its(key), cost))
+        known(self.store.refund(its(key), cost))
     }
 
     #[inline]
     fn remove(&mut self, key: Key) -> Answer {
-        known(self.0.remove(its(key)))
+        known(self.store.remove(its(key)))
     }
 
     #[inline]
     fn length(&mut self) -> Answer {
-        counted(self.0.len())
+        counted(self.store.len())
     }
 }
 

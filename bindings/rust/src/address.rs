@@ -44,8 +44,9 @@ impl HardwareAddress {
         self.0[0] & 1 == 1
     }
 
-    /// The key that a store gives the modem of this address: for [`Store::available`] and [`Store::turned_away`], and to choose one of several stores by the
-    /// hash. The library makes both, the hash by FNV-1a over the six bytes, first byte first, and the key as the number with the first byte highest.
+    /// The key that a store gives the modem of this address: for [`Store::available`], [`Store::turned_away`] and [`Store::try_acquire_through`], and to choose
+    /// one of several stores by the hash. The library makes both, the hash by FNV-1a over the six bytes, first byte first, and the key as the number with the
+    /// first byte highest.
     ///
     /// ```
     /// # use core::time::Duration;
@@ -158,7 +159,7 @@ impl core::error::Error for AddressError {}
 
 /// Modems by hardware address. The hash of a modem is FNV-1a over the six bytes, first byte first, and its key the number with the first byte highest; the
 /// library makes both.
-impl<W: AsRef<[u64]>> Store<W> {
+impl<W: AsRef<[u64]>, C> Store<W, C> {
     /// What the bucket of `modem` would answer to a try; it says nothing of room for a new modem.
     ///
     /// # Errors
@@ -175,7 +176,7 @@ impl<W: AsRef<[u64]>> Store<W> {
     }
 }
 
-impl<W: AsRef<[u64]> + AsMut<[u64]>> Store<W> {
+impl<W: AsRef<[u64]> + AsMut<[u64]>, C> Store<W, C> {
     /// Takes `cost` tokens for `modem` if they are there now: [`Store::try_acquire`] for the modem of this address.
     ///
     /// # Errors

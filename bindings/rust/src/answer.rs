@@ -5,9 +5,9 @@ use core::time::Duration;
 
 use limiter_sys::{
     LIMITER_BAD_ADDRESS, LIMITER_BAD_AMOUNT, LIMITER_BAD_BUFFER, LIMITER_BAD_BURST,
-    LIMITER_BAD_MAX_WAIT, LIMITER_BAD_MEMORY, LIMITER_BAD_MOMENT, LIMITER_BAD_PERIOD,
-    LIMITER_BAD_SIZES, LIMITER_DONE, LIMITER_GROUP_ADDRESS, LIMITER_IMPOSSIBLE, LIMITER_NONE,
-    LIMITER_RETRY, LimiterIdentity, LimiterReply,
+    LIMITER_BAD_CHAIN, LIMITER_BAD_CLASS, LIMITER_BAD_MAX_WAIT, LIMITER_BAD_MEMORY,
+    LIMITER_BAD_MOMENT, LIMITER_BAD_PERIOD, LIMITER_BAD_SIZES, LIMITER_DONE, LIMITER_GROUP_ADDRESS,
+    LIMITER_IMPOSSIBLE, LIMITER_NONE, LIMITER_RETRY, LimiterIdentity, LimiterReply,
 };
 
 use crate::Key;
@@ -32,7 +32,7 @@ pub enum Decision {
         /// The moment at which to try again: that of the call, and the wait.
         moment: Duration,
     },
-    /// Never: the cost is over the burst, or the limiter is closed.
+    /// Never: the cost is over the burst, or over that of a class on the chain, or the limiter is closed.
     Impossible,
 }
 
@@ -83,11 +83,11 @@ pub struct Reservation {
 #[non_exhaustive]
 #[derive(Debug, Clone, Copy, PartialEq, Eq, Hash)]
 pub enum Refusal {
-    /// The amount is not 1 to 65,535.
+    /// The amount is not 1 to 65,535; of the settings, or of a class.
     Amount,
-    /// The period is not 1 to 2^46 ns.
+    /// The period is not 1 to 2^46 ns; of the settings, or of a class.
     Period,
-    /// The burst is not 1 to 65,535.
+    /// The burst is not 1 to 65,535; of the settings, or of a class.
     Burst,
     /// More than 65,536 keys or 64 shards.
     Sizes,
@@ -103,6 +103,10 @@ pub enum Refusal {
     GroupAddress,
     /// The buffer is shorter than the desk line.
     Buffer,
+    /// More than 64 classes, or a class or parent that is not in the table.
+    Class,
+    /// A chain of parents does not end within 8 classes, the first included.
+    Chain,
     /// The library answered as this crate does not know: the two are of different versions. Here the call may have done something.
     Unknown {
         /// The code that the library gave.
@@ -112,7 +116,7 @@ pub enum Refusal {
 
 impl Refusal {
     /// Those that have a number.
-    const NUMBERED: [Self; 10] = [
+    const NUMBERED: [Self; 12] = [
         Self::Amount,
         Self::Period,
         Self::Burst,
@@ -123,6 +127,8 @@ impl Refusal {
         Self::AddressLength,
         Self::GroupAddress,
         Self::Buffer,
+        Self::Class,
+        Self::Chain,
     ];
 
     /// The code that the library answered with: 10 and the number of the refusal.
@@ -139,6 +145,8 @@ impl Refusal {
             Self::AddressLength => LIMITER_BAD_ADDRESS,
             Self::GroupAddress => LIMITER_GROUP_ADDRESS,
             Self::Buffer => LIMITER_BAD_BUFFER,
+            Self::Class => LIMITER_BAD_CLASS,
+            Self::Chain => LIMITER_BAD_CHAIN,
             Self::Unknown { code } => code,
         }
     }
@@ -166,6 +174,8 @@ impl fmt::Display for Refusal {
             Self::AddressLength => "the address is not six bytes",
             Self::GroupAddress => "the address is that of a group",
             Self::Buffer => "the buffer is shorter than the line",
+            Self::Class => "more than 64 classes, or a class that is not in the table",
+            Self::Chain => "a chain of parents that does not end within 8 classes",
             Self::Unknown { code } => {
                 return write!(f, "the library answered with the unknown code {code}");
             }
@@ -292,7 +302,7 @@ mod tests {
 
     #[test]
     fn a_refusal_has_the_code_that_it_was_told_by() {
-        for (code, refusal) in (11..=17).chain(21..=23).zip(Refusal::NUMBERED) {
+        for (code, refusal) in (11..=17).chain(21..=25).zip(Refusal::NUMBERED) {
             assert_eq!(refusal.code(), code);
             assert_eq!(known(reply(code)), Err(refusal));
         }

@@ -39,6 +39,12 @@
 //! # Ok::<(), Box<dyn core::error::Error>>(())
 //! ```
 //!
+//! # Limits above the keys
+//!
+//! A fibre node must not flood its hub. A [`ClassTable`] has up to 64 classes, each with a rate, a bucket and perhaps a parent: a node, and the hub above it. A
+//! store that is set up with one ([`OwnedStore::with_classes`], [`Store::set_up_with`]) carries it. A modem asks through its node by
+//! [`try_acquire_through`](Store::try_acquire_through): it is granted if its own bucket, the node's and the hub's grant.
+//!
 //! # Whose words
 //!
 //! A [`Store`] works on words that it owns ([`OwnedStore`]), on words that are lent to it ([`LentStore`]), or, for looks alone, on words that are
@@ -78,6 +84,7 @@ extern crate alloc;
 
 mod address;
 mod answer;
+mod classes;
 mod desk_line;
 mod key;
 mod settings;
@@ -85,9 +92,10 @@ mod store;
 
 pub use address::{AddressError, HardwareAddress};
 pub use answer::{Decision, Refusal, Reservation};
+pub use classes::{Class, ClassNumber, ClassTable};
 pub use desk_line::DeskLine;
 pub use key::Key;
 pub use settings::{Rate, Settings, WhenFull};
 #[cfg(feature = "alloc")]
 pub use store::OwnedStore;
-pub use store::{LentStore, Look, Store};
+pub use store::{LentStore, Look, NoClasses, Store};

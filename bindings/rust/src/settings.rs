@@ -4,7 +4,7 @@ use core::time::Duration;
 
 use limiter_sys::{LimiterSettings, limiter_words};
 
-use crate::Refusal;
+use crate::{ClassTable, Refusal};
 
 /// What a store is set up with. Any values can be given; [`Store::set_up`](crate::Store::set_up) refuses those that are out of range.
 #[non_exhaustive]
@@ -125,20 +125,25 @@ impl Settings {
         self
     }
 
-    /// How many words a store with these settings takes. It follows from the sizes alone; the rate is not looked at.
+    /// How many words a store with these settings takes, without classes. It follows from the sizes alone; the rate is not looked at.
     ///
     /// # Errors
     ///
     /// [`Refusal::Sizes`]: more than 65,536 keys or 64 shards.
     pub fn words(&self) -> Result<usize, Refusal> {
-        match usize::try_from(limiter_words(self.raw())) {
+        Self::lendable(limiter_words(self.raw()))
+    }
+
+    /// The words that the library asks for, which are 0 for sizes that are refused.
+    pub(crate) fn lendable(words: u64) -> Result<usize, Refusal> {
+        match usize::try_from(words) {
             Ok(0) | Err(_) => Err(Refusal::Sizes),
             Ok(words) => Ok(words),
         }
     }
 
-    /// The settings as twelve numbers, in the order of the C struct. Keep them with the words of a store: words mean what they should only under the
-    /// settings that they had. Equal settings have equal numbers, and so have settings that no store can tell apart.
+    /// The settings as twelve numbers, in the order of the C struct, whose thirteenth, the number of classes, a table has. Keep them with the words of a store:
+    /// words mean what they should only under the settings that they had. Equal settings have equal numbers, and so have settings that no store can tell apart.
     #[must_use]
     pub fn numbers(&self) -> [u64; 12] {
         let raw = self.raw();
@@ -189,6 +194,15 @@ impl Settings {
             initial: rate.initial.unwrap_or(0),
             has_idle: u32::from(self.idle.is_some()),
             forget_debt: u32::from(self.when_full == WhenFull::ForgetDebt),
+            classes: 0,
+        }
+    }
+
+    /// The same for a store with these classes.
+    pub(crate) fn raw_with(&self, classes: &ClassTable) -> LimiterSettings {
+        LimiterSettings {
+            classes: u32::try_from(classes.len()).unwrap_or(u32::MAX),
+            ..self.raw()
         }
     }
 }

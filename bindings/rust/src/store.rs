@@ -7,20 +7,28 @@ use core::time::Duration;
 
 use limiter_sys::{LimiterSettings, slices};
 
+#[cfg(feature = "alloc")]
+use crate::ClassTable;
 use crate::answer::{self, Decision, Refusal, Reservation};
 use crate::settings::nanos;
 use crate::{Key, Settings};
 
-/// A store. `W` is whose its words are; [`OwnedStore`], [`LentStore`] and [`Look`] name the usual ones.
+/// What a store without classes has in place of their table.
+#[derive(Debug, Clone, Copy, PartialEq, Eq, Hash, Default)]
+pub struct NoClasses;
+
+/// A store. `W` is whose its words are; [`OwnedStore`], [`LentStore`] and [`Look`] name the usual ones. `C` is the table of its classes, if it has any
+/// ([`ClassTable`](crate::ClassTable)).
 ///
 /// Moments are times since any start that the caller chooses, up to 2^62 ns (146 years). They may repeat and go back; before the moment of its
 /// last grant a bucket gets nothing back. The words hold moments: a store that is kept and resumed needs the same start again. The moment that an
 /// answer tells is a time since that start too.
 #[derive(Clone, Copy)]
-pub struct Store<W> {
-    settings: Settings,
-    /// The same, as every call passes them.
+pub struct Store<W, C = NoClasses> {
+    pub(crate) settings: Settings,
+    /// The same with the number of classes, as every call passes them.
     pub(crate) raw: LimiterSettings,
+    pub(crate) classes: C,
     pub(crate) words: W,
 }
 
@@ -45,6 +53,19 @@ impl OwnedStore {
         let words = settings.words()?;
         Self::set_up(settings, vec![0; words].into_boxed_slice())
     }
+
+    /// An empty store with these classes, on as many words as both need.
+    ///
+    /// # Errors
+    ///
+    /// Settings out of range.
+    pub fn with_classes<C: AsRef<ClassTable>>(
+        settings: Settings,
+        classes: C,
+    ) -> Result<Store<Box<[u64]>, C>, Refusal> {
+        let words = settings.words_with(classes.as_ref())?;
+        Store::set_up_with(settings, classes, vec![0; words].into_boxed_slice())
+    }
 }
 
 impl<W: AsRef<[u64]>> Store<W> {
@@ -52,7 +73,8 @@ impl<W: AsRef<[u64]>> Store<W> {
     /// store for 100 modems in 4 shards a resume notices 244 when one is flipped. The words do not tell which settings they had. So keep
     /// [`Settings::numbers`] and a checksum with them, and compare both first: the example `save_and_resume` does.
     ///
-    /// Words that version 0.5 saved are fewer, and are refused with [`Refusal::Memory`]: set up anew.
+    /// Words that version 0.6 saved are those of a store without classes. Words that version 0.5 saved are fewer, and are refused with [`Refusal::Memory`]: set
+    /// up anew.
     ///
     /// # Errors
     ///
@@ -68,10 +90,13 @@ impl<W: AsRef<[u64]>> Store<W> {
         Self {
             settings,
             raw: settings.raw(),
+            classes: NoClasses,
             words,
         }
     }
+}
 
+impl<W: AsRef<[u64]>, C> Store<W, C> {
     /// The settings.
     #[must_use]
     pub const fn settings(&self) -> &Settings {
@@ -90,12 +115,13 @@ impl<W: AsRef<[u64]>> Store<W> {
         self.words
     }
 
-    /// The store, to look.
+    /// The store, to look. The look counts the words of its classes and does not need their table.
     #[must_use]
     pub fn look(&self) -> Look<'_> {
         Store {
             settings: self.settings,
             raw: self.raw,
+            classes: NoClasses,
             words: self.words(),
         }
     }
@@ -179,6 +205,17 @@ impl<W: AsRef<[u64]> + AsMut<[u64]>> Store<W> {
         Ok(store)
     }
 
+    /// Forgets all keys and debts.
+    ///
+    /// # Errors
+    ///
+    /// None on words that were set up or resumed.
+    pub fn clear(&mut self) -> Result<(), Refusal> {
+        answer::done(slices::clear(self.raw, self.words.as_mut()))
+    }
+}
+
+impl<W: AsRef<[u64]> + AsMut<[u64]>, C> Store<W, C> {
     /// Takes `cost` tokens for `key` if they are there now. A retry of a new key can also mean that there is no room for it: room is
     /// expected then. [`Decision::moment`] is `now` for a grant, and `now` with the wait for a retry.
     ///
@@ -229,19 +266,10 @@ impl<W: AsRef<[u64]> + AsMut<[u64]>> Store<W> {
         let words = self.words.as_mut();
         answer::known(slices::remove(self.raw, words, key.hash, key.key))
     }
-
-    /// Forgets all keys and debts.
-    ///
-    /// # Errors
-    ///
-    /// None on words that were set up or resumed.
-    pub fn clear(&mut self) -> Result<(), Refusal> {
-        answer::done(slices::clear(self.raw, self.words.as_mut()))
-    }
 }
 
 /// The settings and the number of words; not the words, of which there may be thousands.
-impl<W: AsRef<[u64]>> fmt::Debug for Store<W> {
+impl<W: AsRef<[u64]>, C> fmt::Debug for Store<W, C> {
     fn fmt(&self, f: &mut fmt::Formatter<'_>) -> fmt::Result {
         f.debug_struct("Store")
             .field("settings", &self.settings)

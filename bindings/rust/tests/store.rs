@@ -383,6 +383,8 @@ fn refusals_read_as_in_the_header() {
         Refusal::AddressLength,
         Refusal::GroupAddress,
         Refusal::Buffer,
+        Refusal::Class,
+        Refusal::Chain,
     ];
     for refusal in refusals {
         let line = format!("return \"{refusal}\";");

@@ -18,7 +18,8 @@ use Rattle.bucket.specs.declared.Request.the-variants.{Acquire}
 use Rattle.bucket.specs.declared.BucketDecision.{BucketDecision}
 use Rattle.bucket.specs.declared.BucketDecision.the-variants.{Allowed, Denied}
 use Rattle.bucket.specs.declared.Due.{Due}
-use Rattle.bucket.specs.Bucket.{Accepted, partsOf, fullParts, shortfallAt, lackFor, waitAt, dueAfter, dueAt, spent, longestWait, requestWait, requestDue, asked}
+use Rattle.bucket.specs.Bucket.{Accepted, partsOf, fullParts, shortfallAt, lackFor, waitAt, dueAfter, dueAt, spent, longestWait, requestWait, requestDue}
+use Rattle.bucket.specs.Bucket.{asked}
 use Rattle.bucket.proofs.BucketLaws.{parts-within, no-wait-stays-none, wait-grows, no-cost-no-wait, wait-for-lack, enough-no-wait}
 use Rattle.bucket.proofs.BucketLaws.{granted-within-longest, denied-beyond-longest}
 
@@ -108,7 +109,8 @@ module _ {c : BucketConfig} (b : BucketCore) (cost : ℕ) (at : Nanos) (a : Acce
       by-le (requestWait c request b cost at) (longestWait request)
       (λ soon. allowed-is-no-denial (sym (ap (λ o. o .decision) (granted-within-longest c request b cost at soon)) ∙ denied))
       (λ late.
-      let told-so : requestDue c request b cost at ≡ due = told-by-denial (sym (ap (λ o. o .decision) (denied-beyond-longest c request b cost at late)) ∙ denied) in
+      let told-so : requestDue c request b cost at ≡ due =
+      told-by-denial (sym (ap (λ o. o .decision) (denied-beyond-longest c request b cost at late)) ∙ denied) in
       let is : dueAt c b cost at ≡ due = rw alone at told-so in
       let same : told ≡ due .moment = ap (λ (d : Due). d .moment) is in
       let waits : 0 < waitAt c b cost at = omega arith in

@@ -31,7 +31,8 @@ use Rattle.shard.proofs.ShardLaws.{SameRoom, ask-same-room, refund-same-room, r
 use Rattle.store.specs.Memory.{shardAt, inShard, bucketsAt}
 use Rattle.rules.specs.declared.Reply.{Reply}
 use Rattle.rules.specs.declared.Reply.the-variants.{Tried}
-use Rattle.rules.specs.Asks.{Ask, requests, looks, undoes, passes, Undo, refunds, removes, clockAfterAsk, mannerOf, tooMuch, atOnce, replyTo, policyOf, knownReply}
+use Rattle.rules.specs.Asks.{Ask, requests, looks, undoes, passes, Undo, refunds, removes, clockAfterAsk, mannerOf, tooMuch, atOnce, replyTo, policyOf}
+use Rattle.rules.specs.Asks.{knownReply}
 use Rattle.rules.specs.Asks.{Look, clockAfterLook, lookedIn, inForce, furtherOf, askedIn, undoneIn, chainOf, throughChain, passedIn, inItsShard}
 use Rattle.rules.specs.Calls.{Call, keyed, whole, Terms, rules, Answered, settingsOf, clockAfter, ofKey, ofUndone, accepted}
 use Rattle.demands.specs.Demands.{clock}

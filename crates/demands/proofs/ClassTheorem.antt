@@ -139,8 +139,12 @@ module _ {S N : Type 0} (terms : Terms S N) (s : Settings) (cs : List Class) whe
         by-test (grantsSome cost told)
         (λ grants.
         let pass = granted-pass s id cs class at cost buckets (shardAt s (id .hash) ws) grants in
-        rw (grants, le-leb 1 cost (pass .some), le-leb cost (leastBurst cs (Asks.chainOf cs class)) (pass .within),
-            eq-eqb (chainWait cs cost at buckets (Asks.chainOf cs class)) 0 (pass .at-once)))
+        rw (
+          grants,
+          le-leb 1 cost (pass .some),
+          le-leb cost (leastBurst cs (Asks.chainOf cs class)) (pass .within),
+          eq-eqb (chainWait cs cost at buckets (Asks.chainOf cs class)) 0 (pass .at-once),
+        ))
         (λ denied. rw denied)
 
     passing-tokens : (d t u : ℕ) → tokensPassed cs (byTheRules cs) d t u buckets passing ≡ ofGrant (λ wait. through cs d t u class (at .0) cost) 0 told

@@ -39,7 +39,8 @@ use Rattle.demands.specs.Demands.{Table, untabled, tabled, tableWords, t
 use Rattle.demands.specs.Moments.{TellsMoments}
 use Rattle.demands.specs.PlaceOrder.{Turn, AllOf, run, SameWithoutIndexes}
 use Rattle.demands.specs.TurnAways.{EqualButForTurnAways, ListDecidedAlike}
-use Rattle.demands.specs.Exports.{Exports, numbersFit, exported, through, setUpThrough, clearThrough, ExportDemand2, reading, readAs, called, ExportContracts}
+use Rattle.demands.specs.Exports.{Exports, numbersFit, exported, through, setUpThrough, clearThrough, ExportDemand2, reading, readAs, called}
+use Rattle.demands.specs.Exports.{ExportContracts}
 use Rattle.demands.proofs.WidthLaws.{ask-is-offered, no-call-through-others, NamesFit}
 use Rattle.demands.proofs.NameLaws.{names-fit, key-is-the-rule}
 use Rattle.demands.proofs.Theorem.{demand2-gives-demand3}

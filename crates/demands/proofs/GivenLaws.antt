@@ -17,7 +17,8 @@ use Rattle.shard.specs.declared.Identity.{Identity}
 use Rattle.rules.specs.declared.Reply.{Reply}
 use Rattle.rules.specs.declared.Reply.the-variants.{Tried, Reserved, Nothing, Done, Count, Refused}
 use Rattle.rules.specs.Replies.{ofGrant}
-use Rattle.rules.specs.Asks.{refunds, removes, Ask, requests, looks, undoes, passes, Manner, asTry, asReservation, mannerOf, replyTo, tooMuch, atOnce, knownReply}
+use Rattle.rules.specs.Asks.{refunds, removes, Ask, requests, looks, undoes, passes, Manner, asTry, asReservation, mannerOf, replyTo, tooMuch, atOnce}
+use Rattle.rules.specs.Asks.{knownReply}
 use Rattle.rules.specs.Calls.{Call, keyed, whole, Terms, Answered}
 use Rattle.demands.specs.Demands.{usable, usableFrom, askTokens, tokensOf, tokensUsable}
 use Rattle.demands.proofs.TryLaws.{AsAsked}

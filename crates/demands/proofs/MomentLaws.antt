@@ -27,7 +27,8 @@ use Rattle.store.proofs.RefusalLaws.{moment-not-refused}
 use Rattle.rules.specs.declared.Reply.{Reply}
 use Rattle.rules.specs.declared.Reply.the-variants.{Tried, Reserved, Nothing, Done, Count, Refused}
 use Rattle.rules.specs.Replies.{momentOf, ofGrant, decides, knows}
-use Rattle.rules.specs.Asks.{peeks, tokens, turnedAway, Undo, Ask, requests, looks, undoes, passes, Manner, asTry, asReservation, mannerOf, furtherOf, policyOf, replyTo}
+use Rattle.rules.specs.Asks.{peeks, tokens, turnedAway, Undo, Ask, requests, looks, undoes, passes, Manner, asTry, asReservation, mannerOf, furtherOf, policyOf}
+use Rattle.rules.specs.Asks.{replyTo}
 use Rattle.rules.specs.Asks.{askedIn}
 use Rattle.rules.specs.Asks.{inForce, inItsShard}
 use Rattle.rules.specs.Calls.{Call, keyed, whole, len, Terms, rules, Answered, replies, Every}

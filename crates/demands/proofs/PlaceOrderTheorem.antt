@@ -211,7 +211,8 @@ module _ {S N : Type 0} (terms : Terms S N) where
     done = r .done;
     turns = r .turns ++ t ∷ [];
     of-store = one-more-of-store s (r .turns) t (r .of-store) last;
-    left = one-turn-more (byRules terms s) (r .turns) t (setUpFor s (r .table) (r .before) .after) ∙ ap (λ (left : List ℕ). byRules terms s t left .after) (r .left);
+    left = one-turn-more (byRules terms s) (r .turns) t (setUpFor s (r .table) (r .before) .after)
+        ∙ ap (λ (left : List ℕ). byRules terms s t left .after) (r .left);
   }
 
   -- Every grown store is left by an accepted set-up and such a list. So the theorem is of every grown store.

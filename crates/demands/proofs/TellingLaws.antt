@@ -60,7 +60,8 @@ module _ (f g : Implementation) where
 -- A reply is cautious: it grants no more than the rules' reply, and a key that holds something is told the rules' reply.
 record Cautious (c : Call) (ws : List ℕ) (reply : Reply) : Type 0 where
   grants-no-more : (k : Identity) (t u : ℕ) → tokensOf k t u c reply ≤ tokensOf k t u c (rules c ws .answer)
-  passes-no-more : (cs : List Class) (d t u : ℕ) → Demands.tokensThroughOf byKey cs d t u c reply ≤ Demands.tokensThroughOf byKey cs d t u c (rules c ws .answer)
+  passes-no-more : (cs : List Class) (d t u : ℕ)
+      → Demands.tokensThroughOf byKey cs d t u c reply ≤ Demands.tokensThroughOf byKey cs d t u c (rules c ws .answer)
   tells-holders : decidedBy (ruled byKey c ws) c → decidedBy (record { call = c; reply = reply; rulesWords = ws }) c
 
 module _ (told : Call → List ℕ → Reply) (cautious : (c : Call) (ws : List ℕ) → Cautious c ws (told c ws)) where

@@ -30,7 +30,8 @@ use Rattle.rules.proofs.RefusedLaws.{unless-refused-accepts, unless-refused-ref
 use Rattle.demands.proofs.EveryLaws.{every-implies}
 use Rattle.demands.proofs.WidthLaws.{both-true, NamesFit}
 use Rattle.demands.specs.Demands.{SameSettings, TimesNeverFall, NoSharedHash, NeverRefundedOrRemoved, tokensUsable, WithinWindow}
-use Rattle.demands.specs.Demands.{tableWords, Limiter, setUpBy, settingsBy, answering, Demand2, Window, OwnBucket, WithinClassWindows, ClassWindowAdding, Demand3}
+use Rattle.demands.specs.Demands.{tableWords, Limiter, setUpBy, settingsBy, answering, Demand2, Window, OwnBucket, WithinClassWindows, ClassWindowAdding}
+use Rattle.demands.specs.Demands.{Demand3}
 use Rattle.demands.proofs.ClassTheorem.{rules-stay-within-class-windows}
 use Rattle.demands.proofs.LendableTheorem.{rules-leave-words-lendable, set-up-leaves-words-lendable}
 use Rattle.demands.proofs.LineBound.{BoundOf}

@@ -44,7 +44,8 @@ module _ (s : Settings) (id : Identity) (ask : Ask) (buckets : List BucketCore) 
 
   blind-leaves-alike : readsTurnAways ask ≡ false → uncounted (inItsShard s id ask buckets a .after) ≡ uncounted (inItsShard s id ask buckets b .after)
   blind-leaves-alike blind =
-      sym (equal-but-for-turn-aways (call-same-without-turn-aways a s id ask buckets blind .after)) ∙ ap (λ t. uncounted (inItsShard s id ask buckets t .after)) same
+      sym (equal-but-for-turn-aways (call-same-without-turn-aways a s id ask buckets blind .after))
+      ∙ ap (λ t. uncounted (inItsShard s id ask buckets t .after)) same
       ∙ equal-but-for-turn-aways (call-same-without-turn-aways b s id ask buckets blind .after)
 
 leaves-alike : (s : Settings) (id : Identity) (ask : Ask) (buckets : List BucketCore) (a b : Shard) → uncounted a ≡ uncounted b
@@ -55,7 +56,8 @@ leaves-alike s id (undoes u) buckets a b same = blind-leaves-alike s id (undoes 
 leaves-alike s id (passes table class at cost) buckets a b same = blind-leaves-alike s id (passes table class at cost) buckets a b same refl
 
 -- The class buckets after an ask: where they depend on the answer, the ask reads no such count.
-buckets-alike : (ask : Ask) {r q : Reply} (buckets : List BucketCore) → (readsTurnAways ask ≡ false → r ≡ q) → bucketsAfter ask r buckets ≡ bucketsAfter ask q buckets
+buckets-alike : (ask : Ask) {r q : Reply} (buckets : List BucketCore) → (readsTurnAways ask ≡ false → r ≡ q)
+    → bucketsAfter ask r buckets ≡ bucketsAfter ask q buckets
 buckets-alike (requests r at cost) buckets same = refl
 buckets-alike (looks l) buckets same = refl
 buckets-alike (undoes u) buckets same = refl
@@ -104,7 +106,7 @@ keyed-decided-alike s id ask ws vs like first second =
     let own-buckets : inItsShard s id ask buckets b ≡ inItsShard s id ask (bucketsAt (shapeOf s) vs) b =
     ap (λ (bs : List BucketCore). inItsShard s id ask bs b) (like .buckets) in
     let answers : readsTurnAways ask ≡ false
-        → inItsShard s id ask buckets a .answer ≡ inItsShard s id ask (bucketsAt (shapeOf s) vs) b .answer =
+    → inItsShard s id ask buckets a .answer ≡ inItsShard s id ask (bucketsAt (shapeOf s) vs) b .answer =
     λ blind. answer-decided-alike s id ask buckets a b same blind ∙ ap (λ (o : Outcome Reply Shard). o .answer) own-buckets in
     record {
       answer = λ blind. first .answer ∙ answers blind ∙ sym (second .answer);

@@ -96,4 +96,5 @@ worked = record {
 
 -- The theorem is of this run.
 pub worked-is-as-without-indexes : SameWithoutIndexes byKey (byRules byKey (roomFor 2)) (roomFor 2) workedTurns (fresh (roomFor 2))
-worked-is-as-without-indexes = grown-store-is-as-without-indexes byKey (roomFor 2) [] (memory (roomFor 2)) refl (worked .accepted) workedTurns (worked .of-store)
+worked-is-as-without-indexes =
+    grown-store-is-as-without-indexes byKey (roomFor 2) [] (memory (roomFor 2)) refl (worked .accepted) workedTurns (worked .of-store)

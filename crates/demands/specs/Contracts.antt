@@ -1,7 +1,7 @@
--- Code as its caller knows it: what the contracts of the ten operations of `perkey`, of the five of `modems` and of the three of `class_calls` tell. They answer
--- calls of one list, in which each call names a modem by key or by address (`byName`).
--- `Asked` and `Learnt` are an operation's `requires` and `ensures` (src/lib.rt of these crates) as the check gives them to its callers: `Asked` of the
--- arguments, `Learnt` of the arguments at entry, the result, and the arguments at exit.
+-- Code as its caller knows it: what the contracts of the ten operations of `perkey`, of the five of `modems` and of the three of `class_calls` tell. They
+-- answer calls of one list, in which each call names a modem by key or by address (`byName`). `Asked` and `Learnt` are an operation's `requires` and `ensures`
+-- (src/lib.rt of these crates) as the check gives them to its callers: `Asked` of the arguments, `Learnt` of the arguments at entry, the result, and the
+-- arguments at exit.
 use Prim.Native.Nat.{ℕ}
 use mathlib.Core.Path.{_≡_}
 use mathlib.Core.Bool.{true}

@@ -1,6 +1,7 @@
 -- What is promised of a limiter, as claims about any limiter: of demand 1, that a call which is refused by number changes no word (`RefusedChangesNothing`);
--- demand 2, that it does what the rules say; demand 3, the window, the own bucket and the window of a class. That no call faults, overflows or fails to end is what `rt` proves of
--- every function. No operation and no export has a `requires`: the contracts in src/ of `perkey`, `modems`, `limiter`, `limiter_modems` show that.
+-- demand 2, that it does what the rules say; demand 3, the window, the own bucket and the window of a class. That no call faults, overflows or fails to end is
+-- what `rt` proves of every function. No operation and no export has a `requires`: the contracts in src/ of `perkey`, `modems`, `limiter`, `limiter_modems`
+-- show that.
 --
 -- Demand 3 in plain English. Behind each clause stands the name that states it.
 --
@@ -51,7 +52,8 @@
 -- * `window-adding-none-is-false-of-the-rules`: the + 1 cannot be left out.
 -- * `demand2-tells-moments`, `told-moments-count-alike`: the tokens that the window counts are those counted by the moments that grants tell (Moments).
 -- * `rules-keep-the-class-window-exactly`, `demand2-keeps-the-class-window-exactly`: the window of a class holds without the + 1 as well.
--- * Impostors are refuted in ImpostorLaws and ClassImpostors. Demand 3 alone admits a limiter that turns every newcomer away at first (`turns-newcomers-away-meets-demand3`);
+-- * Impostors are refuted in ImpostorLaws and ClassImpostors. Demand 3 alone admits a limiter that turns every newcomer away at first
+-- (`turns-newcomers-away-meets-demand3`);
 --   demand 2 shuts it out (`turns-newcomers-away-fails-demand2`).
 use Prim.Native.Nat.{ℕ, _+_, _*_, _-_, _≤_, _<_}
 use mathlib.Core.Path.{_≡_}

@@ -1,7 +1,7 @@
 -- The limiter as C and Rust call it: the ten exports of `limiter` that are lent words, on plain numbers, the five of `limiter_modems`, on numbers and the bytes
--- of an address, and the three of `limiter_classes`, on numbers and the words of a class table; demand 2 of them; and the limiter that a caller has in them, who reads replies from their numbers. Each call of a list writes its
--- settings as numbers of its own. The other exports are lent no words, so they are no calls of a list: the number of words, the hash of a key, the identity of
--- an address, the version.
+-- of an address, and the three of `limiter_classes`, on numbers and the words of a class table; demand 2 of them; and the limiter that a caller has in them,
+-- who reads replies from their numbers. Each call of a list writes its settings as numbers of its own. The other exports are lent no words, so they are no
+-- calls of a list: the number of words, the hash of a key, the identity of an address, the version.
 use Prim.Native.Nat.{ℕ, _-_}
 use mathlib.Core.Path.{_≡_}
 use mathlib.Core.Bool.{Bool, true, cond, _&&_}
@@ -21,7 +21,8 @@ use Rattle.rules.specs.declared.codes.Told.{Told}
 use Rattle.rules.specs.Replies.{toldOf, told, Kind, decides, reserves, counts, knows}
 use Rattle.rules.specs.Asks.{requests, looks, undoes, passes, peeks, tokens, turnedAway, refunds, removes}
 use Rattle.rules.specs.Widths.{fits64, fits32, lendable}
-use Rattle.rules.specs.Calls.{Call, keyed, whole, len, Terms, try, reserve, peek, available, timesTurnedAway, length, refund, remove, classTry, kindOf, rules, fits}
+use Rattle.rules.specs.Calls.{Call, keyed, whole, len, Terms, try, reserve, peek, available, timesTurnedAway, length, refund, remove, classTry, kindOf, rules}
+use Rattle.rules.specs.Calls.{fits}
 use Rattle.modems.specs.Names.{Name, key, address, namedIn}
 use Rattle.limiter.specs.declared.LimiterSettings.{LimiterSettings}
 use Rattle.limiter.specs.Exported.{settingsOf}

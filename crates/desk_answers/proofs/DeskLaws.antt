@@ -2,7 +2,7 @@
 use Prim.Native.Nat.{ℕ, _-_, _≤_, _<_, min}
 use native.Mathlib.Omega.{arith}
 use native.Mathlib.Nat.{min-le-right}
-use mathlib.Core.Path.{_≡_, sym, ap, _∙_}
+use mathlib.Core.Path.{_≡_, subst, sym, ap, _∙_}
 use mathlib.Core.Bool.{Bool, true, false, cond}
 use mathlib.Core.List.{List, _++_}
 use lib.Dec.{eqb}
@@ -11,7 +11,7 @@ use borrow.Author.Tests.{eq-eqb, ne-eqb}
 use borrow.Rule.Slice.PartMut.{putMid}
 use Rattle.rows.specs.Outcome.{Outcome, outcome}
 use Rattle.settings.specs.declared.Settings.{Settings}
-use Rattle.settings.specs.Settings.{settingsRefusal, sizeRefusal}
+use Rattle.settings.specs.Settings.{settingsRefusal, sizeRefusal, withClasses}
 use Rattle.settings.proofs.SettingsLaws.{no-refusal-hands-on}
 use Rattle.store.specs.Refusals.{setUpRefusal}
 use Rattle.store.proofs.RefusalLaws.{other-length-is-refused}
@@ -68,13 +68,15 @@ pub next-served : (s : Settings) {t : Told} {memory : List ℕ} {o : Outcome Tol
     → outcome (record { told = t; stage = Open s }) memory ≡ servedNext s o
 next-served s gave = ap (servedNext s) gave
 
--- Settings that need more words than the memory has are refused as 5, and the run ends.
-pub too-large-is-refused-5 : (s : Settings) (memory : List ℕ) → settingsRefusal s ≡ 0 → length memory < memoryWords s
+-- Settings that need more words than the memory has are refused as 5, and the run ends. The settings of a line have no classes.
+pub too-large-is-refused-5 : (s : Settings) (memory : List ℕ) → s .classes ≡ 0 → settingsRefusal s ≡ 0 → length memory < memoryWords s
     → setUp s memory .answer ≡ record { told = record { code = 15; number = 0; moment = 0 }; stage = Ended 15 }
-too-large-is-refused-5 s memory accepted more =
+too-large-is-refused-5 s memory unclassed accepted more =
     let size = storeSize s (length memory) in
     let lent = take size memory in
     let other : length lent ≡ memoryWords s → ⊥ = λ same. omega (arith, same, more, size-fits s (length memory), length-take size memory) in
     let refusal : 5 ≡ setUpRefusal s lent = sym (no-refusal-hands-on _ _ accepted ∙ other-length-is-refused (memoryWords s) lent other) in
+    let same : withClasses 0 s ≡ s = ap (λ (n : ℕ). withClasses n s) (sym unclassed) in
+    let plain : 5 ≡ setUpRefusal (withClasses 0 s) lent = subst (λ (t : Settings). 5 ≡ setUpRefusal t lent) (sym same) refusal in
     sym (rw (ends s 15 (λ none. omega (arith, none)))
-    (ap (λ (o : Outcome Reply (List ℕ)). servedFirst s (Replies.told o) .answer) (set-up-refusal-is-told s lent refusal (λ none. omega (arith, none)))))
+    (ap (λ (o : Outcome Reply (List ℕ)). servedFirst s (Replies.told o) .answer) (set-up-refusal-is-told s lent plain (λ none. omega (arith, none)))))

@@ -332,7 +332,7 @@ fn reserve_reply(decision: BucketDecision) -> Reply
 }
 
 // The settings that a shard needs.
-fn policy(settings: Settings, rate: Rate) -> Policy
+pub fn policy(settings: Settings, rate: Rate) -> Policy
     ensures { λ r. ⌜ r ≡ Asks.policyOf settings rate ⌝ }
 {
     let eviction = settings.eviction;

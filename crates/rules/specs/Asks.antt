@@ -1,5 +1,5 @@
--- What a call asks of a key, and the rule of it in the key's shard, given the class buckets. No words of the store appear here: `Rules` lends a call the shard of
--- its key.
+-- What a call asks of a key, and the rule of it in the key's shard, given the class buckets. No words of the store appear here: `Rules` lends a call the shard
+-- of its key.
 use Prim.Native.Nat.{ℕ}
 use mathlib.Core.Bool.{Bool, true, false, not, cond}
 use mathlib.Core.List.{List}
@@ -48,8 +48,8 @@ pub data Undo : Type 0 where
   refunds : ℕ → Undo
   removes : Undo
 
--- What a call asks of a key: a request (a try or a reservation) at a moment for N tokens, a look, the undoing of what the key spent, or a try that passes through
--- a class: with the words of the class table, the number of the class, the moment and N tokens.
+-- What a call asks of a key: a request (a try or a reservation) at a moment for N tokens, a look, the undoing of what the key spent, or a try that passes
+-- through a class: with the words of the class table, the number of the class, the moment and N tokens.
 pub data Ask : Type 0 where
   requests : Request → Nanos → ℕ → Ask
   looks : Look → Ask
@@ -105,8 +105,8 @@ kindOfAsk (looks l) = kindOfLook l
 kindOfAsk (undoes u) = knows
 kindOfAsk (passes table class at cost) = decides
 
--- The number by which an ask is refused, after the settings and the memory: 6 for a late moment, then 7 for a longest wait that is too long, or the number of the
--- class table and last 14 for a class that is not in it; 0 if it is not.
+-- The number by which an ask is refused, after the settings and the memory: 6 for a late moment, then 7 for a longest wait that is too long, or the number of
+-- the class table and last 14 for a class that is not in it; 0 if it is not.
 abbrev pub furtherTo : Request → Nanos → ℕ
 furtherTo Acquire at = momentRefusal at
 furtherTo (Reserve longest) at = firstRefusal (momentRefusal at) (waitRefusal longest)

@@ -12,7 +12,8 @@ use Rattle.arith.proofs.DivisionLaws.{ceilDiv-least, ceilDiv-reaches, ceilDiv-o
 use Rattle.settings.specs.declared.Settings.{Settings}
 use Rattle.settings.specs.declared.Shape.{Shape}
 use Rattle.settings.specs.Settings.{mostKeys, mostShards, mostKeysInShard, limitRefusal, sizeRefusal, firstRefusal, settingsRefusal}
-use Rattle.settings.specs.Settings.{share, leastShards, askedShards, shardCount, shardExponent, capOf, shapeOf, shardOf, withClasses, mostCounted, ShapeOfAccepted}
+use Rattle.settings.specs.Settings.{share, leastShards, askedShards, shardCount, shardExponent, capOf, shapeOf, shardOf, withClasses, mostCounted}
+use Rattle.settings.specs.Settings.{ShapeOfAccepted}
 use Rattle.settings.specs.Settings.{idleLimitMillis}
 use Rattle.settings.proofs.PowerLaws.{PowerOfTwo, exponent-is-least, step-up-reaches}
 

@@ -45,7 +45,7 @@ bucket-tells-its-moment : (c : BucketConfig) (request : Request) (b : BucketCore
     → TellsItsMoment request at (asked c request b cost at .decision)
 bucket-tells-its-moment c request b cost at =
     by-le (requestWait c request b cost at) (longestWait request)
-    (λ soon. rw (granted-within-longest c request b cost at soon) 
+    (λ soon. rw (granted-within-longest c request b cost at soon)
     (granted (record { 0 = requestWait c request b cost at }) soon (others-wait-no-longer request (waitAt c b cost at))))
     (λ late. rw (denied-beyond-longest c request b cost at late) (denied (record { 0 = requestWait c request b cost at })))
 

@@ -27,6 +27,9 @@ impl ByAddress {
             | Call::Refund { .. }
             | Call::Remove { .. } => true,
             Call::SetUp
+            | Call::ClassSetUp
+            | Call::ClassClear
+            | Call::Through { .. }
             | Call::Available { .. }
             | Call::Clear
             | Call::Length

@@ -40,10 +40,19 @@ pub enum Call {
     TurnedAway {
         key: Key,
     },
+    /// Set-up, clear and a try with the table of classes that is given with the settings (02, request 9).
+    ClassSetUp,
+    ClassClear,
+    Through {
+        now: u64,
+        key: Key,
+        class: u64,
+        cost: u32,
+    },
 }
 
 /// The names of the calls, in the order of [`Call::index`].
-pub const NAMES: [&str; 10] = [
+pub const NAMES: [&str; 13] = [
     "set-up",
     "try",
     "reserve",
@@ -54,6 +63,9 @@ pub const NAMES: [&str; 10] = [
     "clear",
     "length",
     "turned-away",
+    "class-set-up",
+    "class-clear",
+    "through",
 ];
 
 impl Call {
@@ -70,28 +82,35 @@ impl Call {
             Self::Clear => 7,
             Self::Length => 8,
             Self::TurnedAway { .. } => 9,
+            Self::ClassSetUp => 10,
+            Self::ClassClear => 11,
+            Self::Through { .. } => 12,
         }
     }
 
     /// The key, if the call has one.
     pub const fn key(&self) -> Option<Key> {
         match *self {
-            Self::SetUp | Self::Clear | Self::Length => None,
+            Self::SetUp | Self::Clear | Self::Length | Self::ClassSetUp | Self::ClassClear => None,
             Self::Try { key, .. }
             | Self::Reserve { key, .. }
             | Self::Peek { key, .. }
             | Self::Available { key, .. }
             | Self::Refund { key, .. }
             | Self::Remove { key }
+            | Self::Through { key, .. }
             | Self::TurnedAway { key } => Some(key),
         }
     }
 
-    /// The Rust's answer. Set-up is not asked of a limiter that is there: it makes a new one.
+    /// The Rust's answer. Set-up is not asked of a limiter that is there: it makes a new one. The Rust has no classes: a try through one is its plain try,
+    /// which is the same where the classes let it pass.
     pub fn ask(&self, limiter: &Limiter) -> Answer {
         match *self {
-            Self::SetUp => unreachable!("a trace starts with set-up"),
-            Self::Try { now, key, cost } => limiter.try_(now, key, cost),
+            Self::SetUp | Self::ClassSetUp => unreachable!("a trace starts with set-up"),
+            Self::Try { now, key, cost } | Self::Through { now, key, cost, .. } => {
+                limiter.try_(now, key, cost)
+            }
             Self::Reserve {
                 now,
                 key,
@@ -102,14 +121,14 @@ impl Call {
             Self::Available { now, key } => limiter.available(now, key),
             Self::Refund { key, cost } => limiter.refund(key, cost),
             Self::Remove { key } => limiter.remove(key),
-            Self::Clear => limiter.clear(),
+            Self::Clear | Self::ClassClear => limiter.clear(),
             Self::Length => limiter.len(),
             Self::TurnedAway { key } => limiter.turned_away(key),
         }
     }
 }
 
-/// A line of the oracle program's traces (oracle/README.md).
+/// A line of the oracle program's traces (oracle/README.md). The program knows no classes: calls with a table are comments in a trace.
 impl fmt::Display for Call {
     fn fmt(&self, f: &mut fmt::Formatter<'_>) -> fmt::Result {
         match *self {
@@ -136,6 +155,18 @@ impl fmt::Display for Call {
             Self::Clear => write!(f, "clear"),
             Self::Length => write!(f, "length"),
             Self::TurnedAway { key } => write!(f, "turned-away {} {}", key.hash, key.key),
+            Self::ClassSetUp => write!(f, "# class-set-up"),
+            Self::ClassClear => write!(f, "# class-clear"),
+            Self::Through {
+                now,
+                key,
+                class,
+                cost,
+            } => write!(
+                f,
+                "# through {class}: try {now} {} {} {cost}",
+                key.hash, key.key
+            ),
         }
     }
 }

@@ -1,16 +1,18 @@
 //! Our library, as limiter-sys declares it.
 
-use limiter_sys::{LimiterReply, LimiterSettings, slices};
+use limiter_sys::{LimiterReply, LimiterSettings, classes, slices};
 use oracle::{Answer, Rate, Settings, WhenFull};
 
 use crate::call::Call;
+use crate::given::Given;
+use crate::lent::Lent;
 use crate::random::Random;
 use crate::reply::Reply;
 
 /// The settings as the library takes them.
 pub type RawSettings = LimiterSettings;
 
-/// These settings. Fields that are not read get any number, and a flag that is set any number but 0.
+/// These settings, without classes. Fields that are not read get any number, and a flag that is set any number but 0.
 pub fn given(settings: &Settings, random: &mut Random) -> RawSettings {
     let mut flag = |set: bool| {
         if set {
@@ -44,6 +46,7 @@ pub fn given(settings: &Settings, random: &mut Random) -> RawSettings {
         initial,
         has_idle,
         forget_debt,
+        classes: 0,
     }
 }
 
@@ -83,9 +86,11 @@ pub fn words(s: &RawSettings) -> u64 {
     limiter_sys::limiter_words(*s)
 }
 
-/// The library's answer to `call` on `words`.
-pub fn ask(s: RawSettings, words: &mut [u64], call: &Call) -> Reply {
-    told(match *call {
+/// The library's answer to `call` on `words`. The table ends where a page begins that nobody may touch, and is only read.
+pub fn ask(given: &Given, words: &mut [u64], call: &Call, room: &mut Lent) -> Reply {
+    room.fill(&given.table);
+    let (s, table): (_, &[u64]) = (given.raw, room.words());
+    let reply = told(match *call {
         Call::SetUp => slices::set_up(s, words),
         Call::Try { now, key, cost } => slices::try_acquire(s, words, now, key.hash, key.key, cost),
         Call::Reserve {
@@ -101,7 +106,20 @@ pub fn ask(s: RawSettings, words: &mut [u64], call: &Call) -> Reply {
         Call::Clear => slices::clear(s, words),
         Call::Length => slices::length(s, words),
         Call::TurnedAway { key } => slices::turned_away(s, words, key.hash, key.key),
-    })
+        Call::ClassSetUp => classes::set_up(s, table, words),
+        Call::ClassClear => classes::clear(s, table, words),
+        Call::Through {
+            now,
+            key,
+            class,
+            cost,
+        } => classes::try_acquire(s, table, words, now, key.hash, key.key, class, cost),
+    });
+    assert!(
+        *table == *given.table && room.guarded(),
+        "the table is only read"
+    );
+    reply
 }
 
 /// What the library told. A code past 8 bits becomes 255, which is no code.

@@ -7,6 +7,7 @@ mod call;
 mod check;
 mod fault;
 mod generate;
+mod given;
 mod lent;
 mod library;
 mod options;

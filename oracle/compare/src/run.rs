@@ -6,14 +6,14 @@ use std::fmt::Write as _;
 use std::process::ExitCode;
 use std::time::{Duration, Instant};
 
+use oracle::WhenFull;
 use oracle::refusals::MOST_SHARDS;
-use oracle::{Shape, WhenFull};
 
 use crate::check::{self, Bench, Difference, Start, Step};
+use crate::fault;
 use crate::generate::{Aside, LARGE, Plan, RAISED};
 use crate::options::{ENOUGH, Options};
 use crate::random::Random;
-use crate::{fault, library};
 use by_address::Addresses;
 
 /// What the traces of a round are. Each has a number of calls.
@@ -159,8 +159,10 @@ impl Run {
         load: bool,
         calls: u64,
     ) -> Result<(), Failed> {
+        let call = plan.set_up(random);
         let start = Start {
-            raw: library::given(&plan.settings, random),
+            given: plan.given(random, &call),
+            call,
             loaded: load.then(|| plan.contents(random)),
         };
         let mut steps = Vec::new();
@@ -176,11 +178,10 @@ impl Run {
             _ => 0,
         };
         for _ in 0..calls {
-            let step = Step {
-                raw: library::given(&plan.settings, random),
-                call: plan.call(random, trio.words()),
-            };
-            steps.push(step);
+            let call = plan.call(random, trio.words());
+            let given = plan.given(random, &call);
+            let step = Step { given, call };
+            steps.push(step.clone());
             self.count(&step);
             self.bench
                 .step(&mut trio, &step)
@@ -202,7 +203,7 @@ impl Run {
         })
     }
 
-    /// So many calls, one after another, on a memory with damaged indexes.
+    /// So many calls, one after another, on a memory with damaged indexes. Now and then the classes get other rates and parents.
     fn damaged(&mut self, random: &mut Random, calls: u64) -> Result<(), Failed> {
         let mut plan = if random.chance(50) {
             Plan::crowded(random)
@@ -211,6 +212,9 @@ impl Run {
         };
         let mut words = plan.damaged_contents(random);
         for _ in 0..calls {
+            if random.chance(10) {
+                plan.change_table(random);
+            }
             let aside = Aside::damaged(random, &mut plan, &words);
             words = self.aside(&aside)?;
         }
@@ -220,12 +224,11 @@ impl Run {
     /// One call on words of any content; the words that it leaves.
     fn aside(&mut self, aside: &Aside) -> Result<Vec<u64>, Failed> {
         self.count(&Step {
-            raw: aside.raw,
+            given: aside.given.clone(),
             call: aside.call,
         });
         self.bench.aside(aside).map_err(|difference| {
-            let settings = library::meaning(&aside.raw);
-            let head = check::trace_head(&settings, aside.words.len(), Some(&aside.words));
+            let head = check::trace_head(&aside.given, aside.words.len(), Some(&aside.words));
             let text = format!("{head}{}\ndump\n", aside.call);
             Failed { difference, text }
         })
@@ -235,16 +238,15 @@ impl Run {
         self.calls += 1;
         fault::at_call(self.calls);
         if self.options.show {
-            println!("{:?}\n{}", step.raw, step.call);
+            println!("{:?}\n{}", step.given, step.call);
         }
     }
 
     /// The trace, shortened, for the oracle program, and the difference that it ends in.
     fn failed(&mut self, start: &Start, steps: &[Step], difference: Box<Difference>) -> Failed {
         let (steps, difference) = self.bench.shorten(start, steps, difference);
-        let settings = library::meaning(&start.raw);
-        let words = Shape::of(&settings).words();
-        let mut text = check::trace_head(&settings, words, start.loaded.as_deref());
+        let words = start.given.shape().words();
+        let mut text = check::trace_head(&start.given, words, start.loaded.as_deref());
         for step in steps {
             let _ = writeln!(text, "{}", step.call);
         }
@@ -276,6 +278,13 @@ impl Run {
         }
         let mut missing: Vec<String> = self.bench.hits.report();
         missing.extend(self.addresses.report());
+        println!(
+            "{} tries through a class were held against the Rust's plain try",
+            self.bench.passed
+        );
+        if self.bench.passed == 0 {
+            missing.push("a try through a class that the Rust makes too".to_string());
+        }
         let seconds = self.began.elapsed().as_secs_f64();
         println!(
             "seed {}: {} calls in {seconds:.1} s, {} calls/s, no difference",

@@ -6,6 +6,7 @@
 
 #![no_std]
 
+pub mod classes;
 pub mod modem;
 pub mod slices;
 
@@ -37,6 +38,26 @@ pub struct LimiterSettings {
     pub has_idle: u32,
     /// When full: not set, a new key is turned away; set, a debt is forgotten.
     pub forget_debt: u32,
+    /// How many classes the store has. [`classes`] and the two calls without a table that make or clear a store do not read it.
+    pub classes: u32,
+}
+
+/// A class, a limit above the keys: `limiter_class` of the header. A flag is set if it is not 0.
+#[repr(C)]
+#[derive(Debug, Clone, Copy, PartialEq, Eq, Hash, Default)]
+pub struct LimiterClass {
+    /// The tokens that come back in a period.
+    pub amount: u64,
+    /// The nanoseconds in which `amount` tokens come back.
+    pub period: u64,
+    /// Not set: the burst is the amount.
+    pub has_burst: u64,
+    /// The most tokens in the bucket, read only if `has_burst` is set.
+    pub burst: u64,
+    /// Not set: no class is above this one.
+    pub has_parent: u64,
+    /// The number of the class above, read only if `has_parent` is set.
+    pub parent: u64,
 }
 
 /// An answer: `limiter_reply` of the header.
@@ -63,11 +84,11 @@ pub struct LimiterIdentity {
     pub key: u64,
 }
 
-// The layout that crates/limiter/src/lib.rt and crates/limiter_modems/src/lib.rt declare and the header asserts.
+// The layout that crates/limiter/src/lib.rt, crates/limiter_modems/src/lib.rt and, for the table of classes, crates/classes read, and the header asserts.
 const _: () = {
     use core::mem::offset_of;
     assert!(size_of::<usize>() == 8, "the library is for 64 bits");
-    assert!(size_of::<LimiterSettings>() == 64 && align_of::<LimiterSettings>() == 8);
+    assert!(size_of::<LimiterSettings>() == 72 && align_of::<LimiterSettings>() == 8);
     assert!(offset_of!(LimiterSettings, period) == 0);
     assert!(offset_of!(LimiterSettings, max_keys) == 8);
     assert!(offset_of!(LimiterSettings, shards) == 16);
@@ -80,6 +101,14 @@ const _: () = {
     assert!(offset_of!(LimiterSettings, initial) == 52);
     assert!(offset_of!(LimiterSettings, has_idle) == 56);
     assert!(offset_of!(LimiterSettings, forget_debt) == 60);
+    assert!(offset_of!(LimiterSettings, classes) == 64);
+    assert!(size_of::<LimiterClass>() == 48 && align_of::<LimiterClass>() == 8);
+    assert!(offset_of!(LimiterClass, amount) == 0);
+    assert!(offset_of!(LimiterClass, period) == 8);
+    assert!(offset_of!(LimiterClass, has_burst) == 16);
+    assert!(offset_of!(LimiterClass, burst) == 24);
+    assert!(offset_of!(LimiterClass, has_parent) == 32);
+    assert!(offset_of!(LimiterClass, parent) == 40);
     assert!(size_of::<LimiterReply>() == 24 && align_of::<LimiterReply>() == 8);
     assert!(offset_of!(LimiterReply, code) == 0);
     assert!(offset_of!(LimiterReply, number) == 8);
@@ -94,7 +123,7 @@ const _: () = {
 pub const LIMITER_DONE: u64 = 0;
 /// Not now; the number is the wait in nanoseconds, and the moment when it is over.
 pub const LIMITER_RETRY: u64 = 1;
-/// Never: the cost is over the burst, or the limiter is closed.
+/// Never: the cost is over the burst, or over that of a class on the chain, or the limiter is closed.
 pub const LIMITER_IMPOSSIBLE: u64 = 2;
 /// No reservation; or the key is unknown.
 pub const LIMITER_NONE: u64 = 3;
@@ -107,7 +136,7 @@ pub const LIMITER_BAD_PERIOD: u64 = 12;
 pub const LIMITER_BAD_BURST: u64 = 13;
 /// Refused as 4: more than 65,536 keys or 64 shards.
 pub const LIMITER_BAD_SIZES: u64 = 14;
-/// Refused as 5: another number of words than [`limiter_words`], or a count in them is more than a shard holds.
+/// Refused as 5: another number of words than [`limiter_words`] returns, or a count in them is more than a shard holds.
 pub const LIMITER_BAD_MEMORY: u64 = 15;
 /// Refused as 6: the moment is after 2^62 ns.
 pub const LIMITER_BAD_MOMENT: u64 = 16;
@@ -119,13 +148,22 @@ pub const LIMITER_BAD_ADDRESS: u64 = 21;
 pub const LIMITER_GROUP_ADDRESS: u64 = 22;
 /// Refused as 13: the buffer is shorter than the line.
 pub const LIMITER_BAD_BUFFER: u64 = 23;
+/// Refused as 14: more than 64 classes, or a class or parent that is not in the table.
+pub const LIMITER_BAD_CLASS: u64 = 24;
+/// Refused as 15: a chain of parents does not end within 8 classes.
+pub const LIMITER_BAD_CHAIN: u64 = 25;
+
+/// The most classes of a table.
+pub const LIMITER_MOST_CLASSES: usize = 64;
+/// The most classes of a chain, the first included.
+pub const LIMITER_LONGEST_CHAIN: usize = 8;
 
 /// The bytes of the longest desk line that is written, LF counted.
 pub const LIMITER_LONGEST_LINE: usize = 76;
 
 /// Every program that has this crate in it refers to the version by its name, so a library of another minor version does not link.
 #[used]
-static VERSION_NEEDED: extern "C" fn() -> u32 = limiter_version_0_6;
+static VERSION_NEEDED: extern "C" fn() -> u32 = limiter_version_0_7;
 
 // The three functions that are lent nothing are safe with any arguments. What the others ask of a caller: those with `words` and `len`, that these are
 // words that it may read, and write unless they are `const`, for the length of the call; those with `buffer` and `len`, that these are bytes that it may
@@ -134,7 +172,7 @@ static VERSION_NEEDED: extern "C" fn() -> u32 = limiter_version_0_6;
 unsafe extern "C" {
     pub safe fn limiter_words(settings: LimiterSettings) -> u64;
     pub safe fn limiter_key_hash(key: u64) -> u64;
-    pub safe fn limiter_version_0_6() -> u32;
+    pub safe fn limiter_version_0_7() -> u32;
 
     pub fn limiter_set_up(settings: LimiterSettings, words: *mut u64, len: usize) -> LimiterReply;
     pub fn limiter_try(

@@ -1,4 +1,5 @@
-//! The calls of the library on slices: safe with any arguments and any words. All unsafe calls of it are here and in [`modem`](crate::modem).
+//! The calls of the library on slices: safe with any arguments and any words. All unsafe calls of it are here, in [`modem`](crate::modem) and in
+//! [`classes`](crate::classes).
 
 use crate::{LimiterReply, LimiterSettings};
 
@@ -16,7 +17,7 @@ macro_rules! on_slices {
 }
 
 on_slices! {
-    /// `limiter_set_up`: makes the words an empty store.
+    /// `limiter_set_up`: makes the words an empty store without classes.
     set_up = limiter_set_up(&mut [u64], as_mut_ptr);
     /// `limiter_try`: takes tokens if they are there now.
     try_acquire = limiter_try(&mut [u64], as_mut_ptr, now: u64, hash: u64, key: u64, cost: u32);
@@ -32,7 +33,7 @@ on_slices! {
     refund = limiter_refund(&mut [u64], as_mut_ptr, hash: u64, key: u64, cost: u32);
     /// `limiter_remove`: forgets a key.
     remove = limiter_remove(&mut [u64], as_mut_ptr, hash: u64, key: u64);
-    /// `limiter_clear`: forgets all keys and debts.
+    /// `limiter_clear`: forgets all keys and debts of a store without classes.
     clear = limiter_clear(&mut [u64], as_mut_ptr);
     /// `limiter_length`: the number of keys that have a slot.
     length = limiter_length(&[u64], as_ptr);

@@ -22,6 +22,17 @@ const SMALL: LimiterSettings = LimiterSettings {
     initial: 0,
     has_idle: 0,
     forget_debt: 0,
+    classes: 0,
+};
+
+/// A class of 2 tokens a second.
+const CLASS: LimiterClass = LimiterClass {
+    amount: 2,
+    period: 1_000_000_000,
+    has_burst: 0,
+    burst: 0,
+    has_parent: 0,
+    parent: 0,
 };
 
 /// The nanoseconds of a token.
@@ -50,10 +61,41 @@ fn no_words_may_be_null() {
             limiter_remove(SMALL, null_mut(), 0, 7, 7),
             limiter_clear(SMALL, null_mut(), 0),
             limiter_length(SMALL, null(), 0),
+            classes::limiter_class_set_up(SMALL, null(), 0, null_mut(), 0),
+            classes::limiter_class_clear(SMALL, null(), 0, null_mut(), 0),
+            classes::limiter_class_try(SMALL, null(), 0, null_mut(), 0, 0, 7, 7, 0, 1),
         ]
     };
     let refused = reply(LIMITER_BAD_MEMORY, 0, 0);
-    assert_eq!(replies, [refused; 10]);
+    assert_eq!(replies, [refused; 13]);
+}
+
+/// A table is words, six a class; words past a multiple of six are not read. The class's own words stand after the shards: shortfall and stamp.
+#[test]
+fn a_table_is_words() {
+    const WITH_ONE: usize = ONE + 2;
+    let (mut words, now) = ([7; WITH_ONE], 5_000_000_000);
+    let mut table = [u64::MAX; classes::CLASS_WORDS + 5];
+    table[..classes::CLASS_WORDS].copy_from_slice(&CLASS.words());
+    for table in [&table[..], &table[..classes::CLASS_WORDS]] {
+        let done = classes::set_up(SMALL, table, &mut words);
+        assert_eq!((done, words), (reply(LIMITER_DONE, 0, 0), [0; WITH_ONE]));
+        let granted = classes::try_acquire(SMALL, table, &mut words, now, 7, 7, 0, 1);
+        assert_eq!(granted, reply(LIMITER_DONE, 0, now));
+        assert_eq!(words[ONE..], [1_000_000_000, now]);
+        let done = classes::clear(SMALL, table, &mut words);
+        assert_eq!((done, words), (reply(LIMITER_DONE, 0, 0), [0; WITH_ONE]));
+    }
+    // Five words are no class.
+    let none = &table[..5];
+    assert_eq!(
+        classes::set_up(SMALL, none, &mut words),
+        reply(LIMITER_BAD_MEMORY, 0, 0)
+    );
+    assert_eq!(
+        classes::set_up(SMALL, none, &mut words[..ONE]),
+        reply(LIMITER_DONE, 0, 0)
+    );
 }
 
 #[test]
@@ -133,6 +175,11 @@ fn the_words_to_lend() {
         [shards(64), shards(65), shards(u64::MAX)],
         [64 * ONE as u64, 0, 0]
     );
+    let classes = |classes| limiter_words(LimiterSettings { classes, ..SMALL });
+    assert_eq!(
+        [classes(1), classes(64), classes(65), classes(u32::MAX)],
+        [ONE as u64 + 2, ONE as u64 + 128, 0, 0]
+    );
 }
 
 #[test]
@@ -152,7 +199,11 @@ fn the_header_has_the_same_codes() {
         ("BAD_ADDRESS", LIMITER_BAD_ADDRESS),
         ("GROUP_ADDRESS", LIMITER_GROUP_ADDRESS),
         ("BAD_BUFFER", LIMITER_BAD_BUFFER),
+        ("BAD_CLASS", LIMITER_BAD_CLASS),
+        ("BAD_CHAIN", LIMITER_BAD_CHAIN),
         ("LONGEST_LINE", LIMITER_LONGEST_LINE as u64),
+        ("MOST_CLASSES", LIMITER_MOST_CLASSES as u64),
+        ("LONGEST_CHAIN", LIMITER_LONGEST_CHAIN as u64),
     ];
     for (name, code) in codes {
         let line = format!("LIMITER_{name} = {code}");
@@ -193,8 +244,9 @@ fn header_fields(name: &str) -> Vec<String> {
 #[test]
 fn the_header_has_the_same_fields() {
     let identity = modem::identity(&[]);
-    let ours: [(&str, &dyn core::fmt::Debug, usize); 3] = [
+    let ours: [(&str, &dyn core::fmt::Debug, usize); 4] = [
         ("settings", &SMALL, size_of::<LimiterSettings>()),
+        ("class", &CLASS, size_of::<LimiterClass>()),
         ("reply", &reply(0, 0, 0), size_of::<LimiterReply>()),
         ("identity", &identity, size_of::<LimiterIdentity>()),
     ];
@@ -215,7 +267,7 @@ fn one_version() {
         .map(|number| number.parse().expect("a number"))
         .collect();
     let number = 65_536 * numbers[0] + 256 * numbers[1] + numbers[2];
-    assert_eq!(limiter_version_0_6(), number);
+    assert_eq!(limiter_version_0_7(), number);
     let lines = [
         format!("#define LIMITER_VERSION \"{version}\""),
         format!("#define LIMITER_VERSION_NUMBER {number:#08x}"),

@@ -42,7 +42,8 @@ returns : tie.Need-returns
 returns c =
     let r = c .before .before in
     let a = r .before .before .before .before .before .before .args in
-    let stays = closed-peek (a .settings) (a .id) (a .at) (a .cost) (bucketsAt (shapeOf (a .settings)) (a .ws .now)) _ (r .before .before .before .enum-told .given .1) (r .before .closed .ensures) in
+    let stays = closed-peek (a .settings) (a .id) (a .at) (a .cost) (bucketsAt (shapeOf (a .settings)) (a .ws .now)) _
+    (r .before .before .before .enum-told .given .1) (r .before .closed .ensures) in
     unchanged-is-told (a .settings) (a .id) (looks (peeks (a .at) (a .cost))) (a .ws .now) _ refl stays (r .refusal .ensures) (c .before .shape .ensures)
     (r .before .before .moment-refusal .ensures) (c .unless-refused .ensures)
 

@@ -1,10 +1,10 @@
 //! How often each branch was taken.
 
-use oracle::Settings;
-
 use super::list::{BRANCHES, Branch, is_dead, note};
-use super::reasons::{REASONS, reason, reason_applies, wrongs};
+use super::reasons::{REASONS, reason, reason_applies, table_reason, wrongs};
 use crate::call::{Call, NAMES};
+use crate::given::Given;
+use crate::rules::classes::Refusal;
 
 /// Where the words of a call come from.
 #[derive(Debug, Clone, Copy, PartialEq, Eq)]
@@ -52,10 +52,15 @@ impl Hits {
         self.calls[self.origin as usize][call.index()] += 1;
     }
 
-    /// A call was refused with this number.
-    pub fn refused(&mut self, settings: &Settings, words: &[u64], call: &Call, number: u8) {
-        self.refused[call.index()][reason(settings, words, call, number)] += 1;
-        self.several_wrong += u64::from(wrongs(settings, words, call) > 1);
+    /// A call was refused with this number, for its settings, words or arguments.
+    pub fn refused(&mut self, given: &Given, words: &[u64], call: &Call, number: u8) {
+        self.refused[call.index()][reason(given, words, call, number)] += 1;
+        self.several_wrong += u64::from(wrongs(given, words, call) > 1);
+    }
+
+    /// A call was refused for its table, or the class that it names.
+    pub fn table_refused(&mut self, call: &Call, refusal: Refusal) {
+        self.refused[call.index()][table_reason(refusal)] += 1;
     }
 
     /// Prints the table; the branches that should have been taken and were not.
@@ -91,11 +96,11 @@ impl Hits {
     /// Prints how often each call was refused for each reason; the refusals that are missing.
     fn report_refusals(&self) -> Vec<String> {
         let mut missing = Vec::new();
-        print!("{:>11}", "refused");
+        print!("{:>12}", "refused");
         REASONS.iter().for_each(|reason| print!(" {reason:>9}"));
         println!();
         for (call, name) in NAMES.iter().enumerate() {
-            print!("{name:>11}");
+            print!("{name:>12}");
             for (reason, what) in REASONS.iter().enumerate() {
                 let count = self.refused[call][reason];
                 if reason_applies(call, reason) {

@@ -166,12 +166,14 @@ branches! {
     "count of tries turned away" {
         CountFirst = "the first of a slot",
         CountAppended = "... by the call that appended the slot",
+        CountAppendedNone = "none, by a call that appended the slot and that only a class denied",
         CountNext = "one more",
         CountStops = "at its most: it stays",
         CountCut = "a larger word: the most is stored",
         CountGrant = "not 0, and left by a grant",
         CountGrantLarger = "... a larger word",
         CountReserve = "not 0, and left by a reservation that gets none",
+        CountClass = "not 0, and left by a try that only a class denied",
         CountGone = "not 0, and goes with its slot",
         CountMoved = "not 0, and moves with its slot into a gap",
     }
@@ -182,16 +184,42 @@ branches! {
         TurnedAwayDebt = "debt alone: 0",
         TurnedAwayFresh = "no state: 0",
     }
+    "try through a class" {
+        ThroughOver = "impossible: over the modem's burst",
+        ThroughOverClass = "impossible: over a burst on the chain alone",
+        ThroughZero = "cost 0",
+        ThroughGranted = "granted by all",
+        ThroughLongest = "granted by all of a chain of 8",
+        ThroughDeniedOwn = "denied by the modem's bucket alone",
+        ThroughDeniedClass = "denied by the chain alone",
+        ThroughDeniedOwnLonger = "denied by both, the modem's wait is no shorter",
+        ThroughDeniedClassLonger = "denied by both, the chain's wait is longer",
+        ThroughDeniedAbove = "... a class above the named one has the longest of the chain",
+        ThroughSpace = "no room for the modem",
+        ThroughSpaceDenied = "... and a class would deny",
+    }
+    "bucket of a class" {
+        ClassLaterStamp = "read before its stamp",
+        ClassGrown = "... and denies: the wait is longer by the time up to the stamp",
+        ClassHeld = "... past what 64 bits hold",
+        ClassFull = "a shortfall that has fallen to 0",
+        ClassPart = "a shortfall that has not",
+        ClassReadCut = "a stored shortfall over the largest",
+    }
     "whole store" {
         SetUp = "set-up",
+        SetUpClasses = "set-up with classes",
         ClearEmpty = "clear, all words 0 before",
         ClearHeld = "clear",
+        ClearClasses = "... with buckets of classes that were not as at first",
         LengthNone = "length 0",
         LengthSome = "length, not 0",
     }
     "closed" {
         ClosedTryZero = "try, cost 0: acquired",
         ClosedTry = "try: impossible",
+        ClosedThroughZero = "try through a class, cost 0: acquired",
+        ClosedThrough = "try through a class: impossible",
         ClosedPeekZero = "peek, cost 0: acquired",
         ClosedPeek = "peek: impossible",
         ClosedReserveZero = "reserve, cost 0: none",
@@ -213,9 +241,11 @@ const DEAD: [Branch; 1] = [Branch::SpacePutBack];
 /// Not to be had in stores grown from set-up under one settings record: grants leave no shortfall over the largest and no stamp after 2^62,
 /// a closed limiter gets no keys, and an index names every item once, on its walk, and nothing else, so that half of its places or more are empty.
 /// No count is over the most, and no trace is long enough for one at its most.
-const ONLY_LOADED: [Branch; 16] = [
+const ONLY_LOADED: [Branch; 18] = [
     Branch::BucketReadCut,
     Branch::BucketGrownHeld,
+    Branch::ClassReadCut,
+    Branch::ClassHeld,
     Branch::CountStops,
     Branch::CountCut,
     Branch::CountGrantLarger,

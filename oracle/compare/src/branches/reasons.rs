@@ -1,20 +1,41 @@
 //! Why a call was refused.
 
+use oracle::Settings;
 use oracle::refusals::{self, Memory};
-use oracle::{Settings, Shape};
 
 use crate::call::Call;
+use crate::given::Given;
+use crate::rules::Shards;
+use crate::rules::classes::{self, Refusal};
 
-/// The reasons. Refusal 5 has three.
-pub const REASONS: [&str; 9] = [
-    "1 amount", "2 period", "3 burst", "4 sizes", "5 length", "5 slots", "5 debts", "6 now",
+/// The reasons. Refusal 5 has three. Those from the tenth on are of a table, in the order in which it is refused, and of the class that a try names.
+pub const REASONS: [&str; 16] = [
+    "1 amount",
+    "2 period",
+    "3 burst",
+    "4 sizes",
+    "5 length",
+    "5 slots",
+    "5 debts",
+    "6 now",
     "7 wait",
+    "14 many",
+    "1 class",
+    "2 class",
+    "3 class",
+    "14 parent",
+    "15 chain",
+    "14 named",
 ];
 
-/// Which reasons a call can be refused for, by its place in `NAMES`.
+/// The reasons before those of a table, and before that of the class that is named.
+const BEFORE_TABLE: usize = 9;
+const BEFORE_NAMED: usize = 15;
+
+/// How many of the reasons before those of a table a call can be refused for, by its place in `NAMES`.
 const fn refusable(call: usize) -> usize {
     match call {
-        0 | 7 => 5,
+        0 | 7 | 10 | 11 => 5,
         8 => 6,
         5 | 6 | 9 => 7,
         2 => 9,
@@ -22,24 +43,49 @@ const fn refusable(call: usize) -> usize {
     }
 }
 
-/// Whether a call can be refused for a reason: the reasons come in order, and length does not look at debts.
+/// Whether a call can be refused for a reason: the reasons come in order, and length does not look at debts. Three calls are lent a table, and the last of
+/// them names a class.
 pub const fn reason_applies(call: usize, reason: usize) -> bool {
-    reason < refusable(call)
+    match reason {
+        ..BEFORE_TABLE => reason < refusable(call),
+        BEFORE_TABLE..BEFORE_NAMED => call >= 10,
+        _ => call == 12,
+    }
 }
 
-/// Which reason it is that a call was refused with this number.
-pub fn reason(settings: &Settings, words: &[u64], call: &Call, number: u8) -> usize {
+/// Which reason it is that a call was refused with this number, its table left out.
+pub fn reason(given: &Given, words: &[u64], call: &Call, number: u8) -> usize {
     match number {
         1..=4 => usize::from(number) - 1,
-        5 => reason_of_five(settings, words, call),
+        5 => reason_of_five(given, words, call),
         _ => usize::from(number) + 1,
     }
 }
 
+/// Which reason it is that a table was refused, or the class that a try names.
+pub const fn table_reason(refusal: Refusal) -> usize {
+    BEFORE_TABLE
+        + match refusal {
+            Refusal::TooMany => 0,
+            Refusal::Amount => 1,
+            Refusal::Period => 2,
+            Refusal::Burst => 3,
+            Refusal::Parent => 4,
+            Refusal::Chain => 5,
+            Refusal::Named => 6,
+        }
+}
+
+/// Whether the words are as many as the settings and the classes need.
+fn is_long_enough(given: &Given, words: &[u64], call: &Call) -> bool {
+    let classes = classes::counted(given, call);
+    Shards { words, classes }.length() == given.shape().words() as u64
+}
+
 /// Which of the three reasons for 5 it is.
-fn reason_of_five(settings: &Settings, words: &[u64], call: &Call) -> usize {
-    let shape = Shape::of(settings);
-    if words.len() != shape.words() {
+fn reason_of_five(given: &Given, words: &[u64], call: &Call) -> usize {
+    let shape = given.shape();
+    if !is_long_enough(given, words, call) {
         return 4;
     }
     let over = |shard| words.slot_count(shape, shard) > shape.cap;
@@ -49,8 +95,9 @@ fn reason_of_five(settings: &Settings, words: &[u64], call: &Call) -> usize {
     }
 }
 
-/// How many of amount, period, burst, sizes, length, counts, moment and longest wait are wrong.
-pub fn wrongs(settings: &Settings, words: &[u64], call: &Call) -> u32 {
+/// How many of amount, period, burst, sizes, length, counts, moment, longest wait and table are wrong.
+pub fn wrongs(given: &Given, words: &[u64], call: &Call) -> u32 {
+    let settings = &given.settings();
     let tokens = 1..=refusals::MOST_TOKENS;
     let rate = settings.rate.map_or([false; 3], |rate| {
         [
@@ -60,14 +107,19 @@ pub fn wrongs(settings: &Settings, words: &[u64], call: &Call) -> u32 {
         ]
     });
     let sizes = settings.max_keys > refusals::MOST_KEYS || settings.shards > refusals::MOST_SHARDS;
-    let length = sizes || words.len() != Shape::of(settings).words();
+    let length = sizes || !is_long_enough(given, words, call);
+    let classes = classes::counted(given, call);
+    let memory = Shards { words, classes };
     let counts = !length
         && call
             .key()
-            .is_some_and(|key| refusals::remove(&rateless(settings), words, key.hash).is_some());
+            .is_some_and(|key| refusals::remove(&rateless(settings), &memory, key.hash).is_some());
     let (now, wait) = match *call {
         Call::Reserve { now, max_wait, .. } => (now, max_wait),
-        Call::Try { now, .. } | Call::Peek { now, .. } | Call::Available { now, .. } => (now, 0),
+        Call::Try { now, .. }
+        | Call::Through { now, .. }
+        | Call::Peek { now, .. }
+        | Call::Available { now, .. } => (now, 0),
         _ => (0, 0),
     };
     let rest = [
@@ -76,6 +128,7 @@ pub fn wrongs(settings: &Settings, words: &[u64], call: &Call) -> u32 {
         counts,
         now > refusals::LATEST_MOMENT,
         wait > refusals::LONGEST_WAIT,
+        classes::refusal(given, call).is_some(),
     ];
     rate.into_iter().chain(rest).map(u32::from).sum()
 }

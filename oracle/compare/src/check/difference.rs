@@ -7,8 +7,8 @@ use oracle::refusals::MOST_KEYS;
 use oracle::{Settings, Shape};
 
 use super::Step;
-use crate::library;
 use crate::reply::Said;
+use crate::rules::classes::BUCKET_WORDS;
 
 /// Two of the three that do not agree.
 pub struct Difference {
@@ -38,7 +38,7 @@ pub(super) fn differing(
         .collect();
     Box::new(Difference {
         sides,
-        step: *step,
+        step: step.clone(),
         answers,
         words,
     })
@@ -46,10 +46,10 @@ pub(super) fn differing(
 
 impl fmt::Display for Difference {
     fn fmt(&self, f: &mut fmt::Formatter<'_>) -> fmt::Result {
-        let settings = library::meaning(&self.step.raw);
+        let settings = self.step.given.settings();
         writeln!(f, "{} differ", self.sides)?;
         writeln!(f, "  {settings:?}")?;
-        writeln!(f, "  given as {:?}", self.step.raw)?;
+        writeln!(f, "  given as {:?}", self.step.given)?;
         writeln!(f, "  call: {}", self.step.call)?;
         for said in &self.answers {
             writeln!(f, "  {said}")?;
@@ -76,10 +76,16 @@ fn place(settings: &Settings, at: usize) -> String {
     let shape = Shape::of(settings);
     let in_shard = |shard: &u64| shape.shard(*shard).contains(&at);
     let Some(shard) = (0..shape.shards).find(in_shard) else {
-        return "of no shard".to_string();
+        return name_in_classes(at - shape.words());
     };
     let name = name_in_shard(at - shape.shard(shard).start, shape.room());
     format!("shard {shard} {name}")
+}
+
+/// What a word after the shards is.
+fn name_in_classes(word: usize) -> String {
+    let name = ["shortfall", "stamp"][word % BUCKET_WORDS];
+    format!("class {} {name}", word / BUCKET_WORDS)
 }
 
 /// What a word of a shard is.

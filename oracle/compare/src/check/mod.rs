@@ -8,14 +8,16 @@ mod trace;
 mod trio;
 
 use oracle::refusals::{MOST_KEYS, MOST_SHARDS};
-use oracle::{Answer, Limiter, Settings, Shape};
+use oracle::{Answer, Limiter};
 
 use crate::branches::{Hits, Origin};
 use crate::call::Call;
+use crate::given::Given;
 use crate::lent::Lent;
-use crate::library::{self, RawSettings};
+use crate::library;
 use crate::reply::{Reply, Said};
 use crate::rules;
+use crate::rules::classes::{BUCKET_WORDS, MOST_CLASSES, table};
 use difference::differing;
 pub use difference::{Checked, Difference};
 pub use trace::trace_head;
@@ -24,17 +26,20 @@ pub use trio::Trio;
 
 /// More words than any shape has (65,536 keys in 64 shards have 852,288), and some to lend too many.
 const MOST_WORDS: usize = 900_000;
+/// More words than any table has that is lent here.
+const MOST_TABLE_WORDS: usize = 1_000;
 
-/// A call with the settings as they are given to the library.
-#[derive(Clone, Copy)]
+/// A call with the settings and the table as they are given to the library.
+#[derive(Clone)]
 pub struct Step {
-    pub raw: RawSettings,
+    pub given: Given,
     pub call: Call,
 }
 
-/// How a trace starts: set up, and then perhaps loaded.
+/// How a trace starts: set up, by either call where there are no classes, and then perhaps loaded.
 pub struct Start {
-    pub raw: RawSettings,
+    pub given: Given,
+    pub call: Call,
     pub loaded: Option<Vec<u64>>,
 }
 
@@ -42,7 +47,10 @@ pub struct Start {
 pub struct Bench {
     lent: Lent,
     scratch: Lent,
+    table: Lent,
     pub hits: Hits,
+    /// How many tries through a class the Rust made too, as its plain try.
+    pub passed: u64,
 }
 
 impl Bench {
@@ -50,64 +58,69 @@ impl Bench {
         Self {
             lent: Lent::new(MOST_WORDS),
             scratch: Lent::new(MOST_WORDS),
+            table: Lent::new(MOST_TABLE_WORDS),
             hits: Hits::new(),
+            passed: 0,
         }
     }
 
     /// Sets a store up three times, on memory that was used before, and loads it.
     pub fn start(&mut self, start: &Start) -> Checked<Trio> {
-        let settings = library::meaning(&start.raw);
-        let shape = Shape::of(&settings);
+        let given = &start.given;
+        let (shape, classes) = (given.shape(), table(given).count());
         self.hits.origin = if start.loaded.is_some() {
             Origin::Loaded
         } else {
             Origin::Grown
         };
-        let mut words = vec![0x0075_7365_6421; shape.words()];
+        let mut words = vec![0x0075_7365_6421; shape.words() + classes as usize * BUCKET_WORDS];
         self.lent.fill(&words);
         let step = Step {
-            raw: start.raw,
-            call: Call::SetUp,
+            given: given.clone(),
+            call: start.call,
         };
-        compare_words(&settings, &step)?;
-        let (limiter, rust) = Limiter::new(settings);
-        let ruled = rules::answer(&settings, &mut words, &step.call, &mut self.hits);
-        let ours = library::ask(step.raw, self.lent.words(), &step.call);
-        let mut trio = Trio::new(limiter, shape, words);
+        compare_words(given, &step)?;
+        let (limiter, rust) = Limiter::new(given.settings());
+        let ruled = rules::answer(given, &mut words, &step.call, &mut self.hits);
+        let ours = library::ask(given, self.lent.words(), &step.call, &mut self.table);
+        let mut trio = Trio::new(limiter, shape, classes, words);
+        let rust = Some(rust);
         trio.compare(&mut self.lent, &step, Replies { ours, rust, ruled })?;
         if let Some(loaded) = &start.loaded {
-            trio.limiter
-                .load(loaded)
-                .expect("contents that the Rust can hold");
             trio.words.copy_from_slice(loaded);
+            trio.load_the_rust();
             self.lent.fill(loaded);
         }
         Ok(trio)
     }
 
-    /// One call of all three.
+    /// One call of all three. Where a class may decide it, the Rust is not asked, and gets the words that the rules leave.
     pub fn step(&mut self, trio: &mut Trio, step: &Step) -> Checked<()> {
-        let rust = step.call.ask(&trio.limiter);
-        let ruled = rules::answer(
-            &library::meaning(&step.raw),
-            &mut trio.words,
-            &step.call,
-            &mut self.hits,
-        );
-        let ours = library::ask(step.raw, self.lent.words(), &step.call);
+        let Step { given, call } = step;
+        let is_the_rusts = trio.is_the_rusts(given, call);
+        if is_the_rusts && matches!(call, Call::Through { .. }) {
+            self.passed += 1;
+        }
+        let rust = is_the_rusts.then(|| call.ask(&trio.limiter));
+        let ruled = rules::answer(given, &mut trio.words, call, &mut self.hits);
+        let ours = library::ask(given, self.lent.words(), call, &mut self.table);
+        if !is_the_rusts {
+            trio.load_the_rust();
+        }
         trio.compare(&mut self.lent, step, Replies { ours, rust, ruled })
     }
 }
 
-/// Holds the words that the library asks for against those that 01 gives; 0 for sizes that are refused.
-fn compare_words(settings: &Settings, step: &Step) -> Checked<()> {
+/// Holds the words that the library asks for against those that 01 and 02 give; 0 for sizes that are refused, and for too many classes.
+fn compare_words(given: &Given, step: &Step) -> Checked<()> {
+    let (settings, classes) = (given.settings(), u64::from(given.raw.classes));
     let refused = settings.max_keys > MOST_KEYS || settings.shards > MOST_SHARDS;
-    let ruled = if refused {
+    let ruled = if refused || classes > MOST_CLASSES {
         0
     } else {
-        Shape::of(settings).words() as u64
+        given.shape().words() as u64 + classes * BUCKET_WORDS as u64
     };
-    let ours = library::words(&step.raw);
+    let ours = library::words(&given.raw);
     if ours == ruled {
         return Ok(());
     }

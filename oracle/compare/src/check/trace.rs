@@ -1,15 +1,23 @@
 //! A trace for the oracle program.
 
-use oracle::{Limiter, Settings, Shape, WhenFull};
+use oracle::{Limiter, Settings, WhenFull};
 
-/// The first lines of a trace for the oracle program: set-up on so many words, and loading. Words that the Rust cannot hold stand in a
-/// comment.
-pub fn trace_head(settings: &Settings, len: usize, loaded: Option<&[u64]>) -> String {
+use crate::given::Given;
+
+/// The first lines of a trace for the oracle program: set-up on so many words of shards, and loading. Words that the Rust cannot hold stand in a
+/// comment, and so do the table and the words of classes.
+pub fn trace_head(given: &Given, len: usize, loaded: Option<&[u64]>) -> String {
+    let settings = &given.settings();
     let mut lines = vec![set_line(settings, len)];
+    if !given.table.is_empty() {
+        lines.push(format!("# table {}", spaced(&given.table)));
+    }
     let (limiter, accepted) = Limiter::set_up(*settings, len as u64);
+    let shards = |words: &[u64]| accepted.code == 0 && words.len() >= given.shape().words();
     match loaded {
-        Some(words) if accepted.code == 0 && limiter.load(words).is_ok() => {
-            let shape = Shape::of(settings);
+        Some(words) if shards(words) && limiter.load(&words[..given.shape().words()]).is_ok() => {
+            let shape = given.shape();
+            lines.push(format!("# classes {}", spaced(&words[shape.words()..])));
             let rows = (0..shape.shards).map(|shard| (shard, &words[shape.shard(shard)]));
             let held = rows.filter(|(_, row)| row.iter().any(|&word| word != 0));
             lines.extend(held.map(|(shard, row)| format!("load {shard} {}", spaced(row))));

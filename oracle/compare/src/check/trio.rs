@@ -4,8 +4,11 @@ use oracle::{Answer, Limiter, Shape};
 
 use super::Step;
 use super::difference::{Checked, differing};
+use crate::call::Call;
+use crate::given::Given;
 use crate::lent::Lent;
 use crate::reply::{Reply, Said};
+use crate::rules;
 
 /// Memories up to this many words are compared with the Rust as a whole at every call.
 const SMALL_MEMORY: usize = 1_200;
@@ -18,35 +21,37 @@ const ALL_SHARDS_EVERY: u32 = 128;
 #[derive(Clone, Copy)]
 pub(super) struct Replies {
     pub ours: Reply,
-    /// It has no moment.
-    pub rust: Answer,
+    /// It has no moment. None where the Rust, which has no classes, is not asked.
+    pub rust: Option<Answer>,
     pub ruled: Reply,
 }
 
 impl Replies {
     fn said(self) -> Vec<Said> {
-        vec![
-            Said::library(self.ours),
-            Said::rust(self.rust),
-            Said::rules(self.ruled),
-        ]
+        let rust = self.rust.map(Said::rust);
+        [Said::library(self.ours), Said::rules(self.ruled)]
+            .into_iter()
+            .chain(rust)
+            .collect()
     }
 }
 
-/// A store three times: in the Rust, in the library's lent words, and in words that the rules work on.
+/// A store three times: in the Rust, in the library's lent words, and in words that the rules work on. The Rust has no classes.
 pub struct Trio {
     pub(super) limiter: Limiter,
     shape: Shape,
+    classes: u64,
     pub(super) words: Vec<u64>,
     calls: u32,
 }
 
 impl Trio {
     /// Set up in the Rust and by the rules.
-    pub(super) const fn new(limiter: Limiter, shape: Shape, words: Vec<u64>) -> Self {
+    pub(super) const fn new(limiter: Limiter, shape: Shape, classes: u64, words: Vec<u64>) -> Self {
         Self {
             limiter,
             shape,
+            classes,
             words,
             calls: 0,
         }
@@ -54,6 +59,24 @@ impl Trio {
 
     pub fn words(&self) -> &[u64] {
         &self.words
+    }
+
+    /// The words of the shards.
+    fn shards(&self) -> &[u64] {
+        &self.words[..self.shape.words()]
+    }
+
+    /// Whether the Rust answers a call as the rules do. It does not notice that a call leaves out the classes.
+    pub(super) fn is_the_rusts(&self, given: &Given, call: &Call) -> bool {
+        rules::classes::counted(given, call) == self.classes
+            && rules::is_the_rusts(given, &self.words, call)
+    }
+
+    /// Gives the Rust the words of the shards as they are.
+    pub(super) fn load_the_rust(&self) {
+        self.limiter
+            .load(self.shards())
+            .expect("contents that the Rust can hold");
     }
 
     /// Holds the three answers together, and the words: the library's as a whole, the Rust's of the touched shard, or as a whole. The moment, which the
@@ -91,16 +114,12 @@ impl Trio {
             Err(differing(sides, step, replies.said(), ones, others))
         };
         let same = !looked_at || lent.words() == self.words;
-        if ours.answer != rust || !same && lent.words() != self.limiter.words() || !lent.guarded() {
-            let its = self.limiter.words();
-            return differ("the library and the Rust", lent.words(), &its);
-        }
-        if ruled.answer != rust || !same {
-            let its = self.limiter.words();
-            return differ("the rules and the Rust", &self.words, &its);
-        }
-        if ours != ruled {
+        if ours != ruled || !same || !lent.guarded() {
             return differ("the library and the rules", lent.words(), &self.words);
+        }
+        if rust.is_some_and(|rust| ruled.answer != rust) {
+            let its = self.limiter.words();
+            return differ("the rules and the Rust", self.shards(), &its);
         }
         Ok(())
     }

@@ -1,18 +1,21 @@
 //! Calls with settings, words and arguments of any content.
 
-use oracle::Shape;
 use oracle::layout;
 use oracle::refusals::{LATEST_MOMENT, LONGEST_PERIOD, LONGEST_WAIT, MOST_KEYS, MOST_SHARDS};
 
 use super::damage::damage;
+use super::domain::rate;
+use super::tables::{self, Rates};
 use super::{LARGE, Plan, SMALL, indexes};
 use crate::call::Call;
+use crate::given::Given;
 use crate::library::{self, RawSettings};
 use crate::random::Random;
+use crate::rules::classes::BUCKET_WORDS;
 
-/// A call with any settings on any words.
+/// A call with any settings and table on any words.
 pub struct Aside {
-    pub raw: RawSettings,
+    pub given: Given,
     pub words: Vec<u64>,
     pub call: Call,
 }
@@ -27,18 +30,22 @@ impl Aside {
         };
         let closed = random.chance(10);
         let mut plan = Plan::new(random, sizes, closed);
+        if random.chance(70) {
+            plan = plan.with_any_table(random);
+        }
         let mut words = match random.below(4) {
-            0 => vec![0; plan.shape.words()],
+            0 => vec![0; plan.shape.words() + plan.classes() * BUCKET_WORDS],
             _ => plan.contents(random),
         };
         damage(random, &mut words, plan.shape, plan.now);
+        plan.damage_buckets(random, &mut words);
         if random.chance(60) {
             indexes::damage(random, &mut words, plan.shape);
         }
         plan.pace = 0;
         let call = plan.any_call(random);
         let mut aside = Self {
-            raw: library::given(&plan.settings, random),
+            given: plan.given(random, &call),
             words,
             call,
         };
@@ -56,10 +63,11 @@ impl Aside {
 
     /// A call of a trace on damaged words.
     pub fn damaged(random: &mut Random, plan: &mut Plan, words: &[u64]) -> Self {
+        let call = plan.call(random, words);
         Self {
-            raw: library::given(&plan.settings, random),
+            given: plan.given(random, &call),
             words: words.to_vec(),
-            call: plan.call(random, words),
+            call,
         }
     }
 
@@ -67,7 +75,7 @@ impl Aside {
     pub fn wrong(random: &mut Random, plan: &mut Plan, words: &[u64]) -> Self {
         let call = plan.any_call(random);
         let mut aside = Self {
-            raw: library::given(&plan.settings, random),
+            given: plan.given(random, &call),
             words: words.to_vec(),
             call,
         };
@@ -86,19 +94,22 @@ impl Aside {
     fn spoil_one(&mut self, random: &mut Random) {
         let tokens = random.pick(&[0, 65_536, 70_000, u32::MAX]);
         let any = random.word();
-        match random.below(10) {
-            0 => self.raw.amount = tokens,
-            1 => self.raw.period = random.pick(&[0, LONGEST_PERIOD + 1, u64::MAX, any]),
-            2 => (self.raw.has_burst, self.raw.burst) = (1, tokens),
+        let raw = &mut self.given.raw;
+        match random.below(12) {
+            0 => raw.amount = tokens,
+            1 => raw.period = random.pick(&[0, LONGEST_PERIOD + 1, u64::MAX, any]),
+            2 => (raw.has_burst, raw.burst) = (1, tokens),
             3 => {
-                self.raw.max_keys =
+                raw.max_keys =
                     random.pick(&[4_097, MOST_KEYS, MOST_KEYS + 1, 1_048_576, u64::MAX, any])
             }
-            4 => self.raw.shards = random.pick(&[MOST_SHARDS + 1, 1 << 32, u64::MAX, any]),
+            4 => raw.shards = random.pick(&[MOST_SHARDS + 1, 1 << 32, u64::MAX, any]),
             5 => self.resize(random),
             6 | 7 => self.overfill(random),
             8 => self.late(random),
-            _ => self.raw = other(random, &self.raw),
+            9 => raw.classes = random.pick(&[0, 1, 64, 65, u32::MAX, any as u32]),
+            10 => self.given.table = self.given.table.iter().copied().skip(6).collect(),
+            _ => *raw = other(random, raw),
         }
     }
 
@@ -111,10 +122,10 @@ impl Aside {
 
     /// A count over the cap, in the key's shard or any other.
     fn overfill(&mut self, random: &mut Random) {
-        if self.raw.max_keys > MOST_KEYS {
+        if self.given.raw.max_keys > MOST_KEYS {
             return;
         }
-        let shape = Shape::of(&library::meaning(&self.raw));
+        let shape = self.given.shape();
         let own = self.call.key().map_or(0, |key| shape.shard_of(key.hash));
         let shard = if random.chance(75) {
             own
@@ -137,6 +148,7 @@ impl Aside {
                 *max_wait = random.pick(&[LONGEST_WAIT + 1, u64::MAX])
             }
             Call::Try { now, .. }
+            | Call::Through { now, .. }
             | Call::Reserve { now, .. }
             | Call::Peek { now, .. }
             | Call::Available { now, .. } => {
@@ -148,10 +160,33 @@ impl Aside {
 }
 
 impl Plan {
-    /// Any call, each kind as often as the others.
+    /// The plan with a table of any kind, in which something may be wrong.
+    fn with_any_table(self, random: &mut Random) -> Self {
+        let rates = random.pick(&[Rates::Generous, Rates::Tight, Rates::Mixed]);
+        let own = self.settings.rate.unwrap_or_else(|| rate(random));
+        let mut rows = tables::table(random, rates, &own);
+        for _ in 0..random.pick(&[0, 0, 0, 1, 1, 2, 4]) {
+            tables::spoil(random, &mut rows);
+        }
+        Self {
+            table: tables::words(random, &rows),
+            through: 80,
+            ..self
+        }
+    }
+
+    /// Any call, each kind as often as the others; a try through a class and the calls with a table more often where there is one.
     fn any_call(&mut self, random: &mut Random) -> Call {
         let (now, key, cost) = (self.now, self.key(random), self.cost(random));
-        match random.below(11) {
+        if self.classes() > 0 && random.chance(40) {
+            return match random.below(6) {
+                0 => Call::ClassSetUp,
+                1 => Call::ClassClear,
+                _ => self.try_(random, (now, key, cost)),
+            };
+        }
+        match random.below(12) {
+            11 => random.pick(&[Call::ClassSetUp, Call::ClassClear]),
             0 => Call::SetUp,
             1 | 2 => Call::Try { now, key, cost },
             3 | 4 => Call::Reserve {
@@ -178,5 +213,8 @@ fn other(random: &mut Random, raw: &RawSettings) -> RawSettings {
     let sizes = (raw.max_keys.min(MOST_KEYS), raw.shards.min(MOST_SHARDS));
     let closed = random.chance(20);
     let settings = Plan::new(random, sizes, closed).settings;
-    library::given(&settings, random)
+    RawSettings {
+        classes: raw.classes,
+        ..library::given(&settings, random)
+    }
 }

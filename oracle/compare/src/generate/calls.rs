@@ -13,7 +13,7 @@ impl Plan {
     pub fn call(&mut self, random: &mut Random, words: &[u64]) -> Call {
         self.pass(random, words);
         if core::mem::take(&mut self.cleared) && random.chance(40) {
-            return Call::Clear;
+            return self.clear(random);
         }
         if self.layered && random.chance(90) {
             let now = self.moment(random);
@@ -35,7 +35,7 @@ impl Plan {
     fn request(&self, random: &mut Random, now: u64, key: Key) -> Call {
         let cost = self.cost(random);
         if random.chance(75) {
-            return Call::Try { now, key, cost };
+            return self.try_(random, (now, key, cost));
         }
         Call::Reserve {
             now,
@@ -64,7 +64,7 @@ impl Plan {
             930..985 => Call::Length,
             _ => {
                 self.cleared = true;
-                Call::Clear
+                self.clear(random)
             }
         }
     }

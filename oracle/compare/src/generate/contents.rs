@@ -46,7 +46,8 @@ impl Fill {
 }
 
 impl Plan {
-    /// Contents that the Rust can hold, sound or not: any hand, sweep, cursor, shortfall, stamp, count and settling moment; sound indexes.
+    /// Contents that the Rust can hold, sound or not: any hand, sweep, cursor, shortfall, stamp, count and settling moment; sound indexes. After them the
+    /// buckets of the classes.
     pub fn contents(&self, random: &mut Random) -> Vec<u64> {
         let mut words = Vec::new();
         for shard in 0..self.shape.shards {
@@ -58,6 +59,7 @@ impl Plan {
                 .collect();
             words.extend(self.shard(random, shard, own));
         }
+        words.extend(self.buckets(random));
         words
     }
 

@@ -13,6 +13,7 @@ impl Plan {
         if random.chance(30) {
             damage(random, &mut words, self.shape, self.now);
             hold_counts(&mut words, self.shape);
+            self.damage_buckets(random, &mut words);
         }
         indexes::damage(random, &mut words, self.shape);
         words

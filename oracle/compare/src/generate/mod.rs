@@ -3,11 +3,15 @@
 mod aside;
 mod by_address;
 mod calls;
+mod classes;
 mod contents;
 mod damage;
 mod domain;
 mod indexes;
+mod tables;
 mod time;
+
+use std::rc::Rc;
 
 use oracle::{Key, Rate, Settings, Shape, WhenFull};
 
@@ -16,6 +20,7 @@ pub use aside::Aside;
 pub use by_address::{addresses, no_address};
 use domain::{CROWDED, SMALL, Sizes, idle, keys, keys_of, rate, slow_rate, start};
 pub use domain::{LARGE, RAISED};
+use tables::Rates;
 
 const MS: u64 = 1_000_000;
 const SECOND: u64 = 1_000_000_000;
@@ -24,6 +29,10 @@ const SECOND: u64 = 1_000_000_000;
 pub struct Plan {
     pub settings: Settings,
     pub shape: Shape,
+    /// The words of the table of classes.
+    table: Rc<[u64]>,
+    /// So many of a hundred tries go through a class.
+    through: u64,
     keys: Vec<Key>,
     /// Names the keys one after another rather than at random.
     in_turn: bool,
@@ -82,14 +91,20 @@ impl Spans {
 }
 
 impl Plan {
-    /// A plan over a small shape.
+    /// A plan over a small shape; half of them with classes.
     pub fn small(random: &mut Random) -> Self {
         let sizes = random.pick(&SMALL);
         let closed = random.chance(6);
-        Self::new(random, sizes, closed)
+        let plan = Self::new(random, sizes, closed);
+        if random.chance(50) {
+            return plan;
+        }
+        let rates = random.pick(&[Rates::Generous, Rates::Tight, Rates::Tight, Rates::Mixed]);
+        let through = random.pick(&[0, 30, 70, 100]);
+        plan.with_table(random, rates, through)
     }
 
-    /// A plan over a given shape.
+    /// A plan over a given shape, without classes.
     pub fn new(random: &mut Random, sizes: Sizes, closed: bool) -> Self {
         let rate = rate(random);
         Self::with_rate(random, sizes, closed, rate)
@@ -114,6 +129,8 @@ impl Plan {
         Self {
             settings,
             shape,
+            table: Rc::new([]),
+            through: 0,
             keys: keys(random, shape),
             in_turn,
             named: 0,
@@ -134,18 +151,26 @@ impl Plan {
         }
     }
 
-    /// A plan under which shard and ledger fill up: one key after another, high costs, and time hardly passes.
+    /// A plan under which shard and ledger fill up: one key after another, high costs, and time hardly passes. Some have classes, through which a few tries go.
     pub fn crowded(random: &mut Random) -> Self {
         let sizes = random.pick(&CROWDED);
-        Self::new(random, sizes, false).crowd(random)
+        let plan = Self::new(random, sizes, false).crowd(random);
+        if random.chance(60) {
+            return plan;
+        }
+        let through = random.pick(&[5, 20]);
+        plan.with_table(random, Rates::Tight, through)
     }
 
-    /// The same over a large shape, with buckets that take long to be full, so that the ledger fills up in some thousand calls.
+    /// The same over a large shape, with buckets that take long to be full, so that the ledger fills up in some thousand calls. There are classes, which no
+    /// call asks.
     pub fn large(random: &mut Random, sizes: Sizes) -> Self {
         let rate = slow_rate(random);
+        let plan = Self::with_rate(random, sizes, false, rate).crowd(random);
+        let plan = plan.with_table(random, Rates::Mixed, 0);
         Self {
             large: true,
-            ..Self::with_rate(random, sizes, false, rate).crowd(random)
+            ..plan
         }
     }
 

@@ -76,11 +76,13 @@ impl Plan {
             .unwrap_or(self.now)
     }
 
-    /// A moment at which something turns: a debt settles, a bucket is full, a slot is idle for long enough; or just before or after.
+    /// A moment at which something turns: a debt settles, a bucket is full, a slot is idle for long enough, a class has a token; or just before or after.
     fn edge(&self, random: &mut Random, words: &[u64]) -> u64 {
         let (row, debts) = (self.some_shard(random, words), self.debts());
         let (slot_count, debt_count) = (row[layout::SLOTS.count], row[debts.count]);
-        let moment = if debt_count > 0 && random.chance(50) {
+        let moment = if self.through > 0 && random.chance(40) {
+            self.class_turn(random, words)
+        } else if debt_count > 0 && random.chance(50) {
             row[debts.at(random.below(debt_count) as usize) + debt::SETTLES_AT]
         } else if slot_count > 0 {
             let slot = &row[layout::SLOTS.item(random.below(slot_count) as usize)];

@@ -32,6 +32,11 @@ impl Wait {
         Self { nanos, ..self }
     }
 
+    /// The longer of two that start together.
+    pub fn longer(self, other: Self) -> Self {
+        self.at_least(other.nanos)
+    }
+
     /// Made at least so long.
     pub fn at_least(self, nanos: u64) -> Self {
         let nanos = self.nanos.max(nanos);
@@ -128,11 +133,27 @@ impl Bucket {
         }
     }
 
-    /// The bucket of a slot: A parts come back in each nanosecond since the stamp, and none before it.
-    pub fn at(config: BucketConfig, [stored, stamp]: [u64; 2], now: u64, hits: &mut Hits) -> Self {
+    /// A stored bucket: A parts come back in each nanosecond since the stamp, and none before it.
+    pub fn read(config: BucketConfig, [stored, stamp]: [u64; 2], now: u64) -> Self {
         let back = u128::from(now.saturating_sub(stamp)) * config.amount;
-        let shortfall = config.read(stored).saturating_sub(back);
-        if u128::from(stored) > config.most() {
+        Self {
+            config,
+            shortfall: config.read(stored).saturating_sub(back),
+            stamp,
+            now,
+        }
+    }
+
+    /// Whether a stored shortfall is read as the largest, which it is over.
+    pub fn is_cut(self, stored: u64) -> bool {
+        u128::from(stored) > self.config.most()
+    }
+
+    /// The bucket of a slot.
+    pub fn at(config: BucketConfig, [stored, stamp]: [u64; 2], now: u64, hits: &mut Hits) -> Self {
+        let bucket = Self::read(config, [stored, stamp], now);
+        let shortfall = bucket.shortfall;
+        if bucket.is_cut(stored) {
             hits.hit(Branch::BucketReadCut);
         }
         if now < stamp {
@@ -145,12 +166,7 @@ impl Bucket {
         } else if stored > 0 && shortfall < u128::from(stored) {
             hits.either(shortfall == 0, (Branch::BucketFull, Branch::BucketPart));
         }
-        Self {
-            config,
-            shortfall,
-            stamp,
-            now,
-        }
+        bucket
     }
 
     /// What a slot keeps of it: shortfall and stamp.

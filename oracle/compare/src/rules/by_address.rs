@@ -1,10 +1,11 @@
 //! Request 4 of 02, calls by hardware address: which bytes are an address, and the key of one. All else is the call on that key.
 
-use oracle::{Key, Settings};
+use oracle::Key;
 
 use super::decision;
 use crate::branches::Hits;
 use crate::by_address::ByAddress;
+use crate::given::Given;
 use crate::reply::Reply;
 
 /// What FNV-1a starts at and multiplies by.
@@ -12,9 +13,9 @@ const START: u64 = 0xcbf2_9ce4_8422_2325;
 const PRIME: u64 = 0x0000_0100_0000_01b3;
 
 /// What a call by address answers, and what it makes of `words`: its address is looked at before all else.
-pub fn answer(settings: &Settings, words: &mut [u64], call: &ByAddress, hits: &mut Hits) -> Reply {
+pub fn answer(given: &Given, words: &mut [u64], call: &ByAddress, hits: &mut Hits) -> Reply {
     match key(&call.bytes) {
-        Ok(key) => super::answer(settings, words, &call.on(key), hits),
+        Ok(key) => super::answer(given, words, &call.on(key), hits),
         Err(number) => decision::refused(number),
     }
 }

@@ -3,15 +3,16 @@
 //! the Rust has no answer to. It shares nothing with the Rust but the numbered refusals, the layout of the words, and its names.
 //!
 //! Of 02 it has request 1, the moment: now + the wait of every grant and every retry (`Wait::moment`); request 3, the indexes by which slots and
-//! debts are found (`index`); request 4, calls by hardware address (`by_address`); request 5, a clock set back (`Bucket::wait`); and request 8, the count of
-//! tries that a slot's bucket turned away (`turned_away`).
+//! debts are found (`index`); request 4, calls by hardware address (`by_address`); request 5, a clock set back (`Bucket::wait`); request 8, the count of
+//! tries that a slot's bucket turned away (`turned_away`); and request 9, the limits above the modem (`classes`).
 //!
 //! The layers, from below: `bucket` (numbers), `index` and `rows` (items in words), `turned_away` and `entry` (a slot), `ledger` (the debts), `shard_map` and
-//! `evict_one` (a shard), `restore_debt`, `store` (what a key holds), `perkey` (the calls). `settings` and `decision` are what goes in and
-//! what comes out.
+//! `evict_one` (a shard), `restore_debt`, `store` (what a key holds), `perkey` (the calls); beside them `classes`. `settings` and `decision` are what goes in
+//! and what comes out.
 
 mod bucket;
 pub mod by_address;
+pub mod classes;
 mod decision;
 mod entry;
 mod evict_one;
@@ -26,40 +27,82 @@ mod store;
 mod turned_away;
 mod whole;
 
-use oracle::Settings;
-use oracle::refusals;
+use oracle::Shape;
+use oracle::refusals::{self, Memory};
 
 use crate::branches::Hits;
 use crate::call::Call;
+use crate::given::Given;
 use crate::reply::Reply;
 
-/// What `call` answers, and what it makes of `words`: the refusals come before all else.
-pub fn answer(settings: &Settings, words: &mut [u64], call: &Call, hits: &mut Hits) -> Reply {
+/// What `call` answers, and what it makes of `words`: the refusals come before all else, those of a table after all others.
+pub fn answer(given: &Given, words: &mut [u64], call: &Call, hits: &mut Hits) -> Reply {
     hits.call(call);
-    if let Some(number) = refusal(settings, words, call) {
-        hits.refused(settings, words, call, number);
+    if let Some(number) = refusal(given, words, call) {
+        hits.refused(given, words, call, number);
         return decision::refused(number);
     }
+    if let Some(refusal) = classes::refusal(given, call) {
+        hits.table_refused(call, refusal);
+        return decision::refused(refusal.number());
+    }
     match call.key() {
-        Some(key) => perkey::answer(settings, words, call, key, hits),
-        None => whole::answer(settings, words, call, hits),
+        Some(key) => perkey::answer(given, words, call, key, hits),
+        None => whole::answer(given, words, call, hits),
     }
 }
 
-/// The refusal of `call` by number.
-fn refusal(settings: &Settings, words: &[u64], call: &Call) -> Option<u8> {
+/// Whether the Rust, which has no classes, answers this call on these words as the rules do. It does not where the table is refused, nor where a class may
+/// decide a try.
+pub fn is_the_rusts(given: &Given, words: &[u64], call: &Call) -> bool {
+    if refusal(given, words, call).is_some() {
+        return true;
+    }
+    classes::refusal(given, call).is_none() && perkey::is_passed(given, words, call)
+}
+
+/// A memory but for the words of so many classes at its end.
+pub struct Shards<'a> {
+    pub words: &'a [u64],
+    pub classes: u64,
+}
+
+impl Memory for Shards<'_> {
+    /// A memory that has fewer words than the classes take has no right length.
+    fn length(&self) -> u64 {
+        let buckets = u128::from(self.classes) * classes::BUCKET_WORDS as u128;
+        let rest = (self.words.len() as u128).checked_sub(buckets);
+        rest.map_or(u64::MAX, |rest| rest as u64)
+    }
+
+    fn slot_count(&self, shape: Shape, shard: u64) -> u64 {
+        self.words.slot_count(shape, shard)
+    }
+
+    fn debt_count(&self, shape: Shape, shard: u64) -> u64 {
+        self.words.debt_count(shape, shard)
+    }
+}
+
+/// The refusal of `call` by number, its table left out.
+fn refusal(given: &Given, words: &[u64], call: &Call) -> Option<u8> {
+    let settings = &given.settings();
+    let classes = classes::counted(given, call);
+    let memory = &Shards { words, classes };
     match *call {
-        Call::SetUp => refusals::set_up(settings, words),
-        Call::Try { now, key, .. } => refusals::try_(settings, words, key.hash, now),
+        Call::SetUp | Call::ClassSetUp => refusals::set_up(settings, memory),
+        Call::Try { now, key, .. } | Call::Through { now, key, .. } => {
+            refusals::try_(settings, memory, key.hash, now)
+        }
         Call::Reserve {
             now, key, max_wait, ..
-        } => refusals::reserve(settings, words, key.hash, now, max_wait),
-        Call::Peek { now, key, .. } => refusals::peek(settings, words, key.hash, now),
-        Call::Available { now, key } => refusals::available(settings, words, key.hash, now),
-        Call::Refund { key, .. } => refusals::refund(settings, words, key.hash),
-        Call::Remove { key } => refusals::remove(settings, words, key.hash),
-        Call::Clear => refusals::clear(settings, words),
-        Call::Length => refusals::length(settings, words),
-        Call::TurnedAway { key } => refusals::turned_away(settings, words, key.hash),
+        } => refusals::reserve(settings, memory, key.hash, now, max_wait),
+        Call::Peek { now, key, .. } => refusals::peek(settings, memory, key.hash, now),
+        Call::Available { now, key } => refusals::available(settings, memory, key.hash, now),
+        Call::Refund { key, .. } => refusals::refund(settings, memory, key.hash),
+        Call::Remove { key } => refusals::remove(settings, memory, key.hash),
+        Call::Clear | Call::ClassClear => refusals::clear(settings, memory),
+        Call::Length => refusals::length(settings, memory),
+        Call::TurnedAway { key } => refusals::turned_away(settings, memory, key.hash),
     }
 }

@@ -1,8 +1,9 @@
-//! The calls with a key, each lent the part of its key's shard alone.
+//! The calls with a key, each lent the part of its key's shard alone; a try through a class the buckets of the classes too.
 
-use oracle::{Key, Settings, Shape};
+use oracle::Key;
 
-use super::bucket::Wait;
+use super::bucket::{BucketConfig, Wait};
+use super::classes::Chain;
 use super::decision::{IMPOSSIBLE, NONE, acquired, counted, known, retry};
 use super::settings::Policy;
 use super::shard_map::ShardMap;
@@ -10,19 +11,15 @@ use super::store::{Held, Outcome, Request, Store};
 use super::turned_away::turned_away;
 use crate::branches::{Branch, Hits};
 use crate::call::Call;
+use crate::given::Given;
 use crate::reply::Reply;
 
 /// A call with a key. Remove and the look at a count ask nothing of the rate; all others ask whether there is one.
-pub fn answer(
-    settings: &Settings,
-    words: &mut [u64],
-    call: &Call,
-    key: Key,
-    hits: &mut Hits,
-) -> Reply {
-    let shape = Shape::of(settings);
+pub fn answer(given: &Given, words: &mut [u64], call: &Call, key: Key, hits: &mut Hits) -> Reply {
+    let (settings, shape) = (given.settings(), given.shape());
+    let (shards, classes) = words.split_at_mut(shape.words());
     let map = ShardMap {
-        words: &mut words[shape.shard(shape.shard_of(key.hash))],
+        words: &mut shards[shape.shard(shape.shard_of(key.hash))],
         cap: shape.room(),
         hits,
     };
@@ -35,7 +32,7 @@ pub fn answer(
     let Some(rate) = settings.rate else {
         return closed(call, hits);
     };
-    let policy = Policy::of(settings, &rate);
+    let policy = Policy::of(&settings, &rate);
     let mut store = Store { policy, map };
     match *call {
         Call::Try { now, key, cost } => store.try_(now, key, cost),
@@ -45,9 +42,19 @@ pub fn answer(
             cost,
             max_wait,
         } => {
-            let max_wait = Some(max_wait);
-            store.reserve(now, key, Request { cost, max_wait })
+            let request = Request {
+                cost,
+                max_wait: Some(max_wait),
+                beside: Wait::none(now),
+            };
+            store.reserve(now, key, request)
         }
+        Call::Through {
+            now,
+            key,
+            class,
+            cost,
+        } => store.through(now, key, cost, &Chain::of(given, class), classes),
         Call::Peek { now, key, cost } => store.peek(now, key, cost),
         Call::Available { now, key } => store.available(now, key),
         Call::Refund { key, cost } => known(store.refund(key, cost)),
@@ -71,6 +78,8 @@ fn closed(call: &Call, hits: &mut Hits) -> Reply {
     let (branch, answer) = match *call {
         Call::Try { now, cost: 0, .. } => (ClosedTryZero, acquired(Wait::none(now))),
         Call::Try { .. } => (ClosedTry, IMPOSSIBLE),
+        Call::Through { now, cost: 0, .. } => (ClosedThroughZero, acquired(Wait::none(now))),
+        Call::Through { .. } => (ClosedThrough, IMPOSSIBLE),
         Call::Peek { now, cost: 0, .. } => (ClosedPeekZero, acquired(Wait::none(now))),
         Call::Peek { .. } => (ClosedPeek, IMPOSSIBLE),
         Call::Reserve { cost: 0, .. } => (ClosedReserveZero, NONE),
@@ -80,6 +89,25 @@ fn closed(call: &Call, hits: &mut Hits) -> Reply {
     };
     hits.hit(branch);
     answer
+}
+
+/// Whether no class can decide a call that is not refused: all but some tries through a class are such. A class cannot where the limiter is closed, where the
+/// cost is 0 or over the key's own burst, and where all on the chain grant it.
+pub fn is_passed(given: &Given, words: &[u64], call: &Call) -> bool {
+    let (
+        Call::Through {
+            now, class, cost, ..
+        },
+        Some(rate),
+    ) = (*call, given.settings().rate)
+    else {
+        return true;
+    };
+    let chain = Chain::of(given, class);
+    let classes = &words[given.shape().words()..];
+    let own = BucketConfig::of(&rate).capacity();
+    let grants = || !chain.is_over(cost) && chain.asked(classes, now, cost).wait.nanos == 0;
+    cost == 0 || cost > own || grants()
 }
 
 impl Store<'_> {
@@ -101,14 +129,78 @@ impl Store<'_> {
         let request = Request {
             cost,
             max_wait: None,
+            beside: Wait::none(now),
         };
         let (branch, answer) = match self.with_or_insert(now, key, request) {
             Outcome::Granted(wait) => (Branch::TryGranted, acquired(wait)),
-            Outcome::Denied(wait) => (Branch::TryDenied, retry(wait)),
+            Outcome::Denied { wait, .. } => (Branch::TryDenied, retry(wait)),
             Outcome::NoSpace(wait) => (Branch::SpaceTry, retry(wait)),
         };
         self.hit(branch);
         answer
+    }
+
+    /// A try through a class: over any burst it is impossible, and a cost of 0 is met, and neither touches the memory. It is granted if the key's bucket and
+    /// those of the chain grant it, and then all are charged; else none is, and the wait is the largest of theirs. A refusal for space ends it before.
+    fn through(
+        &mut self,
+        now: u64,
+        key: Key,
+        cost: u32,
+        chain: &Chain,
+        classes: &mut [u64],
+    ) -> Reply {
+        if self.over(cost) || chain.is_over(cost) {
+            let own = self.over(cost);
+            let branches = (Branch::ThroughOver, Branch::ThroughOverClass);
+            self.map.hits.either(own, branches);
+            return IMPOSSIBLE;
+        }
+        if cost == 0 {
+            self.hit(Branch::ThroughZero);
+            return acquired(Wait::none(now));
+        }
+        let said = chain.asked(classes, now, cost);
+        let request = Request {
+            cost,
+            max_wait: None,
+            beside: said.wait,
+        };
+        match self.with_or_insert(now, key, request) {
+            Outcome::NoSpace(wait) => {
+                let asked = said.wait.nanos > 0;
+                let branches = (Branch::ThroughSpaceDenied, Branch::ThroughSpace);
+                self.map.hits.either(asked, branches);
+                return retry(wait);
+            }
+            Outcome::Denied { wait, own } => {
+                chain.tell(classes, now, cost, self.map.hits);
+                self.tell_denied(own, said.wait, said.above);
+                return retry(wait);
+            }
+            Outcome::Granted(_) => {}
+        }
+        chain.tell(classes, now, cost, self.map.hits);
+        let branches = (Branch::ThroughLongest, Branch::ThroughGranted);
+        self.map.hits.either(chain.is_longest(), branches);
+        chain.charge(classes, now, cost);
+        acquired(Wait::none(now))
+    }
+
+    /// Who denied a try through a class, and whose wait was told.
+    fn tell_denied(&mut self, own: Wait, beside: Wait, above: bool) {
+        self.hit(if beside.nanos == 0 {
+            Branch::ThroughDeniedOwn
+        } else if own.nanos == 0 {
+            Branch::ThroughDeniedClass
+        } else if own.nanos >= beside.nanos {
+            Branch::ThroughDeniedOwnLonger
+        } else {
+            Branch::ThroughDeniedClassLonger
+        });
+        if above {
+            self.hit(Branch::ThroughDeniedAbove);
+        }
     }
 
     /// Reserve: as try, with none in place of impossible, of a denial and of a refusal for space.
@@ -129,7 +221,7 @@ impl Store<'_> {
                 }
                 (Branch::ReserveLater, acquired(wait))
             }
-            Outcome::Denied(_) => (Branch::ReserveNone, NONE),
+            Outcome::Denied { .. } => (Branch::ReserveNone, NONE),
             Outcome::NoSpace(_) => (Branch::SpaceReserve, NONE),
         };
         self.hit(branch);

@@ -14,11 +14,13 @@ pub struct Store<'a> {
     pub map: ShardMap<'a>,
 }
 
-/// A try or a reservation: so many tokens, and the longest wait of a reservation. A try has none, and waits 0.
+/// A try or a reservation: so many tokens, and the longest wait of a reservation. A try has none, and waits 0. A try through a class has the largest wait of
+/// the classes beside.
 #[derive(Clone, Copy)]
 pub struct Request {
     pub cost: u32,
     pub max_wait: Option<u64>,
+    pub beside: Wait,
 }
 
 impl Request {
@@ -29,10 +31,10 @@ impl Request {
 
 /// What comes of a request.
 pub enum Outcome {
-    /// Granted by the key's bucket.
+    /// Granted by the key's bucket, and by all beside it.
     Granted(Wait),
-    /// Denied by the key's bucket.
-    Denied(Wait),
+    /// Denied: the wait, and that of the key's own bucket.
+    Denied { wait: Wait, own: Wait },
     /// There is no room for a new key.
     NoSpace(Wait),
 }
@@ -70,8 +72,13 @@ impl Store<'_> {
         let bucket = restore_debt(self.policy.config, now, owed, self.map.hits);
         let place = self.map.insert(key, bucket, now);
         let outcome = self.run(place, now, request);
-        if request.is_try() && matches!(outcome, Outcome::Denied(_)) {
-            self.hit(Branch::CountAppended);
+        if let Outcome::Denied { own, .. } = outcome
+            && request.is_try()
+        {
+            self.map.hits.either(
+                own.nanos > 0,
+                (Branch::CountAppended, Branch::CountAppendedNone),
+            );
         }
         outcome
     }
@@ -90,20 +97,23 @@ impl Store<'_> {
         self.map.evict_one(&self.policy, now)
     }
 
-    /// Asks the bucket of the slot at a place. Only a grant is stored, and that a try was turned away.
+    /// Asks the bucket of the slot at a place. Only a grant is stored, and that the bucket itself turned a try away.
     fn run(&mut self, place: usize, now: u64, request: Request) -> Outcome {
         let mut entry = self.map.entry(place);
         let bucket = entry.bucket(self.policy.config, now);
-        let wait = bucket.wait(request.cost);
+        let own = bucket.wait(request.cost);
+        let wait = own.longer(request.beside);
         if wait.nanos > request.max_wait.unwrap_or(0) {
-            if request.is_try() {
-                entry.turn_away();
+            if !request.is_try() {
+                entry.leave_count(Branch::CountReserve);
+            } else if own.nanos == 0 {
+                entry.leave_count(Branch::CountClass);
             } else {
-                entry.leave_count(false);
+                entry.turn_away();
             }
-            return Outcome::Denied(wait);
+            return Outcome::Denied { wait, own };
         }
-        entry.leave_count(true);
+        entry.leave_count(Branch::CountGrant);
         entry.store(bucket.granted(request.cost));
         Outcome::Granted(wait)
     }

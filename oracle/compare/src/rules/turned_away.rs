@@ -36,14 +36,13 @@ impl Entry<'_> {
         self.words[slot::TURNED_AWAY] = word((self.turned_away() + 1).min(MOST));
     }
 
-    /// A request that is no such try leaves the word, be it a grant or a reservation that gets none. Says which word was left.
-    pub fn leave_count(&mut self, granted: bool) {
+    /// A request that is no such try leaves the word: a grant, a reservation that gets none, or a try that only a class denied. Says which word was left.
+    pub fn leave_count(&mut self, left: Branch) {
         let stored = self.stored();
         if stored > 0 {
-            self.hits
-                .either(granted, (Branch::CountGrant, Branch::CountReserve));
+            self.hits.hit(left);
         }
-        if stored > MOST && granted {
+        if stored > MOST && left == Branch::CountGrant {
             self.hits.hit(Branch::CountGrantLarger);
         }
     }

@@ -5,8 +5,8 @@ use crate::by_address::ByAddress;
 use crate::call::Call;
 use crate::check::{self, Difference, Start, Step};
 use crate::generate::{Aside, Plan, addresses, no_address};
+use crate::given::Given;
 use crate::lent::Lent;
-use crate::library;
 use crate::random::Random;
 use crate::rules::by_address::key;
 
@@ -75,29 +75,33 @@ impl Run {
         let known = addresses(random, plan.shape.room() * 2 + 2);
         let keys = known.iter().map(|address| key(address).expect("a modem's"));
         let mut plan = plan.over(keys.collect());
+        let call = plan.set_up(random);
         let start = Start {
-            raw: library::given(&plan.settings, random),
+            given: plan.given(random, &call),
+            call,
             loaded: None,
         };
         let mut trio = self
             .bench
             .start(&start)
-            .map_err(|difference| by_address_failed(&start.raw, None, difference))?;
+            .map_err(|difference| by_address_failed(&start.given, None, difference))?;
         for _ in 0..20 {
-            let raw = library::given(&plan.settings, random);
             let call = plan.call(random, trio.words());
-            self.count(&Step { raw, call });
+            let given = plan.given(random, &call);
+            let step = Step { given, call };
+            self.count(&step);
+            let given = &step.given;
             let checked = match named(random, &known, call) {
                 Some(call) => {
                     self.addresses.count(&call.bytes);
                     self.bench
-                        .by_address(&mut trio, raw, &call, &mut self.addresses.room)
-                        .map_err(|difference| by_address_failed(&raw, Some(&call), difference))
+                        .by_address(&mut trio, given, &call, &mut self.addresses.room)
+                        .map_err(|difference| by_address_failed(given, Some(&call), difference))
                 }
                 None => self
                     .bench
-                    .step(&mut trio, &Step { raw, call })
-                    .map_err(|difference| by_address_failed(&raw, None, difference)),
+                    .step(&mut trio, &step)
+                    .map_err(|difference| by_address_failed(given, None, difference)),
             };
             checked?;
         }
@@ -110,13 +114,13 @@ impl Run {
             return Ok(());
         };
         self.count(&Step {
-            raw: aside.raw,
+            given: aside.given.clone(),
             call: aside.call,
         });
         self.addresses.count(&call.bytes);
         self.bench
             .aside_by_address(&aside, &call, &mut self.addresses.room)
-            .map_err(|difference| by_address_failed(&aside.raw, Some(&call), difference))
+            .map_err(|difference| by_address_failed(&aside.given, Some(&call), difference))
     }
 }
 
@@ -135,12 +139,11 @@ fn named(random: &mut Random, known: &[[u8; 6]], call: Call) -> Option<ByAddress
 
 /// A difference in a call by address. It is not shortened; `--only` and `--show` give all calls before it.
 fn by_address_failed(
-    raw: &library::RawSettings,
+    given: &Given,
     call: Option<&ByAddress>,
     difference: Box<Difference>,
 ) -> Failed {
-    let settings = library::meaning(raw);
-    let mut text = check::trace_head(&settings, 0, None);
+    let mut text = check::trace_head(given, 0, None);
     if let Some(call) = call {
         println!("by address {call}");
         text.push_str(&format!("# by address {call}\n"));
