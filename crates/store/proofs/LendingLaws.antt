@@ -9,7 +9,7 @@ use mathlib.Core.List.{List}
 use lib.ListN.{length, set, take-append-drop}
 use lib.Seq.{set-getD}
 use borrow.Author.Tests.{eq-eqb, ne-eqb}
-use borrow.Rule.Slice.PartMut.{putMid}
+use borrow.Rule.Slice.PartMut.{putMid, same-len-mid}
 use Rattle.arith.proofs.Cases.{by-eq}
 use Rattle.rows.specs.Segments.{segment}
 use Rattle.rows.specs.Outcome.{Outcome, outcome}
@@ -25,11 +25,12 @@ use Rattle.bucket.specs.declared.BucketConfig.{BucketConfig}
 use Rattle.bucket.specs.declared.Request.{Request}
 use Rattle.shard_map.specs.Model as Shard
 use Rattle.shard_map.specs.Layout as Layout
-use Rattle.shard_map.proofs.LayoutLaws.{words-shard}
+use Rattle.shard_map.proofs.LayoutLaws.{cap-is, words-shard}
 use Rattle.shard.specs.declared.Identity.{Identity}
 use Rattle.shard.specs.declared.Policy.{Policy}
 use Rattle.shard.specs.Model as OneShard
 use Rattle.shard.proofs.ModelLaws.{found-below-cap}
+use Rattle.shard.proofs.ShardLaws.{remove-same-room}
 use Rattle.store.specs.declared.Part.{Part}
 use Rattle.store.specs.declared.lending.Lending.{Lending}
 use Rattle.store.specs.declared.lending.Lending.the-variants.{Refused, Lent}
@@ -93,6 +94,18 @@ module _ {p : Part} {ws : List ℕ} (placed : Placed p ws) where
         ap (Layout.shard (p .cap))
         (ap (λ (n : ℕ). segment (p .start) n back) (sym long) ∙ segment-back (p .start) (p .end - p .start) ws ys fits long-enough)
         ∙ ap (λ (o : Outcome A Shard.Shard). o .after) (rw lent-shard at gave)
+
+    -- The part still lies in the memory. Where no more slots are left than there is room for, the total is at most that much larger.
+    pub back-placed : Placed p back
+    back-placed = record {
+      begins = placed .begins;
+      ends = placed .ends;
+      within = rw (same-len-mid (p .start) (p .end - p .start) ws ys same) (placed .within);
+    }
+
+    pub total-stays-small : f (shardIn p ws) .after .slots .count ≤ Shard.capOf (shardIn p ws) → Counted p ws → {others : ℕ}
+        → others ≡ totalOf ws - shardIn p ws .slots .count → others + shardIn p back .slots .count ≤ totalOf ws + p .cap
+    total-stays-small few counted is = rw (is, shard-back) (omega (arith, counted .covers, rw (cap-is (p .cap) _) at few))
 
     -- The total is stored: the slots of the other shards, and those that are there now.
     pub lent-counted : Counted p ws → {others : ℕ} → others ≡ totalOf ws - shardIn p ws .slots .count
@@ -212,3 +225,7 @@ existing-keeps-count p r cost at s i = refl
 pub refund-keeps-count : (c : BucketConfig) (id : Identity) (cost : ℕ) (s : Shard.Shard) → OneShard.refunded c id cost s .after .slots .count ≡ s .slots .count
 unfolding OneShard.refunded
 refund-keeps-count c id cost s = refund-from-keeps-count c id cost s (Shard.placeOf s (id .hash) (id .key))
+
+-- A removal leaves no more slots than there is room for.
+pub removed-count-fits : (s : Shard.Shard) → Shard.Sound s → (id : Identity) → OneShard.removed id s .after .slots .count ≤ Shard.capOf s
+removed-count-fits s sound id = let room = remove-same-room s sound id in rw (room .cap) at (room .sound .count-fits)

@@ -1,3 +1,5 @@
+use Rattle.store.proofs.MemoryLaws.{accepted-places-few}
+use native.Mathlib.Omega.{arith}
 use borrow.Author.Needs.{needs}
 use Rattle.store.proofs.words.places_in.Statement.{statement}
 use Rattle.store.proofs.words.places_in.Tie as tie
@@ -6,7 +8,7 @@ use Rattle.store.proofs.words.places_in.Lts as lts
 
 -- src/words.rt:36:5
 mul-result : tie.Need-mul-result
-mul-result c = search needs
+mul-result c = record { fits = omega (arith, accepted-places-few (c .before .pre)) }
 
 -- src/words.rt:32:1
 returns : tie.Need-returns
