@@ -18,7 +18,7 @@ returns c = number-is-told _ _ _ (c .before .len-refusal .ensures) (c .if1 .take
 len-requires : tie.Need-len-requires
 len-requires c κs =
     let r = c .before in
-    let a = r .before .args in
+    let a = r .before .before .args in
     omega (arith, len-not-refused (a .settings) (a .ws .now) (sym (r .len-refusal .ensures) ∙ c .if1 .left) .0 .size)
 
 returns-2 : tie.Need-returns-2
