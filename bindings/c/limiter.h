@@ -377,19 +377,10 @@ limiter_reply limiter_length(limiter_settings s, const uint64_t *words, size_t l
  * s.classes = count (limiter_with_classes), and take no table; they neither ask nor charge a class. The buckets of the classes are never forgotten.
  *
  * The library's own functions take the table as words, 6 for each class. The three inline functions below count classes and call them. */
-limiter_reply limiter_table_set_up(limiter_settings s, const uint64_t *table, size_t table_len, uint64_t *words, size_t len)
-    __asm__("limiter_class_set_up");
-limiter_reply limiter_table_clear(limiter_settings s, const uint64_t *table, size_t table_len, uint64_t *words, size_t len)
-    __asm__("limiter_class_clear");
+limiter_reply limiter_table_set_up(limiter_settings s, const uint64_t *table, size_t table_len, uint64_t *words, size_t len);
+limiter_reply limiter_table_clear(limiter_settings s, const uint64_t *table, size_t table_len, uint64_t *words, size_t len);
 limiter_reply limiter_table_try(limiter_settings s, const uint64_t *table, size_t table_len, uint64_t *words, size_t len, uint64_t now, uint64_t hash,
-                                uint64_t key, uint64_t named, uint32_t cost) __asm__("limiter_class_try");
-/* What the linker calls the inline functions: their own names are those of the library's. */
-static inline limiter_reply limiter_class_set_up(limiter_settings s, const limiter_class *classes, size_t count, uint64_t *words, size_t len)
-    __asm__("limiter_counted_set_up");
-static inline limiter_reply limiter_class_clear(limiter_settings s, const limiter_class *classes, size_t count, uint64_t *words, size_t len)
-    __asm__("limiter_counted_clear");
-static inline limiter_reply limiter_class_try(limiter_settings s, const limiter_class *classes, size_t count, uint64_t *words, size_t len, uint64_t now,
-                                              uint64_t hash, uint64_t key, uint64_t named, uint32_t cost) __asm__("limiter_counted_try");
+                                uint64_t key, uint64_t named, uint32_t cost);
 
 /* The words of a table of `count` classes. More classes than memory can hold stay too many: the call is refused as 5, if not before. */
 static inline size_t limiter_table_words(size_t count)

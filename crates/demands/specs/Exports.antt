@@ -41,9 +41,9 @@ use Rattle.limiter_modems.proofs.limiter_modem_reserve.Reads as ModemReserve
 use Rattle.limiter_modems.proofs.limiter_modem_peek.Reads as ModemPeek
 use Rattle.limiter_modems.proofs.limiter_modem_refund.Reads as ModemRefund
 use Rattle.limiter_modems.proofs.limiter_modem_remove.Reads as ModemRemove
-use Rattle.limiter_classes.proofs.limiter_class_set_up.Reads as ClassSetUp
-use Rattle.limiter_classes.proofs.limiter_class_clear.Reads as ClassClear
-use Rattle.limiter_classes.proofs.limiter_class_try.Reads as ClassTry
+use Rattle.limiter_classes.proofs.limiter_table_set_up.Reads as ClassSetUp
+use Rattle.limiter_classes.proofs.limiter_table_clear.Reads as ClassClear
+use Rattle.limiter_classes.proofs.limiter_table_try.Reads as ClassTry
 use Rattle.demands.specs.Demands.{Table, untabled, tabled, tableFits, Limiter, setUpBy}
 use Rattle.demands.specs.Contracts.{lentAt}
 

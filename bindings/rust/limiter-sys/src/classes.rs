@@ -11,21 +11,21 @@ use crate::{LimiterClass, LimiterReply, LimiterSettings};
     reason = "bindings/c/limiter.h has a comment on each; there the table is counted in classes"
 )]
 unsafe extern "C" {
-    pub fn limiter_class_set_up(
+    pub fn limiter_table_set_up(
         settings: LimiterSettings,
         table: *const u64,
         table_len: usize,
         words: *mut u64,
         len: usize,
     ) -> LimiterReply;
-    pub fn limiter_class_clear(
+    pub fn limiter_table_clear(
         settings: LimiterSettings,
         table: *const u64,
         table_len: usize,
         words: *mut u64,
         len: usize,
     ) -> LimiterReply;
-    pub fn limiter_class_try(
+    pub fn limiter_table_try(
         settings: LimiterSettings,
         table: *const u64,
         table_len: usize,
@@ -72,10 +72,10 @@ macro_rules! with_table {
 }
 
 with_table! {
-    /// `limiter_class_set_up`: makes the words an empty store with these classes, whose buckets are full.
-    set_up = limiter_class_set_up();
-    /// `limiter_class_clear`: forgets all keys and debts, and fills the buckets of the classes.
-    clear = limiter_class_clear();
-    /// `limiter_class_try`: takes tokens from the key's bucket and from every bucket on the chain of a class, if they are there now.
-    try_acquire = limiter_class_try(now: u64, hash: u64, key: u64, class: u64, cost: u32);
+    /// `limiter_table_set_up`: makes the words an empty store with these classes, whose buckets are full.
+    set_up = limiter_table_set_up();
+    /// `limiter_table_clear`: forgets all keys and debts, and fills the buckets of the classes.
+    clear = limiter_table_clear();
+    /// `limiter_table_try`: takes tokens from the key's bucket and from every bucket on the chain of a class, if they are there now.
+    try_acquire = limiter_table_try(now: u64, hash: u64, key: u64, class: u64, cost: u32);
 }

@@ -61,9 +61,9 @@ fn no_words_may_be_null() {
             limiter_remove(SMALL, null_mut(), 0, 7, 7),
             limiter_clear(SMALL, null_mut(), 0),
             limiter_length(SMALL, null(), 0),
-            classes::limiter_class_set_up(SMALL, null(), 0, null_mut(), 0),
-            classes::limiter_class_clear(SMALL, null(), 0, null_mut(), 0),
-            classes::limiter_class_try(SMALL, null(), 0, null_mut(), 0, 0, 7, 7, 0, 1),
+            classes::limiter_table_set_up(SMALL, null(), 0, null_mut(), 0),
+            classes::limiter_table_clear(SMALL, null(), 0, null_mut(), 0),
+            classes::limiter_table_try(SMALL, null(), 0, null_mut(), 0, 0, 7, 7, 0, 1),
         ]
     };
     let refused = reply(LIMITER_BAD_MEMORY, 0, 0);
