@@ -10,8 +10,8 @@
 #define SECOND UINT64_C(1000000000)
 #define MOST_WORDS 860000
 /* The words of a store for one key, and for two, in one shard. */
-#define ONE 18
-#define TWO 31
+#define ONE 19
+#define TWO 32
 
 static uint64_t words[MOST_WORDS];
 static int checks;
@@ -338,7 +338,7 @@ static void refused_counts(void)
     CHECK(both_refused(s, ONE - 1, LIMITER_BAD_MEMORY));
     CHECK(both_refused(s, ONE + 1, LIMITER_BAD_MEMORY));
     CHECK(both_refused(limiter_closed_settings(1), ONE + 1, LIMITER_BAD_MEMORY));
-    /* The counts of slots and of debts, damaged; any other word may be anything. */
+    /* The total and the counts of slots and of debts, damaged; any other word may be anything. */
     for (place = 0; place < ONE; place++) {
         uint64_t code;
         set_up(s);
@@ -347,7 +347,7 @@ static void refused_counts(void)
         CHECK(code == LIMITER_DONE || both_refused(s, ONE, LIMITER_BAD_MEMORY));
         damaged += code != LIMITER_DONE;
     }
-    CHECK(damaged == 2);
+    CHECK(damaged == 3);
 }
 
 /* Every code has a text of its own, and all other codes share one. The names are the codes, and those of refusals are above 10. */

@@ -52,7 +52,7 @@ ask-refused-alike : (s : Settings) (id : Identity) (ask : Ask) (ws vs : List ℕ
     → askRefusal s id ask ws ≡ askRefusal s id ask vs
 unfolding memoryRefusal
 ask-refused-alike s id ask ws vs size like =
-    let counts = λ (total : ℕ) (own : Shard). countRefusal (capOf s) (placesIn (shapeOf s)) total own in
+    let counts : ℕ → Shard → ℕ = λ total own. countRefusal (capOf s) (placesIn (shapeOf s)) total own in
     λ j. firstRefusal (firstRefusal (firstRefusal (settingsRefusal s) (cond (eqb (size j) (memoryWords s)) 0 5)) (counts (like .total j) (like .own .shard j)))
     (furtherOf ask)
 
