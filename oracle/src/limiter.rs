@@ -245,7 +245,9 @@ impl Limiter {
     /// How many slots the Rust has, 0 after a refused set-up.
     #[must_use]
     pub fn total(&self) -> u64 {
-        self.published.as_ref().map_or(0, |store| store.len() as u64)
+        self.published
+            .as_ref()
+            .map_or(0, |store| store.len() as u64)
     }
 
     /// The whole store as words, the total and then shard by shard; no words after a refused set-up.

@@ -121,9 +121,7 @@ pub fn clear<M: Memory + ?Sized>(settings: &Settings, memory: &M) -> Option<u8> 
 
 /// Length: 1 to 5 as set-up, 5 for the total (02, request 10).
 pub fn length<M: Memory + ?Sized>(settings: &Settings, memory: &M) -> Option<u8> {
-    set_up(settings, memory).or_else(|| {
-        refuse(5, memory.total() > Shape::of(settings).places())
-    })
+    set_up(settings, memory).or_else(|| refuse(5, memory.total() > Shape::of(settings).places()))
 }
 
 /// `number` if the call is to be refused with it.

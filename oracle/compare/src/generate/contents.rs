@@ -2,8 +2,8 @@
 
 use std::collections::HashSet;
 
-use oracle::{Key, Shape};
 use oracle::layout::{self, debt, slot};
+use oracle::{Key, Shape};
 
 use super::{MS, Plan, indexes};
 use crate::random::Random;
