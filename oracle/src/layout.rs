@@ -1,8 +1,8 @@
 //! The words of a memory: every width and offset. Nothing else in the oracle or the comparison states one.
 //!
-//! A memory is the total of its slots (02, request 10), then its shards, one after another. A shard is a head (slot count, hand, sweep), `cap` slots, the ledger's head (debt count,
-//! cursor), `cap` debts, and the places of two indexes, of the slots and of the debts. Offsets are counted from the start of the shard, but
-//! for those in [`slot`] and [`debt`].
+//! A memory is the total of its slots (02, request 10), then its shards, one after another. A shard is a head (slot count, hand, sweep),
+//! `cap` slots, the ledger's head (debt count, cursor), `cap` debts, and the places of two indexes, of the slots and of the debts. Offsets
+//! are counted from the start of the shard, but for those in [`slot`] and [`debt`].
 
 use core::ops::Range;
 

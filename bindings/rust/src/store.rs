@@ -77,8 +77,8 @@ impl<W: AsRef<[u64]>> Store<W> {
     ///
     /// # Errors
     ///
-    /// Whatever set-up refuses, or a total that is more than there is room for ([`Store::len`]). No other word is looked at. A count of slots or of debts that is
-    /// more than a shard holds is refused only when a key of that shard asks, and so is a total that is less than the slots of that shard.
+    /// Whatever set-up refuses, or a total that is more than there is room for ([`Store::len`]). No other word is looked at. A count of slots or of debts
+    /// that is more than a shard holds is refused only when a key of that shard asks, and so is a total that is less than the slots of that shard.
     pub fn resume(settings: Settings, words: W) -> Result<Self, Refusal> {
         let store = Self::on(settings, words);
         store.len()?;

@@ -70,7 +70,7 @@ fn words_to_lend() {
 
 #[test]
 fn many_keys_raise_the_shards() {
-    let words = |shards: usize, places: usize| Ok(shards * (5 + 13 * places));
+    let words = |shards: usize, places: usize| Ok(1 + shards * (5 + 13 * places));
     let asked = |keys, shards| Settings::new(R, keys).shards(shards).words();
     assert_eq!(asked(16_384, 0), words(1, 16_384));
     assert_eq!(asked(16_385, 1), words(2, 8_193));

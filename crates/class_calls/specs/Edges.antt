@@ -130,7 +130,8 @@ abbrev keeps : Settings → List ℕ → ℕ → ℕ → Step → ℕ → Edge
 keeps s table size word step code =
     record { settings = s; table = table; words = replicate size word; first = step; others = []; told = code ∷ 0 ∷ 0 ∷ []; left = replicate size word }
 
--- The total, then the words of the one shard, with room for two: its slot count, hand and sweep, two slots, no debts, the four places of the index of the slots, and those of the
+-- The total, then the words of the one shard, with room for two: its slot count, hand and sweep, two slots, no debts, the four places of the index of the
+-- slots, and those of the
 -- index of the debts. A slot is hash, key, shortfall, stamp, mark, last-seen, tries turned away.
 abbrev shardOf : ℕ → List ℕ → List ℕ → List ℕ → List ℕ
 shardOf count slot other index = (count ∷ count ∷ 0 ∷ 0 ∷ []) ++ slot ++ other ++ replicate 6 0 ++ index ++ replicate 4 0

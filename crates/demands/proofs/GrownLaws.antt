@@ -1,5 +1,6 @@
 -- What every call keeps, a grown store has. So in its shards lookup finds each slot and each debt: none holds more items than it has room for, lookup misses
--- none, and no two slots are of one key. Their indexes are exact, and the total is the sum of their slots. Whether a call of the store is refused follows from the call alone, and a clear is accepted.
+-- none, and no two slots are of one key. Their indexes are exact, and the total is the sum of their slots. Whether a call of the store is refused follows from
+-- the call alone, and a clear is accepted.
 use Prim.Native.Nat.{ℕ, zero, suc, _+_, _*_, _/_, _%_, _≤_, _<_, _^_}
 use native.Mathlib.Omega.{arith}
 use native.Mathlib.Nat.{mul-div-cancel, mod-eq-of-lt}

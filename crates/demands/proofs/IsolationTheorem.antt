@@ -21,7 +21,7 @@ use Rattle.rules.proofs.KeyedLaws.{ask-not-refused}
 use Rattle.rules.proofs.CallLaws.{refusalOf, ruleOf, not-refused-is-ruled, refused-is-told, keyed-not-refused}
 use Rattle.demands.specs.Demands.{Limiter, Demand2}
 use Rattle.demands.specs.Grown.{Grown}
-use Rattle.demands.specs.Isolation.{SameShard, SameShardAndTotal, AlikeInShard, AlikeInShardAndTotal, settingsIn, hashOf, always, codeCanBeGiven, Isolated}
+use Rattle.demands.specs.Isolation.{SameShard, SameShardAndTotal, AlikeInShard, settingsIn, always, codeCanBeGiven, Isolated}
 use Rattle.demands.proofs.OneShardLaws.{WorksInOneShard, asks-work-in-one-shard}
 use Rattle.demands.proofs.GrownLaws.{grown-refusal-is-the-calls-own}
 

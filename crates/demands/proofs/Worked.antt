@@ -58,7 +58,8 @@ workedTurns = twoKeysCome ++ oneKeyGoes
 abbrev pub workedAnswers : List Reply
 workedAnswers = Tried (Acquired (dueNow start)) ∷ Tried (Acquired (dueNow start)) ∷ Refused 6 ∷ Refused 7 ∷ Done ∷ Count 1 ∷ []
 
--- The words are as in the table of edges: the total, slot count, hand and sweep, the slots, debt count and cursor, the debts, the index of the slots, that of the debts.
+-- The words are as in the table of edges: the total, slot count, hand and sweep, the slots, debt count and cursor, the debts, the index of the slots, that of
+-- the debts.
 pub record Worked : Type 0 where
   pub accepted : setUp (roomFor 2) (memory (roomFor 2)) .answer ≡ Done
   pub of-store : AllOf byKey (roomFor 2) workedTurns

@@ -123,7 +123,8 @@ abbrev pub allHold : List Edge → Bool
 allHold [] = true
 allHold (edge ∷ rest) = passes edge && allHold rest
 
--- The table. The first word is the total of the slots; here it is the slot count of the one shard. The words of a shard are its slot count, hand and sweep, seven a slot (hash, key, shortfall, stamp, mark, last-seen, tries turned away), its debt
+-- The table. The first word is the total of the slots; here it is the slot count of the one shard. The words of a shard are its slot count, hand and sweep,
+-- seven a slot (hash, key, shortfall, stamp, mark, last-seen, tries turned away), its debt
 -- count and cursor, two a debt (hash, settles-at), then the index of the slots and that of the debts, of two places for each slot and each debt. A place holds
 -- 0, or the number of an item, from 0, plus 1; for two places the home of a hash is its last bit.
 abbrev pub edges : List Edge

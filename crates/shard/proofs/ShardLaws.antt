@@ -200,7 +200,8 @@ module _ (s : Shard) (u : Sound s) where
       owed : OptionNanos
       owed = Ledger.taken (s .ledger) (id .hash) .answer
 
-      go : (answer : Room) → roomFor p id at s .answer ≡ answer → admitted p id request cost at owed (roomFor p id at s .after) answer .after .slots .count ≤ capOf s
+      go : (answer : Room) → roomFor p id at s .answer ≡ answer
+          → admitted p id request cost at owed (roomFor p id at s .after) answer .after .slots .count ≤ capOf s
       go Made made = omega (arith, room-made-leaves-room p at (debtTaken id s) v made, room .cap)
       go (Refused due) told = rw (put-back-keeps-slots (id .hash) at owed (roomFor p id at s .after)) (omega (arith, room .sound .count-fits, room .cap))
 

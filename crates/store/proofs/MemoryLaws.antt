@@ -23,7 +23,8 @@ use Rattle.shard_map.specs.Layout.{shardWords}
 use Rattle.shard_map.proofs.LayoutLaws.{cap-is}
 use Rattle.shard_map.proofs.ReadBack.{Sized, Empty, words-length, shard-of-words, debt-cap-is, shard-sized, zeros-empty, zeros-complete}
 use Rattle.shard.proofs.ShardLaws.{SameRoom}
-use Rattle.store.specs.Memory.{withSegment, totalAt, totalOf, totalAfter, shardsAt, shardStart, shardEnd, placesIn, classesAt, wordsIn, memoryWords, partStart, partOf, Placed, shardAt, inShard}
+use Rattle.store.specs.Memory.{withSegment, totalAt, totalOf, totalAfter, shardsAt, shardStart, shardEnd, placesIn, classesAt, wordsIn, memoryWords}
+use Rattle.store.specs.Memory.{partStart, partOf, Placed, shardAt, inShard}
 
 -- A shard ends before one of a higher number begins.
 pub shard-ends-before : (cap i j : ℕ) → i < j → shardEnd cap i ≤ shardStart cap j
@@ -67,7 +68,8 @@ pub part-placed : (s : Settings) (hash : ℕ) (ws : List ℕ) → length ws ≡ 
 part-placed s hash ws size = record { begins = omega arith; ends = refl; within = shard-fits s hash ws size }
 
 -- It ends at a small number if the sizes are accepted.
-shard-start-most : (s : Settings) (hash : ℕ) → sizeRefusal s ≡ 0 → partStart (shapeOf s) hash + shardWords (capOf s) ≤ shardsAt + mostShards * shardWords mostKeysInShard
+shard-start-most : (s : Settings) (hash : ℕ) → sizeRefusal s ≡ 0
+    → partStart (shapeOf s) hash + shardWords (capOf s) ≤ shardsAt + mostShards * shardWords mostKeysInShard
 shard-start-most s hash accepted = le-trans (shard-ends-before (capOf s) (shardOf s hash) (shardCount s) (shard-below s hash)) (shards-end-early s accepted)
 
 pub part-ends-early : {shape : Shape} (hash : ℕ) → ShapeOfAccepted shape

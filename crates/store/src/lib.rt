@@ -90,7 +90,8 @@ pub fn admit(
     cost: u32,
     at: Nanos,
 ) -> BucketDecision
-    requires { ⌜ Placed part (now ws) × Sound (shardIn part (now ws)) × Accepted (policy .config) × (cost ≤ policy .config .capacity) × Counted part (now ws) ⌝ }
+    requires { ⌜ Placed part (now ws) × Sound (shardIn part (now ws)) × Accepted (policy .config) × (cost ≤ policy .config .capacity)
+        × Counted part (now ws) ⌝ }
     ensures { λ r. ⌜ outcome r (now (ws .exit)) ≡ inPart part (now (ws .entry)) (OneShard.admit policy id request cost at (shardIn part (now (ws .entry)))) ⌝ }
 {
     let start = part.start;

@@ -1,51 +1,40 @@
+-- `move_total` adds the slots in the part, and stores the sum in the first word.
 use Rattle.store.proofs.LendingLaws.{lent-starts, lent-length, lent-shard}
 use native.Mathlib.Omega.{arith}
 use borrow.Author.Needs.{needs}
 use Rattle.store.proofs.move_total.Statement.{statement}
 use Rattle.store.proofs.move_total.Tie as tie
-use Rattle.store.proofs.move_total.Reads as reads
-use Rattle.store.proofs.move_total.Lts as lts
-use Rattle.shard_map.proofs.len.Reads as len-reads
 
--- src/lib.rt:121:30
 mul-len : tie.Need-mul-len
 mul-len c =
     let pre′ = c .before .pre in
     record { fits = omega (arith, pre′ .0 .within, lent-starts (pre′ .0)) }
 
--- src/lib.rt:121:30
 sub-len : tie.Need-sub-len
 sub-len c = lent-starts (c .before .pre .0)
 
--- src/lib.rt:121:30
 part-len-start : tie.Need-part-len-start
 part-len-start c = lent-starts (c .before .before .pre .0)
 
--- src/lib.rt:121:30
 part-len-end : tie.Need-part-len-end
 part-len-end c = c .before .before .pre .0 .within
 
--- src/lib.rt:121:15
 len-requires : tie.Need-len-requires
 len-requires c κs = lent-length (c .before .before .before .pre .0)
 
--- src/lib.rt:122:27
 add-ws : tie.Need-add-ws
 add-ws c =
     let pre′ = c .before .before .before .before .pre in
     record { fits = rw (c .len .ensures, lent-shard (pre′ .0)) (pre′ .1) }
 
--- src/lib.rt:122:5
 slice-write-ws : tie.Need-slice-write-ws
 slice-write-ws c =
     let pre′ = c .before .before .before .before .pre in
     omega (arith, pre′ .0 .within, pre′ .0 .begins, lent-starts (pre′ .0))
 
--- src/lib.rt:115:1
 same-length : tie.Need-same-length
 same-length c = search needs
 
--- src/lib.rt:115:1
 returns : tie.Need-returns
 returns c = rw (c .len .ensures, lent-shard (c .before .before .before .before .pre .0))
 

@@ -1,47 +1,37 @@
+-- `other_slots` takes the slots in the part from the total, which counts them.
 use Rattle.store.proofs.LendingLaws.{lent-starts, lent-length, lent-shard}
 use native.Mathlib.Omega.{arith}
 use borrow.Author.Needs.{needs}
 use Rattle.store.proofs.other_slots.Statement.{statement}
 use Rattle.store.proofs.other_slots.Tie as tie
-use Rattle.store.proofs.other_slots.Reads as reads
-use Rattle.store.proofs.other_slots.Lts as lts
-use Rattle.shard_map.proofs.len.Reads as len-reads
 
--- src/lib.rt:111:5
 shared-slice-read-result : tie.Need-shared-slice-read-result
 shared-slice-read-result c =
     let pre′ = c .before .before .pre in
     omega (arith, pre′ .0 .within, pre′ .0 .begins, lent-starts (pre′ .0))
 
--- src/lib.rt:111:43
 mul-len : tie.Need-mul-len
 mul-len c =
     let pre′ = c .before .before .pre in
     record { fits = omega (arith, pre′ .0 .within, lent-starts (pre′ .0)) }
 
--- src/lib.rt:111:43
 sub-len : tie.Need-sub-len
 sub-len c = lent-starts (c .before .before .pre .0)
 
--- src/lib.rt:111:43
 part-len-start : tie.Need-part-len-start
 part-len-start c = lent-starts (c .before .before .pre .0)
 
--- src/lib.rt:111:43
 part-len-end : tie.Need-part-len-end
 part-len-end c = c .before .before .pre .0 .within
 
--- src/lib.rt:111:28
 len-requires : tie.Need-len-requires
 len-requires c κs = lent-length (c .before .before .before .pre .0)
 
--- src/lib.rt:111:5
 sub-result : tie.Need-sub-result
 sub-result c =
     let pre′ = c .before .before .before .before .pre in
     rw (c .len .ensures, lent-shard (pre′ .0)) (pre′ .1 .covers)
 
--- src/lib.rt:105:1
 returns : tie.Need-returns
 returns c = rw (c .len .ensures, lent-shard (c .before .before .before .before .pre .0))
 

@@ -51,8 +51,8 @@ const fn refusable(call: usize) -> usize {
     }
 }
 
-/// Whether a call can be refused for a reason: the reasons come in order, but length looks at no shard and at the total alone. Three calls are lent a table, and
-/// the last of them names a class.
+/// Whether a call can be refused for a reason: the reasons come in order, but length looks at no shard and at the total alone. Three calls are lent a table,
+/// and the last of them names a class.
 pub const fn reason_applies(call: usize, reason: usize) -> bool {
     match reason {
         ..BEFORE_TABLE => reason < refusable(call) || call == LENGTH_CALL && reason == TOTAL_OVER,

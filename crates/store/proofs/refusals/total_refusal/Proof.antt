@@ -1,16 +1,13 @@
+-- `total_refusal` compares the total with the room.
 use Rattle.store.proofs.RefusalLaws.{total-over-is-refused, total-is-accepted}
 use mathlib.Core.Path.{sym}
 use borrow.Author.Needs.{needs}
 use Rattle.store.proofs.refusals.total_refusal.Statement.{statement}
 use Rattle.store.proofs.refusals.total_refusal.Tie as tie
-use Rattle.store.proofs.refusals.total_refusal.Reads as reads
-use Rattle.store.proofs.refusals.total_refusal.Lts as lts
 
--- src/refusals.rt:35:1
 returns : tie.Need-returns
 returns c = sym (total-over-is-refused _ _ (c .if1 .taken))
 
--- src/refusals.rt:35:1
 returns-2 : tie.Need-returns-2
 returns-2 c = sym (total-is-accepted _ _ (c .if1 .left))
 

@@ -1,16 +1,13 @@
+-- `places_in` multiplies small numbers: the shape is that of an accepted size.
 use Rattle.store.proofs.MemoryLaws.{accepted-places-few}
 use native.Mathlib.Omega.{arith}
 use borrow.Author.Needs.{needs}
 use Rattle.store.proofs.words.places_in.Statement.{statement}
 use Rattle.store.proofs.words.places_in.Tie as tie
-use Rattle.store.proofs.words.places_in.Reads as reads
-use Rattle.store.proofs.words.places_in.Lts as lts
 
--- src/words.rt:36:5
 mul-result : tie.Need-mul-result
 mul-result c = record { fits = omega (arith, accepted-places-few (c .before .pre)) }
 
--- src/words.rt:32:1
 returns : tie.Need-returns
 returns c = search needs
 
