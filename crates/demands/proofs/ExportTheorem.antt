@@ -172,14 +172,19 @@ module _ (κs : Lfts 1) (κs₂ : Lfts 2) (ptr otherPtr : ℕ × ℕ) (name othe
 
         ruled : (call : Call LimiterSettings Name) (ws : List ℕ) → fits exported call ≡ true → lendable ws ≡ true
             → through e call ws ≡ told (rules exported call ws)
-        ruled (keyed n (key id) (requests Acquire at cost)) ws = λ fit lent. keyed-rule n id (requests Acquire at cost) ws (c .by-key .tries n at id cost ws fit lent tt)
+        ruled (keyed n (key id) (requests Acquire at cost)) ws = λ fit lent.
+            keyed-rule n id (requests Acquire at cost) ws (c .by-key .tries n at id cost ws fit lent tt)
         ruled (keyed n (key id) (requests (Reserve longest) at cost)) ws = λ fit lent.
             keyed-rule n id (requests (Reserve longest) at cost) ws (c .by-key .reserves n at id cost longest ws fit lent tt)
         ruled (keyed n (key id) (requests (Through others) at cost)) ws = λ fit lent. absurd (no-call-through-others exported n (key id) others at cost fit)
-        ruled (keyed n (key id) (looks (peeks at cost))) ws = λ fit lent. keyed-rule n id (looks (peeks at cost)) ws (c .by-key .peeks n at id cost ws fit lent tt)
-        ruled (keyed n (key id) (looks (tokens at))) ws = λ fit lent. keyed-rule n id (looks (tokens at)) ws (c .by-key .tells-available n at id ws fit lent tt)
-        ruled (keyed n (key id) (looks turnedAway)) ws = λ fit lent. keyed-rule n id (looks turnedAway) ws (c .by-key .tells-turned-away n id ws fit lent tt)
-        ruled (keyed n (key id) (undoes (refunds cost))) ws = λ fit lent. keyed-rule n id (undoes (refunds cost)) ws (c .by-key .refunds n id cost ws fit lent tt)
+        ruled (keyed n (key id) (looks (peeks at cost))) ws = λ fit lent.
+            keyed-rule n id (looks (peeks at cost)) ws (c .by-key .peeks n at id cost ws fit lent tt)
+        ruled (keyed n (key id) (looks (tokens at))) ws = λ fit lent.
+            keyed-rule n id (looks (tokens at)) ws (c .by-key .tells-available n at id ws fit lent tt)
+        ruled (keyed n (key id) (looks turnedAway)) ws = λ fit lent.
+            keyed-rule n id (looks turnedAway) ws (c .by-key .tells-turned-away n id ws fit lent tt)
+        ruled (keyed n (key id) (undoes (refunds cost))) ws = λ fit lent.
+            keyed-rule n id (undoes (refunds cost)) ws (c .by-key .refunds n id cost ws fit lent tt)
         ruled (keyed n (key id) (undoes removes)) ws = λ fit lent. keyed-rule n id (undoes removes) ws (c .by-key .removes n id ws fit lent tt)
         ruled (keyed n (key id) (passes table class at cost)) ws = λ fit lent.
             keyed-rule n id (passes table class at cost) ws (c .by-class .tries n table class at id cost ws fit lent tt)

@@ -83,8 +83,7 @@ abbrev pub exported : Terms LimiterSettings Name
 exported = namedIn settingsOf numbersFit
 
 -- The export by which a call is made, with the call's own numbers. There is none for the tokens and the count of an address, for a try through a class by
--- address, and for a try that waits for other buckets. No list has such a call, since it does not fit (`offeredByAddress` of `modems` and `requestFits` of
--- `rules` are false of it).
+-- address, and for a try that waits for other buckets. No list has such a call: `offeredByAddress` of `modems` or `requestFits` of `rules` is false of it.
 abbrev noExport : Gives
 noExport ws = outcome (toldOf Nothing) ws
 

@@ -16,7 +16,7 @@ use Rattle.shard.specs.declared.Identity.{Identity}
 use Rattle.rules.specs.declared.Reply.{Reply}
 use Rattle.rules.specs.declared.Reply.the-variants.{Tried, Reserved, Nothing, Done, Count, Refused}
 use Rattle.rules.specs.Replies.{ofGrant}
-use Rattle.rules.specs.Asks.{Ask, requests, looks, undoes, mannerOf}
+use Rattle.rules.specs.Asks.{Ask, requests, looks, undoes, passes, asTry, mannerOf}
 use Rattle.rules.specs.Calls as Calls
 use Rattle.rules.specs.Calls.{Call, keyed, whole, Answered, rules, replies, accepted, fits, allFit, Every}
 use Rattle.rules.proofs.CallLaws.{refusalOf, keyed-not-refused, accepted-not-refused, unaccepted-refused}
@@ -79,17 +79,20 @@ module _ (k : List ℕ) (t u : ℕ) where
   ask-tokens-le bytes (requests r at cost) reply = grant-le _ _ (λ wait. usable-le bytes (Demands.usableFrom (mannerOf r) at wait) cost) reply
   ask-tokens-le bytes (looks l) reply = omega arith
   ask-tokens-le bytes (undoes undo) reply = omega arith
+  ask-tokens-le bytes (passes table class at cost) reply = grant-le _ _ (λ wait. usable-le bytes (Demands.usableFrom asTry at wait) cost) reply
 
   ask-refused-has-no-tokens : (bytes : List ℕ) (ask : Ask) (n : ℕ) → askTokens k t u bytes ask (Refused n) ≡ 0
   ask-refused-has-no-tokens bytes (requests r at cost) n = refl
   ask-refused-has-no-tokens bytes (looks l) n = refl
   ask-refused-has-no-tokens bytes (undoes undo) n = refl
+  ask-refused-has-no-tokens bytes (passes table class at cost) n = refl
 
   others-have-no-tokens : (bytes : List ℕ) (ask : Ask) (reply : Reply) → sameBytes bytes k ≡ false → askTokens k t u bytes ask reply ≡ 0
   unfolding usable
   others-have-no-tokens bytes (requests r at cost) reply other = rw other (grant-of-nothing reply)
   others-have-no-tokens bytes (looks l) reply other = refl
   others-have-no-tokens bytes (undoes undo) reply other = refl
+  others-have-no-tokens bytes (passes table class at cost) reply other = rw other (grant-of-nothing reply)
 
 module _ {S : Type 0} (means : S → Settings) (fit : S → Bool) where
   abbrev terms : Calls.Terms S (List ℕ)
@@ -137,6 +140,7 @@ module _ {S : Type 0} (means : S → Settings) (fit : S → Bool) where
     other-key-undone (keyed s bytes (undoes u)) reply ws fits′ taken not-k = λ hashes keys.
         let named = accepted-is-address s bytes (undoes u) reply ws fits′ taken in
         not-k (equal-keys-have-equal-addresses bytes k (named .1) (is-address .1) (named .0) (is-address .0) keys)
+    other-key-undone (keyed s bytes (passes table class at cost)) reply ws fits′ taken not-k = tt
     other-key-undone (whole s what) reply ws fits′ taken not-k = tt
 
     pub never-refunded-or-removed : (answered : List (Answered S (List ℕ))) → Every Kept answered → NeverRefundedOrRemoved means fit k answered

@@ -14,7 +14,7 @@ use Rattle.settings.specs.declared.eviction.WhenFull.the-variants.{RefuseNew}
 use Rattle.settings.specs.declared.rate.Rate.{Rate}
 use Rattle.settings.specs.Rate.{burstOf}
 use Rattle.rules.specs.declared.Reply.the-variants.{Done}
-use Rattle.rules.specs.Rules.{setUp}
+use Rattle.rules.specs.Rules.{setUpFor}
 use Rattle.rules.specs.Widths.{settingsFit, lendable}
 use Rattle.rules.specs.Calls as Calls
 use Rattle.rules.specs.Calls.{Call, keyed, whole, Answered, rules, replies, fits, allFit, Every}
@@ -23,7 +23,7 @@ use Rattle.modems.specs.Names.{Name, address, namedIn, byName, byAddress}
 use Rattle.limiter.specs.declared.LimiterSettings.{LimiterSettings}
 use Rattle.limiter.specs.Exported as Exported
 use Rattle.demands.specs.Demands as Demands
-use Rattle.demands.specs.Demands.{Limiter, answering, Demand2}
+use Rattle.demands.specs.Demands.{tableWords, Limiter, setUpBy, settingsBy, answering, Demand2}
 use Rattle.demands.specs.Contracts.{Contracts}
 use Rattle.demands.specs.Exports.{Exports, numbersFit, exported, called, ExportContracts}
 use Rattle.demands.proofs.LendableTheorem.{set-up-leaves-words-lendable}
@@ -56,29 +56,32 @@ module _ {S : Type 0} (means : S → Settings) (fit : S → Bool) where
       nothing : (IsAddress k → ⊥) → tokensUsable k t u answered * rate .period .0 ≤ burstOf rate * rate .period .0 + (u - t + 1) * rate .amount
       nothing no-address = rw (no-address-no-tokens means fit k t u no-address answered kept) (omega arith)
 
-  pub rules-stay-within-the-address-window : (s : Settings) (rate : Rate) (ws : List ℕ) → s .limit ≡ Open rate → s .eviction .«when_full» ≡ RefuseNew
-      → setUp s ws .answer ≡ Done → (cs : List (Call S (List ℕ))) → allFit terms cs ≡ true
-      → WithinWindow means fit s rate (replies terms (rules terms) cs (setUp s ws .after) (setUp s ws .after))
-  rules-stay-within-the-address-window s rate ws rated refuses done′ cs fits′ =
-      let fresh = setUp s ws .after in
+  pub rules-stay-within-the-address-window : (s : Settings) (rate : Rate) (table ws : List ℕ) → s .limit ≡ Open rate
+      → s .eviction .«when_full» ≡ RefuseNew → setUpFor s table ws .answer ≡ Done → (cs : List (Call S (List ℕ))) → allFit terms cs ≡ true
+      → WithinWindow means fit s rate (replies terms (rules terms) cs (setUpFor s table ws .after) (setUpFor s table ws .after))
+  rules-stay-within-the-address-window s rate table ws rated refuses done′ cs fits′ =
+      let fresh = setUpFor s table ws .after in
       within-for-addresses s rate (replies terms (rules terms) cs fresh fresh) (rules-keep means fit cs fresh fits′)
-      (rules-stay-within-the-window terms s rate ws rated refuses done′ cs)
+      (rules-stay-within-the-window terms s rate table ws rated refuses done′ cs)
 
   pub rules-meet-address-demand3 : AddressDemand3 means fit (answering terms (rules terms))
   rules-meet-address-demand3 = record {
-    window = λ s rate ws _ _ rated refuses done′ cs fits′. rules-stay-within-the-address-window (means s) rate ws rated refuses done′ cs fits′;
+    window = λ table s rate ws _ _ _ rated refuses done′ cs fits′.
+        rules-stay-within-the-address-window (settingsBy terms table s) rate (tableWords table) ws rated refuses done′ cs fits′;
     own-bucket = rules-meet-demand3 terms .own-bucket;
   }
 
   -- So does every limiter that meets demand 2.
   module _ (l : Limiter S (List ℕ)) (equal : Demand2 terms l) where
     keeps : AddressWindow means fit l
-    keeps s rate ws fits′ lent rated refuses =
-        let fresh = set-up-leaves-words-lendable (means s) ws lent in
-        rw (equal .sets-up s ws fits′ lent)
+    keeps table s rate ws few fits′ lent rated refuses =
+        let settings : Settings = settingsBy terms table s in
+        let left : List ℕ = setUpBy terms table s ws .after in
+        let fresh = set-up-leaves-words-lendable settings (tableWords table) ws lent in
+        rw (equal .sets-up table s ws few fits′ lent)
         (λ done′ cs all.
-        rw (same-replies terms (addresses-fit means fit) l equal cs (setUp (means s) ws .after) (setUp (means s) ws .after) all fresh)
-        (rules-stay-within-the-address-window (means s) rate ws rated refuses done′ cs all))
+        rw (same-replies terms (addresses-fit means fit) l equal cs left left all fresh)
+        (rules-stay-within-the-address-window settings rate (tableWords table) ws rated refuses done′ cs all))
 
     pub demand2-gives-address-demand3 : AddressDemand3 means fit l
     demand2-gives-address-demand3 = record { window = keeps; own-bucket = demand2-gives-demand3 terms (addresses-fit means fit) l equal .own-bucket }

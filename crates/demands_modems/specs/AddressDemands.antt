@@ -9,7 +9,8 @@
 -- Each call gets the words that the call before it left.                                                 replies (Calls)
 --
 -- The window.                                                                                            AddressWindow
--- The settings have a rate and turn new keys away when full, and the list starts from the words that an accepted set-up leaves.
+-- The settings have a rate and turn new keys away when full, and the list starts from the words that an accepted set-up leaves, with a class table or
+-- without one.                                                                                           Table (Demands)
 -- Of the calls that are not refused by number                                                            accepted (Calls)
 -- all have these settings,                                                                               SameSettings (Demands)
 -- the moments never fall,                                                                                TimesNeverFall (Demands)
@@ -37,14 +38,13 @@ use Rattle.settings.specs.Rate.{burstOf}
 use Rattle.rules.specs.declared.Reply.{Reply}
 use Rattle.rules.specs.declared.Reply.the-variants.{Done}
 use Rattle.rules.specs.Replies.{ofGrant}
-use Rattle.rules.specs.Asks.{Ask, requests, looks, undoes, mannerOf}
-use Rattle.rules.specs.Rules.{setUp}
+use Rattle.rules.specs.Asks.{Ask, requests, looks, undoes, passes, asTry, mannerOf}
 use Rattle.rules.specs.Widths.{lendable}
 use Rattle.rules.specs.Calls.{Call, keyed, whole, Terms, Answered, replies, accepted, allFit, Every}
 use Rattle.modems.specs.Address.{hashOf}
 use Rattle.modems.specs.Names.{addressedIn}
 use Rattle.demands.specs.Demands as Demands
-use Rattle.demands.specs.Demands.{Limiter, SameSettings, TimesNeverFall, OwnBucket, usableFrom}
+use Rattle.demands.specs.Demands.{Table, tableFits, Limiter, setUpBy, settingsBy, SameSettings, TimesNeverFall, OwnBucket, usableFrom}
 
 -- Whether two addresses are the same, byte by byte.
 abbrev pub sameBytes : List ℕ → List ℕ → Bool
@@ -61,6 +61,7 @@ abbrev pub askTokens : List ℕ → ℕ → ℕ → List ℕ → Ask → Reply �
 askTokens k t u bytes (requests r at cost) reply = ofGrant (λ wait. usable k t u bytes (usableFrom (mannerOf r) at wait) cost) 0 reply
 askTokens k t u bytes (looks l) reply = 0
 askTokens k t u bytes (undoes undo) reply = 0
+askTokens k t u bytes (passes table class at cost) reply = ofGrant (λ wait. usable k t u bytes (usableFrom asTry at wait) cost) 0 reply
 
 module _ {S : Type 0} where
   abbrev pub tokensOf : List ℕ → ℕ → ℕ → Call S (List ℕ) → Reply → ℕ
@@ -80,6 +81,7 @@ module _ {S : Type 0} where
   ofUndone Q (keyed s bytes (requests r at cost)) = Unit {0}
   ofUndone Q (keyed s bytes (looks l)) = Unit {0}
   ofUndone Q (keyed s bytes (undoes u)) = Q bytes
+  ofUndone Q (keyed s bytes (passes table class at cost)) = Unit {0}
   ofUndone Q (whole s what) = Unit {0}
 
 module _ {S : Type 0} (means : S → Settings) (fit : S → Bool) where
@@ -111,10 +113,11 @@ module _ {S : Type 0} (means : S → Settings) (fit : S → Bool) where
   -- Demand 3 for addresses: the window, and the own bucket.
   abbrev pub AddressWindow : Limiter S (List ℕ) → Type 0
   AddressWindow l =
-      (s : S) (rate : Rate) (ws : List ℕ) → fit s ≡ true → lendable ws ≡ true →
-      means s .limit ≡ Open rate → means s .eviction .«when_full» ≡ RefuseNew → setUp (means s) ws .answer ≡ Done →
+      (table : Table) (s : S) (rate : Rate) (ws : List ℕ) → tableFits table ≡ true → fit s ≡ true → lendable ws ≡ true →
+      means s .limit ≡ Open rate → means s .eviction .«when_full» ≡ RefuseNew → setUpBy addressed table s ws .answer ≡ Done →
       (cs : List (Call S (List ℕ))) → allFit addressed cs ≡ true →
-      WithinWindow (means s) rate (replies addressed (l .answers) cs (l .sets-up s ws .after) (l .sets-up s ws .after))
+      WithinWindow (settingsBy addressed table s) rate
+      (replies addressed (l .answers) cs (l .sets-up table s ws .after) (l .sets-up table s ws .after))
 
   pub record AddressDemand3 (l : Limiter S (List ℕ)) : Type 0 where
     pub window : AddressWindow l

@@ -8,32 +8,15 @@ use lib.ListN.{length, getD, drop, length-append}
 use lib.Seq.{take-at, drop-at, drop-drop}
 use Rattle.rows.specs.Segments.{segment}
 use Rattle.rows.specs.Rows.{rows, unrow}
+use Rattle.rows.proofs.RowLaws.{written-length, rows-of-written}
 use Rattle.held.specs.Layout.{tableIn}
 
 -- `write` gives the words of an item, w of them.
 module _ {A : Type 0} (write : A → List ℕ) (w : ℕ) (long : (x : A) → length (write x) ≡ w) where
-  -- The items take w words each.
-  written-length : (items : List A) → length (unrow (map write items)) ≡ w * length items
-  unfolding unrow
-  written-length [] = sym (mul-zero w)
-  written-length (x ∷ items) = rw (length-append, long x, written-length items, mul-suc) (omega arith)
-
-  -- `read` makes an item of its words. The rows of written items, read, are the items.
-  rows-of-written : (read : List ℕ → A) → ((x : A) → read (write x) ≡ x) → (items : List A) → map read (rows w (length items) (unrow (map write items))) ≡ items
-  unfolding rows unrow
-  rows-of-written read back [] = refl
-  rows-of-written read back (x ∷ items) =
-      rw (
-        take-at (write x) (unrow (map write items)) w (long x),
-        drop-at (write x) (unrow (map write items)) w (long x),
-        back x,
-        rows-of-written read back items,
-      )
-
   -- Items written between a head and a rest.
   module _ (items : List A) (head rest : List ℕ) {cap first : ℕ} (full : length items ≡ cap) (headed : length head ≡ first) where
     rows-there : length (unrow (map write items)) ≡ w * cap
-    rows-there = rw (written-length items, full)
+    rows-there = rw (written-length write w long items, full)
 
     -- How long these words are.
     pub between-length : length (head ++ (unrow (map write items) ++ rest)) ≡ first + w * cap + length rest
@@ -48,7 +31,7 @@ module _ {A : Type 0} (write : A → List ℕ) (w : ℕ) (long : (x : A) → len
         let front-there = take-at head (own ++ rest) first headed in
         let past-head = drop-at head (own ++ rest) first headed in
         let items-there : map read (rows w cap (segment first (w * cap) (head ++ (own ++ rest)))) ≡ items =
-        rw (past-head, take-at own rest (w * cap) rows-there, ← full) (rows-of-written read back items) in
+        rw (past-head, take-at own rest (w * cap) rows-there, ← full) (rows-of-written write w long read back items) in
         let rest-there : drop (first + w * cap) (head ++ (own ++ rest)) ≡ rest =
         rw (← drop-drop (w * cap) first (head ++ (own ++ rest)), past-head) (drop-at own rest (w * cap) rows-there) in
         λ j. record { head = λ k. getD (front-there j) k 0; places = items-there j; rest = rest-there j }

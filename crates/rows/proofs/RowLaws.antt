@@ -4,9 +4,9 @@ use native.Mathlib.Omega.{arith}
 use native.Mathlib.Nat.{mul-suc, mul-zero, zero-add, add-zero, add-suc, mul-le-mul-left}
 use mathlib.Core.Path.{_≡_, refl, ap, sym, _∙_, subst}
 use mathlib.Core.List.{List, [], _∷_, map, append-nil}
-use lib.ListN.{length, getD, set, take, drop, length-drop, List·getD-map, drop-of-length-le}
+use lib.ListN.{length, getD, set, take, drop, length-append, length-drop, List·getD-map, drop-of-length-le}
 use lib.Seq.{drop-drop, take-set-lt, take-set-le, drop-set-lt, drop-set-add, getD-take, getD-drop, length-take-le, sets, getD-set-same}
-use lib.Seq.{set-getD, set-set, take-add, take-all, sets-eq}
+use lib.Seq.{set-getD, set-set, take-add, take-all, take-at, drop-at, sets-eq}
 use Rattle.rows.specs.Rows.{rows, unrow}
 use Rattle.rows.specs.Segments.{segment}
 
@@ -106,6 +106,27 @@ rows-round f g w (suc n) ws r h =
     let e = next-row w n in
     let d = length-drop w ws in
     rw (r (take w ws) (length-take-le w ws (omega arith)), rows-round f g w n (drop w ws) r (omega arith))
+
+-- Items written as rows and read back. `write` gives the words of an item, w of them.
+module _ {A : Type 0} (write : A → List ℕ) (w : ℕ) (long : (x : A) → length (write x) ≡ w) where
+  -- The items take w words each.
+  pub written-length : (items : List A) → length (unrow (map write items)) ≡ w * length items
+  unfolding unrow
+  written-length [] = sym (mul-zero w)
+  written-length (x ∷ items) = rw (length-append, long x, written-length items, mul-suc) (omega arith)
+
+  -- `read` makes an item of its words. The rows of written items, read, are the items.
+  pub rows-of-written : (read : List ℕ → A) → ((x : A) → read (write x) ≡ x) → (items : List A)
+      → map read (rows w (length items) (unrow (map write items))) ≡ items
+  unfolding rows unrow
+  rows-of-written read back [] = refl
+  rows-of-written read back (x ∷ items) =
+      rw (
+        take-at (write x) (unrow (map write items)) w (long x),
+        drop-at (write x) (unrow (map write items)) w (long x),
+        back x,
+        rows-of-written read back items,
+      )
 
 -- Records of w words, where f reads a record from its row.
 sets-all : (row vs : List ℕ) → length vs ≡ length row → sets row 0 vs ≡ vs
