@@ -23,7 +23,7 @@
 
 /* The version of this interface. A change that a caller has to know of raises the minor number while the major one is 0. */
 #define LIMITER_VERSION_MAJOR 0
-#define LIMITER_VERSION_MINOR 7
+#define LIMITER_VERSION_MINOR 8
 #define LIMITER_VERSION_PATCH 0
 #define LIMITER_VERSION "0.8.0"
 /* The same as one number: 65,536 times the major number, 256 times the minor one, and the patch. */

@@ -168,12 +168,12 @@ fn the_words_to_lend() {
     assert_eq!(limiter_words(SMALL), ONE as u64);
     assert_eq!(limiter_words(LimiterSettings::default()), ONE as u64);
     let keys = |max_keys| limiter_words(LimiterSettings { max_keys, ..SMALL });
-    assert_eq!([keys(4_096), keys(65_536)], [53_253, 851_988]);
+    assert_eq!([keys(4_096), keys(65_536)], [53_254, 851_989]);
     assert_eq!([keys(65_537), keys(u64::MAX)], [0, 0]);
     let shards = |shards| limiter_words(LimiterSettings { shards, ..SMALL });
     assert_eq!(
         [shards(64), shards(65), shards(u64::MAX)],
-        [64 * ONE as u64, 0, 0]
+        [1 + 64 * (ONE as u64 - 1), 0, 0]
     );
     let classes = |classes| limiter_words(LimiterSettings { classes, ..SMALL });
     assert_eq!(
