@@ -52,7 +52,7 @@ pub fn class_clear(settings: Settings, table: &[u64], ws: &mut [u64]) -> Reply
     class_set_up(settings, table, ws)
 }
 
-// Takes tokens for a key and for every class on a chain, without waiting.
+// Takes tokens from a key's bucket and from every bucket on the chain of a class, if all have them now.
 pub fn class_try(
     settings: Settings,
     table: &[u64],
@@ -86,7 +86,8 @@ fn further_refusal(table: &[u64], at: Nanos, class: usize) -> u32
     refusals::first_refusal(late, refusals::first_refusal(unsound, unknown))
 }
 
-// A try that is not refused. The classes are asked before the store: it does not write their words, and a refusal for space does not use their wait.
+// A try that is not refused. The code reads the waits of the chain first, and 02 decides the space first. Nobody can see the difference: the store neither
+// reads nor writes the class buckets, and a refusal for space does not use their wait.
 fn pass(
     settings: Settings,
     table: &[u64],

@@ -22,7 +22,7 @@ longestMaxWait = 2 ^ 46
 unfoldable pub memoryRefusal : ℕ → List ℕ → ℕ
 memoryRefusal words ws = cond (eqb (length ws) words) 0 5
 
--- Set-up and clear, in memory of a shape: the settings, then the length.
+-- Set-up and clear, in memory of a shape: the settings, then the length. A set-up without a class table is in memory of the shape with no classes.
 abbrev pub setUpRefusalIn : Shape → Settings → List ℕ → ℕ
 setUpRefusalIn shape s ws = firstRefusal (settingsRefusal s) (memoryRefusal (wordsIn shape) ws)
 
@@ -48,7 +48,8 @@ countsRefusal shape hash ws = countRefusal (shape .cap) (placesIn shape) (totalO
 abbrev pub shapeRefusal : Shape → ℕ → List ℕ → ℕ
 shapeRefusal shape hash ws = firstRefusal (memoryRefusal (wordsIn shape) ws) (countsRefusal shape hash ws)
 
--- A call on a key: as set-up, then the counts. Of its other arguments, 6 for a moment that is too late, and 7 for a longest wait that is too long.
+-- A call on a key: the settings, then the length by the classes of its settings, then the counts. Of its other arguments, 6 for a moment that is too late, and
+-- 7 for a longest wait that is too long.
 abbrev pub keyedRefusalIn : Shape → Settings → ℕ → List ℕ → ℕ
 keyedRefusalIn shape s hash ws = firstRefusal (setUpRefusalIn shape s ws) (countsRefusal shape hash ws)
 
