@@ -9,7 +9,7 @@ ghost use Rattle.settings.specs.Rate.{configOf};
 ghost use Rattle.classes.specs.Layout.{classCount, classesIn, bucketWidth};
 ghost use Rattle.shard_map.specs.Model.{Sound};
 ghost use Rattle.shard.specs.Model as OneShard;
-ghost use Rattle.store.specs.Memory.{Placed, shardIn, inPart};
+ghost use Rattle.store.specs.Memory.{Placed, Counted, shardIn, inPart};
 ghost use Rattle.rules.specs.Asks.{policyOf, furtherThrough};
 ghost use Rattle.rules.specs.Rules as Rules;
 ghost use Rattle.class_calls.specs.code.Passing.{Passing, UnderChain, AtRate, Asking};
@@ -217,7 +217,7 @@ fn ask(
     request: Request,
     cost: u32,
 ) -> BucketDecision
-    requires { ⌜ Placed part (now ws) × Sound (shardIn part (now ws)) × Accepted (configOf rate) × (cost ≤ configOf rate .capacity) ⌝ }
+    requires { ⌜ Placed part (now ws) × Sound (shardIn part (now ws)) × Accepted (configOf rate) × (cost ≤ configOf rate .capacity) × Counted part (now ws) ⌝ }
     ensures { λ r. ⌜ outcome r (now (ws .exit))
         ≡ inPart part (now (ws .entry)) (OneShard.withOrInsert (policyOf settings rate) id request cost at (shardIn part (now (ws .entry)))) ⌝ }
 {

@@ -36,6 +36,7 @@ pub mod OneShardLaws
 pub mod GrownLaws
 pub mod PlaceOrderTheorem
 pub mod TurnAwayTheorem
+pub mod IsolationTheorem
 pub mod CodeTheorem
 pub mod ExportTheorem
 pub mod ExampleLaws
