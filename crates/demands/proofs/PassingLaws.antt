@@ -15,9 +15,10 @@ use Rattle.classes.specs.Classes.{classAt, tableRefusal}
 use Rattle.classes.specs.Chains.{among, configAt}
 use Rattle.classes.proofs.RefusalLaws.{accepted-table-is-sound}
 use Rattle.demands.specs.Passings.{Passing, chainOf, letsPass, bucketsAfter, byTheRules, tokensPassed, tokensThrough}
+use Rattle.demands.specs.Refunds.{inSpan}
 use Rattle.demands.specs.Passings.{InOrder, ClassWindowAdding}
 use Rattle.demands.proofs.LineBound.{LineBound, BoundOf}
-use Rattle.demands.proofs.RefundBound.{inSpan, Event, within, between, span-from-bound, refundBound}
+use Rattle.demands.proofs.RefundBound.{Event, within, between, span-from-bound, refundBound}
 use Rattle.demands.proofs.RunLaws.{HoldsBySomeLine}
 use Rattle.demands.proofs.ClassKept.{passingAdds, ClassStands, class-stands-at-first, class-stands-later, try-stands}
 

@@ -1,0 +1,202 @@
+-- The rules keep the window with refunds (request 11 of document 02), and the same with reservations; so does every limiter that meets demand 2.
+use Prim.Native.Nat.{ℕ, _+_, _-_, _≤_}
+use mathlib.Core.Path.{_≡_, refl, ap}
+use mathlib.Core.Bool.{true, false}
+use mathlib.Core.List.{List, [], _∷_}
+use native.Mathlib.Omega.{arith}
+use lib.Dec.{eqb}
+use lib.ListN.{replicate}
+use borrow.Author.Tests.{eqb-true}
+use Rattle.arith.proofs.Cases.{by-test}
+use Rattle.units.specs.declared.Nanos.{Nanos}
+use Rattle.bucket.specs.Bucket.{Accepted}
+use Rattle.settings.specs.declared.decision.Decision.the-variants.{Acquired, Retry, Impossible}
+use Rattle.settings.specs.declared.Limit.the-variants.{Open}
+use Rattle.settings.specs.declared.Settings.{Settings}
+use Rattle.settings.specs.declared.eviction.WhenFull.the-variants.{RefuseNew}
+use Rattle.settings.specs.declared.rate.Rate.{Rate}
+use Rattle.settings.specs.Rate.{burstOf, configOf}
+use Rattle.settings.proofs.RateLaws.{accepted-rate}
+use Rattle.settings.proofs.SettingsLaws.{accepted-parts}
+use Rattle.shard.specs.declared.Identity.{Identity}
+use Rattle.store.specs.Memory.{memoryWords}
+use Rattle.rules.specs.declared.Reply.{Reply}
+use Rattle.rules.specs.declared.Reply.the-variants.{Tried, Reserved, Nothing, Done, Count, Refused}
+use Rattle.rules.specs.Replies.{ofGrant}
+use Rattle.rules.specs.Asks.{refunds, removes, Ask, requests, looks, undoes, Manner, asTry, asReservation, mannerOf, forgets, policyOf}
+use Rattle.rules.specs.Rules.{setUp}
+use Rattle.rules.specs.Calls.{Call, keyed, whole, Terms, rules, Answered, replies, accepted, ofKey, Every}
+use Rattle.rules.proofs.CallLaws.{refusalOf, unaccepted-refused}
+use Rattle.demands.specs.Demands.{Limiter, answering, Demand2, usable, usableFrom}
+use Rattle.demands.specs.Refunds.{asReserved, reservesIt, removesIt, ofOwn, askCalled, inSpan, askSpanned, IsNot, ofAsk, Counting, tokensCounted}
+use Rattle.demands.specs.Refunds.{NeverReserved, NeverRemoved, calledOf, spannedOf, refundedOf, refundedBetween, WithinRefunds, OfFreshLists, FairTo}
+use Rattle.demands.specs.Refunds.{WithinRefundWindow, RefundWindow, WithinSpanWindow, SpanWindow}
+use Rattle.demands.proofs.EveryLaws.{every-implies}
+use Rattle.demands.proofs.WidthLaws.{NamesFit}
+use Rattle.demands.proofs.LendableTheorem.{set-up-leaves-words-lendable}
+use Rattle.demands.proofs.LineBound.{BoundOf}
+use Rattle.demands.proofs.RefundBound.{within, between, span-from-bound, refundBound}
+use Rattle.demands.proofs.GivenLaws.{happened}
+use Rattle.demands.proofs.RefundSums.{happened-counted, happened-returned}
+use Rattle.demands.proofs.CallSteps.{UndoneAsAllowed}
+use Rattle.demands.proofs.OwnBucket.{ruled}
+use Rattle.demands.proofs.RunLaws.{AlwaysAsAllowed, bound-holds-from-fresh}
+use Rattle.demands.proofs.Theorem.{set-up-done, same-replies}
+
+-- Over a list from a fresh memory, the bound holds of what happened to the key, and its sums are the tokens that are counted.
+module _ {S N : Type 0} (terms : Terms S N) (s : Settings) (rate : Rate) (k : Identity) (a : Accepted (configOf rate))
+    (never : policyOf s rate .«forget_debt» ≡ false) (rated : s .limit ≡ Open rate) (cs : List (Call S N)) where
+  abbrev bound : BoundOf (configOf rate)
+  bound = refundBound (rate .amount) (rate .period .0) (burstOf rate)
+
+  abbrev answered : List (Answered S N)
+  answered = replies terms (rules terms) cs (replicate (memoryWords s) 0) (replicate (memoryWords s) 0)
+
+  -- A key that is never removed is undone as the bound allows.
+  never-removed-is-as-allowed : (c : Call S N) → (ofAsk terms (λ id. removesIt) false c ≡ true → ofKey terms (IsNot k) c) → UndoneAsAllowed bound k terms c
+  never-removed-is-as-allowed (keyed s n (requests r at cost)) never′ = tt
+  never-removed-is-as-allowed (keyed s n (looks l)) never′ = tt
+  never-removed-is-as-allowed (keyed s n (undoes (refunds cost))) never′ = λ hash key. tt
+  never-removed-is-as-allowed (keyed s n (undoes removes)) never′ = never′ refl
+  never-removed-is-as-allowed (whole s what) never′ = tt
+
+  never-removed : NeverRemoved terms k answered → AlwaysAsAllowed terms bound k answered
+  never-removed = every-implies _ _ (λ each never′ taken. never-removed-is-as-allowed (each .call) (never′ taken)) answered
+
+  fresh-span : FairTo terms s k answered → (t u : ℕ) → t ≤ u → WithinRefunds rate (refundedOf terms k) (spannedOf terms k t u) t u answered
+  unfolding within between
+  fresh-span fair t u le =
+      let A : ℕ = rate .amount in
+      let P : ℕ = rate .period .0 in
+      let C : ℕ = burstOf rate in
+      let tokens : ℕ = tokensCounted (spannedOf terms k t u) answered in
+      let refunded : ℕ = refundedBetween (refundedOf terms k) (spannedOf terms k t u) 0 answered in
+      let events =
+      bound-holds-from-fresh terms s rate k bound a never rated cs (fair .same-settings) (fair .rising) (fair .apart) (never-removed (fair .not-removed)) in
+      let counted : within t u (happened bound terms k answered []) ≡ tokens = omega (arith, happened-counted A P C k t u terms answered []) in
+      let returned : between t u 0 (happened bound terms k answered []) ≡ refunded = omega (arith, happened-returned A P C k t u terms answered []) in
+      span-from-bound A P C tokens refunded t u le (rw (counted, returned) at (events .holds .window t u le))
+
+-- Grants that count alike for every wait count alike for every reply.
+granted-alike : (f g : ℕ → ℕ) → ((wait : ℕ) → f wait ≡ g wait) → (reply : Reply) → ofGrant f 0 reply ≡ ofGrant g 0 reply
+granted-alike f g alike (Tried (Acquired due)) = alike 0
+granted-alike f g alike (Tried (Retry due)) = refl
+granted-alike f g alike (Tried Impossible) = refl
+granted-alike f g alike (Reserved due) = alike (due .wait .0)
+granted-alike f g alike Nothing = refl
+granted-alike f g alike Done = refl
+granted-alike f g alike (Count n) = refl
+granted-alike f g alike (Refused n) = refl
+
+-- Where a key is not reserved for, both ways to count come to the same: its tries are usable at their calls, and a reservation that is refused grants nothing.
+module _ (k : Identity) (t u : ℕ) where
+  one-moment : (id : Identity) (moment cost : ℕ) → ofOwn k id (inSpan t u moment moment cost) ≡ usable k t u id moment cost
+  unfolding ofOwn inSpan usable
+  one-moment id moment cost = refl
+
+  other-key : (id : Identity) (asked ready cost : ℕ) → IsNot k id → ofOwn k id (inSpan t u asked ready cost) ≡ usable k t u id asked cost
+  unfolding ofOwn usable
+  other-key id asked ready cost differs =
+      by-test (eqb (id .hash) (k .hash))
+      (λ h. by-test (eqb (id .key) (k .key)) (λ y. absurd (differs (eqb-true _ _ h) (eqb-true _ _ y))) (λ n. rw (h, n)))
+      (λ h. rw h)
+
+  request-alike : (m : Manner) (at : Nanos) (id : Identity) (cost wait : ℕ) → (asReserved m ≡ true → IsNot k id)
+      → ofOwn k id (inSpan t u (at .0) (usableFrom m at wait) cost) ≡ usable k t u id (at .0) cost
+  request-alike asTry at id cost wait not-reserved = one-moment id (at .0) cost
+  request-alike asReservation at id cost wait not-reserved = other-key id (at .0) (at .0 + wait) cost (not-reserved refl)
+
+  ask-alike : (id : Identity) (ask : Ask) (reply : Reply) → (reservesIt ask ≡ true → IsNot k id) → askSpanned k t u id ask reply ≡ askCalled k t u id ask reply
+  ask-alike id (requests r at cost) reply not-reserved = granted-alike _ _ (λ wait. request-alike (mannerOf r) at id cost wait not-reserved) reply
+  ask-alike id (looks l) reply not-reserved = refl
+  ask-alike id (undoes undo) reply not-reserved = refl
+
+  ask-refused-alike : (id : Identity) (ask : Ask) (n : ℕ) → askSpanned k t u id ask (Refused n) ≡ askCalled k t u id ask (Refused n)
+  ask-refused-alike id (requests r at cost) n = refl
+  ask-refused-alike id (looks l) n = refl
+  ask-refused-alike id (undoes undo) n = refl
+
+  module _ {S N : Type 0} (terms : Terms S N) where
+    -- One call under the rules: accepted, or refused.
+    abbrev Alike : Answered S N → Type 0
+    Alike a = spannedOf terms k t u a ≡ calledOf terms k t u a
+
+    taken-alike : (c : Call S N) (ws : List ℕ) → (ofAsk terms (λ id. reservesIt) false c ≡ true → ofKey terms (IsNot k) c) → Alike (ruled terms c ws)
+    taken-alike (keyed s n ask) ws not-reserved = ask-alike (terms .identity n) ask (rules terms (keyed s n ask) ws .answer) not-reserved
+    taken-alike (whole s what) ws not-reserved = refl
+
+    refused-alike : (c : Call S N) (n : ℕ) (ws : List ℕ) → Alike (record { call = c; reply = Refused n; rulesWords = ws })
+    refused-alike (keyed s name ask) n ws = ask-refused-alike (terms .identity name) ask n
+    refused-alike (whole s what) n ws = refl
+
+    ruled-alike : (c : Call S N) (ws : List ℕ)
+        → (accepted terms (ruled terms c ws) ≡ true → ofAsk terms (λ id. reservesIt) false c ≡ true → ofKey terms (IsNot k) c) → Alike (ruled terms c ws)
+    ruled-alike c ws not-reserved =
+        by-test (accepted terms (ruled terms c ws))
+        (λ taken. taken-alike c ws (not-reserved taken))
+        (λ refused. rw (unaccepted-refused terms (ruled terms c ws) refused) (refused-alike c (refusalOf terms c ws) ws))
+
+    all-alike : (cs : List (Call S N)) (ws : List ℕ) → NeverReserved terms k (replies terms (rules terms) cs ws ws)
+        → Every Alike (replies terms (rules terms) cs ws ws)
+    unfolding replies
+    all-alike [] ws not-reserved = tt
+    all-alike (c ∷ cs) ws not-reserved = (ruled-alike c ws (not-reserved .0), all-alike cs (rules terms c ws .after) (not-reserved .1))
+
+-- Two counts that are alike at every call give the same sums.
+module _ {S N : Type 0} (f g : Counting S N) where
+  same-tokens : (answered : List (Answered S N)) → Every (λ a. f a ≡ g a) answered → tokensCounted f answered ≡ tokensCounted g answered
+  unfolding tokensCounted
+  same-tokens [] alike = refl
+  same-tokens (a ∷ rest) alike = rw (alike .0, same-tokens rest (alike .1))
+
+  same-refunds : (refunded : Counting S N) (before : ℕ) (answered : List (Answered S N)) → Every (λ a. f a ≡ g a) answered
+      → refundedBetween refunded f before answered ≡ refundedBetween refunded g before answered
+  unfolding refundedBetween
+  same-refunds refunded before [] alike = refl
+  same-refunds refunded before (a ∷ rest) alike =
+      rw (alike .0, same-tokens rest (alike .1), same-refunds refunded (g a + before) rest (alike .1))
+
+module _ {S N : Type 0} (terms : Terms S N) where
+  -- With reservations, for settings, calls and words of any numbers.
+  pub rules-stay-within-the-span-window : (s : Settings) (rate : Rate) (ws : List ℕ) → s .limit ≡ Open rate → s .eviction .«when_full» ≡ RefuseNew
+      → setUp s ws .answer ≡ Done → (cs : List (Call S N)) (k : Identity)
+      → WithinSpanWindow terms s rate k (replies terms (rules terms) cs (setUp s ws .after) (setUp s ws .after))
+  rules-stay-within-the-span-window s rate ws rated refuses done′ cs k =
+      let up = set-up-done s ws done′ in
+      let a : Accepted (configOf rate) = accepted-rate rate (rw rated at (accepted-parts s (up .settings) .0)) in
+      rw (up .words) (fresh-span terms s rate k a (ap forgets refuses) rated cs)
+
+  -- Request 11, for settings, calls and words of any numbers.
+  pub rules-stay-within-the-refund-window : (s : Settings) (rate : Rate) (ws : List ℕ) → s .limit ≡ Open rate → s .eviction .«when_full» ≡ RefuseNew
+      → setUp s ws .answer ≡ Done → (cs : List (Call S N)) (k : Identity)
+      → WithinRefundWindow terms (refundedOf terms) s rate k (replies terms (rules terms) cs (setUp s ws .after) (setUp s ws .after))
+  rules-stay-within-the-refund-window s rate ws rated refuses done′ cs k fair not-reserved t u le =
+      let list : List (Answered S N) = replies terms (rules terms) cs (setUp s ws .after) (setUp s ws .after) in
+      let span = spannedOf terms k t u in
+      let call = calledOf terms k t u in
+      let alike = all-alike k t u terms cs (setUp s ws .after) not-reserved in
+      rw (same-tokens span call list alike, same-refunds span call (refundedOf terms k) 0 list alike) at
+      (rules-stay-within-the-span-window s rate ws rated refuses done′ cs k fair t u le)
+
+  pub rules-keep-the-span-window : SpanWindow terms (answering terms (rules terms))
+  rules-keep-the-span-window s rate ws _ _ rated refuses done′ cs _ = rules-stay-within-the-span-window (terms .settings s) rate ws rated refuses done′ cs
+
+  pub rules-keep-the-refund-window : RefundWindow terms (answering terms (rules terms))
+  rules-keep-the-refund-window s rate ws _ _ rated refuses done′ cs _ = rules-stay-within-the-refund-window (terms .settings s) rate ws rated refuses done′ cs
+
+-- A limiter that meets demand 2 keeps what the rules keep of such lists, from the words that its own set-up leaves.
+module _ {S N : Type 0} (terms : Terms S N) (names : NamesFit terms) (l : Limiter S N) (equal : Demand2 terms l) where
+  as-the-rules : (Claim : Settings → Rate → Identity → List (Answered S N) → Type 0)
+      → OfFreshLists terms Claim (answering terms (rules terms)) → OfFreshLists terms Claim l
+  as-the-rules Claim kept s rate ws fit lent rated refuses =
+      let fresh = set-up-leaves-words-lendable (terms .settings s) ws lent in
+      rw (equal .sets-up s ws fit lent)
+      (λ done′ cs fits k.
+      rw (same-replies terms names l equal cs (setUp (terms .settings s) ws .after) (setUp (terms .settings s) ws .after) fits fresh)
+      (kept s rate ws fit lent rated refuses done′ cs fits k))
+
+  pub demand2-keeps-the-span-window : SpanWindow terms l
+  demand2-keeps-the-span-window = as-the-rules (WithinSpanWindow terms) (rules-keep-the-span-window terms)
+
+  pub demand2-keeps-the-refund-window : RefundWindow terms l
+  demand2-keeps-the-refund-window = as-the-rules (WithinRefundWindow terms (refundedOf terms)) (rules-keep-the-refund-window terms)
