@@ -1,6 +1,6 @@
--- Examples of the window with refunds, computed from the rules. One reaches the bound exactly. Others show which refunds count, and refute the claims that count
--- fewer of them and an impostor. Each is a list of tries and refunds on a store of one shard at two tokens a second, burst four, from the words that set-up
--- leaves.
+-- Examples of the window with refunds, computed from the rules. One reaches the bound exactly. Others show which refunds count, and refute an impostor and
+-- the claims that count fewer refunds. Each is a list of tries and refunds on a store of one shard at two tokens a second, burst four, from the words that
+-- set-up leaves.
 use Prim.Native.Nat.{ℕ, _*_, _≤_}
 use mathlib.Core.Path.{_≡_, refl, sym, _∙_}
 use mathlib.Core.Bool.{Bool, true, false, cond, _&&_, true≢false}
@@ -94,7 +94,8 @@ module _ (f : Implementation) (s : Settings) where
   unfolding Calls.replies Demands.NoSharedHash
   have-no-shared-hash [] ws law = tt
   have-no-shared-hash (x ∷ xs) ws law =
-      (every-act (Agree (record { call = callOf s x; reply = f (callOf s x) ws .answer; rulesWords = law })) (λ y reply _ _ _ same. same) xs _ _, have-no-shared-hash xs _ _)
+      let a : Answered = record { call = callOf s x; reply = f (callOf s x) ws .answer; rulesWords = law } in
+      (every-act (Agree a) (λ y reply _ _ _ same. same) xs _ _, have-no-shared-hash xs _ _)
 
   never-removed : (k : Identity) (xs : List Act) (ws law : List ℕ) → Refunds.NeverRemoved byKey k (replies f (acts s xs) ws law)
   never-removed k = every-act _ (λ x reply law _ removal. absurd (true≢false (sym removal ∙ no-removal x)))

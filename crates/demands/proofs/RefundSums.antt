@@ -86,7 +86,8 @@ module _ (A P C : ℕ) (k : Identity) (t u : ℕ) where
     refund-adds cost (Count n) = adds-nothing
     refund-adds cost (Refused n) = adds-nothing
 
-    ask-adds : (id : Identity) (ask : Ask) (reply : Reply) → Adds (askSpanned k t u id ask reply) (askRefunded k id ask reply) es (askGave bound k id ask reply es)
+    ask-adds : (id : Identity) (ask : Ask) (reply : Reply)
+        → Adds (askSpanned k t u id ask reply) (askRefunded k id ask reply) es (askGave bound k id ask reply es)
     ask-adds id (requests r at cost) reply = request-adds (mannerOf r) at id cost reply
     ask-adds id (looks l) reply = adds-nothing
     ask-adds id (undoes (refunds cost)) reply = rw (of-own-nothing k id) at (adds-own id (refund-adds cost reply))
@@ -104,7 +105,8 @@ module _ (A P C : ℕ) (k : Identity) (t u : ℕ) where
         → within t u (happened bound terms k answered es) ≡ tokensCounted (spannedOf terms k t u) answered + within t u es
     unfolding happened tokensCounted
     happened-counted [] es = omega arith
-    happened-counted (a ∷ rest) es = omega (arith, happened-counted rest (given bound terms k (a .call) (a .reply) es), given-adds (a .call) (a .reply) es .counted)
+    happened-counted (a ∷ rest) es =
+        omega (arith, happened-counted rest (given bound terms k (a .call) (a .reply) es), given-adds (a .call) (a .reply) es .counted)
 
     pub happened-returned : (answered : List (Answered S N)) (es : List Event)
         → between t u 0 (happened bound terms k answered es)
