@@ -2,8 +2,8 @@
 -- the claims that count fewer refunds. Each is a list of tries and refunds on a store of one shard at two tokens a second, burst four, from the words that
 -- set-up leaves.
 use Prim.Native.Nat.{ℕ, _*_, _≤_}
-use mathlib.Core.Path.{_≡_, refl, sym, _∙_}
-use mathlib.Core.Bool.{Bool, true, false, cond, _&&_, true≢false}
+use mathlib.Core.Path.{_≡_, refl}
+use mathlib.Core.Bool.{Bool, true, false, _&&_}
 use mathlib.Core.List.{List, [], _∷_}
 use native.Mathlib.Omega.{arith}
 use lib.Dec.{leb, ltb}
@@ -41,10 +41,11 @@ use Rattle.rules.specs.Widths.{settingsFit, lendable}
 use Rattle.rules.specs.Calls.{keyed, whole, byKey, settingsOf, Every}
 use Rattle.rules.specs.Calls as Calls
 use Rattle.perkey.specs.Edges.{twoPerSecond, keyOf}
-use Rattle.demands.specs.Demands.{clock, usable}
+use Rattle.demands.specs.Demands.{clock}
 use Rattle.demands.specs.Demands as Demands
 use Rattle.demands.specs.ByKey.{Call, Implementation, Answered, rules, replies, answering, SameSettings, TimesNeverFall, Agree, NoSharedHash, allFit}
-use Rattle.demands.specs.Refunds.{ofUndo, reservesIt, removesIt, ofOwn, tokensCounted, ifBetween, refundedBetween, partsAllowed}
+use Rattle.demands.specs.Refunds.{ofUndo, reservesIt, removesIt, ofOwn, inSpan, askRefunded, tokensCounted, ifBetween, refundedBetween, partsAllowed}
+use Rattle.demands.specs.Refunds.{ofNamed}
 use Rattle.demands.specs.Refunds as Refunds
 use Rattle.demands.proofs.WidthLaws.{both-true}
 use Rattle.demands.proofs.ExampleLaws.{roomFor, memory, fresh}
@@ -97,11 +98,11 @@ module _ (f : Implementation) (s : Settings) where
       let a : Answered = record { call = callOf s x; reply = f (callOf s x) ws .answer; rulesWords = law } in
       (every-act (Agree a) (λ y reply _ _ _ same. same) xs _ _, have-no-shared-hash xs _ _)
 
-  never-removed : (k : Identity) (xs : List Act) (ws law : List ℕ) → Refunds.NeverRemoved byKey k (replies f (acts s xs) ws law)
-  never-removed k = every-act _ (λ x reply law _ removal. absurd (true≢false (sym removal ∙ no-removal x)))
+  never-removed : (own : Identity → Bool) (xs : List Act) (ws law : List ℕ) → Refunds.NeverRemoved byKey own (replies f (acts s xs) ws law)
+  never-removed own = every-act _ (λ x reply law _. rw (no-removal x))
 
-  never-reserved : (k : Identity) (xs : List Act) (ws law : List ℕ) → Refunds.NeverReserved byKey k (replies f (acts s xs) ws law)
-  never-reserved k = every-act _ (λ x reply law _ reservation. absurd (true≢false (sym reservation ∙ no-reservation x)))
+  never-reserved : (own : Identity → Bool) (xs : List Act) (ws law : List ℕ) → Refunds.NeverReserved byKey own (replies f (acts s xs) ws law)
+  never-reserved own = every-act _ (λ x reply law _. rw (no-reservation x))
 
 -- Whether the moments of a list never fall.
 unfoldable pub rises : ℕ → List Answered → Bool
@@ -117,25 +118,28 @@ rising-never-falls before (a ∷ rest) rise =
 
 -- What a key is granted in calls from t to u, in parts, and what it may be granted by a way to count refunds.
 abbrev pub Counts : Type 0
-Counts = Identity → Answered → ℕ
+Counts = (Identity → Bool) → Answered → ℕ
 
 abbrev pub byStatedCost : Counts
-byStatedCost = Refunds.refundedOf byKey
+byStatedCost = Refunds.refundedOf
+
+abbrev numbered : ℕ → Identity → Bool
+numbered key = Refunds.named byKey (keyOf key)
 
 abbrev pub calledOf : (key t u : ℕ) → Answered → ℕ
-calledOf key t u = Refunds.calledOf byKey (keyOf key) t u
+calledOf key t u = Refunds.calledOf (numbered key) t u
 
 abbrev pub actsAnswered : Implementation → ℕ → List Act → List Answered
 actsAnswered f keys xs = replies f (acts (roomFor keys) xs) (fresh (roomFor keys)) (fresh (roomFor keys))
 
 abbrev pub refundsBetween : Counts → Implementation → ℕ → List Act → (key t u : ℕ) → ℕ
-refundsBetween refunded f keys xs key t u = refundedBetween (refunded (keyOf key)) (calledOf key t u) 0 (actsAnswered f keys xs)
+refundsBetween refunded f keys xs key t u = refundedBetween (refunded (numbered key)) (calledOf key t u) 0 (actsAnswered f keys xs)
 
 abbrev pub partsGranted : Implementation → ℕ → List Act → (key t u : ℕ) → ℕ
 partsGranted f keys xs key t u = tokensCounted (calledOf key t u) (actsAnswered f keys xs) * twoPerSecond .period .0
 
 abbrev pub allowedTo : Counts → Implementation → ℕ → List Act → (key t u : ℕ) → ℕ
-allowedTo refunded f keys xs key t u = partsAllowed twoPerSecond (refunded (keyOf key)) (calledOf key t u) t u (actsAnswered f keys xs)
+allowedTo refunded f keys xs key t u = partsAllowed twoPerSecond (refunded (numbered key)) (calledOf key t u) t u (actsAnswered f keys xs)
 
 -- An implementation overgrants a key.
 pub record Overgrants (refunded : Counts) (f : Implementation) (keys : ℕ) (xs : List Act) (key t u : ℕ) : Type 0 where
@@ -155,19 +159,21 @@ overgranting-breaks-the-refund-window {refunded} {f} {keys} {xs} {key} {t} {u} l
       same-settings = have-same-settings f s xs ws ws;
       rising = rising-never-falls 0 _ (shown .rising);
       apart = have-no-shared-hash f s xs ws ws;
-      not-removed = never-removed f s (keyOf key) xs ws ws;
+      not-removed = never-removed f s (numbered key) xs ws ws;
     } in
     let bound = window s twoPerSecond (memory s) (shown .settings) (shown .lent) refl refl (shown .set-up) (acts s xs) (shown .fit) (keyOf key) fair
-    (never-reserved f s (keyOf key) xs ws ws) t u le in
+    (never-reserved f s (numbered key) xs ws ws) t u le in
     omega (arith, bound, ltb-true (allowedTo refunded f keys xs key t u) (partsGranted f keys xs key t u) (shown .over))
 
 -- Weaker ways to count refunds: none of them; and only those to a key that holds a slot, in the words that the rules made.
 abbrev pub noRefunds : Counts
-noRefunds k a = 0
+noRefunds own a = 0
+
+abbrev hasSlot : Answered → Identity → Bool
+hasSlot a id = OneShard.hasSlot (Shard.placeOf (shardAt (settingsOf byKey (a .call)) (id .hash) (a .rulesWords)) (id .hash) (id .key))
 
 abbrev pub bySlotOnly : Counts
-bySlotOnly k a =
-    cond (OneShard.hasSlot (Shard.placeOf (shardAt (settingsOf byKey (a .call)) (k .hash) (a .rulesWords)) (k .hash) (k .key))) (byStatedCost k a) 0
+bySlotOnly own a = ofNamed (λ id ask. ofOwn (hasSlot a id) (askRefunded (own id) ask (a .reply))) 0 (a .call)
 
 -- An impostor: the rules, except that a refund gives back twice its cost.
 abbrev twiceBack : Ask → Ask
@@ -228,7 +234,7 @@ unfolding ceilDiv rows unrow tableIn removed Index.onward Index.walkFrom Index.w
     noted walkFrom walked evicted OneShard.makeRoom OneShard.withExisting OneShard.admit OneShard.withOrInsert OneShard.refunded
     Refusals.memoryRefusal Refusals.countRefusal Refusals.momentRefusal Refusals.waitRefusal Refusals.mostSlots Refusals.slotsRefusalIn
     Asks.askedIn Rules.unlessRefused Rules.setUpIn Rules.keyedRuleIn
-    Calls.accepted Calls.replies usable ofOwn tokensCounted ifBetween refundedBetween rises
+    Calls.accepted Calls.replies inSpan tokensCounted ifBetween refundedBetween rises
 refunds-computed = record {
   uncounted = record { settings = refl; lent = refl; fit = refl; set-up = refl; rising = refl; over = refl };
   debt-uncounted = record { settings = refl; lent = refl; fit = refl; set-up = refl; rising = refl; over = refl };

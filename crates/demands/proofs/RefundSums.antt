@@ -2,6 +2,7 @@
 -- list.
 use Prim.Native.Nat.{ℕ, _+_}
 use mathlib.Core.Path.{_≡_, refl}
+use mathlib.Core.Bool.{Bool, _&&_}
 use mathlib.Core.List.{List, [], _∷_}
 use native.Mathlib.Nat.{zero-add}
 use native.Mathlib.Omega.{arith}
@@ -17,15 +18,11 @@ use Rattle.rules.specs.Asks.{refunds, removes, Ask, requests, looks, undoes, Ma
 use Rattle.rules.specs.Calls.{Call, keyed, whole, Terms, Answered}
 use Rattle.demands.specs.Demands.{usableFrom}
 use Rattle.demands.specs.Refunds.{ofOwn, inSpan, askSpanned, ifKnown, askRefunded, tokensCounted, ifBetween, refundedBetween}
-use Rattle.demands.specs.Refunds.{ofAsk, spannedOf, refundedOf}
+use Rattle.demands.specs.Refunds.{ofNamed, spannedOf, refundedOf, named}
 use Rattle.demands.proofs.LineBound.{LineBound}
 use Rattle.demands.proofs.RefundLaws.{refundAdds}
 use Rattle.demands.proofs.RefundBound.{Event, gave, back, within, between, nothing-between, refundBound}
 use Rattle.demands.proofs.GivenLaws.{ifOwn, waitTold, toldKnown, granting, askGave, given, happened, same-either-way, usable-after-the-wait}
-
-of-own-nothing : (k id : Identity) → ofOwn k id 0 ≡ 0
-unfolding ofOwn
-of-own-nothing k id = by-test (eqb (id .hash) (k .hash)) (λ h. by-test (eqb (id .key) (k .key)) (λ y. rw (h, y)) (λ n. rw (h, n))) (λ h. rw h)
 
 module _ (A P C : ℕ) (k : Identity) (t u : ℕ) where
   abbrev bound : LineBound A P C
@@ -49,25 +46,32 @@ module _ (A P C : ℕ) (k : Identity) (t u : ℕ) where
     adds-refund tokens = record { counted = omega arith; returned = λ after. rw (zero-add after) }
 
     -- Calls of other keys add nothing.
+    abbrev own : Identity → Bool
+    own id = eqb (id .hash) (k .hash) && eqb (id .key) (k .key)
+
     adds-own : (id : Identity) {granted refunded : ℕ} {next : List Event} → Adds granted refunded es next
-        → Adds (ofOwn k id granted) (ofOwn k id refunded) es (ifOwn k id next es)
-    unfolding ofOwn ifOwn
+        → Adds (ofOwn (own id) granted) (ofOwn (own id) refunded) es (ifOwn k id next es)
+    unfolding ifOwn
     adds-own id adds =
         by-test (eqb (id .hash) (k .hash))
         (λ h. by-test (eqb (id .key) (k .key)) (λ y. rw (h, y) adds) (λ n. rw (h, n) adds-nothing))
         (λ h. rw h adds-nothing)
 
+    own-nothing : (id : Identity) → ofOwn (own id) 0 ≡ 0
+    own-nothing id = by-test (own id) (λ t. rw t) (λ t. rw t)
+
     adds-none : (id : Identity) → Adds 0 0 es (ifOwn k id es es)
     adds-none id = rw (same-either-way k id es) adds-nothing
 
     own-grant : (m : Manner) (at : Nanos) (id : Identity) (wait cost : ℕ)
-        → Adds (ofOwn k id (inSpan t u (at .0) (usableFrom m at wait) cost)) 0 es (ifOwn k id (gave (at .0) (at .0 + waitTold m wait) cost ∷ es) es)
+        → Adds (ofOwn (own id) (inSpan t u (at .0) (usableFrom m at wait) cost)) 0 es (ifOwn k id (gave (at .0) (at .0 + waitTold m wait) cost ∷ es) es)
     own-grant m at id wait cost =
         rw (← usable-after-the-wait m at wait)
-        (rw (of-own-nothing k id) at (adds-own id (adds-grant (at .0) (at .0 + waitTold m wait) cost)))
+        (rw (own-nothing id) at (adds-own id (adds-grant (at .0) (at .0 + waitTold m wait) cost)))
 
     request-adds : (m : Manner) (at : Nanos) (id : Identity) (cost : ℕ) (reply : Reply)
-        → Adds (ofGrant (λ wait. ofOwn k id (inSpan t u (at .0) (usableFrom m at wait) cost)) 0 reply) 0 es (ifOwn k id (granting bound m at cost es reply) es)
+        → Adds (ofGrant (λ wait. ofOwn (own id) (inSpan t u (at .0) (usableFrom m at wait) cost)) 0 reply) 0 es
+        (ifOwn k id (granting bound m at cost es reply) es)
     request-adds m at id cost (Tried (Acquired due)) = own-grant m at id 0 cost
     request-adds m at id cost (Tried (Retry due)) = adds-none id
     request-adds m at id cost (Tried Impossible) = adds-none id
@@ -87,22 +91,22 @@ module _ (A P C : ℕ) (k : Identity) (t u : ℕ) where
     refund-adds cost (Refused n) = adds-nothing
 
     ask-adds : (id : Identity) (ask : Ask) (reply : Reply)
-        → Adds (askSpanned k t u id ask reply) (askRefunded k id ask reply) es (askGave bound k id ask reply es)
+        → Adds (askSpanned (own id) t u ask reply) (askRefunded (own id) ask reply) es (askGave bound k id ask reply es)
     ask-adds id (requests r at cost) reply = request-adds (mannerOf r) at id cost reply
     ask-adds id (looks l) reply = adds-nothing
-    ask-adds id (undoes (refunds cost)) reply = rw (of-own-nothing k id) at (adds-own id (refund-adds cost reply))
+    ask-adds id (undoes (refunds cost)) reply = rw (own-nothing id) at (adds-own id (refund-adds cost reply))
     ask-adds id (undoes removes) reply = adds-nothing
 
   -- Over a list of calls.
   module _ {S N : Type 0} (terms : Terms S N) where
     given-adds : (c : Call S N) (reply : Reply) (es : List Event)
-        → Adds (ofAsk terms (λ id ask. askSpanned k t u id ask reply) 0 c) (ofAsk terms (λ id ask. askRefunded k id ask reply) 0 c) es
+        → Adds (ofNamed (λ n ask. askSpanned (named terms k n) t u ask reply) 0 c) (ofNamed (λ n ask. askRefunded (named terms k n) ask reply) 0 c) es
         (given bound terms k c reply es)
     given-adds (keyed s n ask) reply es = ask-adds es (terms .identity n) ask reply
     given-adds (whole s what) reply es = adds-nothing es
 
     pub happened-counted : (answered : List (Answered S N)) (es : List Event)
-        → within t u (happened bound terms k answered es) ≡ tokensCounted (spannedOf terms k t u) answered + within t u es
+        → within t u (happened bound terms k answered es) ≡ tokensCounted (spannedOf (named terms k) t u) answered + within t u es
     unfolding happened tokensCounted
     happened-counted [] es = omega arith
     happened-counted (a ∷ rest) es =
@@ -110,11 +114,11 @@ module _ (A P C : ℕ) (k : Identity) (t u : ℕ) where
 
     pub happened-returned : (answered : List (Answered S N)) (es : List Event)
         → between t u 0 (happened bound terms k answered es)
-        ≡ refundedBetween (refundedOf terms k) (spannedOf terms k t u) (within t u es) answered
-        + between t u (tokensCounted (spannedOf terms k t u) answered) es
+        ≡ refundedBetween (refundedOf (named terms k)) (spannedOf (named terms k) t u) (within t u es) answered
+        + between t u (tokensCounted (spannedOf (named terms k) t u) answered) es
     unfolding happened tokensCounted refundedBetween
     happened-returned [] es = omega arith
     happened-returned (a ∷ rest) es =
         let adds = given-adds (a .call) (a .reply) es in
         let later = rw (adds .counted) at (happened-returned rest (given bound terms k (a .call) (a .reply) es)) in
-        omega (arith, later, adds .returned (tokensCounted (spannedOf terms k t u) rest))
+        omega (arith, later, adds .returned (tokensCounted (spannedOf (named terms k) t u) rest))

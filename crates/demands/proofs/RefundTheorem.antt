@@ -1,12 +1,11 @@
 -- The rules keep the window with refunds (request 11 of document 02), and the same with reservations; so does every limiter that meets demand 2.
-use Prim.Native.Nat.{ℕ, _+_, _-_, _≤_}
+use Prim.Native.Nat.{ℕ, _+_, _≤_}
 use mathlib.Core.Path.{_≡_, refl, ap}
-use mathlib.Core.Bool.{true, false}
+use mathlib.Core.Bool.{Bool, true, false, _&&_, true≢false}
 use mathlib.Core.List.{List, [], _∷_}
 use native.Mathlib.Omega.{arith}
-use lib.Dec.{eqb}
 use lib.ListN.{replicate}
-use borrow.Author.Tests.{eqb-true}
+use borrow.Author.Tests.{eq-eqb}
 use Rattle.arith.proofs.Cases.{by-test}
 use Rattle.units.specs.declared.Nanos.{Nanos}
 use Rattle.bucket.specs.Bucket.{Accepted}
@@ -25,11 +24,11 @@ use Rattle.rules.specs.declared.Reply.the-variants.{Tried, Reserved, Nothing, D
 use Rattle.rules.specs.Replies.{ofGrant}
 use Rattle.rules.specs.Asks.{refunds, removes, Ask, requests, looks, undoes, Manner, asTry, asReservation, mannerOf, forgets, policyOf}
 use Rattle.rules.specs.Rules.{setUp}
-use Rattle.rules.specs.Calls.{Call, keyed, whole, Terms, rules, Answered, replies, accepted, ofKey, Every}
+use Rattle.rules.specs.Calls.{Call, keyed, whole, Terms, rules, Answered, replies, accepted, Every}
 use Rattle.rules.proofs.CallLaws.{refusalOf, unaccepted-refused}
-use Rattle.demands.specs.Demands.{Limiter, answering, Demand2, usable, usableFrom}
-use Rattle.demands.specs.Refunds.{asReserved, reservesIt, removesIt, ofOwn, askCalled, inSpan, askSpanned, IsNot, ofAsk, Counting, tokensCounted}
-use Rattle.demands.specs.Refunds.{NeverReserved, NeverRemoved, calledOf, spannedOf, refundedOf, refundedBetween, WithinRefunds, OfFreshLists, FairTo}
+use Rattle.demands.specs.Demands.{Limiter, answering, Demand2, usableFrom}
+use Rattle.demands.specs.Refunds.{asReserved, reservesIt, removesIt, ofOwn, inSpan, askCalled, askSpanned, Counting, tokensCounted, refundedBetween}
+use Rattle.demands.specs.Refunds.{WithinRefunds, ofNamed, calledOf, spannedOf, refundedOf, NeverReserved, NeverRemoved, OfFreshLists, named, FairTo}
 use Rattle.demands.specs.Refunds.{WithinRefundWindow, RefundWindow, WithinSpanWindow, SpanWindow}
 use Rattle.demands.proofs.EveryLaws.{every-implies}
 use Rattle.demands.proofs.WidthLaws.{NamesFit}
@@ -53,24 +52,27 @@ module _ {S N : Type 0} (terms : Terms S N) (s : Settings) (rate : Rate) (k : Id
   answered = replies terms (rules terms) cs (replicate (memoryWords s) 0) (replicate (memoryWords s) 0)
 
   -- A key that is never removed is undone as the bound allows.
-  never-removed-is-as-allowed : (c : Call S N) → (ofAsk terms (λ id. removesIt) false c ≡ true → ofKey terms (IsNot k) c) → UndoneAsAllowed bound k terms c
-  never-removed-is-as-allowed (keyed s n (requests r at cost)) never′ = tt
-  never-removed-is-as-allowed (keyed s n (looks l)) never′ = tt
-  never-removed-is-as-allowed (keyed s n (undoes (refunds cost))) never′ = λ hash key. tt
-  never-removed-is-as-allowed (keyed s n (undoes removes)) never′ = never′ refl
-  never-removed-is-as-allowed (whole s what) never′ = tt
+  abbrev own : N → Bool
+  own = named terms k
 
-  never-removed : NeverRemoved terms k answered → AlwaysAsAllowed terms bound k answered
+  never-removed-is-as-allowed : (c : Call S N) → ofNamed (λ n ask. removesIt ask && own n) false c ≡ false → UndoneAsAllowed bound k terms c
+  never-removed-is-as-allowed (keyed s n (requests r at cost)) other = tt
+  never-removed-is-as-allowed (keyed s n (looks l)) other = tt
+  never-removed-is-as-allowed (keyed s n (undoes (refunds cost))) other = λ hash key. tt
+  never-removed-is-as-allowed (keyed s n (undoes removes)) other = λ hash key. true≢false (rw (eq-eqb _ _ hash, eq-eqb _ _ key) at other)
+  never-removed-is-as-allowed (whole s what) other = tt
+
+  never-removed : NeverRemoved terms own answered → AlwaysAsAllowed terms bound k answered
   never-removed = every-implies _ _ (λ each never′ taken. never-removed-is-as-allowed (each .call) (never′ taken)) answered
 
-  fresh-span : FairTo terms s k answered → (t u : ℕ) → t ≤ u → WithinRefunds rate (refundedOf terms k) (spannedOf terms k t u) t u answered
+  fresh-span : FairTo terms s k answered → (t u : ℕ) → t ≤ u → WithinRefunds rate (refundedOf own) (spannedOf own t u) t u answered
   unfolding within between
   fresh-span fair t u le =
       let A : ℕ = rate .amount in
       let P : ℕ = rate .period .0 in
       let C : ℕ = burstOf rate in
-      let tokens : ℕ = tokensCounted (spannedOf terms k t u) answered in
-      let refunded : ℕ = refundedBetween (refundedOf terms k) (spannedOf terms k t u) 0 answered in
+      let tokens : ℕ = tokensCounted (spannedOf own t u) answered in
+      let refunded : ℕ = refundedBetween (refundedOf own) (spannedOf own t u) 0 answered in
       let events =
       bound-holds-from-fresh terms s rate k bound a never rated cs (fair .same-settings) (fair .rising) (fair .apart) (never-removed (fair .not-removed)) in
       let counted : within t u (happened bound terms k answered []) ≡ tokens = omega (arith, happened-counted A P C k t u terms answered []) in
@@ -89,58 +91,47 @@ granted-alike f g alike (Count n) = refl
 granted-alike f g alike (Refused n) = refl
 
 -- Where a key is not reserved for, both ways to count come to the same: its tries are usable at their calls, and a reservation that is refused grants nothing.
-module _ (k : Identity) (t u : ℕ) where
-  one-moment : (id : Identity) (moment cost : ℕ) → ofOwn k id (inSpan t u moment moment cost) ≡ usable k t u id moment cost
-  unfolding ofOwn inSpan usable
-  one-moment id moment cost = refl
+module _ (t u : ℕ) where
+  request-alike : (own : Bool) (m : Manner) (at : Nanos) (cost wait : ℕ) → asReserved m && own ≡ false
+      → ofOwn own (inSpan t u (at .0) (usableFrom m at wait) cost) ≡ ofOwn own (inSpan t u (at .0) (at .0) cost)
+  request-alike own asTry at cost wait other = refl
+  request-alike own asReservation at cost wait other = rw other
 
-  other-key : (id : Identity) (asked ready cost : ℕ) → IsNot k id → ofOwn k id (inSpan t u asked ready cost) ≡ usable k t u id asked cost
-  unfolding ofOwn usable
-  other-key id asked ready cost differs =
-      by-test (eqb (id .hash) (k .hash))
-      (λ h. by-test (eqb (id .key) (k .key)) (λ y. absurd (differs (eqb-true _ _ h) (eqb-true _ _ y))) (λ n. rw (h, n)))
-      (λ h. rw h)
+  ask-alike : (own : Bool) (ask : Ask) (reply : Reply) → reservesIt ask && own ≡ false → askSpanned own t u ask reply ≡ askCalled own t u ask reply
+  ask-alike own (requests r at cost) reply other = granted-alike _ _ (λ wait. request-alike own (mannerOf r) at cost wait other) reply
+  ask-alike own (looks l) reply other = refl
+  ask-alike own (undoes undo) reply other = refl
 
-  request-alike : (m : Manner) (at : Nanos) (id : Identity) (cost wait : ℕ) → (asReserved m ≡ true → IsNot k id)
-      → ofOwn k id (inSpan t u (at .0) (usableFrom m at wait) cost) ≡ usable k t u id (at .0) cost
-  request-alike asTry at id cost wait not-reserved = one-moment id (at .0) cost
-  request-alike asReservation at id cost wait not-reserved = other-key id (at .0) (at .0 + wait) cost (not-reserved refl)
+  ask-refused-alike : (own : Bool) (ask : Ask) (n : ℕ) → askSpanned own t u ask (Refused n) ≡ askCalled own t u ask (Refused n)
+  ask-refused-alike own (requests r at cost) n = refl
+  ask-refused-alike own (looks l) n = refl
+  ask-refused-alike own (undoes undo) n = refl
 
-  ask-alike : (id : Identity) (ask : Ask) (reply : Reply) → (reservesIt ask ≡ true → IsNot k id) → askSpanned k t u id ask reply ≡ askCalled k t u id ask reply
-  ask-alike id (requests r at cost) reply not-reserved = granted-alike _ _ (λ wait. request-alike (mannerOf r) at id cost wait not-reserved) reply
-  ask-alike id (looks l) reply not-reserved = refl
-  ask-alike id (undoes undo) reply not-reserved = refl
-
-  ask-refused-alike : (id : Identity) (ask : Ask) (n : ℕ) → askSpanned k t u id ask (Refused n) ≡ askCalled k t u id ask (Refused n)
-  ask-refused-alike id (requests r at cost) n = refl
-  ask-refused-alike id (looks l) n = refl
-  ask-refused-alike id (undoes undo) n = refl
-
-  module _ {S N : Type 0} (terms : Terms S N) where
+  module _ {S N : Type 0} (terms : Terms S N) (own : N → Bool) where
     -- One call under the rules: accepted, or refused.
     abbrev Alike : Answered S N → Type 0
-    Alike a = spannedOf terms k t u a ≡ calledOf terms k t u a
+    Alike a = spannedOf own t u a ≡ calledOf own t u a
 
-    taken-alike : (c : Call S N) (ws : List ℕ) → (ofAsk terms (λ id. reservesIt) false c ≡ true → ofKey terms (IsNot k) c) → Alike (ruled terms c ws)
-    taken-alike (keyed s n ask) ws not-reserved = ask-alike (terms .identity n) ask (rules terms (keyed s n ask) ws .answer) not-reserved
-    taken-alike (whole s what) ws not-reserved = refl
+    taken-alike : (c : Call S N) (ws : List ℕ) → ofNamed (λ n ask. reservesIt ask && own n) false c ≡ false → Alike (ruled terms c ws)
+    taken-alike (keyed s n ask) ws other = ask-alike (own n) ask (rules terms (keyed s n ask) ws .answer) other
+    taken-alike (whole s what) ws other = refl
 
     refused-alike : (c : Call S N) (n : ℕ) (ws : List ℕ) → Alike (record { call = c; reply = Refused n; rulesWords = ws })
-    refused-alike (keyed s name ask) n ws = ask-refused-alike (terms .identity name) ask n
+    refused-alike (keyed s name ask) n ws = ask-refused-alike (own name) ask n
     refused-alike (whole s what) n ws = refl
 
     ruled-alike : (c : Call S N) (ws : List ℕ)
-        → (accepted terms (ruled terms c ws) ≡ true → ofAsk terms (λ id. reservesIt) false c ≡ true → ofKey terms (IsNot k) c) → Alike (ruled terms c ws)
-    ruled-alike c ws not-reserved =
+        → (accepted terms (ruled terms c ws) ≡ true → ofNamed (λ n ask. reservesIt ask && own n) false c ≡ false) → Alike (ruled terms c ws)
+    ruled-alike c ws other =
         by-test (accepted terms (ruled terms c ws))
-        (λ taken. taken-alike c ws (not-reserved taken))
+        (λ taken. taken-alike c ws (other taken))
         (λ refused. rw (unaccepted-refused terms (ruled terms c ws) refused) (refused-alike c (refusalOf terms c ws) ws))
 
-    all-alike : (cs : List (Call S N)) (ws : List ℕ) → NeverReserved terms k (replies terms (rules terms) cs ws ws)
+    all-alike : (cs : List (Call S N)) (ws : List ℕ) → NeverReserved terms own (replies terms (rules terms) cs ws ws)
         → Every Alike (replies terms (rules terms) cs ws ws)
     unfolding replies
-    all-alike [] ws not-reserved = tt
-    all-alike (c ∷ cs) ws not-reserved = (ruled-alike c ws (not-reserved .0), all-alike cs (rules terms c ws .after) (not-reserved .1))
+    all-alike [] ws other = tt
+    all-alike (c ∷ cs) ws other = (ruled-alike c ws (other .0), all-alike cs (rules terms c ws .after) (other .1))
 
 -- Two counts that are alike at every call give the same sums.
 module _ {S N : Type 0} (f g : Counting S N) where
@@ -159,8 +150,8 @@ module _ {S N : Type 0} (f g : Counting S N) where
 module _ {S N : Type 0} (terms : Terms S N) where
   -- With reservations, for settings, calls and words of any numbers.
   pub rules-stay-within-the-span-window : (s : Settings) (rate : Rate) (ws : List ℕ) → s .limit ≡ Open rate → s .eviction .«when_full» ≡ RefuseNew
-      → setUp s ws .answer ≡ Done → (cs : List (Call S N)) (k : Identity)
-      → WithinSpanWindow terms s rate k (replies terms (rules terms) cs (setUp s ws .after) (setUp s ws .after))
+      → setUp s ws .answer ≡ Done → (cs : List (Call S N))
+      → WithinSpanWindow terms s rate (replies terms (rules terms) cs (setUp s ws .after) (setUp s ws .after))
   rules-stay-within-the-span-window s rate ws rated refuses done′ cs k =
       let up = set-up-done s ws done′ in
       let a : Accepted (configOf rate) = accepted-rate rate (rw rated at (accepted-parts s (up .settings) .0)) in
@@ -168,14 +159,13 @@ module _ {S N : Type 0} (terms : Terms S N) where
 
   -- Request 11, for settings, calls and words of any numbers.
   pub rules-stay-within-the-refund-window : (s : Settings) (rate : Rate) (ws : List ℕ) → s .limit ≡ Open rate → s .eviction .«when_full» ≡ RefuseNew
-      → setUp s ws .answer ≡ Done → (cs : List (Call S N)) (k : Identity)
-      → WithinRefundWindow terms (refundedOf terms) s rate k (replies terms (rules terms) cs (setUp s ws .after) (setUp s ws .after))
+      → setUp s ws .answer ≡ Done → (cs : List (Call S N))
+      → WithinRefundWindow terms refundedOf s rate (replies terms (rules terms) cs (setUp s ws .after) (setUp s ws .after))
   rules-stay-within-the-refund-window s rate ws rated refuses done′ cs k fair not-reserved t u le =
       let list : List (Answered S N) = replies terms (rules terms) cs (setUp s ws .after) (setUp s ws .after) in
-      let span = spannedOf terms k t u in
-      let call = calledOf terms k t u in
-      let alike = all-alike k t u terms cs (setUp s ws .after) not-reserved in
-      rw (same-tokens span call list alike, same-refunds span call (refundedOf terms k) 0 list alike) at
+      let own : N → Bool = named terms k in
+      let alike = all-alike t u terms own cs (setUp s ws .after) not-reserved in
+      rw (same-tokens (spannedOf own t u) (calledOf own t u) list alike, same-refunds (spannedOf own t u) (calledOf own t u) (refundedOf own) 0 list alike) at
       (rules-stay-within-the-span-window s rate ws rated refuses done′ cs k fair t u le)
 
   pub rules-keep-the-span-window : SpanWindow terms (answering terms (rules terms))
@@ -186,17 +176,17 @@ module _ {S N : Type 0} (terms : Terms S N) where
 
 -- A limiter that meets demand 2 keeps what the rules keep of such lists, from the words that its own set-up leaves.
 module _ {S N : Type 0} (terms : Terms S N) (names : NamesFit terms) (l : Limiter S N) (equal : Demand2 terms l) where
-  as-the-rules : (Claim : Settings → Rate → Identity → List (Answered S N) → Type 0)
+  pub as-the-rules : (Claim : Settings → Rate → List (Answered S N) → Type 0)
       → OfFreshLists terms Claim (answering terms (rules terms)) → OfFreshLists terms Claim l
   as-the-rules Claim kept s rate ws fit lent rated refuses =
       let fresh = set-up-leaves-words-lendable (terms .settings s) ws lent in
       rw (equal .sets-up s ws fit lent)
-      (λ done′ cs fits k.
+      (λ done′ cs fits.
       rw (same-replies terms names l equal cs (setUp (terms .settings s) ws .after) (setUp (terms .settings s) ws .after) fits fresh)
-      (kept s rate ws fit lent rated refuses done′ cs fits k))
+      (kept s rate ws fit lent rated refuses done′ cs fits))
 
   pub demand2-keeps-the-span-window : SpanWindow terms l
   demand2-keeps-the-span-window = as-the-rules (WithinSpanWindow terms) (rules-keep-the-span-window terms)
 
   pub demand2-keeps-the-refund-window : RefundWindow terms l
-  demand2-keeps-the-refund-window = as-the-rules (WithinRefundWindow terms (refundedOf terms)) (rules-keep-the-refund-window terms)
+  demand2-keeps-the-refund-window = as-the-rules (WithinRefundWindow terms refundedOf) (rules-keep-the-refund-window terms)

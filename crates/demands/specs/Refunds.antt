@@ -30,7 +30,7 @@
 --   pay down a debt. `refunding-twice-breaks-the-refund-window`: a limiter that gives back twice what a refund states does not keep it.
 use Prim.Native.Nat.{ℕ, _+_, _*_, _-_, _≤_}
 use mathlib.Core.Path.{_≡_}
-use mathlib.Core.Bool.{Bool, true, false, cond}
+use mathlib.Core.Bool.{Bool, true, false, cond, _&&_}
 use mathlib.Core.List.{List, [], _∷_}
 use lib.Dec.{leb, eqb}
 use Rattle.units.specs.declared.Nanos.{Nanos}
@@ -46,8 +46,8 @@ use Rattle.rules.specs.Replies.{ofGrant}
 use Rattle.rules.specs.Asks.{refunds, removes, Ask, requests, looks, undoes, Manner, asTry, asReservation, mannerOf}
 use Rattle.rules.specs.Rules.{setUp}
 use Rattle.rules.specs.Widths.{lendable}
-use Rattle.rules.specs.Calls.{Call, keyed, whole, Terms, Answered, replies, accepted, ofKey, allFit, Every}
-use Rattle.demands.specs.Demands.{Limiter, SameSettings, TimesNeverFall, NoSharedHash, usable, usableFrom}
+use Rattle.rules.specs.Calls.{Call, keyed, whole, Terms, Answered, replies, accepted, allFit, Every}
+use Rattle.demands.specs.Demands.{Limiter, SameSettings, TimesNeverFall, NoSharedHash, usableFrom}
 
 -- By what is asked of a key: a value where tokens are asked for, given how, when and how many; another value for all else.
 abbrev pub ofRequest : {A : Type 0} → (Manner → Nanos → ℕ → A) → A → Ask → A
@@ -73,22 +73,23 @@ reservesIt ask = ofRequest (λ m at cost. asReserved m) false ask
 abbrev pub removesIt : Ask → Bool
 removesIt ask = ofUndo (λ cost. false) true false ask
 
--- The tokens, if the identity is the key; else 0.
-unfoldable pub ofOwn : Identity → Identity → ℕ → ℕ
-ofOwn k id tokens = cond (eqb (id .hash) (k .hash)) (cond (eqb (id .key) (k .key)) tokens 0) 0
+-- The tokens, if they are of the key in question; else 0.
+abbrev pub ofOwn : Bool → ℕ → ℕ
+ofOwn own tokens = cond own tokens 0
 
--- By the moment of the call: the tokens granted to the key in a call with a moment from t to u.
-abbrev pub askCalled : Identity → ℕ → ℕ → Identity → Ask → Reply → ℕ
-askCalled k t u id ask reply = ofRequest (λ m at cost. ofGrant (λ wait. usable k t u id (at .0) cost) 0 reply) 0 ask
-
--- By both moments: the tokens granted to the key in a call at t or later, and usable at u or before.
+-- The tokens of a grant, if its call is at t or later and they are usable at u or before.
 unfoldable pub inSpan : ℕ → ℕ → ℕ → ℕ → ℕ → ℕ
 inSpan t u asked ready cost = cond (leb t asked) (cond (leb ready u) cost 0) 0
 
-abbrev pub askSpanned : Identity → ℕ → ℕ → Identity → Ask → Reply → ℕ
-askSpanned k t u id ask reply = ofRequest (λ m at cost. ofGrant (λ wait. ofOwn k id (inSpan t u (at .0) (usableFrom m at wait) cost)) 0 reply) 0 ask
+-- By the moment of the call: the tokens granted in a call with a moment from t to u.
+abbrev pub askCalled : Bool → ℕ → ℕ → Ask → Reply → ℕ
+askCalled own t u ask reply = ofRequest (λ m at cost. ofGrant (λ wait. ofOwn own (inSpan t u (at .0) (at .0) cost)) 0 reply) 0 ask
 
--- The tokens refunded to the key in a call: the stated cost of a refund that is answered known.
+-- By both moments: the tokens granted in a call at t or later, and usable at u or before.
+abbrev pub askSpanned : Bool → ℕ → ℕ → Ask → Reply → ℕ
+askSpanned own t u ask reply = ofRequest (λ m at cost. ofGrant (λ wait. ofOwn own (inSpan t u (at .0) (usableFrom m at wait) cost)) 0 reply) 0 ask
+
+-- The tokens refunded: the stated cost of a refund that is answered known.
 abbrev pub ifKnown : ℕ → Reply → ℕ
 ifKnown cost (Tried decision) = 0
 ifKnown cost (Reserved due) = 0
@@ -97,8 +98,8 @@ ifKnown cost Done = cost
 ifKnown cost (Count n) = 0
 ifKnown cost (Refused n) = 0
 
-abbrev pub askRefunded : Identity → Identity → Ask → Reply → ℕ
-askRefunded k id ask reply = ofUndo (λ cost. ofOwn k id (ifKnown cost reply)) 0 0 ask
+abbrev pub askRefunded : Bool → Ask → Reply → ℕ
+askRefunded own ask reply = ofUndo (λ cost. ofOwn own (ifKnown cost reply)) 0 0 ask
 
 -- A count of tokens for each answered call, and their sum over a list.
 abbrev pub Counting : Type 0 → Type 0 → Type 0
@@ -127,55 +128,56 @@ partsAllowed rate refunded granted t u answered =
 abbrev pub WithinRefunds : {S N : Type 0} → Rate → (refunded granted : Counting S N) → ℕ → ℕ → List (Answered S N) → Type 0
 WithinRefunds rate refunded granted t u answered = tokensCounted granted answered * rate .period .0 ≤ partsAllowed rate refunded granted t u answered
 
--- Another key than the one in question.
-abbrev pub IsNot : Identity → Identity → Type 0
-IsNot k id = id .hash ≡ k .hash → id .key ≡ k .key → ⊥
+-- By the name of a call and what it asks; a call that names none has another value.
+abbrev pub ofNamed : {S N A : Type 0} → (N → Ask → A) → A → Call S N → A
+ofNamed f other (keyed s n ask) = f n ask
+ofNamed f other (whole s what) = other
+
+-- The three counts of a call as it was answered. `own` says which names are those of the key in question.
+module _ {S N : Type 0} (own : N → Bool) where
+  abbrev pub calledOf : ℕ → ℕ → Counting S N
+  calledOf t u a = ofNamed (λ n ask. askCalled (own n) t u ask (a .reply)) 0 (a .call)
+
+  abbrev pub spannedOf : ℕ → ℕ → Counting S N
+  spannedOf t u a = ofNamed (λ n ask. askSpanned (own n) t u ask (a .reply)) 0 (a .call)
+
+  abbrev pub refundedOf : Counting S N
+  refundedOf a = ofNamed (λ n ask. askRefunded (own n) ask (a .reply)) 0 (a .call)
 
 module _ {S N : Type 0} (terms : Terms S N) where
-  -- By what a call asks of a key, and of which one; a call that names none has another value.
-  abbrev pub ofAsk : {A : Type 0} → (Identity → Ask → A) → A → Call S N → A
-  ofAsk f other (keyed s n ask) = f (terms .identity n) ask
-  ofAsk f other (whole s what) = other
-
   -- No accepted call reserves for the key in question; none removes it.
-  abbrev pub NeverReserved : Identity → List (Answered S N) → Type 0
-  NeverReserved k = Every (λ a. accepted terms a ≡ true → ofAsk (λ id. reservesIt) false (a .call) ≡ true → ofKey terms (IsNot k) (a .call))
+  abbrev pub NeverReserved : (N → Bool) → List (Answered S N) → Type 0
+  NeverReserved own = Every (λ a. accepted terms a ≡ true → ofNamed (λ n ask. reservesIt ask && own n) false (a .call) ≡ false)
 
-  abbrev pub NeverRemoved : Identity → List (Answered S N) → Type 0
-  NeverRemoved k = Every (λ a. accepted terms a ≡ true → ofAsk (λ id. removesIt) false (a .call) ≡ true → ofKey terms (IsNot k) (a .call))
+  abbrev pub NeverRemoved : (N → Bool) → List (Answered S N) → Type 0
+  NeverRemoved own = Every (λ a. accepted terms a ≡ true → ofNamed (λ n ask. removesIt ask && own n) false (a .call) ≡ false)
 
-  -- The three counts, of a call as it was answered.
-  abbrev pub calledOf : Identity → ℕ → ℕ → Counting S N
-  calledOf k t u a = ofAsk (λ id ask. askCalled k t u id ask (a .reply)) 0 (a .call)
-
-  abbrev pub spannedOf : Identity → ℕ → ℕ → Counting S N
-  spannedOf k t u a = ofAsk (λ id ask. askSpanned k t u id ask (a .reply)) 0 (a .call)
-
-  abbrev pub refundedOf : Identity → Counting S N
-  refundedOf k a = ofAsk (λ id ask. askRefunded k id ask (a .reply)) 0 (a .call)
-
-  -- A claim on every list that the window is about, and every key: from a fresh store, with a rate set, under RefuseNew.
-  abbrev pub OfFreshLists : (Settings → Rate → Identity → List (Answered S N) → Type 0) → Limiter S N → Type 0
+  -- A claim on every list that the window is about: from a fresh store, with a rate set, under RefuseNew.
+  abbrev pub OfFreshLists : (Settings → Rate → List (Answered S N) → Type 0) → Limiter S N → Type 0
   OfFreshLists Claim l =
       (s : S) (rate : Rate) (ws : List ℕ) → terms .settingsFit s ≡ true → lendable ws ≡ true →
       terms .settings s .limit ≡ Open rate → terms .settings s .eviction .«when_full» ≡ RefuseNew → setUp (terms .settings s) ws .answer ≡ Done →
       (cs : List (Call S N)) → allFit terms cs ≡ true →
-      (k : Identity) → Claim (terms .settings s) rate k (replies terms (l .answers) cs (l .sets-up s ws .after) (l .sets-up s ws .after))
+      Claim (terms .settings s) rate (replies terms (l .answers) cs (l .sets-up s ws .after) (l .sets-up s ws .after))
+
+  -- The names of a key.
+  abbrev pub named : Identity → N → Bool
+  named k n = eqb (terms .identity n .hash) (k .hash) && eqb (terms .identity n .key) (k .key)
 
   -- The conditions on a list and a key that both claims have.
   pub record FairTo (s : Settings) (k : Identity) (answered : List (Answered S N)) : Type 0 where
     pub same-settings : SameSettings terms s answered
     pub rising : TimesNeverFall terms 0 answered
     pub apart : NoSharedHash terms answered
-    pub not-removed : NeverRemoved k answered
+    pub not-removed : NeverRemoved (named k) answered
 
-  -- Request 11 for one list and one key, by a way to count refunds.
-  abbrev pub WithinRefundWindow : (Identity → Counting S N) → Settings → Rate → Identity → List (Answered S N) → Type 0
-  WithinRefundWindow refunded s rate k answered =
-      FairTo s k answered → NeverReserved k answered →
-      (t u : ℕ) → t ≤ u → WithinRefunds rate (refunded k) (calledOf k t u) t u answered
+  -- Request 11 for one list, by a way to count refunds.
+  abbrev pub WithinRefundWindow : ((N → Bool) → Counting S N) → Settings → Rate → List (Answered S N) → Type 0
+  WithinRefundWindow refunded s rate answered =
+      (k : Identity) → FairTo s k answered → NeverReserved (named k) answered →
+      (t u : ℕ) → t ≤ u → WithinRefunds rate (refunded (named k)) (calledOf (named k) t u) t u answered
 
-  abbrev pub RefundWindowCounting : (Identity → Counting S N) → Limiter S N → Type 0
+  abbrev pub RefundWindowCounting : ((N → Bool) → Counting S N) → Limiter S N → Type 0
   RefundWindowCounting refunded l = OfFreshLists (WithinRefundWindow refunded) l
 
   -- Request 11.
@@ -183,10 +185,10 @@ module _ {S N : Type 0} (terms : Terms S N) where
   RefundWindow l = RefundWindowCounting refundedOf l
 
   -- The same where the key may be reserved for.
-  abbrev pub WithinSpanWindow : Settings → Rate → Identity → List (Answered S N) → Type 0
-  WithinSpanWindow s rate k answered =
-      FairTo s k answered →
-      (t u : ℕ) → t ≤ u → WithinRefunds rate (refundedOf k) (spannedOf k t u) t u answered
+  abbrev pub WithinSpanWindow : Settings → Rate → List (Answered S N) → Type 0
+  WithinSpanWindow s rate answered =
+      (k : Identity) → FairTo s k answered →
+      (t u : ℕ) → t ≤ u → WithinRefunds rate (refundedOf (named k)) (spannedOf (named k) t u) t u answered
 
   abbrev pub SpanWindow : Limiter S N → Type 0
   SpanWindow l = OfFreshLists WithinSpanWindow l
