@@ -134,18 +134,27 @@ module _ (t u : ℕ) where
     all-alike (c ∷ cs) ws other = (ruled-alike c ws (other .0), all-alike cs (rules terms c ws .after) (other .1))
 
 -- Two counts that are alike at every call give the same sums.
-module _ {S N : Type 0} (f g : Counting S N) where
-  same-tokens : (answered : List (Answered S N)) → Every (λ a. f a ≡ g a) answered → tokensCounted f answered ≡ tokensCounted g answered
-  unfolding tokensCounted
-  same-tokens [] alike = refl
-  same-tokens (a ∷ rest) alike = rw (alike .0, same-tokens rest (alike .1))
+module _ {S N : Type 0} where
+  abbrev pub CountAlike : (f g : Counting S N) → List (Answered S N) → Type 0
+  CountAlike f g = Every (λ a. f a ≡ g a)
 
-  same-refunds : (refunded : Counting S N) (before : ℕ) (answered : List (Answered S N)) → Every (λ a. f a ≡ g a) answered
-      → refundedBetween refunded f before answered ≡ refundedBetween refunded g before answered
+  pub same-tokens : (f g : Counting S N) (answered : List (Answered S N)) → CountAlike f g answered → tokensCounted f answered ≡ tokensCounted g answered
+  unfolding tokensCounted
+  same-tokens f g [] alike = refl
+  same-tokens f g (a ∷ rest) alike = rw (alike .0, same-tokens f g rest (alike .1))
+
+  pub same-refunds : (p q f g : Counting S N) (before : ℕ) (answered : List (Answered S N)) → CountAlike p q answered → CountAlike f g answered
+      → refundedBetween p f before answered ≡ refundedBetween q g before answered
   unfolding refundedBetween
-  same-refunds refunded before [] alike = refl
-  same-refunds refunded before (a ∷ rest) alike =
-      rw (alike .0, same-tokens rest (alike .1), same-refunds refunded (g a + before) rest (alike .1))
+  same-refunds p q f g before [] back alike = refl
+  same-refunds p q f g before (a ∷ rest) back alike =
+      rw (back .0, alike .0, same-tokens f g rest (alike .1), same-refunds p q f g (g a + before) rest (back .1) (alike .1))
+
+  -- So what is allowed for the one is allowed for the other.
+  pub within-alike : (rate : Rate) (p q f g : Counting S N) (t u : ℕ) (answered : List (Answered S N)) → CountAlike p q answered → CountAlike f g answered
+      → WithinRefunds rate p f t u answered → WithinRefunds rate q g t u answered
+  within-alike rate p q f g t u answered back alike within′ =
+      rw (same-tokens f g answered alike, same-refunds p q f g 0 answered back alike) at within′
 
 module _ {S N : Type 0} (terms : Terms S N) where
   -- With reservations, for settings, calls and words of any numbers.
@@ -165,7 +174,7 @@ module _ {S N : Type 0} (terms : Terms S N) where
       let list : List (Answered S N) = replies terms (rules terms) cs (setUp s ws .after) (setUp s ws .after) in
       let own : N → Bool = named terms k in
       let alike = all-alike t u terms own cs (setUp s ws .after) not-reserved in
-      rw (same-tokens (spannedOf own t u) (calledOf own t u) list alike, same-refunds (spannedOf own t u) (calledOf own t u) (refundedOf own) 0 list alike) at
+      within-alike rate (refundedOf own) (refundedOf own) (spannedOf own t u) (calledOf own t u) t u list (every-implies _ _ (λ a _. refl) list alike) alike
       (rules-stay-within-the-span-window s rate ws rated refuses done′ cs k fair t u le)
 
   pub rules-keep-the-span-window : SpanWindow terms (answering terms (rules terms))
