@@ -22,6 +22,8 @@ use Rattle.settings.specs.declared.Settings.{Settings}
 use Rattle.settings.specs.Powers.{exponentFrom, exponentFor}
 use Rattle.settings.specs.Rate as Rate
 use Rattle.settings.specs.Settings as Settings
+use Rattle.classes.specs.Classes as Classes
+use Rattle.classes.specs.Layout as ClassLayout
 use Rattle.ledger.specs.Layout as Debts
 use Rattle.ledger.specs.Model as Ledger
 use Rattle.shard_map.specs.Layout as Layout
@@ -33,7 +35,7 @@ use Rattle.store.specs.Memory.{shardAt}
 use Rattle.store.specs.Refusals as Refusals
 use Rattle.rules.specs.declared.Reply.{Reply}
 use Rattle.rules.specs.declared.Reply.the-variants.{Done}
-use Rattle.rules.specs.Asks.{refunds, Ask, requests, undoes}
+use Rattle.rules.specs.Asks.{refunds, Ask, requests, undoes, inForce}
 use Rattle.rules.specs.Asks as Asks
 use Rattle.rules.specs.Rules.{setUp}
 use Rattle.rules.specs.Rules as Rules
@@ -41,7 +43,7 @@ use Rattle.rules.specs.Widths.{settingsFit, lendable}
 use Rattle.rules.specs.Calls.{keyed, whole, byKey, settingsOf, Every}
 use Rattle.rules.specs.Calls as Calls
 use Rattle.perkey.specs.Edges.{twoPerSecond, keyOf}
-use Rattle.demands.specs.Demands.{clock}
+use Rattle.demands.specs.Demands.{untabled, clock}
 use Rattle.demands.specs.Demands as Demands
 use Rattle.demands.specs.ByKey.{Call, Implementation, Answered, rules, replies, answering, SameSettings, TimesNeverFall, Agree, NoSharedHash, allFit}
 use Rattle.demands.specs.Refunds.{ofUndo, reservesIt, removesIt, ofOwn, inSpan, askRefunded, tokensCounted, ifBetween, refundedBetween, partsAllowed}
@@ -70,7 +72,11 @@ abbrev pub acts : Settings → List Act → List Call
 acts s [] = []
 acts s (x ∷ xs) = callOf s x ∷ acts s xs
 
--- None of them reserves, and none removes.
+-- They go by the settings that they are given. None of them reserves, and none removes.
+settings-as-given : (s : Settings) (x : Act) → inForce (askIn x) s ≡ s
+settings-as-given s (takes moment key cost) = refl
+settings-as-given s (returns key cost) = refl
+
 no-reservation : (x : Act) → reservesIt (askIn x) ≡ false
 no-reservation (takes moment key cost) = refl
 no-reservation (returns key cost) = refl
@@ -89,7 +95,7 @@ module _ (f : Implementation) (s : Settings) where
   every-act Q each (x ∷ xs) ws law = (each x _ law, every-act Q each xs _ _)
 
   have-same-settings : (xs : List Act) (ws law : List ℕ) → SameSettings s (replies f (acts s xs) ws law)
-  have-same-settings = every-act _ (λ x reply law _. refl)
+  have-same-settings = every-act _ (λ x reply law _. settings-as-given s x)
 
   have-no-shared-hash : (xs : List Act) (ws law : List ℕ) → NoSharedHash (replies f (acts s xs) ws law)
   unfolding Calls.replies Demands.NoSharedHash
@@ -161,8 +167,8 @@ overgranting-breaks-the-refund-window {refunded} {f} {keys} {xs} {key} {t} {u} l
       apart = have-no-shared-hash f s xs ws ws;
       not-removed = never-removed f s (numbered key) xs ws ws;
     } in
-    let bound = window s twoPerSecond (memory s) (shown .settings) (shown .lent) refl refl (shown .set-up) (acts s xs) (shown .fit) (keyOf key) fair
-    (never-reserved f s (numbered key) xs ws ws) t u le in
+    let bound = window untabled s twoPerSecond (memory s) refl (shown .settings) (shown .lent) refl refl (shown .set-up) (acts s xs) (shown .fit)
+    (keyOf key) fair (never-reserved f s (numbered key) xs ws ws) t u le in
     omega (arith, bound, ltb-true (allowedTo refunded f keys xs key t u) (partsGranted f keys xs key t u) (shown .over))
 
 -- Weaker ways to count refunds: none of them; and only those to a key that holds a slot, in the words that the rules made.
@@ -233,7 +239,7 @@ unfolding ceilDiv rows unrow tableIn removed Index.onward Index.walkFrom Index.w
     Layout.shard Layout.wordsOf Shard.placeOf Shard.removeAt Shard.insert
     noted walkFrom walked evicted OneShard.makeRoom OneShard.withExisting OneShard.admit OneShard.withOrInsert OneShard.refunded
     Refusals.memoryRefusal Refusals.countRefusal Refusals.momentRefusal Refusals.waitRefusal Refusals.mostSlots Refusals.slotsRefusalIn
-    Asks.askedIn Rules.unlessRefused Rules.setUpIn Rules.keyedRuleIn
+    ClassLayout.classesIn Classes.countRefusal Classes.firstFrom Asks.askedIn Rules.unlessRefused Rules.setUpIn Rules.keyedRuleIn
     Calls.accepted Calls.replies inSpan tokensCounted ifBetween refundedBetween rises
 refunds-computed = record {
   uncounted = record { settings = refl; lent = refl; fit = refl; set-up = refl; rising = refl; over = refl };

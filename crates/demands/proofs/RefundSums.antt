@@ -14,7 +14,7 @@ use Rattle.shard.specs.declared.Identity.{Identity}
 use Rattle.rules.specs.declared.Reply.{Reply}
 use Rattle.rules.specs.declared.Reply.the-variants.{Tried, Reserved, Nothing, Done, Count, Refused}
 use Rattle.rules.specs.Replies.{ofGrant}
-use Rattle.rules.specs.Asks.{refunds, removes, Ask, requests, looks, undoes, Manner, mannerOf}
+use Rattle.rules.specs.Asks.{refunds, removes, Ask, requests, looks, undoes, passes, Manner, asTry, mannerOf}
 use Rattle.rules.specs.Calls.{Call, keyed, whole, Terms, Answered}
 use Rattle.demands.specs.Demands.{usableFrom}
 use Rattle.demands.specs.Refunds.{ofOwn, inSpan, askSpanned, ifKnown, askRefunded, tokensCounted, ifBetween, refundedBetween}
@@ -96,6 +96,7 @@ module _ (A P C : ℕ) (k : Identity) (t u : ℕ) where
     ask-adds id (looks l) reply = adds-nothing
     ask-adds id (undoes (refunds cost)) reply = rw (own-nothing id) at (adds-own id (refund-adds cost reply))
     ask-adds id (undoes removes) reply = adds-nothing
+    ask-adds id (passes table class at cost) reply = request-adds asTry at id cost reply
 
   -- Over a list of calls.
   module _ {S N : Type 0} (terms : Terms S N) where

@@ -22,11 +22,11 @@ use Rattle.store.specs.Memory.{memoryWords}
 use Rattle.rules.specs.declared.Reply.{Reply}
 use Rattle.rules.specs.declared.Reply.the-variants.{Tried, Reserved, Nothing, Done, Count, Refused}
 use Rattle.rules.specs.Replies.{ofGrant}
-use Rattle.rules.specs.Asks.{refunds, removes, Ask, requests, looks, undoes, Manner, asTry, asReservation, mannerOf, forgets, policyOf}
-use Rattle.rules.specs.Rules.{setUp}
+use Rattle.rules.specs.Asks.{refunds, removes, Ask, requests, looks, undoes, passes, Manner, asTry, asReservation, mannerOf, forgets, policyOf}
+use Rattle.rules.specs.Rules.{setUpFor}
 use Rattle.rules.specs.Calls.{Call, keyed, whole, Terms, rules, Answered, replies, accepted, Every}
 use Rattle.rules.proofs.CallLaws.{refusalOf, unaccepted-refused}
-use Rattle.demands.specs.Demands.{Limiter, answering, Demand2, usableFrom}
+use Rattle.demands.specs.Demands.{tableWords, Limiter, setUpBy, settingsBy, answering, Demand2, usableFrom}
 use Rattle.demands.specs.Refunds.{asReserved, reservesIt, removesIt, ofOwn, inSpan, askCalled, askSpanned, Counting, tokensCounted, refundedBetween}
 use Rattle.demands.specs.Refunds.{WithinRefunds, ofNamed, calledOf, spannedOf, refundedOf, NeverReserved, NeverRemoved, OfFreshLists, named, FairTo}
 use Rattle.demands.specs.Refunds.{WithinRefundWindow, RefundWindow, WithinSpanWindow, SpanWindow}
@@ -59,6 +59,7 @@ module _ {S N : Type 0} (terms : Terms S N) (s : Settings) (rate : Rate) (k : Id
   never-removed-is-as-allowed (keyed s n (requests r at cost)) other = tt
   never-removed-is-as-allowed (keyed s n (looks l)) other = tt
   never-removed-is-as-allowed (keyed s n (undoes (refunds cost))) other = λ hash key. tt
+  never-removed-is-as-allowed (keyed s n (passes table class at cost)) other = tt
   never-removed-is-as-allowed (keyed s n (undoes removes)) other = λ hash key. true≢false (rw (eq-eqb _ _ hash, eq-eqb _ _ key) at other)
   never-removed-is-as-allowed (whole s what) other = tt
 
@@ -101,11 +102,13 @@ module _ (t u : ℕ) where
   ask-alike own (requests r at cost) reply other = granted-alike _ _ (λ wait. request-alike own (mannerOf r) at cost wait other) reply
   ask-alike own (looks l) reply other = refl
   ask-alike own (undoes undo) reply other = refl
+  ask-alike own (passes table class at cost) reply other = refl
 
   ask-refused-alike : (own : Bool) (ask : Ask) (n : ℕ) → askSpanned own t u ask (Refused n) ≡ askCalled own t u ask (Refused n)
   ask-refused-alike own (requests r at cost) n = refl
   ask-refused-alike own (looks l) n = refl
   ask-refused-alike own (undoes undo) n = refl
+  ask-refused-alike own (passes table class at cost) n = refl
 
   module _ {S N : Type 0} (terms : Terms S N) (own : N → Bool) where
     -- One call under the rules: accepted, or refused.
@@ -158,41 +161,43 @@ module _ {S N : Type 0} where
 
 module _ {S N : Type 0} (terms : Terms S N) where
   -- With reservations, for settings, calls and words of any numbers.
-  pub rules-stay-within-the-span-window : (s : Settings) (rate : Rate) (ws : List ℕ) → s .limit ≡ Open rate → s .eviction .«when_full» ≡ RefuseNew
-      → setUp s ws .answer ≡ Done → (cs : List (Call S N))
-      → WithinSpanWindow terms s rate (replies terms (rules terms) cs (setUp s ws .after) (setUp s ws .after))
-  rules-stay-within-the-span-window s rate ws rated refuses done′ cs k =
-      let up = set-up-done s ws done′ in
+  pub rules-stay-within-the-span-window : (s : Settings) (rate : Rate) (table ws : List ℕ) → s .limit ≡ Open rate → s .eviction .«when_full» ≡ RefuseNew
+      → setUpFor s table ws .answer ≡ Done → (cs : List (Call S N))
+      → WithinSpanWindow terms s rate (replies terms (rules terms) cs (setUpFor s table ws .after) (setUpFor s table ws .after))
+  rules-stay-within-the-span-window s rate table ws rated refuses done′ cs k =
+      let up = set-up-done s table ws done′ in
       let a : Accepted (configOf rate) = accepted-rate rate (rw rated at (accepted-parts s (up .settings) .0)) in
       rw (up .words) (fresh-span terms s rate k a (ap forgets refuses) rated cs)
 
   -- Request 11, for settings, calls and words of any numbers.
-  pub rules-stay-within-the-refund-window : (s : Settings) (rate : Rate) (ws : List ℕ) → s .limit ≡ Open rate → s .eviction .«when_full» ≡ RefuseNew
-      → setUp s ws .answer ≡ Done → (cs : List (Call S N))
-      → WithinRefundWindow terms refundedOf s rate (replies terms (rules terms) cs (setUp s ws .after) (setUp s ws .after))
-  rules-stay-within-the-refund-window s rate ws rated refuses done′ cs k fair not-reserved t u le =
-      let list : List (Answered S N) = replies terms (rules terms) cs (setUp s ws .after) (setUp s ws .after) in
+  pub rules-stay-within-the-refund-window : (s : Settings) (rate : Rate) (table ws : List ℕ) → s .limit ≡ Open rate → s .eviction .«when_full» ≡ RefuseNew
+      → setUpFor s table ws .answer ≡ Done → (cs : List (Call S N))
+      → WithinRefundWindow terms refundedOf s rate (replies terms (rules terms) cs (setUpFor s table ws .after) (setUpFor s table ws .after))
+  rules-stay-within-the-refund-window s rate table ws rated refuses done′ cs k fair not-reserved t u le =
+      let fresh : List ℕ = setUpFor s table ws .after in
+      let list : List (Answered S N) = replies terms (rules terms) cs fresh fresh in
       let own : N → Bool = named terms k in
-      let alike = all-alike t u terms own cs (setUp s ws .after) not-reserved in
+      let alike = all-alike t u terms own cs fresh not-reserved in
       within-alike rate (refundedOf own) (refundedOf own) (spannedOf own t u) (calledOf own t u) t u list (every-implies _ _ (λ a _. refl) list alike) alike
-      (rules-stay-within-the-span-window s rate ws rated refuses done′ cs k fair t u le)
+      (rules-stay-within-the-span-window s rate table ws rated refuses done′ cs k fair t u le)
 
   pub rules-keep-the-span-window : SpanWindow terms (answering terms (rules terms))
-  rules-keep-the-span-window s rate ws _ _ rated refuses done′ cs _ = rules-stay-within-the-span-window (terms .settings s) rate ws rated refuses done′ cs
+  rules-keep-the-span-window table s rate ws _ _ _ rated refuses done′ cs _ =
+      rules-stay-within-the-span-window (settingsBy terms table s) rate (tableWords table) ws rated refuses done′ cs
 
   pub rules-keep-the-refund-window : RefundWindow terms (answering terms (rules terms))
-  rules-keep-the-refund-window s rate ws _ _ rated refuses done′ cs _ = rules-stay-within-the-refund-window (terms .settings s) rate ws rated refuses done′ cs
+  rules-keep-the-refund-window table s rate ws _ _ _ rated refuses done′ cs _ =
+      rules-stay-within-the-refund-window (settingsBy terms table s) rate (tableWords table) ws rated refuses done′ cs
 
 -- A limiter that meets demand 2 keeps what the rules keep of such lists, from the words that its own set-up leaves.
 module _ {S N : Type 0} (terms : Terms S N) (names : NamesFit terms) (l : Limiter S N) (equal : Demand2 terms l) where
   pub as-the-rules : (Claim : Settings → Rate → List (Answered S N) → Type 0)
       → OfFreshLists terms Claim (answering terms (rules terms)) → OfFreshLists terms Claim l
-  as-the-rules Claim kept s rate ws fit lent rated refuses =
-      let fresh = set-up-leaves-words-lendable (terms .settings s) ws lent in
-      rw (equal .sets-up s ws fit lent)
-      (λ done′ cs fits.
-      rw (same-replies terms names l equal cs (setUp (terms .settings s) ws .after) (setUp (terms .settings s) ws .after) fits fresh)
-      (kept s rate ws fit lent rated refuses done′ cs fits))
+  as-the-rules Claim kept table s rate ws few fit lent rated refuses =
+      let left : List ℕ = setUpBy terms table s ws .after in
+      let fresh = set-up-leaves-words-lendable (settingsBy terms table s) (tableWords table) ws lent in
+      rw (equal .sets-up table s ws few fit lent)
+      (λ done′ cs fits. rw (same-replies terms names l equal cs left left fits fresh) (kept table s rate ws few fit lent rated refuses done′ cs fits))
 
   pub demand2-keeps-the-span-window : SpanWindow terms l
   demand2-keeps-the-span-window = as-the-rules (WithinSpanWindow terms) (rules-keep-the-span-window terms)

@@ -6,7 +6,7 @@
 -- Of the calls that are not refused by number                                                            accepted
 -- all have these settings, the moments never fall, no two name different keys of one hash,               SameSettings, TimesNeverFall, NoSharedHash
 -- none removes the key k, and none reserves for k. Refunds to k are allowed.                             NeverRemoved, NeverReserved
--- Add up the tokens granted to k in calls with moments from t to u.                                      tokensCounted, calledOf
+-- Add up the tokens granted to k in calls with moments from t to u, by tries through a class too.        tokensCounted, calledOf
 -- Add up the tokens refunded to k between the first and the last of these grants.                        refundedBetween
 -- A refund that is answered known, by slot or by debt, counts its stated cost; any other counts 0.       refundedOf
 -- Times the period, the first sum is at most burst × period + (u - t) × amount,                          WithinRefunds, partsAllowed
@@ -43,17 +43,17 @@ use Rattle.shard.specs.declared.Identity.{Identity}
 use Rattle.rules.specs.declared.Reply.{Reply}
 use Rattle.rules.specs.declared.Reply.the-variants.{Tried, Reserved, Nothing, Done, Count, Refused}
 use Rattle.rules.specs.Replies.{ofGrant}
-use Rattle.rules.specs.Asks.{refunds, removes, Ask, requests, looks, undoes, Manner, asTry, asReservation, mannerOf}
-use Rattle.rules.specs.Rules.{setUp}
+use Rattle.rules.specs.Asks.{refunds, removes, Ask, requests, looks, undoes, passes, Manner, asTry, asReservation, mannerOf}
 use Rattle.rules.specs.Widths.{lendable}
 use Rattle.rules.specs.Calls.{Call, keyed, whole, Terms, Answered, replies, accepted, allFit, Every}
-use Rattle.demands.specs.Demands.{Limiter, SameSettings, TimesNeverFall, NoSharedHash, usableFrom}
+use Rattle.demands.specs.Demands.{Table, tableFits, Limiter, setUpBy, settingsBy, SameSettings, TimesNeverFall, NoSharedHash, usableFrom}
 
 -- By what is asked of a key: a value where tokens are asked for, given how, when and how many; another value for all else.
 abbrev pub ofRequest : {A : Type 0} → (Manner → Nanos → ℕ → A) → A → Ask → A
 ofRequest f other (requests r at cost) = f (mannerOf r) at cost
 ofRequest f other (looks l) = other
 ofRequest f other (undoes u) = other
+ofRequest f other (passes table class at cost) = f asTry at cost
 
 -- A value for a refund, given its stated cost; one for a removal; another for all else.
 abbrev pub ofUndo : {A : Type 0} → (ℕ → A) → A → A → Ask → A
@@ -61,6 +61,7 @@ ofUndo refunded removed other (requests r at cost) = other
 ofUndo refunded removed other (looks l) = other
 ofUndo refunded removed other (undoes (refunds cost)) = refunded cost
 ofUndo refunded removed other (undoes removes) = removed
+ofUndo refunded removed other (passes table class at cost) = other
 
 -- Whether it reserves; whether it removes.
 abbrev pub asReserved : Manner → Bool
@@ -155,10 +156,10 @@ module _ {S N : Type 0} (terms : Terms S N) where
   -- A claim on every list that the window is about: from a fresh store, with a rate set, under RefuseNew.
   abbrev pub OfFreshLists : (Settings → Rate → List (Answered S N) → Type 0) → Limiter S N → Type 0
   OfFreshLists Claim l =
-      (s : S) (rate : Rate) (ws : List ℕ) → terms .settingsFit s ≡ true → lendable ws ≡ true →
-      terms .settings s .limit ≡ Open rate → terms .settings s .eviction .«when_full» ≡ RefuseNew → setUp (terms .settings s) ws .answer ≡ Done →
+      (table : Table) (s : S) (rate : Rate) (ws : List ℕ) → tableFits table ≡ true → terms .settingsFit s ≡ true → lendable ws ≡ true →
+      terms .settings s .limit ≡ Open rate → terms .settings s .eviction .«when_full» ≡ RefuseNew → setUpBy terms table s ws .answer ≡ Done →
       (cs : List (Call S N)) → allFit terms cs ≡ true →
-      Claim (terms .settings s) rate (replies terms (l .answers) cs (l .sets-up s ws .after) (l .sets-up s ws .after))
+      Claim (settingsBy terms table s) rate (replies terms (l .answers) cs (l .sets-up table s ws .after) (l .sets-up table s ws .after))
 
   -- The names of a key.
   abbrev pub named : Identity → N → Bool

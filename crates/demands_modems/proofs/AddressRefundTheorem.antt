@@ -15,8 +15,7 @@ use Rattle.settings.specs.declared.Settings.{Settings}
 use Rattle.settings.specs.declared.rate.Rate.{Rate}
 use Rattle.rules.specs.declared.Reply.{Reply}
 use Rattle.rules.specs.declared.Reply.the-variants.{Refused}
-use Rattle.rules.specs.Asks.{Ask, requests, looks, undoes, refunds, removes}
-use Rattle.rules.specs.Rules.{setUp}
+use Rattle.rules.specs.Asks.{Ask, requests, looks, undoes, passes, refunds, removes}
 use Rattle.rules.specs.Widths.{settingsFit}
 use Rattle.rules.specs.Calls.{Call, keyed, whole, Terms, Answered, rules, replies, accepted, fits, Every}
 use Rattle.rules.proofs.CallLaws.{refusalOf, unaccepted-refused}
@@ -24,7 +23,7 @@ use Rattle.modems.specs.Address.{addressBytes, areBytes, identityOf, hashOf, ke
 use Rattle.modems.specs.Names.{Name, namedIn}
 use Rattle.modems.proofs.KeyLaws.{equal-keys-have-equal-addresses}
 use Rattle.limiter.specs.Exported as Exported
-use Rattle.demands.specs.Demands.{Limiter, answering, Demand2}
+use Rattle.demands.specs.Demands.{tableWords, Limiter, setUpBy, settingsBy, answering, Demand2}
 use Rattle.demands.specs.Contracts.{Contracts}
 use Rattle.demands.specs.Exports.{Exports, numbersFit, called, ExportContracts}
 use Rattle.demands.specs.Refunds.{reservesIt, removesIt, askCalled, askRefunded, tokensCounted, ofNamed, calledOf, refundedOf, WithinRefunds, named, FairTo}
@@ -50,6 +49,7 @@ called-refused : (t u : ℕ) (own : Bool) (ask : Ask) (n : ℕ) → askCalled ow
 called-refused t u own (requests r at cost) n = refl
 called-refused t u own (looks l) n = refl
 called-refused t u own (undoes undo) n = refl
+called-refused t u own (passes table class at cost) n = refl
 
 refunded-refused : (own : Bool) (ask : Ask) (n : ℕ) → askRefunded own ask (Refused n) ≡ 0
 refunded-refused own (requests r at cost) n = refl
@@ -57,6 +57,7 @@ refunded-refused own (looks l) n = refl
 refunded-refused true (undoes (refunds cost)) n = refl
 refunded-refused false (undoes (refunds cost)) n = refl
 refunded-refused own (undoes removes) n = refl
+refunded-refused own (passes table class at cost) n = refl
 
 -- Where no name counts, nothing does.
 no-name-no-tokens : {S : Type 0} (t u : ℕ) (answered : List (Answered S (List ℕ))) → tokensCounted (calledOf (λ bytes. false) t u) answered ≡ 0
@@ -68,6 +69,7 @@ no-name-no-tokens {S} t u (a ∷ rest) = omega (arith, nothing (a .call), no-nam
     nothing (keyed s bytes (requests r at cost)) = grant-of-nothing (a .reply)
     nothing (keyed s bytes (looks l)) = refl
     nothing (keyed s bytes (undoes undo)) = refl
+    nothing (keyed s bytes (passes table class at cost)) = grant-of-nothing (a .reply)
     nothing (whole s what) = refl
 
 module _ {S : Type 0} (means : S → Settings) (fit : S → Bool) where
@@ -169,10 +171,11 @@ module _ {S : Type 0} (means : S → Settings) (fit : S → Bool) where
           rw (same-tokens (calledOf (own k) t u) (calledOf (λ bytes. false) t u) answered alike, no-name-no-tokens t u answered) (omega arith)
 
   pub rules-keep-the-address-refund-window : AddressRefundWindow means fit (answering terms (rules terms))
-  rules-keep-the-address-refund-window s rate ws _ _ rated refuses done′ cs fits′ =
-      let fresh = setUp (means s) ws .after in
-      within-for-addresses (means s) rate (replies terms (rules terms) cs fresh fresh) (rules-keep means fit cs fresh fits′)
-      (rules-stay-within-the-refund-window terms (means s) rate ws rated refuses done′ cs)
+  rules-keep-the-address-refund-window table s rate ws _ _ _ rated refuses done′ cs fits′ =
+      let settings = settingsBy terms table s in
+      let fresh = setUpBy terms table s ws .after in
+      within-for-addresses settings rate (replies terms (rules terms) cs fresh fresh) (rules-keep means fit cs fresh fits′)
+      (rules-stay-within-the-refund-window terms settings rate (tableWords table) ws rated refuses done′ cs)
 
   -- So does every limiter that meets demand 2, and one for calls by key and by address.
   pub demand2-keeps-the-address-refund-window : (l : Limiter S (List ℕ)) → Demand2 terms l → AddressRefundWindow means fit l
@@ -184,16 +187,16 @@ module _ {S : Type 0} (means : S → Settings) (fit : S → Bool) where
   named-demand2-keeps-the-address-refund-window l equal =
       demand2-keeps-the-address-refund-window (onAddresses means fit l) (named-demand2-gives-demand2 means fit l equal)
 
-module _ (κs : Lfts 1) (κs₂ : Lfts 2) (ptr bytesPtr : ℕ × ℕ) (name bytesName : ℕ) where
+module _ (κs : Lfts 1) (κs₂ : Lfts 2) (ptr otherPtr : ℕ × ℕ) (name otherName : ℕ) where
   -- Code as the contracts tell.
-  pub contracts-keep-the-address-refund-window : (l : Limiter Settings Name) → Contracts κs κs₂ ptr bytesPtr name bytesName l
+  pub contracts-keep-the-address-refund-window : (l : Limiter Settings Name) → Contracts κs κs₂ ptr otherPtr name otherName l
       → AddressRefundWindow (λ s. s) settingsFit (onAddresses (λ s. s) settingsFit l)
   contracts-keep-the-address-refund-window l c =
-      named-demand2-keeps-the-address-refund-window (λ s. s) settingsFit l (contracts-meet-demand2 κs κs₂ ptr bytesPtr name bytesName l c)
+      named-demand2-keeps-the-address-refund-window (λ s. s) settingsFit l (contracts-meet-demand2 κs κs₂ ptr otherPtr name otherName l c)
 
   -- The exports that C and Rust call.
-  pub exports-keep-the-address-refund-window : (e : Exports) → ExportContracts κs κs₂ ptr bytesPtr name bytesName e
+  pub exports-keep-the-address-refund-window : (e : Exports) → ExportContracts κs κs₂ ptr otherPtr name otherName e
       → AddressRefundWindow Exported.settingsOf numbersFit (onAddresses Exported.settingsOf numbersFit (called e))
   exports-keep-the-address-refund-window e c =
       named-demand2-keeps-the-address-refund-window Exported.settingsOf numbersFit (called e)
-      (callers-have-demand2 κs κs₂ ptr bytesPtr name bytesName e c)
+      (callers-have-demand2 κs κs₂ ptr otherPtr name otherName e c)
