@@ -23,7 +23,7 @@ module _ (κs : Lfts 1) (κs₂ : Lfts 2) (ptr otherPtr : ℕ × ℕ) (name othe
     key-contracts-keep-the-refund-window =
         demand2-keeps-the-refund-window byKey keys-fit _ (key-contracts-meet-demand2 κs κs₂ ptr otherPtr name otherName l c)
 
-    -- In lists that mix calls by key and calls by address.
+    -- In lists that mix calls by key, calls by address and tries through a class.
     pub contracts-keep-the-refund-window : RefundWindow byName l
     contracts-keep-the-refund-window =
         demand2-keeps-the-refund-window byName (names-fit (λ s. s) settingsFit) l (contracts-meet-demand2 κs κs₂ ptr otherPtr name otherName l c)

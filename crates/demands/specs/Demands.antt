@@ -52,6 +52,9 @@
 -- * `window-adding-none-is-false-of-the-rules`: the + 1 cannot be left out.
 -- * `demand2-tells-moments`, `told-moments-count-alike`: the tokens that the window counts are those counted by the moments that grants tell (Moments).
 -- * `rules-keep-the-class-window-exactly`, `demand2-keeps-the-class-window-exactly`: the window of a class holds without the + 1 as well.
+-- * Request 11, the window of a key that may be refunded, has its own page: `RefundWindow` in Refunds. `rules-keep-the-refund-window`: the rules keep it.
+--   `demand2-keeps-the-refund-window`, `contracts-keep-the-refund-window`, `exports-keep-the-refund-window`: so do every limiter that meets demand 2, code and
+--   exports. It is about the same lists as the window here, with tries through a class among them: a granted one counts as a grant to its key.
 -- * Impostors are refuted in ImpostorLaws and ClassImpostors. Demand 3 alone admits a limiter that turns every newcomer away at first
 -- (`turns-newcomers-away-meets-demand3`);
 --   demand 2 shuts it out (`turns-newcomers-away-fails-demand2`).

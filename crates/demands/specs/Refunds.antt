@@ -24,8 +24,8 @@
 -- Theorems, in proofs/:
 -- * `rules-keep-the-refund-window`, `rules-keep-the-span-window`: the rules keep both. `demand2-keeps-the-refund-window`, `demand2-keeps-the-span-window`: so
 --   does every limiter that meets demand 2.
--- * `contracts-keep-the-refund-window`, `exports-keep-the-refund-window`: so does code that is as the contracts of `perkey` and `modems`, or of the exports,
---   tell its callers.
+-- * `contracts-keep-the-refund-window`, `exports-keep-the-refund-window`: so does code that is as the contracts of `perkey`, `modems` and `class_calls`, or of
+--   the exports, tell its callers.
 -- * `refund-window-without-refunds-is-false-of-the-rules`, `refund-window-by-slots-is-false-of-the-rules`: the refunds cannot be left out, nor can those that
 --   pay down a debt. `refunding-twice-breaks-the-refund-window`: a limiter that gives back twice what a refund states does not keep it.
 use Prim.Native.Nat.{ℕ, _+_, _*_, _-_, _≤_}
