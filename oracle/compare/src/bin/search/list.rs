@@ -45,7 +45,7 @@ impl List {
             events: vec![Vec::new(); modems.len()],
             reserved: vec![false; modems.len()],
             calls,
-            trace: set_line(&store.settings),
+            trace: set_line(&store.settings) + &store.table_lines(),
         };
         let mut making = Making {
             random,
@@ -72,7 +72,10 @@ impl Making<'_> {
         };
         let who = self.modems[place];
         let deed = match self.random.below(10) {
-            0..=5 => self.try_deed(&who),
+            0..=5 => {
+                let deed = self.try_deed(&who);
+                self.through_a_class(deed)
+            }
             6 if self.random.chance(50) => self.reserve_deed(),
             _ => Deed::Refund { cost: self.cost() },
         };
@@ -99,6 +102,19 @@ impl Making<'_> {
         Deed::Try {
             now: self.now,
             cost,
+        }
+    }
+
+    /// Half of the tries on a store with classes go through one of them.
+    fn through_a_class(&mut self, deed: Deed) -> Deed {
+        let classes = u64::from(self.store.settings.classes);
+        match deed {
+            Deed::Try { now, cost } if classes > 0 && self.random.chance(50) => Deed::Through {
+                now,
+                class: self.random.below(classes),
+                cost,
+            },
+            _ => deed,
         }
     }
 
@@ -143,15 +159,20 @@ impl Making<'_> {
         }
         let events = &mut self.list.events[place];
         match deed {
-            Deed::Try { now, cost } if granted => events.push(Event::granted(now, now, cost)),
+            Deed::Try { now, cost } if granted => {
+                events.push(Event::granted(now, now, cost, false));
+            }
+            Deed::Through { now, cost, .. } if granted => {
+                events.push(Event::granted(now, now, cost, true));
+            }
             Deed::Reserve { now, cost, .. } => {
                 self.list.reserved[place] = true;
                 if granted {
-                    events.push(Event::granted(now, now + reply.number, cost));
+                    events.push(Event::granted(now, now + reply.number, cost, false));
                 }
             }
             Deed::Refund { cost } if granted => events.push(Event::refunded(cost, slot)),
-            Deed::Try { .. } | Deed::Refund { .. } => (),
+            Deed::Try { .. } | Deed::Through { .. } | Deed::Refund { .. } => (),
         }
     }
 }
@@ -175,11 +196,14 @@ fn set_line(s: &LimiterSettings) -> String {
     )
 }
 
-/// The line of a trace that asks a modem by its key.
+/// The line of a trace that asks a modem by its key. The oracle knows no classes: a try through one is a comment.
 fn line(who: &Modem, deed: Deed) -> String {
     let (hash, key) = (who.hash, who.key);
     match deed {
         Deed::Try { now, cost } => format!("try {now} {hash} {key} {cost}\n"),
+        Deed::Through { now, class, cost } => {
+            format!("# through {class}: try {now} {hash} {key} {cost}\n")
+        }
         Deed::Reserve {
             now,
             cost,

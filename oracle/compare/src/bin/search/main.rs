@@ -1,6 +1,6 @@
-//! A search for a list of calls in which a modem is granted more than the window with refunds allows (02, request 11). It makes random lists of tries, refunds
-//! and reservations on our library, by key and by address, and computes both sides of the statement for every window. README.md of the oracle says what it
-//! reports; `--help` how to run it.
+//! A search for a list of calls in which a modem is granted more than the window with refunds allows (02, request 11). It makes random lists of tries,
+//! tries through a class, refunds and reservations on our library, by key and by address, and computes both sides of the statement for every window. README.md
+//! of the oracle says what it reports; `--help` how to run it.
 
 mod list;
 #[path = "../../random.rs"]

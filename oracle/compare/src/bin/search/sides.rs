@@ -7,23 +7,25 @@ use limiter_sys::LimiterSettings;
 /// What happened to a modem in one call.
 #[derive(Clone, Copy)]
 pub enum Event {
-    /// Tokens were granted: the moment of the call, and the moment from which they are usable.
+    /// Tokens were granted: the moment of the call, the moment from which they are usable, and whether the call was a try through a class.
     Granted {
         asked: u64,
         usable: u64,
         tokens: u128,
+        through: bool,
     },
     /// A refund was answered known: the tokens that it states, and whether the modem had a slot. If not, it had a debt.
     Refunded { tokens: u128, slot: bool },
 }
 
 impl Event {
-    pub fn granted(asked: u64, usable: u64, cost: u32) -> Self {
+    pub fn granted(asked: u64, usable: u64, cost: u32, through: bool) -> Self {
         let tokens = cost.into();
         Self::Granted {
             asked,
             usable,
             tokens,
+            through,
         }
     }
 
@@ -39,9 +41,15 @@ impl Event {
                 asked,
                 usable,
                 tokens,
+                ..
             } if t <= asked && usable <= u => tokens,
             Self::Granted { .. } | Self::Refunded { .. } => 0,
         }
+    }
+
+    /// Whether it is a grant to a try through a class.
+    fn is_through(&self) -> bool {
+        matches!(*self, Self::Granted { through: true, .. })
     }
 
     /// The tokens refunded to a slot, or to a debt.
@@ -60,6 +68,8 @@ pub struct Sides {
     pub without_refunds: u128,
     pub to_slots: u128,
     pub to_debts: u128,
+    /// Whether a counted grant is to a try through a class.
+    pub through: bool,
 }
 
 impl Sides {
@@ -97,6 +107,9 @@ fn sides(s: &LimiterSettings, events: &[Event], t: u64, u: u64) -> Option<Sides>
         without_refunds: burst * period + u128::from(u - t) * amount,
         to_slots: refunded(true),
         to_debts: refunded(false),
+        through: between
+            .iter()
+            .any(|event| counts(event) && event.is_through()),
     })
 }
 

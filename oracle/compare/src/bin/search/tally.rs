@@ -56,10 +56,12 @@ pub struct Tally {
     stated: Worst,
     without_refunds: Worst,
     slots_alone: Worst,
-    /// How often the bound was reached with tokens refunded to a slot, to a debt, and to a modem that was reserved for.
+    /// How often the bound was reached with tokens refunded to a slot, to a debt, and to a modem that was reserved for; and of the first two, how often with a
+    /// grant to a try through a class.
     by_slot: u64,
     by_debt: u64,
     reserved: u64,
+    through: u64,
 }
 
 impl Tally {
@@ -96,11 +98,12 @@ impl Tally {
             .see(sides.granted, sides.without_refunds + sides.to_slots);
         self.by_slot += u64::from(tight && sides.to_debts == 0);
         self.by_debt += u64::from(tight && sides.to_debts > 0);
+        self.through += u64::from(tight && sides.through);
     }
 
     /// Whether the bound was reached in each way, and both weaker statements were refuted.
     pub fn found_all(&self) -> bool {
-        let reached = self.by_slot > 0 && self.by_debt > 0 && self.reserved > 0;
+        let reached = self.by_slot > 0 && self.by_debt > 0 && self.reserved > 0 && self.through > 0;
         self.stated.is_one() && reached && self.without_refunds.over() && self.slots_alone.over()
     }
 }
@@ -116,7 +119,8 @@ impl fmt::Display for Tally {
             slots_alone,
             ..
         } = self;
-        let (by_slot, by_debt, reserved) = (self.by_slot, self.by_debt, self.reserved);
+        let (by_slot, by_debt, reserved, through) =
+            (self.by_slot, self.by_debt, self.reserved, self.through);
         writeln!(
             f,
             "{lists} lists of {calls} calls, {windows} windows: granted is at most {stated} times what is allowed"
@@ -124,6 +128,10 @@ impl fmt::Display for Tally {
         writeln!(
             f,
             "  reached with refunds in between: {by_slot} times to a slot, {by_debt} to a debt, {reserved} where the modem was reserved for"
+        )?;
+        writeln!(
+            f,
+            "  {through} of the first two with a grant to a try through a class"
         )?;
         write!(
             f,
