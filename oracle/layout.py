@@ -1,5 +1,7 @@
-"""Where the words of a shard stand, for the recording scripts: as src/layout.rs says."""
+"""Where the words of a memory stand, for the recording scripts: as src/layout.rs says. The total comes first, then the shards."""
 
+TOTAL_WORDS = 1
+SLOT_COUNT = 0
 HEAD_WORDS, SLOT_WORDS = 3, 7
 LEDGER_HEAD_WORDS, DEBT_WORDS = 2, 2
 PLACES_PER_ITEM = 2
@@ -28,6 +30,16 @@ def places(cap):
 def shard_words(cap):
     """The words of a shard."""
     return debt(cap, cap) + 2 * places(cap)
+
+
+def memory_words(shards, cap):
+    """The words of a memory."""
+    return TOTAL_WORDS + shards * shard_words(cap)
+
+
+def memory(shards):
+    """The words of a memory, by those of its shards."""
+    return [sum(words[SLOT_COUNT] for words in shards), *(word for words in shards for word in words)] if shards else []
 
 
 def cap_of(words):

@@ -9,7 +9,7 @@
 #define SECOND UINT64_C(1000000000)
 #define MOST_WORDS 256
 /* The words of a store for one key in one shard, and the most classes that are lent here. */
-#define ONE 18
+#define ONE 19
 #define MANY 66
 
 static uint64_t words[MOST_WORDS];

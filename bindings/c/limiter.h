@@ -23,11 +23,11 @@
 
 /* The version of this interface. A change that a caller has to know of raises the minor number while the major one is 0. */
 #define LIMITER_VERSION_MAJOR 0
-#define LIMITER_VERSION_MINOR 7
+#define LIMITER_VERSION_MINOR 8
 #define LIMITER_VERSION_PATCH 0
-#define LIMITER_VERSION "0.7.0"
+#define LIMITER_VERSION "0.8.0"
 /* The same as one number: 65,536 times the major number, 256 times the minor one, and the patch. */
-#define LIMITER_VERSION_NUMBER 0x000700
+#define LIMITER_VERSION_NUMBER 0x000800
 
 #ifdef __cplusplus
 extern "C" {
@@ -35,23 +35,23 @@ extern "C" {
 
 /* The version of the library that is linked, as LIMITER_VERSION_NUMBER has it. The name has the major and the minor number in it: a library of
  * another minor version does not define it. Every object that is compiled with this header refers to it, so header and library of two
- * versions do not link ("undefined reference to limiter_version_0_7"). The patch may differ. */
-uint32_t limiter_version_0_7(void);
+ * versions do not link ("undefined reference to limiter_version_0_8"). The patch may differ. */
+uint32_t limiter_version_0_8(void);
 #if defined(__has_attribute)
 #if __has_attribute(retain)
-static uint32_t (*const limiter_version_needed)(void) __attribute__((used, retain)) = limiter_version_0_7;
+static uint32_t (*const limiter_version_needed)(void) __attribute__((used, retain)) = limiter_version_0_8;
 #define LIMITER_VERSION_IS_NEEDED
 #endif
 #endif
 #if defined(__GNUC__) && !defined(LIMITER_VERSION_IS_NEEDED)
-static uint32_t (*const limiter_version_needed)(void) __attribute__((used)) = limiter_version_0_7;
+static uint32_t (*const limiter_version_needed)(void) __attribute__((used)) = limiter_version_0_8;
 #endif
 #undef LIMITER_VERSION_IS_NEEDED
 
 /* The version of the library that is linked, for a log. */
 static inline uint32_t limiter_version(void)
 {
-    return limiter_version_0_7();
+    return limiter_version_0_8();
 }
 
 /* What a store is set up with. Times are in nanoseconds. A flag is set if it is not 0. A value whose flag is not set is not read: write settings
@@ -73,7 +73,8 @@ typedef struct limiter_settings {
     uint32_t forget_debt; /* when a new key needs a slot and its shard cannot keep the debt of the key that would go: not set, the new key is turned
                              away; set, a debt is forgotten */
     uint32_t classes;     /* how many classes the store has: 0 to 64. It counts in the words of every call, 2 for each class. The calls that take a table
-                             of classes count the classes of the table instead, and limiter_set_up and limiter_clear take 0 */
+                             of classes count the classes of the table instead, and limiter_set_up and limiter_clear take 0. Only the
+                             calls with a table refuse more than 64 */
 } limiter_settings;
 
 /* `amount` tokens in every `period_ns`, for up to `max_keys` keys in one shard. The burst is the amount, and a new bucket is full. */
@@ -251,9 +252,11 @@ enum {
     LIMITER_BAD_PERIOD = 12,    /* refused as 2: the period is not 1 to 2^46 ns; of the settings, or of a class */
     LIMITER_BAD_BURST = 13,     /* refused as 3: the burst is not 1 to 65,535; of the settings, or of a class */
     LIMITER_BAD_SIZES = 14,     /* refused as 4: max_keys over 65,536 or shards over 64 */
-    LIMITER_BAD_MEMORY = 15,    /* refused as 5: another length than limiter_words(s) (limiter_set_up and limiter_clear: than that without classes); or the
-                                   count of slots or of debts of the key's shard (for limiter_length, of slots of any shard) is more than the shard can
-                                   hold. Set-up and clear look at neither count */
+    LIMITER_BAD_MEMORY = 15,    /* refused as 5: another number of words than the settings ask for: limiter_words(s), where s.classes is at most 64; for
+                                   limiter_set_up and limiter_clear that with s.classes 0; for a call with a table that of its classes. Or the count of
+                                   slots or of debts of the key's shard is more than the shard can hold; or the total of slots is less than the count of
+                                   the key's shard, or more than all shards can hold. limiter_length looks at the total alone, for the last of these.
+                                   Set-up and clear look at none of them */
     LIMITER_BAD_MOMENT = 16,    /* refused as 6: now is after 2^62 ns */
     LIMITER_BAD_MAX_WAIT = 17,  /* refused as 7: max_wait is over 2^46 ns */
     LIMITER_BAD_ADDRESS = 21,   /* refused as 11: the address is not six bytes */
@@ -300,7 +303,8 @@ static inline const char *limiter_code_text(uint64_t code)
 }
 
 /* How many words to lend for these settings: at least 1, or 0 for sizes that are refused (LIMITER_BAD_SIZES) and for more than 64 classes. It follows from
- * max_keys, shards and classes alone; where only the rate is refused it is what it would be with another rate. */
+ * max_keys, shards and classes alone; where only the rate is refused it is what it would be with another rate. For limiter_set_up and limiter_clear ask with
+ * s.classes 0. */
 uint64_t limiter_words(limiter_settings s);
 
 /* A hash of a key, for callers who have none of their own: FNV-1a over its eight bytes, lowest first. It has no secret. */
@@ -346,7 +350,8 @@ limiter_reply limiter_available(limiter_settings s, const uint64_t *words, size_
  * try that was answered so. 0 with `number` tries, at most 2^32 - 1, where the count stops; or refused as 1 to 5, as limiter_remove is. It takes no
  * moment, and a closed limiter answers it too.
  *
- * These do not count: a reservation, a peek, a granted try, a try of a cost over the burst, and a retry that means that there is no room. A grant or a
+ * These do not count: a reservation, a peek, a granted try, a try of a cost over the burst, a try through a class that only a class
+ * denied, and a retry that means that there is no room. A grant or a
  * refund leaves the count as it is. The count goes with the slot: a key that the store has forgotten (evicted, idle, removed, cleared) has 0, also where
  * its debt is remembered. When it comes back it is counted anew, from the call that brings it back. So 0 does not say that the key has not tried. */
 limiter_reply limiter_turned_away(limiter_settings s, const uint64_t *words, size_t len, uint64_t hash, uint64_t key);
@@ -361,14 +366,14 @@ limiter_reply limiter_remove(limiter_settings s, uint64_t *words, size_t len, ui
  * which limiter_class_clear is. */
 limiter_reply limiter_clear(limiter_settings s, uint64_t *words, size_t len);
 
-/* The number of keys that have a slot. 0 with `number` keys, or refused as 1 to 5.
+/* The number of keys that have a slot: it stands in the first word, so the call takes the same time for any number of shards. 0 with `number` keys, or
+ * refused as 1 to 5.
  *
- * It is also the check of words that were saved and loaded again: it refuses settings out of range, another number of words, and a count of
- * slots that is more than a shard holds. It looks at nothing else: not at other settings, which no call can tell, and not at any other word. Of
- * the 84,480 bits of a store for 100 modems in 4 shards it notices 244 when one is flipped. So save the settings and a checksum with the words,
- * and compare both before you use the words: bindings/c/save.c does. Save the table of classes too, if there is one. Words that version 0.6 saved are
- * those of a store without classes; words of version 0.5 are fewer, and are refused as 5. The store is then set up anew, and all keys and debts are
- * forgotten. */
+ * It is also the check of words that were saved and loaded again: it refuses settings out of range, another number of words, and a total of
+ * slots that is more than there is room for. It looks at nothing else: not at other settings, which no call can tell, and not at any other word.
+ * Of the 84,544 bits of a full store for 100 modems in 4 shards it notices 61 when one is flipped. So save the settings and a checksum with the words,
+ * and compare both before you use the words: bindings/c/save.c does. Save the table of classes too, if there is one. Words that an earlier version
+ * saved are fewer, and are refused as 5. The store is then set up anew, and all keys and debts are forgotten. */
 limiter_reply limiter_length(limiter_settings s, const uint64_t *words, size_t len);
 
 /* Limits above the keys: a node, and the hub above it. In the calls below `classes` and `count` are the table: an array of `count` classes, which is only read
@@ -404,7 +409,8 @@ static inline limiter_reply limiter_class_clear(limiter_settings s, const limite
 }
 
 /* Takes `cost` tokens from the key's bucket and from every bucket on the chain of the class `named`, if all have them now; else from none. 0 granted; 1 retry
- * after `number` ns, the longest of their waits, at `moment`; 2 impossible: the cost is over the key's burst or over one on the chain. A key without room is
+ * after `number` ns, the longest of their waits, at `moment`; 2 impossible: the cost is over the key's burst or over one on the chain, or the limiter is
+ * closed. A cost of 0 is granted and changes nothing, on a closed limiter too. A key without room is
  * answered 1 before the classes are asked, as in limiter_try. limiter_turned_away counts the try if the key's own bucket denied it, and not if only a class
  * did. A refund gives nothing back to a class.
  *

@@ -141,7 +141,7 @@ static const char *resume(const char *file, limiter_settings s, size_t len)
     free(bytes);
     if (why != NULL)
         return why;
-    /* The last check is the library's: the settings, the number of words, and each shard's count of slots. */
+    /* The last check is the library's: the settings, the number of words, and the total of slots. */
     reply = limiter_length(s, words, len);
     return reply.code == LIMITER_DONE ? NULL : limiter_code_text(reply.code);
 }

@@ -1,11 +1,15 @@
 //! The words of a memory: every width and offset. Nothing else in the oracle or the comparison states one.
 //!
-//! A memory is its shards, one after another. A shard is a head (slot count, hand, sweep), `cap` slots, the ledger's head (debt count,
-//! cursor), `cap` debts, and the places of two indexes, of the slots and of the debts. Offsets are counted from the start of the shard, but
-//! for those in [`slot`] and [`debt`].
+//! A memory is the total of its slots (02, request 10), then its shards, one after another. A shard is a head (slot count, hand, sweep),
+//! `cap` slots, the ledger's head (debt count, cursor), `cap` debts, and the places of two indexes, of the slots and of the debts. Offsets
+//! are counted from the start of the shard, but for those in [`slot`] and [`debt`].
 
 use core::ops::Range;
 
+/// Where the total stands: the slots of all shards. It is counted from the start of the memory.
+pub const TOTAL: usize = 0;
+/// Where the first shard starts, in the memory.
+const SHARDS: usize = 1;
 /// Where the number of slots stands.
 const SLOT_COUNT: usize = 0;
 /// Where the hand stands: the slot that the next eviction looks at first.
@@ -144,11 +148,11 @@ pub const fn shard_words(cap: usize) -> usize {
 /// The words of the shard of this number, in the memory.
 #[must_use]
 pub const fn shard(cap: usize, number: usize) -> Range<usize> {
-    let start = number * shard_words(cap);
+    let start = SHARDS + number * shard_words(cap);
     start..start + shard_words(cap)
 }
 
-/// The words of a memory.
+/// The words of a memory: up to where a further shard would start.
 #[must_use]
 pub const fn memory_words(shards: usize, cap: usize) -> usize {
     shard(cap, shards).start

@@ -5,11 +5,11 @@
 //! ```text
 //! let rate = Rate { amount: 2, period: 1_000_000_000, burst: Some(4), initial: None };
 //! let settings = Settings { rate: Some(rate), max_keys: 2, shards: 1, idle: None, when_full: WhenFull::RefuseNew };
-//! let (limiter, answer) = Limiter::set_up(settings, 31);         // 0: accepted
+//! let (limiter, answer) = Limiter::set_up(settings, 32);         // 0: accepted
 //! limiter.try_(0, Key { hash: 7, key: 7 }, 4);                   // 0 0: granted
 //! limiter.try_(0, Key { hash: 7, key: 7 }, 1);                   // 1 500000000: retry
 //! limiter.turned_away(Key { hash: 7, key: 7 });                  // 0 1: one try turned away
-//! limiter.words();                                               // 31 words
+//! limiter.words();                                               // 32 words
 //! ```
 //!
 //! - [`Limiter`]: the operations, with refusals, answers and words, and the count of 02, request 8, which the published Rust lacks.

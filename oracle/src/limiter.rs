@@ -242,13 +242,20 @@ impl Limiter {
             .then(|| OneShard::new(published.store(), index, published.config()))
     }
 
-    /// The whole store as words, shard by shard; no words after a refused set-up.
+    /// How many slots the Rust has, 0 after a refused set-up.
+    #[must_use]
+    pub fn total(&self) -> u64 {
+        self.published
+            .as_ref()
+            .map_or(0, |store| store.len() as u64)
+    }
+
+    /// The whole store as words, the total and then shard by shard; no words after a refused set-up.
     #[must_use]
     pub fn words(&self) -> Vec<u64> {
-        (0..self.shards())
-            .filter_map(|index| self.shard_words(index))
-            .flatten()
-            .collect()
+        let total = self.published.iter().map(|store| store.len() as u64);
+        let shards = (0..self.shards()).filter_map(|index| self.shard_words(index));
+        total.chain(shards.flatten()).collect()
     }
 
     /// One shard as words, with the tally in its slots, if there is such a shard.
@@ -267,11 +274,16 @@ impl Limiter {
     ///
     /// # Errors
     ///
-    /// When the Rust has no such contents; shards before the one at fault are then replaced already.
+    /// When the Rust has no such contents; shards before the one at fault are then replaced already. The Rust has no total but the slots of its shards: another
+    /// one is a count at fault, and nothing has changed then.
     pub fn load(&self, words: &[u64]) -> Result<(), LoadError> {
         let shape = Shape::of(&self.settings);
         if self.published.is_none() || words.len() != shape.words() {
             return Err(LoadError::Length);
+        }
+        let slots = (0..shape.shards).map(|shard| u128::from(words.slot_count(shape, shard)));
+        if u128::from(words.total()) != slots.sum::<u128>() {
+            return Err(LoadError::Count);
         }
         (0..shape.shards)
             .try_for_each(|index| self.load_shard(index as usize, &words[shape.shard(index)]))
@@ -326,6 +338,10 @@ impl Limiter {
 impl Memory for Limiter {
     fn length(&self) -> u64 {
         self.lent
+    }
+
+    fn total(&self) -> u64 {
+        Self::total(self)
     }
 
     fn slot_count(&self, _shape: Shape, shard: u64) -> u64 {

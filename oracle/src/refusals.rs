@@ -24,6 +24,8 @@ pub const LONGEST_WAIT: u64 = 1 << 46;
 pub trait Memory {
     /// The number of words.
     fn length(&self) -> u64;
+    /// The total of slots. Asked only of a memory of the right length.
+    fn total(&self) -> u64;
     /// The slot count of a shard. Asked only of a memory of the right length.
     fn slot_count(&self, shape: Shape, shard: u64) -> u64;
     /// The debt count of a shard. Asked only of a memory of the right length.
@@ -34,6 +36,10 @@ pub trait Memory {
 impl Memory for [u64] {
     fn length(&self) -> u64 {
         self.len() as u64
+    }
+
+    fn total(&self) -> u64 {
+        self[layout::TOTAL]
     }
 
     fn slot_count(&self, shape: Shape, shard: u64) -> u64 {
@@ -52,7 +58,7 @@ pub fn set_up<M: Memory + ?Sized>(settings: &Settings, memory: &M) -> Option<u8>
         .or_else(|| refuse(5, memory.length() != Shape::of(settings).words() as u64))
 }
 
-/// Try: 1 to 5 as set-up, 5 for a count of the key's shard, then 6.
+/// Try: 1 to 5 as set-up, 5 for a count of the key's shard or the total, then 6.
 pub fn try_<M: Memory + ?Sized>(
     settings: &Settings,
     memory: &M,
@@ -113,15 +119,9 @@ pub fn clear<M: Memory + ?Sized>(settings: &Settings, memory: &M) -> Option<u8> 
     set_up(settings, memory)
 }
 
-/// Length: 1 to 5 as set-up, 5 for a slot count of any shard.
+/// Length: 1 to 5 as set-up, 5 for the total (02, request 10).
 pub fn length<M: Memory + ?Sized>(settings: &Settings, memory: &M) -> Option<u8> {
-    set_up(settings, memory).or_else(|| {
-        let shape = Shape::of(settings);
-        refuse(
-            5,
-            (0..shape.shards).any(|shard| memory.slot_count(shape, shard) > shape.cap),
-        )
-    })
+    set_up(settings, memory).or_else(|| refuse(5, memory.total() > Shape::of(settings).places()))
 }
 
 /// `number` if the call is to be refused with it.
@@ -150,8 +150,10 @@ fn keyed<M: Memory + ?Sized>(settings: &Settings, memory: &M, hash: u64) -> Opti
     set_up(settings, memory).or_else(|| {
         let shape = Shape::of(settings);
         let shard = shape.shard_of(hash);
-        let slots_over = memory.slot_count(shape, shard) > shape.cap;
-        refuse(5, slots_over || memory.debt_count(shape, shard) > shape.cap)
+        let slots = memory.slot_count(shape, shard);
+        let over = slots > shape.cap || memory.debt_count(shape, shard) > shape.cap;
+        let total = memory.total();
+        refuse(5, over || total < slots || total > shape.places())
     })
 }
 

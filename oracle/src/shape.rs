@@ -44,6 +44,12 @@ impl Shape {
         self.cap as usize
     }
 
+    /// The slots that all shards have room for.
+    #[must_use]
+    pub const fn places(self) -> u64 {
+        self.shards * self.cap
+    }
+
     /// The words of a shard.
     #[must_use]
     pub const fn shard_words(self) -> usize {

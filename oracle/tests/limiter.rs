@@ -32,7 +32,7 @@ macro_rules! answers {
 
 #[test]
 fn answers_by_number() {
-    let (limiter, accepted) = Limiter::set_up(settings(1, 1), 18);
+    let (limiter, accepted) = Limiter::set_up(settings(1, 1), 19);
     let got = answers![
         accepted,
         limiter.try_(0, key(7), 4),
@@ -62,6 +62,8 @@ fn answers_by_number() {
         ]
     );
     let words = [
+        // The total.
+        1,
         1,
         1,
         0,
@@ -85,7 +87,7 @@ fn answers_by_number() {
     ];
     assert_eq!(limiter.words(), words);
     assert_eq!(answers![limiter.clear(), limiter.len()], [(0, 0), (0, 0)]);
-    assert_eq!(limiter.words(), [0; 18]);
+    assert_eq!(limiter.words(), [0; 19]);
 }
 
 #[test]
@@ -113,13 +115,15 @@ fn loads_what_it_shows() {
 fn loads_only_what_the_rust_can_hold() {
     let (limiter, _accepted) = Limiter::new(settings(2, 1));
     let with = |changes: &[(usize, u64)]| {
-        let mut words = vec![0; 31];
+        // The total, and the words of the one shard.
+        let mut words = vec![0; 32];
         changes
             .iter()
-            .for_each(|&(place, word)| words[place] = word);
+            .for_each(|&(place, word)| words[1 + place] = word);
+        words[0] = words[1];
         limiter.load(&words)
     };
-    assert_eq!(limiter.load(&[0; 30]), Err(LoadError::Length));
+    assert_eq!(limiter.load(&[0; 31]), Err(LoadError::Length));
     assert_eq!(with(&[(0, 3)]), Err(LoadError::Count));
     assert_eq!(with(&[(17, 3)]), Err(LoadError::Count));
     assert_eq!(with(&[(0, 2)]), Err(LoadError::SameIdentity));
@@ -133,21 +137,27 @@ fn loads_only_what_the_rust_can_hold() {
         Ok(())
     );
     // A mark of 5 is set; a shortfall and a count of any size are kept.
-    let words = limiter.words();
-    assert_eq!((words[1], words[5], words[7]), (most, most, 1));
-    assert_eq!(words[9], most);
+    let mut words = limiter.words();
+    assert_eq!(words[..2], [1, 1]);
+    assert_eq!((words[2], words[6], words[8]), (most, most, 1));
+    assert_eq!(words[10], most);
+    // Another total than the slots of all shards.
+    for total in [0, 2, most] {
+        words[0] = total;
+        assert_eq!(limiter.load(&words), Err(LoadError::Count));
+    }
 }
 
 #[test]
 fn loads_only_sound_indexes() {
     let (limiter, _accepted) = Limiter::new(settings(2, 1));
-    // Two slots, of hash 3 and 7, whose home is the last of four places from word 23 on; a debt of hash 6, at home at word 29.
+    // Two slots, of hash 3 and 7, whose home is the last of four places from word 24 on; a debt of hash 6, at home at word 30.
     let with = |places: [u64; 4], debt: [u64; 4]| {
-        let mut words = vec![0; 31];
-        (words[0], words[3], words[10]) = (2, 3, 7);
-        (words[17], words[19]) = (1, 6);
-        words[23..27].copy_from_slice(&places);
-        words[27..31].copy_from_slice(&debt);
+        let mut words = vec![0; 32];
+        (words[0], words[1], words[4], words[11]) = (2, 2, 3, 7);
+        (words[18], words[20]) = (1, 6);
+        words[24..28].copy_from_slice(&places);
+        words[28..32].copy_from_slice(&debt);
         limiter.load(&words)
     };
     let sound = [0, 0, 1, 0];
@@ -166,15 +176,16 @@ fn loads_only_sound_indexes() {
 fn refuses_counts_over_the_cap() {
     let settings = settings(4, 2);
     let shape = Shape::of(&settings);
-    assert_eq!((shape.shards, shape.cap, shape.words()), (2, 2, 62));
+    assert_eq!((shape.shards, shape.cap, shape.words()), (2, 2, 63));
+    assert_eq!(shape.places(), 4);
     let second_shard = 1 << 40;
-    for (place, length) in [(31, Some(5)), (31 + 17, None)] {
-        let mut words = [0; 62];
+    for place in [32, 32 + 17] {
+        let mut words = [0; 63];
         words[place] = 3;
         let words = words.as_slice();
         assert_eq!(refusals::set_up(&settings, words), None);
         assert_eq!(refusals::clear(&settings, words), None);
-        assert_eq!(refusals::length(&settings, words), length);
+        assert_eq!(refusals::length(&settings, words), None);
         assert_eq!(refusals::try_(&settings, words, 0, u64::MAX), Some(6));
         assert_eq!(
             refusals::try_(&settings, words, second_shard, u64::MAX),
@@ -187,6 +198,30 @@ fn refuses_counts_over_the_cap() {
             refusals::turned_away(&settings, words, second_shard),
             Some(5)
         );
+    }
+}
+
+/// Request 10: with two slots in the second shard and room for four, a total of 2 to 4 is accepted; the first shard's keys and length take less, too.
+#[test]
+fn refuses_other_totals() {
+    let settings = settings(4, 2);
+    let second_shard = 1 << 40;
+    for (total, own, other) in [
+        (0, Some(5), None),
+        (1, Some(5), None),
+        (2, None, None),
+        (4, None, None),
+        (5, Some(5), Some(5)),
+        (u64::MAX, Some(5), Some(5)),
+    ] {
+        let mut words = [0; 63];
+        (words[0], words[32]) = (total, 2);
+        let words = words.as_slice();
+        assert_eq!(refusals::remove(&settings, words, second_shard), own);
+        assert_eq!(refusals::try_(&settings, words, second_shard, 0), own);
+        assert_eq!(refusals::remove(&settings, words, 0), other);
+        assert_eq!(refusals::length(&settings, words), other);
+        assert_eq!(refusals::clear(&settings, words), None);
     }
 }
 

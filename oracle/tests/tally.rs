@@ -49,7 +49,7 @@ fn count(limiter: &Limiter, number: u64) -> u64 {
 
 /// The hash and the count of each slot, in the order of the slots.
 fn counts(limiter: &Limiter) -> Vec<(u64, u64)> {
-    let words = limiter.words();
+    let words = limiter.shard_words(0).expect("there is a shard");
     let slots = words[3..].chunks(7).take(words[0] as usize);
     slots.map(|slot| (slot[0], slot[6])).collect()
 }
@@ -63,6 +63,12 @@ fn loaded(counts: [u64; 2]) -> Vec<u64> {
     // Hash 7 is at home at the last of four places, hash 8 at the first.
     (words[26], words[23]) = (1, 2);
     words
+}
+
+/// The words of a memory of such shards: the total comes first.
+fn memory<const SHARDS: usize>(shards: [Vec<u64>; SHARDS]) -> Vec<u64> {
+    let total = shards.iter().map(|words| words[0]).sum();
+    [vec![total], shards.concat()].concat()
 }
 
 #[test]
@@ -165,7 +171,7 @@ fn keys_of_one_hash_have_counts_of_their_own() {
 #[test]
 fn it_stops_at_the_most() {
     let limiter = limiter(2);
-    assert_eq!(limiter.load(&loaded([MOST - 1, MOST])), Ok(()));
+    assert_eq!(limiter.load(&memory([loaded([MOST - 1, MOST])])), Ok(()));
     assert_eq!(counts(&limiter), [(7, MOST - 1), (8, MOST)]);
     for _ in 0..2 {
         assert_eq!(try_(&limiter, 0, 7, 1), 1);
@@ -177,7 +183,8 @@ fn it_stops_at_the_most() {
 #[test]
 fn a_larger_word_reads_as_the_most() {
     let limiter = limiter(2);
-    let words = loaded([MOST + 1, u64::MAX]);
+    let shard = loaded([MOST + 1, u64::MAX]);
+    let words = memory([shard.clone()]);
     assert_eq!(limiter.load(&words), Ok(()));
     assert_eq!(limiter.words(), words);
     assert_eq!((count(&limiter, 7), count(&limiter, 8)), (MOST, MOST));
@@ -188,7 +195,7 @@ fn a_larger_word_reads_as_the_most() {
     assert_eq!(try_(&limiter, TOKEN, 8, 1), 1);
     assert_eq!(counts(&limiter), [(7, MOST + 1), (8, MOST)]);
     // Words that are loaded again come back.
-    assert_eq!(limiter.load_shard(0, &words), Ok(()));
+    assert_eq!(limiter.load_shard(0, &shard), Ok(()));
     assert_eq!(limiter.words(), words);
 }
 
@@ -201,18 +208,18 @@ fn each_shard_has_counts_of_its_own() {
         ..*limiter(2).settings()
     };
     let (limiter, _accepted) = Limiter::new(settings);
-    let words = [loaded([3, 4]), loaded([5, 6])].concat();
+    let words = memory([loaded([3, 4]), loaded([5, 6])]);
     assert_eq!(limiter.load(&words), Ok(()));
     assert_eq!(limiter.words(), words);
     assert_eq!((count(&limiter, 7), count(&limiter, 8)), (3, 4));
     assert_eq!(limiter.remove(key(7)).code, 0);
-    assert_eq!(limiter.words()[31..], words[31..]);
+    assert_eq!(limiter.words()[32..], words[32..]);
 }
 
 #[test]
 fn it_is_refused_as_remove_is() {
     let closed = set_up(2, None);
-    assert_eq!(closed.load(&loaded([3, u64::MAX])), Ok(()));
+    assert_eq!(closed.load(&memory([loaded([3, u64::MAX])])), Ok(()));
     assert_eq!((count(&closed, 7), count(&closed, 8)), (3, MOST));
     assert_eq!(count(&closed, 9), 0);
     let settings = *closed.settings();
@@ -222,6 +229,6 @@ fn it_is_refused_as_remove_is() {
     };
     let (refused, _) = Limiter::new(sizes);
     assert_eq!(refused.turned_away(key(7)).code, 14);
-    let (refused, _) = Limiter::set_up(settings, 30);
+    let (refused, _) = Limiter::set_up(settings, 31);
     assert_eq!(refused.turned_away(key(7)).code, 15);
 }

@@ -69,17 +69,16 @@ impl OwnedStore {
 }
 
 impl<W: AsRef<[u64]>> Store<W> {
-    /// A store on words that were one before, under the same settings. Any words are safe, and nearly any are taken for a store: of the 84,480 bits of a
-    /// store for 100 modems in 4 shards a resume notices 244 when one is flipped. The words do not tell which settings they had. So keep
+    /// A store on words that were one before, under the same settings. Any words are safe, and nearly any are taken for a store: of the 84,544 bits of a
+    /// full store for 100 modems in 4 shards a resume notices 61 when one is flipped. The words do not tell which settings they had. So keep
     /// [`Settings::numbers`] and a checksum with them, and compare both first: the example `save_and_resume` does.
     ///
-    /// Words that version 0.6 saved are those of a store without classes. Words that version 0.5 saved are fewer, and are refused with [`Refusal::Memory`]: set
-    /// up anew.
+    /// Words that an earlier version saved are fewer, and are refused with [`Refusal::Memory`]: set up anew.
     ///
     /// # Errors
     ///
-    /// Whatever set-up refuses, or a count of slots that is more than a shard holds ([`Store::len`]). No other word is looked at. A count of debts that is
-    /// more than a shard holds is refused only when a key of that shard asks.
+    /// Whatever set-up refuses, or a total that is more than there is room for ([`Store::len`]). No other word is looked at. A count of slots or of debts
+    /// that is more than a shard holds is refused only when a key of that shard asks, and so is a total that is less than the slots of that shard.
     pub fn resume(settings: Settings, words: W) -> Result<Self, Refusal> {
         let store = Self::on(settings, words);
         store.len()?;

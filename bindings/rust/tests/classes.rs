@@ -13,7 +13,7 @@ const HALF: Duration = Duration::from_millis(500);
 const ZERO: Duration = Duration::ZERO;
 
 /// The words of a store for one key.
-const ONE: usize = 18;
+const ONE: usize = 19;
 
 /// 2 tokens a second, at most 4, for one modem.
 fn settings() -> Settings {

@@ -11,7 +11,7 @@ const HALF: Duration = Duration::from_millis(500);
 const ZERO: Duration = Duration::ZERO;
 
 /// The words of a store for one key.
-const ONE: usize = 18;
+const ONE: usize = 19;
 
 /// 2 tokens a second, at most 4.
 const R: Rate = Rate::per_second(2).burst(4);
@@ -44,13 +44,13 @@ fn told(answer: Result<Decision, Refusal>) -> (Option<Duration>, Option<Duration
 #[test]
 fn words_to_lend() {
     assert_eq!(Settings::new(R, 0).shards(0).words(), Ok(ONE));
-    assert_eq!(Settings::new(R, 5).shards(3).words(), Ok(124));
+    assert_eq!(Settings::new(R, 5).shards(3).words(), Ok(125));
     assert_eq!(Settings::new(R, 65_537).words(), Err(Refusal::Sizes));
     let many_shards = Settings::new(R, 1).shards(65);
     assert_eq!(many_shards.words(), Err(Refusal::Sizes));
     // The rate is not looked at.
     let no_rate = Settings::new(Rate::per_second(0), 5).shards(3);
-    assert_eq!(no_rate.words(), Ok(124));
+    assert_eq!(no_rate.words(), Ok(125));
     // Every size that has words is accepted with these, and with no others.
     for (keys, shards) in [
         (0, 0),
@@ -70,7 +70,7 @@ fn words_to_lend() {
 
 #[test]
 fn many_keys_raise_the_shards() {
-    let words = |shards: usize, places: usize| Ok(shards * (5 + 13 * places));
+    let words = |shards: usize, places: usize| Ok(1 + shards * (5 + 13 * places));
     let asked = |keys, shards| Settings::new(R, keys).shards(shards).words();
     assert_eq!(asked(16_384, 0), words(1, 16_384));
     assert_eq!(asked(16_385, 1), words(2, 8_193));
@@ -277,7 +277,7 @@ fn the_count_begins_with_the_slot() {
     assert_eq!(first.turned_away(seven), Ok(0));
 }
 
-/// Refused as a removal is: for a count that is more than a shard holds, and for no other word.
+/// Refused as a removal is: for a count that is more than a shard holds, for the total, and for no other word.
 #[test]
 fn the_count_is_refused_as_a_removal() {
     let settings = Settings::new(R, 1);
@@ -295,8 +295,8 @@ fn the_count_is_refused_as_a_removal() {
         assert_eq!(looked.err(), removed.err());
         looked == Err(Refusal::Memory)
     });
-    // The count of debts. That of slots is refused by the resume.
-    assert_eq!(refused.count(), 1);
+    // The counts of slots and of debts. The total is refused by the resume.
+    assert_eq!(refused.count(), 2);
 }
 
 #[test]
@@ -405,18 +405,19 @@ fn a_store_is_resumed() {
     assert_eq!(retry(second.try_acquire(SECOND, modem, 1)), Some(HALF));
     // Another number of words, and words that no store has.
     let refused = |words: &[u64]| Look::resume(settings, words).expect_err("refused");
+    // Versions 0.6 and 0.7 had no total.
     assert_eq!(refused(&words[1..]), Refusal::Memory);
-    // Version 0.5 had a word less for each of the three places in the four shards.
-    assert_eq!(refused(&words[12..]), Refusal::Memory);
+    // Version 0.5 had a word less for each of the three places in the four shards, too.
+    assert_eq!(refused(&words[13..]), Refusal::Memory);
     words.fill(u64::MAX);
     assert_eq!(refused(&words), Refusal::Memory);
     assert!(words.iter().all(|&word| word == u64::MAX));
 }
 
-/// What a resume does not look at: other settings of the same size, and any word that is no count of slots. A count of debts is refused when a key of its
+/// What a resume does not look at: other settings of the same size, and any word but the total. A count of slots or of debts is refused when a key of its
 /// shard asks.
 #[test]
-fn a_resume_looks_at_the_slot_counts_alone() {
+fn a_resume_looks_at_the_total_alone() {
     let settings = Settings::new(R, 1);
     let mut first = store(settings);
     let [modem] = modems([7]);
@@ -441,7 +442,7 @@ fn a_resume_looks_at_the_slot_counts_alone() {
             matches!(peeked, Ok(Err(Refusal::Memory)))
         })
         .collect();
-    assert_eq!(asked.len(), 1);
+    assert_eq!(asked.len(), 2);
 }
 
 #[test]

@@ -1,6 +1,6 @@
 -- The token bucket, on numbers. A token is P parts, and a bucket is known by its shortfall: how many parts it is below full, and since when.
 use Prim.Native.Nat.{ℕ, _+_, _*_, _-_, _/_, _≤_, _^_, min, max}
-use mathlib.Core.Bool.{Bool, true, false, not, cond}
+use mathlib.Core.Bool.{Bool, true, false, not, cond, _&&_}
 use lib.Dec.{leb, eqb}
 use Rattle.arith.specs.Arith.{ceilDiv, saturated}
 use Rattle.units.specs.declared.Nanos.{Nanos}
@@ -107,11 +107,15 @@ requestWait c request b cost at = waitTo request (waitAt c b cost at)
 abbrev pub requestDue : BucketConfig → Request → BucketCore → ℕ → Nanos → Due
 requestDue c request b cost at = dueAfter at (record { 0 = requestWait c request b cost at })
 
--- Whether a denial turns a try away: the bucket itself makes it wait, and not other buckets alone. A reservation is no try, whatever wait it takes.
+-- A try wants its tokens now. A reservation is no try, whatever wait it takes.
+abbrev pub isTry : Request → Bool
+isTry Acquire = true
+isTry (Reserve longest) = false
+isTry (Through others) = true
+
+-- Whether a denial turns a try away: the bucket itself makes it wait, and not other buckets alone.
 abbrev pub turnsAway : Request → ℕ → Bool
-turnsAway Acquire own = not (eqb own 0)
-turnsAway (Reserve longest) own = false
-turnsAway (Through others) own = not (eqb own 0)
+turnsAway request own = isTry request && not (eqb own 0)
 
 -- A request is granted where its wait is within its longest wait, and then the bucket is charged. A denial stores nothing. Both tell when the request is due.
 unfoldable pub asked : BucketConfig → Request → BucketCore → ℕ → Nanos → BucketOutcome

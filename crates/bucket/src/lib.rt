@@ -3,7 +3,7 @@ ghost use mathlib.Core.Path.{_≡_};
 ghost use Prim.Native.Nat.{_≤_, max};
 ghost use Rattle.arith.specs.Arith.{saturated};
 ghost use Rattle.bucket.specs.Bucket.{Accepted, fullParts, mostShortfall, readShortfall, shortfallAt, availableAt, fullAt, fresh, grown, waitAt};
-ghost use Rattle.bucket.specs.Bucket.{dueAfter, dueAt, recoveryOf, recoveryAt, spent, longestWait, waitTo, turnsAway, asked, refunded};
+ghost use Rattle.bucket.specs.Bucket.{dueAfter, dueAt, recoveryOf, recoveryAt, spent, longestWait, waitTo, isTry, turnsAway, asked, refunded};
 ghost use Rattle.bucket.specs.Debt.{missingTokens, charged, takenOut, restored};
 use units::Nanos;
 
@@ -349,10 +349,17 @@ impl Request {
     fn turns_away(self, own: Nanos) -> bool
         ensures { λ r. ⌜ r ≡ turnsAway self (own .0) ⌝ }
     {
+        self.is_try() && own.0 != 0
+    }
+
+    // Whether the request wants its tokens now.
+    fn is_try(self) -> bool
+        ensures { λ r. ⌜ r ≡ isTry self ⌝ }
+    {
         match self {
-            Request::Acquire => own.0 != 0,
+            Request::Acquire => true,
             Request::Reserve(_) => false,
-            Request::Through(_) => own.0 != 0,
+            Request::Through(_) => true,
         }
     }
 }

@@ -34,7 +34,7 @@ unfolding ceilDiv rows unrow tableIn removed Index.onward Index.walkFrom Index.w
     Ledger.scanFrom Ledger.scan Ledger.dropChosen Ledger.makeRoom Ledger.recordedAt Ledger.recorded
     Layout.shard Layout.wordsOf Shard.placeOf Shard.removeAt Shard.insert Shard.sweepIdle
     noted walkFrom walked evicted OneShard.makeRoom OneShard.withExisting OneShard.admit OneShard.withOrInsert
-    Refusals.memoryRefusal Refusals.countRefusal Refusals.momentRefusal
+    Refusals.memoryRefusal Refusals.totalRefusal Refusals.countRefusal Refusals.momentRefusal
     ClassLayout.classesIn ClassLayout.bucketsIn Classes.classAt Classes.ends Classes.countRefusal Classes.numberRefusal Classes.chainRefusal Classes.refusedBy
     Classes.firstFrom Chains.chain Chains.bucketAt Chains.leastBurst Chains.chainWait Chains.charged
     Asks.closed Asks.askedIn Asks.passedIn Rules.unlessRefused Rules.setUpIn Rules.keyedRuleIn

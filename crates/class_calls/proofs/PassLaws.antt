@@ -41,9 +41,9 @@ use Rattle.shard_map.specs.Model.{Shard, Sound}
 use Rattle.shard.specs.declared.Identity.{Identity}
 use Rattle.shard.specs.Model as OneShard
 use Rattle.store.specs.declared.Part.{Part}
-use Rattle.store.specs.Memory.{Placed, classesAt, classWords, shardIn, shardAt, inPart, inShard, bucketsAt}
+use Rattle.store.specs.Memory.{Placed, Counted, classesAt, classWords, shardIn, shardAt, inPart, inShard, bucketsAt}
 use Rattle.store.proofs.ClassLaws.{with-same-buckets}
-use Rattle.store.proofs.LendingLaws.{accepted-part}
+use Rattle.store.proofs.LendingLaws.{accepted-part, accepted-count}
 use Rattle.store.proofs.RefusalLaws.{Accepted}
 use Rattle.rules.specs.declared.Reply.{Reply}
 use Rattle.rules.specs.declared.Reply.the-variants.{Tried}
@@ -179,10 +179,11 @@ module _ {rate : Rate} {wait : Nanos} {s : Settings} {table : List ℕ} {at : Na
   p = a .at-rate .under .passing
 
   pub bucket-may-be-asked : Placed part ws × Sound (shardIn part ws) × Bucket.Accepted (configOf rate) × (cost ≤ configOf rate .capacity)
+      × Counted part ws
   bucket-may-be-asked =
       let placed = accepted-part (given p) (id .hash) ws (call p) (p .is-part) in
       let rated = accepted-rate rate (rw (a .at-rate .is-limit) at (accepted-parts (given p) (call p .set-up .settings) .0)) in
-      (placed .0, placed .1, rated, a .within)
+      (placed .0, placed .1, rated, a .within, accepted-count (given p) (id .hash) ws (call p) (p .is-part))
 
   -- What the store answers is what the rule answers in the key's shard.
   module _ {decision : BucketDecision} {ws′ : List ℕ} (same : length ws′ ≡ length ws)

@@ -130,10 +130,11 @@ abbrev keeps : Settings → List ℕ → ℕ → ℕ → Step → ℕ → Edge
 keeps s table size word step code =
     record { settings = s; table = table; words = replicate size word; first = step; others = []; told = code ∷ 0 ∷ 0 ∷ []; left = replicate size word }
 
--- The words of a shard with room for two: its slot count, hand and sweep, two slots, no debts, the four places of the index of the slots, and those of the
+-- The total, then the words of the one shard, with room for two: its slot count, hand and sweep, two slots, no debts, the four places of the index of the
+-- slots, and those of the
 -- index of the debts. A slot is hash, key, shortfall, stamp, mark, last-seen, tries turned away.
 abbrev shardOf : ℕ → List ℕ → List ℕ → List ℕ → List ℕ
-shardOf count slot other index = (count ∷ 0 ∷ 0 ∷ []) ++ slot ++ other ++ replicate 6 0 ++ index ++ replicate 4 0
+shardOf count slot other index = (count ∷ count ∷ 0 ∷ 0 ∷ []) ++ slot ++ other ++ replicate 6 0 ++ index ++ replicate 4 0
 
 abbrev slotOf : ℕ → ℕ → ℕ → ℕ → ℕ → List ℕ
 slotOf key shortfall stamp mark turned = key ∷ key ∷ shortfall ∷ stamp ∷ mark ∷ 0 ∷ turned ∷ []
@@ -175,33 +176,33 @@ edges =
     -- A plain try charges no class, and clear with the table fills all buckets.
     ∷ runs (quick 2) (passes 0 7 1 2 ∷ asks 0 7 1 ∷ []) (0 ∷ 0 ∷ 0 ∷ [])
     (shardOf 1 (slotOf 7 3000000000 0 1 0) noSlot seven ++ (2000000000 ∷ 0 ∷ 2000000000 ∷ 0 ∷ 0 ∷ 0 ∷ []))
-    ∷ runs (quick 2) (passes 0 7 1 2 ∷ clears ∷ []) (0 ∷ 0 ∷ 0 ∷ []) (replicate 37 0)
+    ∷ runs (quick 2) (passes 0 7 1 2 ∷ clears ∷ []) (0 ∷ 0 ∷ 0 ∷ []) (replicate 38 0)
     -- A cost over the node's burst is impossible, though the modem's own bucket would grant it; so is one over the hub's alone, through a node that has the
     -- burst. Cost 0 is granted. None leaves a slot.
-    ∷ runs (quick 2) (passes 0 7 1 3 ∷ []) (2 ∷ 0 ∷ 0 ∷ []) (replicate 37 0)
-    ∷ keeps (quick 2) wideNode 35 0 (passes 0 7 1 4) 2
-    ∷ runs (quick 2) (passes 3 7 1 0 ∷ []) (0 ∷ 0 ∷ 3 ∷ []) (replicate 37 0)
+    ∷ runs (quick 2) (passes 0 7 1 3 ∷ []) (2 ∷ 0 ∷ 0 ∷ []) (replicate 38 0)
+    ∷ keeps (quick 2) wideNode 36 0 (passes 0 7 1 4) 2
+    ∷ runs (quick 2) (passes 3 7 1 0 ∷ []) (0 ∷ 0 ∷ 3 ∷ []) (replicate 38 0)
     -- Room for one modem: modem 8 turns modem 7 into a debt, which settles after a second. For modem 9 there is no space, and it waits until modem 8 is full,
     -- half a second. The class is not asked: node 1 would have it wait a second. No class is charged.
     ∷ runs (quick 1) (passes 0 7 1 2 ∷ asks 0 8 1 ∷ passes 0 9 1 1 ∷ []) (1 ∷ 500000000 ∷ 500000000 ∷ [])
-    ((1 ∷ 1 ∷ 0 ∷ []) ++ slotOf 8 1000000000 0 0 0 ++ (1 ∷ 1 ∷ 7 ∷ 1000000000 ∷ 1 ∷ 0 ∷ 0 ∷ 1 ∷ []) ++ (2000000000 ∷ 0 ∷ 2000000000 ∷ 0 ∷ 0 ∷ 0 ∷ []))
+    ((1 ∷ 1 ∷ 1 ∷ 0 ∷ []) ++ slotOf 8 1000000000 0 0 0 ++ (1 ∷ 1 ∷ 7 ∷ 1000000000 ∷ 1 ∷ 0 ∷ 0 ∷ 1 ∷ []) ++ (2000000000 ∷ 0 ∷ 2000000000 ∷ 0 ∷ 0 ∷ 0 ∷ []))
     -- Refused as 14: class 3 of three; a hub that is not in the table; 65 classes. As 15: a loop; a chain of 9, while one of 8 is accepted.
-    ∷ keeps (quick 1) village 24 1 (passes 0 7 3 1) 24
-    ∷ keeps (quick 1) noHub 20 1 setsUp 24
-    ∷ keeps (quick 1) (ladder 0 64) 148 1 setsUp 24
-    ∷ keeps (quick 1) loop 22 1 setsUp 25
-    ∷ keeps (quick 1) (ladder 0 8) 36 1 setsUp 25
-    ∷ keeps (quick 1) (ladder 0 7) 34 0 setsUp 0
+    ∷ keeps (quick 1) village 25 1 (passes 0 7 3 1) 24
+    ∷ keeps (quick 1) noHub 21 1 setsUp 24
+    ∷ keeps (quick 1) (ladder 0 64) 149 1 setsUp 24
+    ∷ keeps (quick 1) loop 23 1 setsUp 25
+    ∷ keeps (quick 1) (ladder 0 8) 37 1 setsUp 25
+    ∷ keeps (quick 1) (ladder 0 7) 35 0 setsUp 0
     -- Their order: a wrong length, or a count over the room, before 14; a late moment before the table; the table before the class that is named.
-    ∷ keeps (quick 1) (ladder 0 64) 147 1 setsUp 15
-    ∷ keeps (quick 1) village 24 2 (passes 0 7 3 1) 15
-    ∷ keeps (quick 1) loop 22 1 (passes 4611686018427387905 7 0 1) 16
-    ∷ keeps (quick 1) loop 22 1 (passes 0 7 2 1) 25
-    ∷ keeps (quick 1) noTokens 22 1 (passes 0 7 2 1) 11
+    ∷ keeps (quick 1) (ladder 0 64) 148 1 setsUp 15
+    ∷ keeps (quick 1) village 25 2 (passes 0 7 3 1) 15
+    ∷ keeps (quick 1) loop 23 1 (passes 4611686018427387905 7 0 1) 16
+    ∷ keeps (quick 1) loop 23 1 (passes 0 7 2 1) 25
+    ∷ keeps (quick 1) noTokens 23 1 (passes 0 7 2 1) 11
     -- A closed limiter checks the rates of the classes too, even for cost 0. Where they are accepted it grants cost 0 alone.
-    ∷ keeps (oneShard Closed 1) noTokens 22 1 (passes 0 7 1 0) 11
-    ∷ keeps (oneShard Closed 1) village 24 1 (passes 0 7 1 0) 0
-    ∷ keeps (oneShard Closed 1) village 24 1 (passes 0 7 1 1) 2
+    ∷ keeps (oneShard Closed 1) noTokens 23 1 (passes 0 7 1 0) 11
+    ∷ keeps (oneShard Closed 1) village 25 1 (passes 0 7 1 0) 0
+    ∷ keeps (oneShard Closed 1) village 25 1 (passes 0 7 1 1) 2
     -- Set-up without a table is refused on words with classes.
-    ∷ keeps (quick 1) village 24 1 setsUpPlain 15
+    ∷ keeps (quick 1) village 25 1 setsUpPlain 15
     ∷ []

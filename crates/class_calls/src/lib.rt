@@ -9,7 +9,7 @@ ghost use Rattle.settings.specs.Rate.{configOf};
 ghost use Rattle.classes.specs.Layout.{classCount, classesIn, bucketWidth};
 ghost use Rattle.shard_map.specs.Model.{Sound};
 ghost use Rattle.shard.specs.Model as OneShard;
-ghost use Rattle.store.specs.Memory.{Placed, shardIn, inPart};
+ghost use Rattle.store.specs.Memory.{Placed, Counted, shardIn, inPart};
 ghost use Rattle.rules.specs.Asks.{policyOf, furtherThrough};
 ghost use Rattle.rules.specs.Rules as Rules;
 ghost use Rattle.class_calls.specs.code.Passing.{Passing, UnderChain, AtRate, Asking};
@@ -52,7 +52,7 @@ pub fn class_clear(settings: Settings, table: &[u64], ws: &mut [u64]) -> Reply
     class_set_up(settings, table, ws)
 }
 
-// Takes tokens for a key and for every class on a chain, without waiting.
+// Takes tokens from a key's bucket and from every bucket on the chain of a class, if all have them now.
 pub fn class_try(
     settings: Settings,
     table: &[u64],
@@ -86,7 +86,8 @@ fn further_refusal(table: &[u64], at: Nanos, class: usize) -> u32
     refusals::first_refusal(late, refusals::first_refusal(unsound, unknown))
 }
 
-// A try that is not refused. The classes are asked before the store: it does not write their words, and a refusal for space does not use their wait.
+// A try that is not refused. The code reads the waits of the chain first, and 02 decides the space first. Nobody can see the difference: the store neither
+// reads nor writes the class buckets, and a refusal for space does not use their wait.
 fn pass(
     settings: Settings,
     table: &[u64],
@@ -216,7 +217,7 @@ fn ask(
     request: Request,
     cost: u32,
 ) -> BucketDecision
-    requires { ⌜ Placed part (now ws) × Sound (shardIn part (now ws)) × Accepted (configOf rate) × (cost ≤ configOf rate .capacity) ⌝ }
+    requires { ⌜ Placed part (now ws) × Sound (shardIn part (now ws)) × Accepted (configOf rate) × (cost ≤ configOf rate .capacity) × Counted part (now ws) ⌝ }
     ensures { λ r. ⌜ outcome r (now (ws .exit))
         ≡ inPart part (now (ws .entry)) (OneShard.withOrInsert (policyOf settings rate) id request cost at (shardIn part (now (ws .entry)))) ⌝ }
 {

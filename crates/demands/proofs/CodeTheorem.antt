@@ -21,6 +21,8 @@ use Rattle.demands.proofs.WidthLaws.{ask-is-offered, no-call-through-ot
 use Rattle.demands.proofs.NameLaws.{names-fit, key-is-the-rule}
 use Rattle.demands.proofs.Theorem.{demand2-gives-demand3}
 use Rattle.demands.proofs.MomentLaws.{demand2-tells-moments}
+use Rattle.demands.proofs.IsolationTheorem.{limiters-are-isolated}
+use Rattle.demands.specs.Isolation.{codeCanBeGiven, Isolated}
 
 -- A call that names a key, among calls that may name an address.
 named : (s : Settings) (id : Identity) (ask : Ask) (ws : List ℕ) → rules byName (keyed s (key id) ask) ws ≡ keyedRule (inForce ask s) id ask ws
@@ -128,3 +130,6 @@ module _ (κs : Lfts 1) (κs₂ : Lfts 2) (ptr otherPtr : ℕ × ℕ) (name othe
 
     pub contracts-tell-moments : TellsMoments byName l
     contracts-tell-moments = demand2-tells-moments byName (names-fit (λ s. s) settingsFit) l contracts-meet-demand2
+
+    pub contracts-are-isolated : Isolated byName (codeCanBeGiven byName) (l .answers)
+    contracts-are-isolated = limiters-are-isolated byName l contracts-meet-demand2

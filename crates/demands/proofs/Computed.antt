@@ -93,7 +93,7 @@ unfolding ceilDiv rows unrow tableIn removed Index.onward Index.walkFrom Index.w
     Ledger.scanFrom Ledger.scan Ledger.dropChosen Ledger.makeRoom Ledger.recordedAt Ledger.recorded
     Layout.shard Layout.wordsOf Shard.placeOf Shard.removeAt Shard.insert
     noted walkFrom walked evicted OneShard.makeRoom OneShard.withExisting OneShard.admit OneShard.withOrInsert OneShard.viewed OneShard.holds
-    Refusals.memoryRefusal Refusals.countRefusal Refusals.momentRefusal Refusals.waitRefusal Refusals.mostSlots Refusals.slotsRefusalIn
+    Refusals.memoryRefusal Refusals.countRefusal Refusals.momentRefusal Refusals.waitRefusal Refusals.totalRefusal
     ClassLayout.classesIn Classes.countRefusal Classes.firstFrom
     Asks.askedIn Rules.unlessRefused Rules.setUpIn Rules.keyedRuleIn Rules.lenIn
     mixed hashFrom keyFrom addressRefusal Calls.accepted Calls.replies usable Demands.tokensUsable after

@@ -47,6 +47,8 @@ use Rattle.demands.proofs.Theorem.{demand2-gives-demand3}
 use Rattle.demands.proofs.MomentLaws.{demand2-tells-moments}
 use Rattle.demands.proofs.PlaceOrderTheorem.{byLimiter, TurnFits, limiter-is-as-without-indexes}
 use Rattle.demands.proofs.TurnAwayTheorem.{limiter-decides-alike}
+use Rattle.demands.proofs.IsolationTheorem.{limiters-are-isolated}
+use Rattle.demands.specs.Isolation.{codeCanBeGiven, Isolated}
 use Rattle.demands.proofs.SizeTheorem.{limiter-answers-as-at-the-shape-of-before}
 
 -- A reply that is told as numbers is read, by its kind, as it was.
@@ -218,7 +220,7 @@ module _ (κs : Lfts 1) (κs₂ : Lfts 2) (ptr otherPtr : ℕ × ℕ) (name othe
     exports-meet-demand3 = demand2-gives-demand3 exported names (called e) callers-have-demand2
 
     -- They tell moments as the rules do (request 1), answer as a store without indexes does (request 3), as the rules do at the shape of before (request 6),
-    -- and alike whatever the counts of tries turned away (request 8).
+    -- alike whatever the counts of tries turned away (request 8), and on a key whatever the other shards hold (request 10).
     pub exports-tell-moments : TellsMoments exported (called e)
     exports-tell-moments = demand2-tells-moments exported names (called e) callers-have-demand2
 
@@ -237,3 +239,6 @@ module _ (κs : Lfts 1) (κs₂ : Lfts 2) (ptr otherPtr : ℕ × ℕ) (name othe
         → EqualButForTurnAways (settingsBy exported table n) ws vs
         → ListDecidedAlike (settingsBy exported table n) ts (run (byLimiter (called e) n) ts ws) (run (byLimiter (called e) n) ts vs)
     exports-decide-alike n fit = limiter-decides-alike exported names (called e) callers-have-demand2 n fit
+
+    pub exports-are-isolated : Isolated exported (codeCanBeGiven exported) (called e .answers)
+    exports-are-isolated = limiters-are-isolated exported (called e) callers-have-demand2

@@ -1,13 +1,16 @@
 -- What every call keeps, a grown store has. So in its shards lookup finds each slot and each debt: none holds more items than it has room for, lookup misses
--- none, and no two slots are of one key. Their indexes are exact. Whether a call of the store is refused follows from the call alone, and a clear is accepted.
-use Prim.Native.Nat.{ℕ, zero, suc, _*_, _/_, _%_, _≤_, _<_, _^_}
+-- none, and no two slots are of one key. Their indexes are exact, and the total is the sum of their slots. Whether a call of the store is refused follows from
+-- the call alone, and a clear is accepted.
+use Prim.Native.Nat.{ℕ, zero, suc, _+_, _*_, _/_, _%_, _≤_, _<_, _^_}
 use native.Mathlib.Omega.{arith}
-use native.Mathlib.Nat.{mul-div-cancel, mod-eq-of-lt, max-le}
+use native.Mathlib.Nat.{mul-div-cancel, mod-eq-of-lt}
 use mathlib.Core.Path.{_≡_, refl, sym, ap, subst, _∙_}
 use mathlib.Core.List.{List}
-use lib.ListN.{length, replicate, length-replicate}
+use lib.ListN.{length, replicate, length-replicate, getD-replicate}
 use Rattle.arith.proofs.Cases.{by-eq}
+use Rattle.rows.specs.Places.{sum}
 use Rattle.rows.specs.Outcome.{Outcome, outcome}
+use Rattle.rows.proofs.SumLaws.{sum-of-zeros, sum-changed, term-le-sum}
 use Rattle.index.specs.Exact.{Exact}
 use Rattle.held.specs.Held.{Held, Items, hashAt, Complete, in-order-is-complete, exact-is-complete}
 use Rattle.held.specs.Layout.{indexWords}
@@ -16,24 +19,24 @@ use Rattle.settings.specs.declared.Settings.{Settings}
 use Rattle.settings.specs.Settings.{firstRefusal, settingsRefusal, shapeOf, shardCount, capOf, shardOf}
 use Rattle.classes.specs.Classes.{tableRefusal}
 use Rattle.classes.specs.Layout.{classesIn}
-use Rattle.settings.proofs.SettingsLaws.{no-refusal-hands-on, shard-is-remainder}
+use Rattle.settings.proofs.SettingsLaws.{no-refusal-hands-on, shard-is-remainder, shard-below}
 use Rattle.ledger.specs.Model.{debtItems}
-use Rattle.shard_map.specs.Model.{slotItems}
+use Rattle.shard_map.specs.Model.{Shard, slotItems}
 use Rattle.shard_map.proofs.PlaceOrderLaws.{FindsEach, found-is-sound, found-is-complete, empty-finds-each}
 use Rattle.shard.specs.declared.Identity.{Identity}
-use Rattle.store.specs.Memory.{memoryWords, shardAt, bucketsAt, slotCount}
-use Rattle.store.specs.Refusals.{setUpRefusal, keyedRefusal, mostSlots, slotsRefusal}
+use Rattle.store.specs.Memory.{totalOf, memoryWords, placesIn, shardAt, bucketsAt, slotCount}
+use Rattle.store.specs.Refusals.{setUpRefusal, keyedRefusal, totalRefusal}
 use Rattle.store.proofs.MemoryLaws.{shard-at-cap, shard-at-sized, fresh-sound, fresh-shards-are-complete, fresh-shards-are-empty}
-use Rattle.store.proofs.RefusalLaws.{set-up-is-accepted, keyed-is-accepted, shards-are-accepted}
+use Rattle.store.proofs.RefusalLaws.{set-up-is-accepted, keyed-is-accepted, total-is-accepted}
 use Rattle.rules.specs.declared.Reply.{Reply}
-use Rattle.rules.specs.declared.Reply.the-variants.{Done, Refused}
+use Rattle.rules.specs.declared.Reply.the-variants.{Done, Count, Refused}
 use Rattle.rules.specs.Asks.{Ask, inForce, furtherOf, inItsShard}
 use Rattle.rules.specs.Rules.{setUpFor}
 use Rattle.rules.specs.Calls.{Call, keyed, whole, len, Terms, rules, settingsOf}
 use Rattle.rules.proofs.RefusedLaws.{table-refusal-is-told, table-set-up-zeroes}
 use Rattle.rules.proofs.KeyedLaws.{ask-not-refused}
 use Rattle.rules.proofs.CallLaws.{refusalOf, not-refused-is-ruled, keyed-not-refused, taken-not-refused, looks-at-all, looks-change-nothing}
-use Rattle.demands.specs.Grown.{Grown, set-up, cleared, called, KeptByCalls}
+use Rattle.demands.specs.Grown.{slotsOf, Grown, set-up, cleared, called, KeptByCalls}
 use Rattle.demands.specs.PlaceOrder.{refusedAs, shardNumbered, IndexesExact}
 use Rattle.demands.proofs.Theorem.{set-up-done}
 use Rattle.demands.proofs.OneShardLaws.{WorksInOneShard, asks-work-in-one-shard, call-same-as-place-order}
@@ -43,11 +46,34 @@ grown-keeps terms kept (set-up table ws own done) = kept .fresh table ws done
 grown-keeps terms kept (cleared table ws own grown done) = kept .fresh table ws done
 grown-keeps terms kept (called c ws grown same taken) = kept .call c ws same taken (grown-keeps terms kept grown)
 
--- Accepted settings and a memory of the right size, in whose shards lookup finds each slot and each debt. Such shards are sound and complete.
+-- Every shard is the shard of some hash: its number, from bit 40 on. So what holds of the shard of each hash holds of every shard, by its number.
+every-shard-has-a-hash : (s : Settings) (i : ℕ) → i < shardCount s → shardOf s (i * 2 ^ 40) ≡ i
+every-shard-has-a-hash s i below =
+    let number : i * 2 ^ 40 / 2 ^ 40 ≡ i = mul-div-cancel i (omega arith) in
+    shard-is-remainder s (i * 2 ^ 40) ∙ ap (λ (n : ℕ). n % shardCount s) number ∙ mod-eq-of-lt below
+
+pub of-every-shard : (s : Settings) (Q : ℕ → Type 0) → ((hash : ℕ) → Q (shardOf s hash)) → (i : ℕ) → i < shardCount s → Q i
+of-every-shard s Q holds i below = subst Q (every-shard-has-a-hash s i below) (holds (i * 2 ^ 40))
+
+-- Accepted settings and a memory of the right size, in whose shards lookup finds each slot and each debt. Such shards are sound and complete. The total is
+-- the slots of all shards.
 pub record SoundMemory (s : Settings) (ws : List ℕ) : Type 0 where
   pub settings : settingsRefusal s ≡ 0
   pub size : length ws ≡ memoryWords s
+  pub total : totalOf ws ≡ slotsOf s ws
   pub finds-each : (hash : ℕ) → FindsEach (shardAt s hash ws)
+
+-- The slots of one shard alone change by a call on a key, so all slots change as the total does.
+total-moves-with-the-slots : (s : Settings) (hash : ℕ) (ask : Ask) (ws : List ℕ) {gives : Outcome Reply (List ℕ)} (o : Outcome Reply Shard)
+    → WorksInOneShard s hash ask ws gives o → totalOf ws ≡ slotsOf s ws → totalOf (gives .after) ≡ slotsOf s (gives .after)
+total-moves-with-the-slots s hash ask ws {gives} o works is =
+    let before : ℕ → ℕ = λ i. slotCount (capOf s) i ws in
+    let after : ℕ → ℕ = λ i. slotCount (capOf s) i (gives .after) in
+    let others = of-every-shard s (λ i. (i ≡ shardOf s hash → ⊥) → before i ≡ after i)
+    (λ other apart. ap (λ (t : Shard). t .slots .count) (sym (works .others other apart))) in
+    let changed = sum-changed (shardCount s) before after (shardOf s hash) (shard-below s hash) others in
+    let own : after (shardOf s hash) ≡ o .after .slots .count = ap (λ (t : Shard). t .slots .count) (works .own hash refl) in
+    omega (arith, works .total, is, changed, own)
 
 -- A call on a key leaves such a shard for the key, and the other shards as they are; a look at the length changes nothing.
 keyed-call-keeps-sound : (s : Settings) (id : Identity) (ask : Ask) (ws : List ℕ) {gives : Outcome Reply (List ℕ)}
@@ -56,6 +82,7 @@ keyed-call-keeps-sound : (s : Settings) (id : Identity) (ask : Ask) (ws : List �
 keyed-call-keeps-sound s id ask ws works memory = record {
   settings = memory .settings;
   size = works .size;
+  total = total-moves-with-the-slots s (id .hash) ask ws _ works (memory .total);
   finds-each = λ other.
       by-eq (shardOf s other) (shardOf s (id .hash))
       (λ same.
@@ -80,12 +107,23 @@ fresh-shard-finds-each s hash =
     let empty = fresh-shards-are-empty s hash in
     empty-finds-each _ (fresh-sound s hash) (fresh-shards-are-complete s hash) (empty .slots) (empty .debts)
 
+fresh-total-is-the-sum : (s : Settings) → totalOf (replicate (memoryWords s) 0) ≡ slotsOf s (replicate (memoryWords s) 0)
+fresh-total-is-the-sum s =
+    let fresh : List ℕ = replicate (memoryWords s) 0 in
+    getD-replicate (memoryWords s) 0 0 0 (omega arith)
+    ∙ sym (sum-of-zeros (shardCount s) _ (of-every-shard s (λ i. slotCount (capOf s) i fresh ≡ 0) (λ hash. fresh-shards-are-empty s hash .slots)))
+
 module _ {S N : Type 0} (terms : Terms S N) where
   pub sound-kept-by-calls : (s : Settings) → KeptByCalls terms s (SoundMemory s)
   sound-kept-by-calls s = record {
     fresh = λ table ws done.
         let up = set-up-done s table ws done in
-        rw (up .words) (record { settings = up .settings; size = length-replicate (memoryWords s) 0; finds-each = fresh-shard-finds-each s });
+        rw (up .words) (record {
+          settings = up .settings;
+          size = length-replicate (memoryWords s) 0;
+          total = fresh-total-is-the-sum s;
+          finds-each = fresh-shard-finds-each s;
+        });
     call = λ c ws same taken memory. rw same at (call-keeps-sound terms c ws (taken-not-refused terms c ws taken) (rw same memory));
   }
 
@@ -113,15 +151,6 @@ sound-indexes-are-exact {s} {ws} memory hash =
       debts = complete-index-is-exact debtItems (shardAt s hash ws .ledger .debts) _ (sized .debts-kind) (complete .ledger);
     }
 
--- Every shard is the shard of some hash: its number, from bit 40 on. So what holds of the shard of each hash holds of every shard, by its number.
-every-shard-has-a-hash : (s : Settings) (i : ℕ) → i < shardCount s → shardOf s (i * 2 ^ 40) ≡ i
-every-shard-has-a-hash s i below =
-    let number : i * 2 ^ 40 / 2 ^ 40 ≡ i = mul-div-cancel i (omega arith) in
-    shard-is-remainder s (i * 2 ^ 40) ∙ ap (λ (n : ℕ). n % shardCount s) number ∙ mod-eq-of-lt below
-
-pub of-every-shard : (s : Settings) (Q : ℕ → Type 0) → ((hash : ℕ) → Q (shardOf s hash)) → (i : ℕ) → i < shardCount s → Q i
-of-every-shard s Q holds i below = subst Q (every-shard-has-a-hash s i below) (holds (i * 2 ^ 40))
-
 pub sound-indexes-are-exact-by-number : {s : Settings} {ws : List ℕ} → SoundMemory s ws → (i : ℕ) → i < shardCount s → IndexesExact (shardNumbered s i ws)
 sound-indexes-are-exact-by-number {s} {ws} memory = of-every-shard s (λ j. IndexesExact (shardNumbered s j ws)) (sound-indexes-are-exact memory)
 
@@ -129,26 +158,35 @@ pub grown-indexes-are-exact-by-number : {S N : Type 0} (terms : Terms S N) {s : 
     → (i : ℕ) → i < shardCount s → IndexesExact (shardNumbered s i ws)
 grown-indexes-are-exact-by-number terms grown i below = sound-indexes-are-exact-by-number (grown-memory-is-sound terms grown) i below
 
+-- Terms that are each within a bound.
+sum-within : (n most : ℕ) (f : ℕ → ℕ) → ((i : ℕ) → i < n → f i ≤ most) → sum n f ≤ n * most
+unfolding sum
+sum-within zero most f each = omega arith
+sum-within (suc n) most f each = omega (arith, sum-within n most f (λ i below. each i (omega arith)), each n (omega arith))
+
 -- In a sound memory only what a call itself asks can be refused.
 module _ (s : Settings) (ws : List ℕ) (memory : SoundMemory s ws) where
-  key-is-not-refused : (hash : ℕ) → keyedRefusal s hash ws ≡ 0
-  key-is-not-refused hash =
-      keyed-is-accepted s hash ws
-      (record { set-up = record { settings = memory .settings; size = memory .size }; sound = found-is-sound (memory .finds-each hash) })
-
-  settings-and-length-are-not-refused : setUpRefusal s ws ≡ 0
-  settings-and-length-are-not-refused = set-up-is-accepted s ws (record { settings = memory .settings; size = memory .size })
-
-  -- No shard has more slots than the cap.
+  -- No shard has more slots than the cap, so the total is no more than there is room for.
   slots-are-within-the-cap : (i : ℕ) → i < shardCount s → slotCount (capOf s) i ws ≤ capOf s
   slots-are-within-the-cap =
       of-every-shard s (λ j. slotCount (capOf s) j ws ≤ capOf s)
       (λ hash. rw (shard-at-cap s hash ws) at (found-is-sound (memory .finds-each hash) .count-fits))
 
-  most-slots-are-within-the-cap : (n : ℕ) → n ≤ shardCount s → mostSlots (capOf s) n ws ≤ capOf s
-  unfolding mostSlots
-  most-slots-are-within-the-cap zero within = omega arith
-  most-slots-are-within-the-cap (suc n) within = max-le (most-slots-are-within-the-cap n (omega arith)) (slots-are-within-the-cap n (omega arith))
+  total-is-within : totalOf ws ≤ placesIn (shapeOf s)
+  total-is-within = rw (memory .total) (sum-within (shardCount s) (capOf s) _ slots-are-within-the-cap)
+
+  key-is-not-refused : (hash : ℕ) → keyedRefusal s hash ws ≡ 0
+  key-is-not-refused hash =
+      keyed-is-accepted s hash ws
+      (record {
+        set-up = record { settings = memory .settings; size = memory .size };
+        sound = found-is-sound (memory .finds-each hash);
+        covers = rw (memory .total) (term-le-sum (shardCount s) (λ i. slotCount (capOf s) i ws) (shardOf s hash) (shard-below s hash));
+        within = total-is-within;
+      })
+
+  settings-and-length-are-not-refused : setUpRefusal s ws ≡ 0
+  settings-and-length-are-not-refused = set-up-is-accepted s ws (record { settings = memory .settings; size = memory .size })
 
   -- A clear is refused for its table alone.
   pub clear-is-accepted : (table : List ℕ) → tableRefusal (classesIn table) ≡ 0 → setUpFor s table ws .answer ≡ Done
@@ -166,8 +204,8 @@ module _ {S N : Type 0} (terms : Terms S N) where
       ap (firstRefusal (terms .refusal n)) (no-refusal-hands-on _ (furtherOf ask) (key-is-not-refused settings ws memory (terms .identity n .hash)))
   refusal-is-the-calls-own (whole s len) ws memory =
       let settings = terms .settings s in
-      no-refusal-hands-on _ (slotsRefusal settings ws) (settings-and-length-are-not-refused settings ws memory)
-      ∙ shards-are-accepted settings ws (most-slots-are-within-the-cap settings ws memory (shardCount settings) (omega arith))
+      no-refusal-hands-on _ (totalRefusal (placesIn (shapeOf settings)) (totalOf ws)) (settings-and-length-are-not-refused settings ws memory)
+      ∙ total-is-accepted (placesIn (shapeOf settings)) (totalOf ws) (total-is-within settings ws memory)
 
   pub sound-refusal-is-the-calls-own : {s : Settings} {ws : List ℕ} → SoundMemory s ws → (c : Call S N) → settingsOf terms c ≡ s
       → refusalOf terms c ws ≡ refusedAs terms c
@@ -181,3 +219,13 @@ module _ {S N : Type 0} (terms : Terms S N) where
   pub grown-clear-is-accepted : {s : Settings} {ws : List ℕ} → Grown terms s ws → (table : List ℕ) → tableRefusal (classesIn table) ≡ 0
       → setUpFor s table ws .answer ≡ Done
   grown-clear-is-accepted {s} {ws} grown = clear-is-accepted s ws (grown-memory-is-sound terms grown)
+
+  -- The total of a grown store is the slots of all shards, so the length is that number.
+  pub grown-total-is-the-sum : {s : Settings} {ws : List ℕ} → Grown terms s ws → totalOf ws ≡ slotsOf s ws
+  grown-total-is-the-sum grown = grown-memory-is-sound terms grown .total
+
+  pub grown-length-is-the-sum : (written : S) (ws : List ℕ) → Grown terms (terms .settings written) ws
+      → rules terms (whole written len) ws ≡ outcome (Count (slotsOf (terms .settings written) ws)) ws
+  grown-length-is-the-sum written ws grown =
+      not-refused-is-ruled terms (whole written len) ws (grown-refusal-is-the-calls-own grown (whole written len) refl)
+      ∙ ap (λ (n : ℕ). outcome (Count n) ws) (grown-total-is-the-sum grown)

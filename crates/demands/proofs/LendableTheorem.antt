@@ -30,9 +30,9 @@ use Rattle.shard_map.specs.Layout as Layout
 use Rattle.shard.specs.declared.Identity.{Identity}
 use Rattle.shard.specs.Model as OneShard
 use Rattle.shard.proofs.ShardLaws.{SameRoom, ask-same-room, refund-same-room, remove-same-room}
-use Rattle.store.specs.Memory.{withSegment, partStart, shardAt, inShard, classesAt, classWords, bucketsAt, withBuckets}
+use Rattle.store.specs.Memory.{withSegment, totalAt, totalOf, totalAfter, partStart, shardAt, inShard, classesAt, classWords, bucketsAt, withBuckets}
 use Rattle.store.specs.Refusals.{setUpRefusal}
-use Rattle.store.proofs.MemoryLaws.{same-room-sized, in-shard-length}
+use Rattle.store.proofs.MemoryLaws.{shard-at-cap, places-few, same-room-sized, in-shard-length}
 use Rattle.store.proofs.ClassLaws.{buckets-at-length, with-buckets-length}
 use Rattle.store.proofs.RefusalLaws.{Accepted}
 use Rattle.rules.specs.declared.Reply.{Reply}
@@ -48,7 +48,7 @@ use Rattle.rules.proofs.PassLaws.{granted-pass}
 use Rattle.rules.proofs.StoredLaws.{buckets-after-length}
 use Rattle.rules.proofs.CallLaws.{refusalOf, ruleOf, not-refused-is-ruled, refused-is-told, keyed-not-refused}
 use Rattle.demands.proofs.WidthLaws.{both-true, name-of-call-fits, NamesFit}
-use Rattle.demands.proofs.EveryLaws.{of-either, every-taken, every-left, every-joined, every-copy, every-in-part}
+use Rattle.demands.proofs.EveryLaws.{of-either, every-taken, every-left, every-joined, every-set, every-copy, every-in-part}
 use Rattle.demands.proofs.WordFits.{Word, lendable-length, lendable-words, words-are-lendable}
 use Rattle.demands.proofs.BucketFits.{BucketFits}
 use Rattle.demands.proofs.ClassFits.{buckets-read-fit, bucket-words-fit, charged-buckets-fit, chain-takes-each}
@@ -72,6 +72,13 @@ module _ (s : Settings) (hash : ℕ) (ws : List ℕ) (lent : lendable ws ≡ tru
       let few : capOf s ≤ mostKeysInShard = cap-most s (accepted-parts s (accepted .set-up .settings) .1) in
       shard-read-fits (capOf s) _ (omega (arith, few)) (every-in-part Word (partStart (shapeOf s) hash) (shardWords (capOf s)) ws (lendable-words ws lent))
 
+  -- The total fits: it was no more than there is room for, and the slots of one shard come to it at most.
+  total-fits : {A : Type 0} (o : Outcome A Shard) → SameRoom (shardAt s hash ws) (o .after) → Word (totalAfter (totalOf ws) (shardAt s hash ws) (o .after))
+  total-fits o room =
+      let sizes = accepted-parts s (accepted .set-up .settings) .1 in
+      let few : o .after .slots .count ≤ capOf s = rw (room .cap ∙ shard-at-cap s hash ws) at (room .sound .count-fits) in
+      omega (arith, few, cap-most s sizes, accepted .within, places-few s sizes)
+
   operation-leaves-lendable : {A : Type 0} (o : Outcome A Shard) → SameRoom (shardAt s hash ws) (o .after) → ShardFits (o .after)
       → lendable (inShard s hash ws o .after) ≡ true
   operation-leaves-lendable o room f =
@@ -80,7 +87,8 @@ module _ (s : Settings) (hash : ℕ) (ws : List ℕ) (lent : lendable ws ≡ tru
       let new : Every Word (Layout.wordsOf (o .after)) = shard-words-fit (o .after) f in
       words-are-lendable (inShard s hash ws o .after)
       (omega (arith, same, accepted .set-up .size, lendable-length ws lent))
-      (part-replaced-fits (partStart (shapeOf s) hash) (shardWords (capOf s)) ws (Layout.wordsOf (o .after)) (lendable-words ws lent) new)
+      (every-set Word (withSegment (partStart (shapeOf s) hash) (shardWords (capOf s)) ws (Layout.wordsOf (o .after))) totalAt _ (total-fits o room)
+      (part-replaced-fits (partStart (shapeOf s) hash) (shardWords (capOf s)) ws (Layout.wordsOf (o .after)) (lendable-words ws lent) new))
 
 -- Other class buckets in words that can be lent.
 buckets-stored-are-lendable : (s : Settings) (ws : List ℕ) (bs : List BucketCore) → length ws ≡ memoryWords s → length bs ≡ s .classes → lendable ws ≡ true

@@ -38,6 +38,7 @@ pub mod OneShardLaws
 pub mod GrownLaws
 pub mod PlaceOrderTheorem
 pub mod TurnAwayTheorem
+pub mod IsolationTheorem
 pub mod CodeTheorem
 pub mod ExportTheorem
 pub mod RefundCode

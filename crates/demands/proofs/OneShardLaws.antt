@@ -34,24 +34,25 @@ use Rattle.shard.proofs.ShardLaws.{SameRoom, ask-same-room, refund-same-room, r
 use Rattle.shard.proofs.AlikeLaws.{EveryOperationAlike}
 use Rattle.shard.proofs.TurnAwayLaws.{every-operation-without-turn-aways}
 use Rattle.shard.proofs.PlaceOrderLaws.{SameAsPlaceOrder, every-operation-in-place-order, count-in-place-order}
-use Rattle.store.specs.Memory.{memoryWords, shardAt, inShard, bucketsAt}
-use Rattle.store.proofs.MemoryLaws.{same-room-sized, in-shard-length, in-shard-reads-back-for, in-shard-leaves-others}
-use Rattle.store.proofs.ClassLaws.{in-shard-leaves-buckets}
+use Rattle.store.specs.Memory.{totalOf, totalAfter, memoryWords, shardAt, inShard, bucketsAt}
+use Rattle.store.proofs.MemoryLaws.{same-room-sized, in-shard-length, in-shard-total, in-shard-reads-back-for, in-shard-leaves-others}
+use Rattle.store.proofs.ClassLaws.{buckets-at-length, with-buckets-leaves-total, in-shard-leaves-buckets}
 use Rattle.store.proofs.RefusalLaws.{Accepted}
-use Rattle.rules.proofs.StoredLaws.{classes-are-stored}
+use Rattle.rules.proofs.StoredLaws.{buckets-after-length, classes-are-stored}
 use Rattle.rules.specs.declared.Reply.{Reply}
 use Rattle.rules.specs.declared.Reply.the-variants.{Count}
 use Rattle.rules.specs.Asks.{Look, peeks, tokens, turnedAway, Undo, refunds, removes, Ask, requests, looks, undoes, passes, mannerOf, replyTo, knownReply}
 use Rattle.rules.specs.Asks.{policyOf, repliedAs, askedIn, peekedIn, lookedIn, undoneIn, chainOf, throughChain, passedIn, inItsShard, bucketsAfter}
-use Rattle.rules.specs.Rules.{keyedOutcome}
+use Rattle.rules.specs.Rules.{classesStored, keyedOutcome}
 use Rattle.demands.specs.TurnAways.{readsTurnAways}
 
--- What a call gives on words is what an operation gives in the shard of a hash: its answer, and the shard that it leaves. The other shards stay as they are,
--- the class buckets are those that the ask leaves, and the memory keeps its length.
+-- What a call gives on words is what an operation gives in the shard of a hash: its answer, and the shard that it leaves. The total moves with its slots. The
+-- other shards stay as they are, the class buckets are those that the ask leaves, and the memory keeps its length.
 pub record WorksInOneShard (s : Settings) (hash : ℕ) (ask : Ask) (ws : List ℕ) (gives : Outcome Reply (List ℕ)) (operation : Outcome Reply Shard)
     : Type 0 where
   pub size : length (gives .after) ≡ memoryWords s
   pub answer : gives .answer ≡ operation .answer
+  pub total : totalOf (gives .after) ≡ totalAfter (totalOf ws) (shardAt s hash ws) (operation .after)
   pub own : (other : ℕ) → shardOf s other ≡ shardOf s hash → shardAt s other (gives .after) ≡ operation .after
   pub others : (other : ℕ) → (shardOf s other ≡ shardOf s hash → ⊥) → shardAt s other (gives .after) ≡ shardAt s other ws
   pub buckets : bucketsAt (shapeOf s) (gives .after) ≡ bucketsAfter ask (operation .answer) (bucketsAt (shapeOf s) ws)
@@ -88,6 +89,17 @@ module _ (s : Settings) (id : Identity) (own : Shard) (u : Sound own) where
   ask-keeps-room (undoes undo) buckets = undoing-keeps-room undo (s .limit)
   ask-keeps-room (passes table class at cost) buckets = pass-keeps-room (classesIn table) class at cost buckets
 
+-- The class buckets that an ask stores leave the total as it is.
+stored-classes-leave-total : (s : Settings) (ask : Ask) (reply : Reply) (ws : List ℕ) → length ws ≡ memoryWords s
+    → totalOf (classesStored (shapeOf s) ask reply ws) ≡ totalOf ws
+stored-classes-leave-total s (requests r at cost) reply ws size = refl
+stored-classes-leave-total s (looks l) reply ws size = refl
+stored-classes-leave-total s (undoes u) reply ws size = refl
+stored-classes-leave-total s (passes table class at cost) reply ws size =
+    let bs = bucketsAfter (passes table class at cost) reply (bucketsAt (shapeOf s) ws) in
+    with-buckets-leaves-total s ws size bs
+    (buckets-after-length (passes table class at cost) reply (bucketsAt (shapeOf s) ws) ∙ buckets-at-length s ws size)
+
 -- So it works in one shard.
 module _ (s : Settings) (id : Identity) (ws : List ℕ) (accepted : Accepted s (id .hash) ws) where
   abbrev own : Shard
@@ -110,6 +122,7 @@ module _ (s : Settings) (id : Identity) (ws : List ℕ) (accepted : Accepted s (
       record {
         size = stored .size;
         answer = refl;
+        total = stored-classes-leave-total s ask (o .answer) left (in-shard-length s (id .hash) ws o size sized) ∙ in-shard-total s (id .hash) ws o size sized;
         own = λ other same. stored .shards other ∙ in-shard-reads-back-for s (id .hash) ws o size sized other same;
         others = λ other apart. stored .shards other ∙ in-shard-leaves-others s (id .hash) ws o size sized other apart;
         buckets = stored .buckets ∙ ap (bucketsAfter ask (o .answer)) (in-shard-leaves-buckets s ws size (id .hash) o sized);

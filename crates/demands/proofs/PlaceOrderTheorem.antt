@@ -101,7 +101,9 @@ module _ {S N : Type 0} (terms : Terms S N) where
   taken-call-same (whole s len) ws shards memory places none =
       let settings = terms .settings s in
       record {
-        answer = ap Count (sum-same (shardCount settings) _ _ (λ i below. ap (λ t. t .slots .count) (same-by-number settings ws shards places i below)));
+        answer = ap Count
+            (memory .total
+            ∙ sum-same (shardCount settings) _ _ (λ i below. ap (λ t. t .slots .count) (same-by-number settings ws shards places i below)));
         places = places;
       }
 

@@ -1,23 +1,21 @@
 -- The counts of tries turned away decide nothing: the claims of specs/TurnAways.antt, of the rules and of every limiter that meets demand 2.
-use Prim.Native.Nat.{ℕ, zero, suc, _≤_, _<_, max}
-use native.Mathlib.Omega.{arith}
+use Prim.Native.Nat.{ℕ}
 use mathlib.Core.Path.{_≡_, refl, sym, ap, _∙_}
 use mathlib.Core.Bool.{true, false, cond}
 use mathlib.Core.List.{List, [], _∷_}
 use lib.Dec.{eqb}
 use Rattle.arith.proofs.Cases.{by-eq}
 use Rattle.rows.specs.Outcome.{Outcome}
-use Rattle.rows.proofs.SumLaws.{sum-same}
 use Rattle.bucket.specs.declared.BucketCore.{BucketCore}
 use Rattle.settings.specs.declared.Settings.{Settings}
-use Rattle.settings.specs.Settings.{firstRefusal, settingsRefusal, shapeOf, shardCount, capOf, shardOf}
+use Rattle.settings.specs.Settings.{firstRefusal, settingsRefusal, shapeOf, capOf, shardOf}
 use Rattle.classes.specs.Classes.{tableRefusal}
 use Rattle.classes.specs.Layout.{classesIn}
 use Rattle.shard_map.specs.Model.{Shard, uncounted}
 use Rattle.shard_map.proofs.TurnAwayLaws.{equal-but-for-turn-aways}
 use Rattle.shard.specs.declared.Identity.{Identity}
-use Rattle.store.specs.Memory.{memoryWords, shardAt, bucketsAt, slotCount}
-use Rattle.store.specs.Refusals.{memoryRefusal, countRefusal, mostSlots, slotsRefusal, setUpRefusal}
+use Rattle.store.specs.Memory.{totalOf, totalAfter, memoryWords, placesIn, shardAt, bucketsAt}
+use Rattle.store.specs.Refusals.{memoryRefusal, totalRefusal, countRefusal, countsRefusal, setUpRefusal}
 use Rattle.rules.specs.declared.Reply.{Reply}
 use Rattle.rules.specs.declared.Reply.the-variants.{Count}
 use Rattle.rules.specs.Asks.{Ask, requests, looks, undoes, passes, inForce, furtherOf, inItsShard, bucketsAfter}
@@ -31,7 +29,6 @@ use Rattle.demands.specs.Demands.{Table, tableWords, Limiter, settingsBy
 use Rattle.demands.specs.PlaceOrder.{Turn, calls, clears, byRules, run, OfStore, AllOf}
 use Rattle.demands.specs.TurnAways.{readsTurnAways, callReadsTurnAways, turnReadsTurnAways, EqualButForTurnAways, DecidedAlike, ListDecidedAlike}
 use Rattle.demands.proofs.OneShardLaws.{WorksInOneShard, asks-work-in-one-shard, call-same-without-turn-aways}
-use Rattle.demands.proofs.GrownLaws.{of-every-shard}
 use Rattle.demands.proofs.WidthLaws.{NamesFit}
 use Rattle.demands.proofs.PlaceOrderTheorem.{byLimiter, TurnFits, runs-alike}
 
@@ -70,28 +67,15 @@ module _ (s : Settings) (ws vs : List ℕ) (like : EqualButForTurnAways s ws vs)
   unfolding memoryRefusal
   length-refused-alike = ap (λ (n : ℕ). cond (eqb n (memoryWords s)) 0 5) (like .size)
 
-  counts-refused-alike : (hash : ℕ) → countRefusal (capOf s) (shardAt s hash ws) ≡ countRefusal (capOf s) (shardAt s hash vs)
+  counts-refused-alike : (hash : ℕ) → countsRefusal (shapeOf s) hash ws ≡ countsRefusal (shapeOf s) hash vs
   unfolding countRefusal
-  counts-refused-alike hash = ap (countRefusal (capOf s)) (like .shards hash)
+  counts-refused-alike hash = λ j. countRefusal (capOf s) (placesIn (shapeOf s)) (like .total j) (like .shards hash j)
 
   set-up-refused-alike : setUpRefusal s ws ≡ setUpRefusal s vs
   set-up-refused-alike = ap (firstRefusal (settingsRefusal s)) length-refused-alike
 
   ask-refused-alike : (id : Identity) (ask : Ask) → askRefusal s id ask ws ≡ askRefusal s id ask vs
   ask-refused-alike id ask = λ j. firstRefusal (firstRefusal (set-up-refused-alike j) (counts-refused-alike (id .hash) j)) (furtherOf ask)
-
-  slots-alike : (i : ℕ) → i < shardCount s → slotCount (capOf s) i ws ≡ slotCount (capOf s) i vs
-  slots-alike =
-      of-every-shard s (λ j. slotCount (capOf s) j ws ≡ slotCount (capOf s) j vs) (λ hash. ap (λ (t : Shard). t .slots .count) (like .shards hash))
-
-  most-slots-alike : (n : ℕ) → n ≤ shardCount s → mostSlots (capOf s) n ws ≡ mostSlots (capOf s) n vs
-  unfolding mostSlots
-  most-slots-alike zero within = refl
-  most-slots-alike (suc n) within = λ j. max (most-slots-alike n (omega arith) j) (slots-alike n (omega arith) j)
-
-  slots-refused-alike : slotsRefusal s ws ≡ slotsRefusal s vs
-  unfolding Rattle.store.specs.Refusals.slotsRefusalIn
-  slots-refused-alike = rw (most-slots-alike (shardCount s) (omega arith))
 
 -- What is asked of a key, and not refused.
 keyed-decided-alike : (s : Settings) (id : Identity) (ask : Ask) (ws vs : List ℕ) → EqualButForTurnAways s ws vs
@@ -108,15 +92,18 @@ keyed-decided-alike s id ask ws vs like first second =
     let answers : readsTurnAways ask ≡ false
     → inItsShard s id ask buckets a .answer ≡ inItsShard s id ask (bucketsAt (shapeOf s) vs) b .answer =
     λ blind. answer-decided-alike s id ask buckets a b same blind ∙ ap (λ (o : Outcome Reply Shard). o .answer) own-buckets in
+    let left : uncounted (inItsShard s id ask buckets a .after) ≡ uncounted (inItsShard s id ask (bucketsAt (shapeOf s) vs) b .after) =
+    leaves-alike s id ask buckets a b same ∙ ap (λ (o : Outcome Reply Shard). uncounted (o .after)) own-buckets in
+    let moved : totalAfter (totalOf ws) a (inItsShard s id ask buckets a .after)
+    ≡ totalAfter (totalOf vs) b (inItsShard s id ask (bucketsAt (shapeOf s) vs) b .after) = λ j. totalAfter (like .total j) (same j) (left j) in
     record {
       answer = λ blind. first .answer ∙ answers blind ∙ sym (second .answer);
       after = record {
         size = first .size ∙ sym (second .size);
+        total = first .total ∙ moved ∙ sym (second .total);
         shards = λ other.
             by-eq (shardOf s other) (shardOf s (id .hash))
-            (λ own.
-            rw (first .own other own, second .own other own)
-            (leaves-alike s id ask buckets a b same ∙ ap (λ (o : Outcome Reply Shard). uncounted (o .after)) own-buckets))
+            (λ own. rw (first .own other own, second .own other own) left)
             (λ apart. rw (first .others other apart, second .others other apart) (like .shards other));
         buckets = first .buckets ∙ buckets-alike ask buckets answers ∙ ap (bucketsAfter ask _) (like .buckets) ∙ sym (second .buckets);
       };
@@ -128,7 +115,7 @@ module _ {S N : Type 0} (terms : Terms S N) where
       ap (firstRefusal (terms .refusal n)) (ask-refused-alike (inForce ask (terms .settings s)) ws vs like (terms .identity n) ask)
   refused-alike (whole s len) ws vs like =
       let settings = terms .settings s in
-      λ j. firstRefusal (set-up-refused-alike settings ws vs like j) (slots-refused-alike settings ws vs like j)
+      λ j. firstRefusal (set-up-refused-alike settings ws vs like j) (totalRefusal (placesIn (shapeOf settings)) (like .total j))
 
   ruled-alike : (c : Call S N) (ws vs : List ℕ) → EqualButForTurnAways (settingsOf terms c) ws vs → refusalOf terms c ws ≡ 0 → refusalOf terms c vs ≡ 0
       → DecidedAlike (settingsOf terms c) (callReadsTurnAways c) (ruleOf terms c ws) (ruleOf terms c vs)
@@ -140,8 +127,7 @@ module _ {S N : Type 0} (terms : Terms S N) where
       keyed-decided-alike settings id ask ws vs like (asks-work-in-one-shard settings id ws accepted ask)
       (asks-work-in-one-shard settings id vs accepted-too ask)
   ruled-alike (whole s len) ws vs like none also =
-      let settings = terms .settings s in
-      record { answer = λ blind. ap Count (sum-same (shardCount settings) _ _ (slots-alike settings ws vs like)); after = like }
+      record { answer = λ blind. ap Count (like .total); after = like }
 
   -- A call, refused or not.
   pub turn-aways-decide-no-call : (c : Call S N) (ws vs : List ℕ) → EqualButForTurnAways (settingsOf terms c) ws vs
@@ -161,7 +147,7 @@ module _ {S N : Type 0} (terms : Terms S N) where
         ap (λ (n : ℕ). firstRefusal n (tableRefusal (classesIn table))) (set-up-refused-alike s ws vs like) in
         by-eq (tableSetUpRefusalIn (shapeOf s) s table vs) 0
         (λ none. rw (unless-refused-accepts _ ws _ (same ∙ none), unless-refused-accepts _ vs _ none)
-        (record { answer = λ blind. refl; after = record { size = refl; shards = λ hash. refl; buckets = refl } }))
+        (record { answer = λ blind. refl; after = record { size = refl; total = refl; shards = λ hash. refl; buckets = refl } }))
         (λ some. rw (unless-refused-refuses _ ws _ (λ none. some (sym same ∙ none)), unless-refused-refuses _ vs _ some, same)
         (record { answer = λ blind. refl; after = like }))
 

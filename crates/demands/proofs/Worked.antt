@@ -58,17 +58,18 @@ workedTurns = twoKeysCome ++ oneKeyGoes
 abbrev pub workedAnswers : List Reply
 workedAnswers = Tried (Acquired (dueNow start)) ∷ Tried (Acquired (dueNow start)) ∷ Refused 6 ∷ Refused 7 ∷ Done ∷ Count 1 ∷ []
 
--- The words are as in the table of edges: slot count, hand and sweep, the slots, debt count and cursor, the debts, the index of the slots, that of the debts.
+-- The words are as in the table of edges: the total, slot count, hand and sweep, the slots, debt count and cursor, the debts, the index of the slots, that of
+-- the debts.
 pub record Worked : Type 0 where
   pub accepted : setUp (roomFor 2) (memory (roomFor 2)) .answer ≡ Done
   pub of-store : AllOf byKey (roomFor 2) workedTurns
   -- Key 7 is item 0, at its home; key 3 is item 1, at the next place, which is the first.
   pub two-keys : run (byRules byKey (roomFor 2)) twoKeysCome (fresh (roomFor 2)) .after
-      ≡ 2 ∷ 0 ∷ 0 ∷ 7 ∷ 7 ∷ 1000000000 ∷ 0 ∷ 0 ∷ 0 ∷ 0 ∷ 3 ∷ 3 ∷ 2000000000 ∷ 0 ∷ 0 ∷ 0 ∷ 0 ∷ 0 ∷ 0 ∷ 0 ∷ 0 ∷ 0 ∷ 0
+      ≡ 2 ∷ 2 ∷ 0 ∷ 0 ∷ 7 ∷ 7 ∷ 1000000000 ∷ 0 ∷ 0 ∷ 0 ∷ 0 ∷ 3 ∷ 3 ∷ 2000000000 ∷ 0 ∷ 0 ∷ 0 ∷ 0 ∷ 0 ∷ 0 ∷ 0 ∷ 0 ∷ 0 ∷ 0
       ∷ 2 ∷ 0 ∷ 0 ∷ 1 ∷ replicate 4 0
   -- Key 3 has moved to its home, and is item 0.
   pub one-key : run (byRules byKey (roomFor 2)) workedTurns (fresh (roomFor 2)) .after
-      ≡ 1 ∷ 0 ∷ 0 ∷ 3 ∷ 3 ∷ 2000000000 ∷ 0 ∷ 0 ∷ 0 ∷ 0 ∷ 0 ∷ 0 ∷ 0 ∷ 0 ∷ 0 ∷ 0 ∷ 0 ∷ 0 ∷ 0 ∷ 0 ∷ 0 ∷ 0 ∷ 0
+      ≡ 1 ∷ 1 ∷ 0 ∷ 0 ∷ 3 ∷ 3 ∷ 2000000000 ∷ 0 ∷ 0 ∷ 0 ∷ 0 ∷ 0 ∷ 0 ∷ 0 ∷ 0 ∷ 0 ∷ 0 ∷ 0 ∷ 0 ∷ 0 ∷ 0 ∷ 0 ∷ 0 ∷ 0
       ∷ 0 ∷ 0 ∷ 0 ∷ 1 ∷ replicate 4 0
   -- The answers, and those without indexes.
   pub answers : run (byRules byKey (roomFor 2)) workedTurns (fresh (roomFor 2)) .answer ≡ workedAnswers
@@ -82,7 +83,7 @@ unfolding ceilDiv lowestFrom rows unrow tableIn removed Index.onward Index.walkF
     Debts.ledger Debts.wordsOf Ledger.placeOf Ledger.taken Ledger.sweep
     Layout.shard Layout.wordsOf Shard.placeOf Shard.removeAt Shard.insert
     OneShard.makeRoom OneShard.admit OneShard.withOrInsert OneShard.removed
-    Refusals.memoryRefusal Refusals.countRefusal Refusals.momentRefusal Refusals.waitRefusal Refusals.mostSlots Refusals.slotsRefusalIn
+    Refusals.memoryRefusal Refusals.countRefusal Refusals.momentRefusal Refusals.waitRefusal Refusals.totalRefusal
     ClassLayout.classesIn Classes.countRefusal Classes.firstFrom
     Asks.askedIn Rules.unlessRefused Rules.setUpIn Rules.keyedRuleIn Rules.lenIn onShards run
 worked = record {

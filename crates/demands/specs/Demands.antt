@@ -1,7 +1,7 @@
 -- What is promised of a limiter, as claims about any limiter: of demand 1, that a call which is refused by number changes no word (`RefusedChangesNothing`);
 -- demand 2, that it does what the rules say; demand 3, the window, the own bucket and the window of a class. That no call faults, overflows or fails to end is
--- what `rt` proves of every function. No operation and no export has a `requires`: the contracts in src/ of `perkey`, `modems`, `limiter`, `limiter_modems`
--- show that.
+-- what `rt` proves of every function. No operation and no export has a `requires`: the contracts in src/ of `perkey`, `modems`, `class_calls`, `limiter`,
+-- `limiter_modems` and `limiter_classes` show that.
 --
 -- Demand 3 in plain English. Behind each clause stands the name that states it.
 --
@@ -12,8 +12,8 @@
 -- Each call gets the words that the call before it left.                                                 replies
 --
 -- The window.                                                                                            Window
--- The settings have a rate and turn new keys away when full, set-up accepts them, with a class table or without one, and the list starts from the words that
--- the limiter's own set-up leaves.                                                                       Table
+-- The settings have a rate and turn new keys away when full. Set-up accepts them, with a class table
+-- or without one. The list starts from the words that the limiter's own set-up leaves.                   Table
 -- Of the calls that are not refused by number                                                            accepted
 -- all have these settings,                                                                               SameSettings
 -- the moments never fall,                                                                                TimesNeverFall
@@ -39,15 +39,15 @@
 -- Add up the tokens of the granted tries with class d on their chain, at moments from t to u.             tokensThrough
 -- Times the period of d, the sum is at most burst × period + (u - t + 1) × amount, by the rate of d.      WithinRate 1
 --
--- Both claims are over any terms: they hold of lists in which every call names a key (`byKey` of `rules`), of lists in which every call names an address
+-- All three parts are over any terms: they hold of lists in which every call names a key (`byKey` of `rules`), of lists in which every call names an address
 -- (`byAddress` of `modems`), of lists that mix both (`byName` of `modems`), and of lists whose calls also write their settings as the numbers of a C struct,
 -- each in its own way (`exported`).
 --
 -- Theorems, in proofs/:
 -- * `rules-meet-demand3`: the rules meet it. `demand2-gives-demand3`: so does every limiter that meets demand 2.
 -- * `demand2-changes-nothing-where-refused`: a limiter that meets demand 2 changes no word where it refuses.
--- * `contracts-meet-demand2`, `contracts-meet-demand3`: so does code that is as the contracts of `perkey` and `modems` tell its callers, in lists that mix
--- both.
+-- * `contracts-meet-demand2`, `contracts-meet-demand3`: so does code that is as the contracts of `perkey`, `modems` and `class_calls` tell its callers, in
+-- lists that mix their calls.
 -- * `exports-meet-demand2`: what C and Rust call gives the rules' replies as numbers. `exports-meet-demand3`: so their callers have a limiter that meets it.
 -- * `window-adding-none-is-false-of-the-rules`: the + 1 cannot be left out.
 -- * `demand2-tells-moments`, `told-moments-count-alike`: the tokens that the window counts are those counted by the moments that grants tell (Moments).

@@ -3,12 +3,19 @@ use Prim.Native.Nat.{ℕ}
 use mathlib.Core.Path.{_≡_}
 use mathlib.Core.Bool.{false}
 use mathlib.Core.List.{List}
+use Rattle.rows.specs.Places.{sum}
 use Rattle.settings.specs.declared.Settings.{Settings}
+use Rattle.settings.specs.Settings.{shardCount, capOf}
 use Rattle.rules.specs.declared.Reply.the-variants.{Done}
 use Rattle.rules.specs.Replies.{numbered}
 use Rattle.classes.specs.Layout.{classCount}
 use Rattle.rules.specs.Rules.{setUpFor}
 use Rattle.rules.specs.Calls.{Call, Terms, rules, settingsOf}
+use Rattle.store.specs.Memory.{slotCount}
+
+-- The slots of all shards, counted shard by shard.
+abbrev pub slotsOf : Settings → List ℕ → ℕ
+slotsOf s ws = sum (shardCount s) (λ i. slotCount (capOf s) i ws)
 
 module _ {S N : Type 0} (terms : Terms S N) where
   -- The settings have the number of classes of the table that set-up or clear is given.

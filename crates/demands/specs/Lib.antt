@@ -2,6 +2,7 @@ pub mod Demands
 pub mod ByKey
 pub mod Impostors
 pub mod Grown
+pub mod Isolation
 pub mod PlaceOrder
 pub mod TurnAways
 pub mod Contracts

@@ -10,7 +10,8 @@
 -- Request 9 asks for one moment more: (u - t + 1) × amount.                                              WithinRate 1
 --
 -- Theorems, in proofs/: `class-window-exact` and `class-window` say both of the rules. `never-charged-breaks-the-class-window` and
--- `named-alone-breaks-the-class-window` refute two other ways, `charging-the-denied-takes-from-others` a third.
+-- `named-alone-breaks-the-class-window` refute two other ways. A third charges the chain of a denied try: it takes tokens from others, and the rules do not
+-- (`charging-the-denied-takes-from-others`).
 use Prim.Native.Nat.{ℕ, _+_, _≤_, _<_}
 use mathlib.Core.Path.{_≡_}
 use mathlib.Core.Bool.{Bool, false, cond}

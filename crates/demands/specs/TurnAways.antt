@@ -10,7 +10,7 @@ use Rattle.rows.specs.Outcome.{Outcome}
 use Rattle.settings.specs.declared.Settings.{Settings}
 use Rattle.settings.specs.Settings.{shapeOf}
 use Rattle.shard_map.specs.Model.{uncounted}
-use Rattle.store.specs.Memory.{shardAt, bucketsAt}
+use Rattle.store.specs.Memory.{totalOf, shardAt, bucketsAt}
 use Rattle.rules.specs.declared.Reply.{Reply}
 use Rattle.rules.specs.Asks.{peeks, tokens, turnedAway, Ask, requests, looks, undoes, passes}
 use Rattle.rules.specs.Calls.{Call, keyed, whole}
@@ -43,10 +43,11 @@ module _ {S N : Type 0} where
   SameReplies (t ∷ ts) [] qs = ⊥
   SameReplies (t ∷ ts) (r ∷ rs) [] = ⊥
 
--- Two memories of a store are equal but for these counts: they have as many words, the shards of each hash are equal once all such counts are 0, and the
--- class buckets are equal.
+-- Two memories of a store are equal but for these counts: they have as many words, the total is equal, the shards of each hash are equal once all such
+-- counts are 0, and the class buckets are equal.
 pub record EqualButForTurnAways (s : Settings) (ws vs : List ℕ) : Type 0 where
   pub size : length ws ≡ length vs
+  pub total : totalOf ws ≡ totalOf vs
   pub shards : (hash : ℕ) → uncounted (shardAt s hash ws) ≡ uncounted (shardAt s hash vs)
   pub buckets : bucketsAt (shapeOf s) ws ≡ bucketsAt (shapeOf s) vs
 

@@ -39,8 +39,8 @@ pub extern "C" fn limiter_table_clear(
     class_calls::class_clear(settings_of(settings), table, ws).told()
 }
 
-// Takes `cost` tokens for a key and for every class on the chain of `class` at the moment `at`, if its bucket and all of theirs have them: granted, to be
-// tried again after the largest of their waits, or impossible.
+// Takes `cost` tokens from a key's bucket and from every bucket on the chain of `class`, if all have them at the moment `at`. Else it takes none, and tells the
+// largest of their waits, or the wait for room, or that the cost is impossible.
 #[no_mangle]
 pub extern "C" fn limiter_table_try(
     settings: LimiterSettings,

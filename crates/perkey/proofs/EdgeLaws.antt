@@ -36,7 +36,7 @@ unfolding ceilDiv rows unrow tableIn removed Index.onward Index.walkFrom Index.w
     Layout.shard Layout.wordsOf Shard.placeOf Shard.removeAt Shard.insert Shard.sweepIdle
     noted walkFrom walked evicted OneShard.makeRoom OneShard.withExisting OneShard.admit OneShard.withOrInsert OneShard.viewed
     OneShard.turnedAway OneShard.refunded OneShard.removed
-    Refusals.memoryRefusal Refusals.countRefusal Refusals.momentRefusal Refusals.waitRefusal
+    Refusals.memoryRefusal Refusals.totalRefusal Refusals.countRefusal Refusals.momentRefusal Refusals.waitRefusal
     ClassLayout.classesIn Classes.countRefusal Classes.firstFrom
     Asks.askedIn Rules.unlessRefused Rules.setUpIn Rules.keyedRuleIn
 every-edge-holds = refl

@@ -250,5 +250,5 @@ pub fn len(settings: Settings, ws: &[u64]) -> Reply
     if refusal != 0 {
         return Reply::Refused(refusal);
     }
-    Reply::Count(store::len(ws, settings) as u64)
+    Reply::Count(store::len(ws))
 }

@@ -24,9 +24,9 @@ use Rattle.shard.specs.Model as OneShard
 use Rattle.shard.proofs.ModelLaws.{ask-with-slot, ask-without-slot}
 use Rattle.shard_map.specs.Model.{Sound, placeOf}
 use Rattle.store.specs.declared.Part.{Part}
-use Rattle.store.specs.Memory.{Placed, partOf, shardIn, shardAt, inPart, inShard}
+use Rattle.store.specs.Memory.{Placed, Counted, partOf, shardIn, shardAt, inPart, inShard}
 use Rattle.store.specs.Refusals.{shapeRefusal}
-use Rattle.store.proofs.LendingLaws.{found-place-below, accepted-part}
+use Rattle.store.proofs.LendingLaws.{found-place-below, accepted-part, accepted-count}
 use Rattle.store.proofs.RefusalLaws.{Accepted}
 use Rattle.rules.specs.declared.Reply.{Reply}
 use Rattle.rules.specs.Asks.{requests, furtherTo, Manner, mannerOf, closedTo, tooMuch, atOnce, replyTo, repliedAs, policyOf, askedIn}
@@ -83,10 +83,11 @@ module _ {s : Settings} {id : Identity} {cost : ℕ} {ws : List ℕ} {rate : Rat
   place-may-be-asked = accepted-part s (id .hash) ws (a .accepted) (a .is-part)
 
   pub new-may-be-asked : {policy : Policy} → policy ≡ policyOf s rate
-      → Placed part′ ws × Sound (shardIn part′ ws) × Bucket.Accepted (policy .config) × (cost ≤ policy .config .capacity)
+      → Placed part′ ws × Sound (shardIn part′ ws) × Bucket.Accepted (policy .config) × (cost ≤ policy .config .capacity) × Counted part′ ws
   new-may-be-asked is-policy =
       let rated = accepted-rate rate (rw (a .is-limit) at (accepted-parts s (a .accepted .set-up .settings) .0)) in
-      (place-may-be-asked .0, place-may-be-asked .1, rw is-policy rated, rw is-policy (a .within))
+      let counted = accepted-count s (id .hash) ws (a .accepted) (a .is-part) in
+      (place-may-be-asked .0, place-may-be-asked .1, rw is-policy rated, rw is-policy (a .within), counted)
 
   module _ {policy : Policy} {place : Place} (is-policy : policy ≡ policyOf s rate) (is-place : place ≡ placeOf (shardIn part′ ws) (id .hash) (id .key)) where
     pub known-may-be-asked : (i : ℕ) → place ≡ At i

@@ -6,13 +6,12 @@ use mathlib.Core.Bool.{true, false, not, true≢false}
 use mathlib.Core.List.{List}
 use Rattle.arith.proofs.Cases.{by-eq}
 use Rattle.rows.specs.Outcome.{Outcome, outcome}
-use Rattle.rows.specs.Places.{sum}
 use Rattle.units.specs.declared.Nanos.{Nanos}
 use Rattle.settings.specs.declared.Settings.{Settings}
-use Rattle.settings.specs.Settings.{firstRefusal, shapeOf, shardCount, capOf}
+use Rattle.settings.specs.Settings.{firstRefusal, shapeOf}
 use Rattle.settings.proofs.SettingsLaws.{neither-refuses}
 use Rattle.shard.specs.declared.Identity.{Identity}
-use Rattle.store.specs.Memory.{shardAt, bucketsAt, slotCount}
+use Rattle.store.specs.Memory.{totalOf, shardAt, bucketsAt}
 use Rattle.store.specs.Refusals.{lenRefusal}
 use Rattle.rules.specs.declared.Reply.{Reply}
 use Rattle.rules.specs.declared.Reply.the-variants.{Count, Refused}
@@ -46,7 +45,7 @@ module _ {S N : Type 0} (terms : Terms S N) where
   -- What a call gives where it is not refused.
   abbrev pub ruleOf : Call S N → List ℕ → Outcome Reply (List ℕ)
   ruleOf (keyed s n ask) ws = let settings = inForce ask (terms .settings s) in keyedOutcome (shapeOf settings) settings (terms .identity n) ask ws
-  ruleOf (whole s len) ws = outcome (Count (sum (shardCount (terms .settings s)) (λ i. slotCount (capOf (terms .settings s)) i ws))) ws
+  ruleOf (whole s len) ws = outcome (Count (totalOf ws)) ws
 
   rules-are : (c : Call S N) (ws : List ℕ) → rules terms c ws ≡ unlessRefused (refusalOf c ws) ws (ruleOf c ws)
   unfolding keyedRuleIn lenIn

@@ -12,7 +12,7 @@ use Rattle.bucket.specs.declared.Request.the-variants.{Acquire, Reserve, Throug
 use Rattle.bucket.specs.Bucket.{longestWait}
 use Rattle.settings.specs.declared.Settings.{Settings}
 use Rattle.settings.specs.declared.Shape.{Shape}
-use Rattle.settings.specs.Settings.{firstRefusal, settingsRefusal, limitRefusal, shapeOf, capOf}
+use Rattle.settings.specs.Settings.{firstRefusal, settingsRefusal, limitRefusal, shapeOf}
 use Rattle.settings.proofs.SettingsLaws.{accepted-parts, neither-refuses}
 use Rattle.classes.specs.declared.Class.{Class}
 use Rattle.classes.specs.Classes.{tableRefusal, numberRefusal}
@@ -22,9 +22,9 @@ use Rattle.store.specs.declared.Part.{Part}
 use Rattle.store.specs.declared.lending.Lending.{Lending}
 use Rattle.store.specs.declared.lending.Lending.the-variants as Lending
 use Rattle.store.specs.Lending.{lentUnless}
-use Rattle.store.specs.Memory.{Placed, partOf, shardIn, shardAt, inPart, inShard, bucketsAt, memoryWords}
-use Rattle.store.specs.Refusals.{latestMoment, longestMaxWait, memoryRefusal, countRefusal, shapeRefusal, keyedRefusal, momentRefusal, waitRefusal}
-use Rattle.store.proofs.LendingLaws.{lent-part, accepted-part, in-part-unchanged}
+use Rattle.store.specs.Memory.{Placed, Counted, partOf, shardIn, shardAt, inPart, inShard, bucketsAt, memoryWords}
+use Rattle.store.specs.Refusals.{latestMoment, longestMaxWait, memoryRefusal, countsRefusal, shapeRefusal, keyedRefusal, momentRefusal, waitRefusal}
+use Rattle.store.proofs.LendingLaws.{lent-part, accepted-part, accepted-count, in-part-unchanged}
 use Rattle.store.proofs.MemoryLaws.{part-placed}
 use Rattle.store.proofs.RefusalLaws.{Accepted, keyed-not-refused, moment-not-refused, wait-not-refused, refusals-in-a-row}
 use Rattle.rules.specs.declared.Reply.{Reply}
@@ -100,6 +100,10 @@ module _ (s : Settings) (id : Identity) (ask : Ask) (ws : List ℕ) where
       pub lent-may-be-asked : Placed part′ ws × Sound (shardIn part′ ws)
       lent-may-be-asked = accepted-part s (id .hash) ws (ask-not-refused s id ask ws (none-refuses .0) .0) (none-refuses .1)
 
+      -- The total counts its slots.
+      pub lent-is-counted : Counted part′ ws
+      lent-is-counted = accepted-count s (id .hash) ws (ask-not-refused s id ask ws (none-refuses .0) .0) (none-refuses .1)
+
       pub lent-limit-accepted : limitRefusal (s .limit) ≡ 0
       lent-limit-accepted = accepted-parts s (ask-not-refused s id ask ws (none-refuses .0) .0 .set-up .settings) .0
 
@@ -131,7 +135,7 @@ lent-look-is-told s id l ws is gave answered =
 keyed-number : (s : Settings) (hash : ℕ) (ws : List ℕ) (further : ℕ)
     → firstRefusal (settingsRefusal s) (firstRefusal (shapeRefusal (shapeOf s) hash ws) further) ≡ firstRefusal (keyedRefusal s hash ws) further
 keyed-number s hash ws further =
-    let counts = countRefusal (capOf s) (shardAt s hash ws) in
+    let counts = countsRefusal (shapeOf s) hash ws in
     let memory = memoryRefusal (memoryWords s) ws in
     sym (refusals-in-a-row (settingsRefusal s) (firstRefusal memory counts) further)
     ∙ ap (λ (n : ℕ). firstRefusal n further) (sym (refusals-in-a-row (settingsRefusal s) memory counts))

@@ -105,8 +105,8 @@ kindOfAsk (looks l) = kindOfLook l
 kindOfAsk (undoes u) = knows
 kindOfAsk (passes table class at cost) = decides
 
--- The number by which an ask is refused, after the settings and the memory: 6 for a late moment, then 7 for a longest wait that is too long, or the number of
--- the class table and last 14 for a class that is not in it; 0 if it is not.
+-- The number by which an ask is refused after the settings and the memory; 0 if it is not refused. 6 is for a late moment. Then a reservation has 7 for a
+-- longest wait that is too long. A try through a class has the number of its table, and last 14 for a class that is not in it.
 abbrev pub furtherTo : Request → Nanos → ℕ
 furtherTo Acquire at = momentRefusal at
 furtherTo (Reserve longest) at = firstRefusal (momentRefusal at) (waitRefusal longest)
@@ -211,10 +211,11 @@ undoneIn removes limit id own = repliedAs knownReply (OneShard.removed id own)
 abbrev pub chainOf : List Class → ℕ → List ℕ
 chainOf cs class = chain longestChain cs class
 
--- A try through a class, in the key's shard. A cost over a burst on the chain is impossible. Else it is a try that waits for the buckets on the chain too.
+-- A try that waits for the buckets on the chain of a class, too.
 abbrev pub throughChain : List Class → ℕ → Nanos → ℕ → List BucketCore → Request
 throughChain cs class at cost buckets = Through (record { 0 = chainWait cs cost at buckets (chainOf cs class) })
 
+-- A try through a class, in the key's shard. A cost over a burst on the chain is impossible. Any other is asked as such a try.
 unfoldable pub passedIn : Settings → Identity → List Class → ℕ → Nanos → ℕ → List BucketCore → Shard → Outcome Reply Shard
 passedIn s id cs class at cost buckets own =
     cond (ltb (leastBurst cs (chainOf cs class)) cost) (outcome (Tried Impossible) own)
@@ -231,7 +232,8 @@ inItsShard s id (passes table class at cost) buckets own = passedIn s id (classe
 abbrev pub grantsSome : ℕ → Reply → Bool
 grantsSome cost reply = ofGrant (λ wait. not (eqb cost 0)) false reply
 
--- The class buckets after an ask, by its reply: a try through a class that is granted tokens charges every bucket on the chain. No other ask touches them.
+-- The class buckets after an ask, by its reply: a granted try through a class, of a cost that is not 0, charges every bucket on the chain. No other ask touches
+-- them.
 abbrev pub bucketsAfter : Ask → Reply → List BucketCore → List BucketCore
 bucketsAfter (requests r at cost) reply buckets = buckets
 bucketsAfter (looks l) reply buckets = buckets

@@ -94,7 +94,7 @@ module _ {S N : Type 0} where
   kindOf (whole s len) = counts
 
 module _ {S N : Type 0} (terms : Terms S N) where
-  -- The settings that a call goes by: what it writes means them, but a try through a class takes the number of classes from its table.
+  -- The settings that a call goes by: those that it writes. A try through a class takes the number of classes from its table instead.
   abbrev pub settingsOf : Call S N → Settings
   settingsOf (keyed s n ask) = inForce ask (terms .settings s)
   settingsOf (whole s what) = terms .settings s

@@ -4,7 +4,6 @@ use mathlib.Core.Bool.{cond}
 use mathlib.Core.List.{List, []}
 use lib.Dec.{eqb}
 use lib.ListN.{replicate}
-use Rattle.rows.specs.Places.{sum}
 use Rattle.rows.specs.Outcome.{Outcome, outcome}
 use Rattle.units.specs.declared.Nanos.{Nanos}
 use Rattle.bucket.specs.declared.Request.the-variants.{Acquire, Reserve}
@@ -14,7 +13,7 @@ use Rattle.settings.specs.Settings.{firstRefusal, shapeOf}
 use Rattle.classes.specs.Classes.{tableRefusal}
 use Rattle.classes.specs.Layout.{classesIn}
 use Rattle.shard.specs.declared.Identity.{Identity}
-use Rattle.store.specs.Memory.{wordsIn, partIn, shardIn, inPart, bucketsAt, withBuckets, slotCount}
+use Rattle.store.specs.Memory.{totalOf, wordsIn, partIn, shardIn, inPart, bucketsAt, withBuckets}
 use Rattle.store.specs.Refusals.{setUpRefusalIn, keyedRefusalIn, lenRefusalIn}
 use Rattle.rules.specs.declared.Reply.{Reply}
 use Rattle.rules.specs.declared.Reply.the-variants.{Done, Count, Refused}
@@ -104,9 +103,9 @@ setUp s ws = classSetUp s [] ws
 abbrev pub clear : Settings → List ℕ → Outcome Reply (List ℕ)
 clear s ws = setUp s ws
 
--- Length: the slots of all shards.
+-- Length: the total, which stands in one word. No shard is looked at.
 unfoldable pub lenIn : Shape → Settings → List ℕ → Outcome Reply (List ℕ)
-lenIn shape s ws = unlessRefused (lenRefusalIn shape s ws) ws (outcome (Count (sum (shape .shards) (λ i. slotCount (shape .cap) i ws))) ws)
+lenIn shape s ws = unlessRefused (lenRefusalIn shape s ws) ws (outcome (Count (totalOf ws)) ws)
 
 abbrev pub len : Settings → List ℕ → Outcome Reply (List ℕ)
 len s ws = lenIn (shapeOf s) s ws

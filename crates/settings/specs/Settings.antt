@@ -1,4 +1,4 @@
--- The settings of a whole store: refusals, shards, places per shard, words, and the idle limit.
+-- The settings of a whole store: refusals, shards, places per shard, the number of classes, and the idle limit.
 use Prim.Native.Nat.{ℕ, _+_, _-_, _/_, _≤_, _^_, min, max}
 use mathlib.Core.Path.{_≡_}
 use mathlib.Core.Bool.{cond}

@@ -1,6 +1,7 @@
 -- How a request, a refund and a removal end, by cases, and that each leaves a sound shard with the same room. Laws above go by these cases and open none of
 -- the operations.
-use Prim.Native.Nat.{ℕ, _<_}
+use Prim.Native.Nat.{ℕ, _+_, _≤_, _<_}
+use native.Mathlib.Omega.{arith}
 use mathlib.Core.Path.{_≡_, refl, sym, _∙_, ap}
 use mathlib.Core.Bool.{Bool, true}
 use Rattle.units.specs.declared.Nanos.{Nanos}
@@ -24,7 +25,7 @@ use Rattle.ledger.specs.Model as Ledger
 use Rattle.ledger.proofs.StepLaws as LedgerSteps
 use Rattle.ledger.proofs.StepLaws.{found-owes, taken-cases, taken-room, paid-room}
 use Rattle.ledger.proofs.LookupLaws.{taken-tells}
-use Rattle.shard_map.specs.Model.{Shard, Sound, slotItems, slotAt, withSlot, withLedger, inLedger, placeOf, removeAt}
+use Rattle.shard_map.specs.Model.{Shard, Sound, capOf, insert, slotItems, slotAt, withSlot, withLedger, inLedger, placeOf, removeAt}
 use Rattle.shard_map.proofs.StepLaws.{Holding, found-holds, ledger-sound}
 use Rattle.shard_map.proofs.RoomLaws.{identityOf, found-is-complete, SlotsFrom, nowhere-lacks, sweep-idle-slots-from, same-room-trans, ledger-same-room}
 use Rattle.shard_map.proofs.RoomLaws.{same-room}
@@ -37,7 +38,7 @@ use Rattle.evict.proofs.RoomLaws.{evict-slots-from, evict-same-room}
 use Rattle.shard.specs.declared.Identity.{Identity}
 use Rattle.shard.specs.declared.Policy.{Policy}
 use Rattle.shard.specs.Model.{withExisting, makeRoom, joined, admitted, admit, askedFrom, withOrInsert, hasDebt, refundedFrom, refunded, removedFrom}
-use Rattle.shard.specs.Model.{removed}
+use Rattle.shard.specs.Model.{putBack, removed}
 use Rattle.shard.proofs.RoomLaws.{room-keeps, room-made-leaves-room, room-below-ledger-cap-never-refuses}
 
 -- A slot of the same key, with a bucket that is given. Its mark and its last-seen may be any.
@@ -159,6 +160,11 @@ module _ (p : Policy) (at : Nanos) (s : Shard) (u : Sound s) where
       trans : {h g f : Held Slot} → ComesFrom slotItems identityOf h g → ComesFrom slotItems identityOf g f → ComesFrom slotItems identityOf h f
       trans = comes-from-trans slotItems identityOf
 
+-- A debt that goes back into the ledger changes no slot.
+put-back-keeps-slots : (hash : ℕ) (at : Nanos) (owed : OptionNanos) (s : Shard) → putBack hash at owed s .slots ≡ s .slots
+put-back-keeps-slots hash at nanos.None s = refl
+put-back-keeps-slots hash at (nanos.Some settles) s = refl
+
 -- And so does every operation, whatever it answers.
 module _ (s : Shard) (u : Sound s) where
   taken-same-room : (id : Identity) → SameRoom s (debtTaken id s)
@@ -179,6 +185,25 @@ module _ (s : Shard) (u : Sound s) where
           (λ each. lacks-stays slotItems identityOf (room-slots-from p at (debtTaken id s) v) _
           (nowhere-lacks s (found-is-complete each) (id .hash) (id .key) new))
       go (no-space due e no-debt told) = room-same-room p at s u
+
+  -- A new key leaves no more slots than there is room for, also where it had a slot already.
+  pub admit-count-fits : (p : Policy) (id : Identity) (request : Request) (cost : ℕ) (at : Nanos) → admit p id request cost at s .after .slots .count ≤ capOf s
+  unfolding admit insert
+  admit-count-fits p id request cost at = go (roomFor p id at s .answer) refl
+    where
+      v : Sound (debtTaken id s)
+      v = debt-taken-sound id s u
+
+      room : SameRoom (debtTaken id s) (roomFor p id at s .after)
+      room = room-same-room p at (debtTaken id s) v
+
+      owed : OptionNanos
+      owed = Ledger.taken (s .ledger) (id .hash) .answer
+
+      go : (answer : Room) → roomFor p id at s .answer ≡ answer
+          → admitted p id request cost at owed (roomFor p id at s .after) answer .after .slots .count ≤ capOf s
+      go Made made = omega (arith, room-made-leaves-room p at (debtTaken id s) v made, room .cap)
+      go (Refused due) told = rw (put-back-keeps-slots (id .hash) at owed (roomFor p id at s .after)) (omega (arith, room .sound .count-fits, room .cap))
 
   pub refund-same-room : (c : BucketConfig) (id : Identity) (cost : ℕ) → SameRoom s (refunded c id cost s .after)
   refund-same-room c id cost = go (refund-cases c id cost s)

@@ -8,7 +8,7 @@ use lib.ListN.{length, take-append-drop}
 use borrow.Rule.Slice.PartMut.{same-len-mid}
 use Rattle.rows.specs.Segments.{segment}
 use Rattle.rows.specs.Outcome.{Outcome}
-use Rattle.rows.proofs.SegmentLaws.{segment-length, segment-back, segment-kept-below, segment-kept-above}
+use Rattle.rows.proofs.SegmentLaws.{segment-length, segment-back, word-kept, segment-kept-below, segment-kept-above}
 use Rattle.bucket.specs.declared.BucketCore.{BucketCore}
 use Rattle.settings.specs.declared.Settings.{Settings}
 use Rattle.settings.specs.Settings.{capOf, shapeOf, shardOf, shardCount}
@@ -20,8 +20,8 @@ use Rattle.shard_map.specs.Model as Shard
 use Rattle.shard_map.specs.Layout as Layout
 use Rattle.shard_map.specs.Layout.{shardWords}
 use Rattle.shard_map.proofs.ReadBack.{Sized, words-length}
-use Rattle.store.specs.Memory.{classesAt, classWords, memoryWords, partStart, shardAt, inShard, bucketsAt, withBuckets}
-use Rattle.store.proofs.MemoryLaws.{shard-fits, shard-ends-before}
+use Rattle.store.specs.Memory.{totalAt, totalOf, classesAt, classWords, memoryWords, partStart, shardAt, inShard, bucketsAt, withBuckets}
+use Rattle.store.proofs.MemoryLaws.{shard-fits, shard-ends-before, behind-the-total}
 
 module _ (s : Settings) (ws : List ℕ) (size : length ws ≡ memoryWords s) where
   -- Where the class buckets begin, how many words they are, and these words.
@@ -53,7 +53,9 @@ module _ (s : Settings) (ws : List ℕ) (size : length ws ≡ memoryWords s) whe
   pub in-shard-leaves-buckets : {A : Type 0} (hash : ℕ) (o : Outcome A Shard.Shard) → Sized (capOf s) (o .after)
       → bucketsAt (shapeOf s) (inShard s hash ws o .after) ≡ bucketsAt (shapeOf s) ws
   in-shard-leaves-buckets hash o sized =
-      ap bucketsIn (segment-kept-above (partStart (shapeOf s) hash) (shardWords (capOf s)) ws (Layout.wordsOf (o .after)) (shard-fits s hash ws size)
+      ap bucketsIn
+      (behind-the-total s hash ws o size sized first many (omega arith)
+      ∙ segment-kept-above (partStart (shapeOf s) hash) (shardWords (capOf s)) ws (Layout.wordsOf (o .after)) (shard-fits s hash ws size)
       (words-length (capOf s) (o .after) sized) first many (shard-before-classes hash))
 
   -- Other buckets, one for each class.
@@ -63,6 +65,10 @@ module _ (s : Settings) (ws : List ℕ) (size : length ws ≡ memoryWords s) whe
 
     pub with-buckets-length : length (withBuckets (shapeOf s) ws bs) ≡ memoryWords s
     with-buckets-length = same-len-mid first many ws (wordsOfBuckets bs) (new-length ∙ sym own-length) ∙ size
+
+    -- The total stays.
+    pub with-buckets-leaves-total : totalOf (withBuckets (shapeOf s) ws bs) ≡ totalOf ws
+    with-buckets-leaves-total = word-kept first many ws (wordsOfBuckets bs) (omega (arith, size)) new-length totalAt (omega arith)
 
     pub with-buckets-reads-back : bucketsAt (shapeOf s) (withBuckets (shapeOf s) ws bs) ≡ bs
     with-buckets-reads-back = ap bucketsIn (segment-back first many ws (wordsOfBuckets bs) (omega (arith, size)) new-length) ∙ buckets-of-words bs

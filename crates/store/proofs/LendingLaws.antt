@@ -1,36 +1,44 @@
 -- A part as it is lent, from its start to its end: it lies in the memory, and what comes back in its place is an operation on the shard. And what a
 -- call on a key is lent.
-use Prim.Native.Nat.{ℕ, _-_, _≤_, _<_}
+use Prim.Native.Nat.{ℕ, _+_, _-_, _≤_, _<_}
 use native.Mathlib.Omega.{arith}
 use native.Mathlib.Nat.{le-add-right, le-trans}
 use mathlib.Core.Path.{_≡_, refl, sym, ap, _∙_}
 use mathlib.Core.Bool.{Bool, true, false, true≢false}
 use mathlib.Core.List.{List}
-use lib.ListN.{length, take-append-drop}
+use lib.ListN.{length, set, take-append-drop}
+use lib.Seq.{set-getD}
 use borrow.Author.Tests.{eq-eqb, ne-eqb}
-use borrow.Rule.Slice.PartMut.{putMid}
+use borrow.Rule.Slice.PartMut.{putMid, same-len-mid}
 use Rattle.arith.proofs.Cases.{by-eq}
 use Rattle.rows.specs.Segments.{segment}
 use Rattle.rows.specs.Outcome.{Outcome, outcome}
-use Rattle.rows.proofs.SegmentLaws.{segment-length}
+use Rattle.rows.proofs.SegmentLaws.{segment-length, segment-back, word-kept}
 use Rattle.settings.specs.declared.Settings.{Settings}
 use Rattle.settings.specs.declared.Shape.{Shape}
 use Rattle.settings.specs.Settings.{settingsRefusal, firstRefusal, ShapeOfAccepted, mostKeysInShard, mostShards, capOf, shapeOf, mostCounted}
 use Rattle.settings.proofs.SettingsLaws.{accepted-parts, shape-of-accepted, cap-most, shards-most, no-refusal-hands-on}
-use Rattle.rows.specs.declared.Place.the-variants.{At}
+use Rattle.rows.specs.declared.Place.{Place}
+use Rattle.rows.specs.declared.Place.the-variants.{At, Nowhere}
+use Rattle.units.specs.declared.Nanos.{Nanos}
+use Rattle.bucket.specs.declared.BucketConfig.{BucketConfig}
+use Rattle.bucket.specs.declared.Request.{Request}
 use Rattle.shard_map.specs.Model as Shard
 use Rattle.shard_map.specs.Layout as Layout
-use Rattle.shard_map.proofs.LayoutLaws.{words-shard}
+use Rattle.shard_map.proofs.LayoutLaws.{cap-is, words-shard}
+use Rattle.shard.specs.declared.Identity.{Identity}
+use Rattle.shard.specs.declared.Policy.{Policy}
+use Rattle.shard.specs.Model as OneShard
 use Rattle.shard.proofs.ModelLaws.{found-below-cap}
+use Rattle.shard.proofs.ShardLaws.{remove-same-room}
 use Rattle.store.specs.declared.Part.{Part}
 use Rattle.store.specs.declared.lending.Lending.{Lending}
 use Rattle.store.specs.declared.lending.Lending.the-variants.{Refused, Lent}
-use Rattle.store.specs.Memory.{Placed, partIn, partOf, shardIn, shardAt, inPart, shardEnd, slotCount}
-use Rattle.store.specs.Refusals.{memoryRefusal, shapeRefusal, countRefusal, keyedRefusal}
-use Rattle.store.specs.Refusals.{lenRefusal}
+use Rattle.store.specs.Memory.{withSegment, totalAt, totalOf, totalAfter, Placed, Counted, partIn, partOf, shardIn, shardAt, inPart, placesIn}
+use Rattle.store.specs.Refusals.{memoryRefusal, shapeRefusal, countRefusal, countsRefusal, keyedRefusal}
 use Rattle.store.specs.Lending.{lentUnless}
-use Rattle.store.proofs.MemoryLaws.{part-placed, shard-ends}
-use Rattle.store.proofs.RefusalLaws.{SetUp, Accepted, length-is-accepted, len-not-refused}
+use Rattle.store.proofs.MemoryLaws.{part-placed, places-few}
+use Rattle.store.proofs.RefusalLaws.{Accepted, length-is-accepted}
 use Rattle.shard_map.specs.Layout.{shardWords}
 use Rattle.store.specs.Memory.{wordsIn}
 
@@ -58,20 +66,75 @@ module _ {p : Part} {ws : List ℕ} (placed : Placed p ws) where
   pub found-place-below : (h k i : ℕ) → Shard.Sound (shardIn p ws) → Shard.placeOf (shardIn p ws) h k ≡ At i → i < p .cap
   found-place-below h k i sound found = found-below-cap h k i (intact-of-sound sound) (rw lent-shard found)
 
-  -- Other words have come back in its place, with an answer: that is the operation on the shard.
-  pub lent-answered : {A : Type 0} {a : A} (f : Shard.Shard → Outcome A Shard.Shard) (ys : List ℕ) → length ys ≡ length lentWords
-      → outcome a (Layout.shard (p .cap) ys) ≡ f (Layout.shard (p .cap) lentWords)
-      → outcome a (putMid (p .start) (p .end - p .start) ws ys) ≡ inPart p ws (f (shardIn p ws))
-  lent-answered f ys same gave =
-      let long : p .end - p .start ≡ shardWords (p .cap) = rw (placed .ends) (omega arith) in
-      let words = words-shard (p .cap) ys (same ∙ lent-length) in
-      rw long (rw words at (ap (inPart p ws) (rw lent-shard at gave)))
+  -- Other words have come back in its place, with an answer: that is the operation on the shard, before the total is stored.
+  module _ {A : Type 0} {a : A} (f : Shard.Shard → Outcome A Shard.Shard) (ys : List ℕ) (same : length ys ≡ length lentWords)
+      (gave : outcome a (Layout.shard (p .cap) ys) ≡ f (Layout.shard (p .cap) lentWords)) where
+    abbrev back : List ℕ
+    back = putMid (p .start) (p .end - p .start) ws ys
+
+    abbrev put : Outcome A Shard.Shard → Outcome A (List ℕ)
+    put o = outcome (o .answer) (withSegment (p .start) (shardWords (p .cap)) ws (Layout.wordsOf (o .after)))
+
+    back-is : outcome a back ≡ put (f (shardIn p ws))
+    back-is =
+        let long : p .end - p .start ≡ shardWords (p .cap) = rw (placed .ends) (omega arith) in
+        let words = words-shard (p .cap) ys (same ∙ lent-length) in
+        rw long (rw words at (ap put (rw lent-shard at gave)))
+
+    -- The shard that has come back is the one that the operation leaves.
+    fits : p .start + (p .end - p .start) ≤ length ws
+    fits = omega (arith, placed .within, lent-starts)
+
+    long-enough : length ys ≡ p .end - p .start
+    long-enough = same ∙ segment-length (p .start) (p .end - p .start) ws fits
+
+    pub shard-back : shardIn p back ≡ f (shardIn p ws) .after
+    shard-back =
+        let long : p .end - p .start ≡ shardWords (p .cap) = rw (placed .ends) (omega arith) in
+        ap (Layout.shard (p .cap))
+        (ap (λ (n : ℕ). segment (p .start) n back) (sym long) ∙ segment-back (p .start) (p .end - p .start) ws ys fits long-enough)
+        ∙ ap (λ (o : Outcome A Shard.Shard). o .after) (rw lent-shard at gave)
+
+    -- The part still lies in the memory. Where no more slots are left than there is room for, the total is at most that much larger.
+    pub back-placed : Placed p back
+    back-placed = record {
+      begins = placed .begins;
+      ends = placed .ends;
+      within = rw (same-len-mid (p .start) (p .end - p .start) ws ys same) (placed .within);
+    }
+
+    pub total-stays-small : f (shardIn p ws) .after .slots .count ≤ Shard.capOf (shardIn p ws) → Counted p ws → {others : ℕ}
+        → others ≡ totalOf ws - shardIn p ws .slots .count → others + shardIn p back .slots .count ≤ totalOf ws + p .cap
+    total-stays-small few counted is = rw (is, shard-back) (omega (arith, counted .covers, rw (cap-is (p .cap) _) at few))
+
+    -- The total is stored: the slots of the other shards, and those that are there now.
+    pub lent-counted : Counted p ws → {others : ℕ} → others ≡ totalOf ws - shardIn p ws .slots .count
+        → outcome a (set back totalAt (others + shardIn p back .slots .count)) ≡ inPart p ws (f (shardIn p ws))
+    lent-counted counted is =
+        let after : Shard.Shard = f (shardIn p ws) .after in
+        let total : totalOf ws - shardIn p ws .slots .count + after .slots .count ≡ totalAfter (totalOf ws) (shardIn p ws) after =
+        omega (arith, counted .covers) in
+        rw (is, shard-back, total)
+        (ap (λ (o : Outcome A (List ℕ)). outcome (o .answer) (set (o .after) totalAt (totalAfter (totalOf ws) (shardIn p ws) after))) back-is)
+
+    -- An operation that keeps the number of slots keeps the total.
+    pub lent-answered : f (shardIn p ws) .after .slots .count ≡ shardIn p ws .slots .count → outcome a back ≡ inPart p ws (f (shardIn p ws))
+    lent-answered kept =
+        let after : Shard.Shard = f (shardIn p ws) .after in
+        let total-kept : totalOf back ≡ totalOf ws =
+        word-kept (p .start) (p .end - p .start) ws ys fits long-enough totalAt (omega (arith, placed .begins)) in
+        let same-total : totalAfter (totalOf ws) (shardIn p ws) after ≡ totalOf back = omega (arith, kept, total-kept) in
+        rw same-total
+        (ap (outcome a) (sym (set-getD back totalAt 0))
+        ∙ ap (λ (o : Outcome A (List ℕ)). outcome (o .answer) (set (o .after) totalAt (totalOf back))) back-is)
 
   -- An operation that leaves the shard as it is leaves every word as it is.
   pub in-part-unchanged : {A : Type 0} (a : A) → inPart p ws (outcome a (shardIn p ws)) ≡ outcome a ws
   in-part-unchanged a =
       let size = segment-length (p .start) (shardWords (p .cap)) ws (rw (placed .ends) at (placed .within)) in
-      rw (words-shard (p .cap) (segment (p .start) (shardWords (p .cap)) ws) size, take-append-drop, take-append-drop)
+      let total : totalAfter (totalOf ws) (shardIn p ws) (shardIn p ws) ≡ totalOf ws = omega arith in
+      rw (words-shard (p .cap) (segment (p .start) (shardWords (p .cap)) ws) size, take-append-drop, take-append-drop, total)
+      (ap (outcome a) (set-getD ws totalAt 0))
 
 -- Settings that are accepted come to a shape of an accepted size, and leave the refusal to the memory.
 module _ (s : Settings) (none : settingsRefusal s ≡ 0) where
@@ -79,7 +142,7 @@ module _ (s : Settings) (none : settingsRefusal s ≡ 0) where
   accepted-shape few is = shape-of-accepted s (accepted-parts s none .1) few is
 
   pub memory-refuses : (hash : ℕ) (ws : List ℕ) → keyedRefusal s hash ws ≡ shapeRefusal (shapeOf s) hash ws
-  memory-refuses hash ws = ap (λ (n : ℕ). firstRefusal n (countRefusal (capOf s) (shardAt s hash ws))) (no-refusal-hands-on (settingsRefusal s) _ none)
+  memory-refuses hash ws = ap (λ (n : ℕ). firstRefusal n (countsRefusal (shapeOf s) hash ws)) (no-refusal-hands-on (settingsRefusal s) _ none)
 
 -- In memory of the length that a shape asks for, the part of a hash's shard lies in it.
 module _ {shape : Shape} (hash : ℕ) (ws : List ℕ) (shaped : ShapeOfAccepted shape) (size : length ws ≡ wordsIn shape)
@@ -87,12 +150,13 @@ module _ {shape : Shape} (hash : ℕ) (ws : List ℕ) (shaped : ShapeOfAccepted 
   pub part-is-placed : Placed part′ ws
   part-is-placed = rw (is, shaped .is) (part-placed (shaped .settings) hash ws (rw (shaped .is) at size))
 
-  -- What the counts of the shard and a further refusal come to is then the refusal.
-  pub counts-refuse : (further : ℕ) {counted told : ℕ} → counted ≡ countRefusal (part′ .cap) (Layout.shard (part′ .cap) (lentWords part-is-placed))
+  -- What the counts of the shard, the total and a further refusal come to is then the refusal.
+  pub counts-refuse : (further : ℕ) {places counted told : ℕ} → places ≡ placesIn shape
+      → counted ≡ countRefusal (part′ .cap) places (totalOf ws) (Layout.shard (part′ .cap) (lentWords part-is-placed))
       → told ≡ firstRefusal counted further
       → told ≡ firstRefusal (shapeRefusal shape hash ws) further
-  counts-refuse further {counted} counts gave =
-      let refused : counted ≡ countRefusal (shape .cap) (shardIn (partIn shape hash) ws) = rw is at (rw (lent-shard part-is-placed) at counts) in
+  counts-refuse further {counted = counted} room counts gave =
+      let refused : counted ≡ countsRefusal shape hash ws = rw (is, room) at (rw (lent-shard part-is-placed) at counts) in
       gave ∙ ap (λ (n : ℕ). firstRefusal n further) (refused ∙ sym (no-refusal-hands-on _ _ (length-is-accepted (wordsIn shape) ws size)))
 
 -- A call that is refused is lent nothing, one that is not is lent the part; here as the code comes to it.
@@ -141,15 +205,27 @@ module _ (s : Settings) (hash : ℕ) (ws : List ℕ) (none : settingsRefusal s �
 pub accepted-part : (s : Settings) (hash : ℕ) (ws : List ℕ) {p : Part} → Accepted s hash ws → p ≡ partOf s hash → Placed p ws × Shard.Sound (shardIn p ws)
 accepted-part s hash ws call is = rw is (part-placed s hash ws (call .set-up .size), call .sound)
 
--- Shard by shard: the part of a shard that there is lies in the memory, and its slots are no more than the keys that may be asked for.
-pub shards-are-few : (s : Settings) {shape : Shape} → shape ≡ shapeOf s → shape .shards ≤ mostShards
-shards-are-few s is = rw is (shards-most s)
+-- The total counts its slots, and is small.
+pub accepted-count : (s : Settings) (hash : ℕ) (ws : List ℕ) {p : Part} → Accepted s hash ws → p ≡ partOf s hash → Counted p ws
+accepted-count s hash ws call is =
+    let few = places-few s (accepted-parts s (call .set-up .settings) .1) in
+    rw is (record { covers = call .covers; small = omega (arith, call .within, few) })
 
-module _ (s : Settings) (ws : List ℕ) {shape : Shape} {i : ℕ} where
-  pub numbered-shard-ends : SetUp s ws → shape ≡ shapeOf s → i < shape .shards → shardEnd (shape .cap) i ≤ length ws
-  numbered-shard-ends set-up is below = rw is (shard-ends s i ws (set-up .size) (rw is at below))
+refund-from-keeps-count : (c : BucketConfig) (id : Identity) (cost : ℕ) (s : Shard.Shard) (place : Place)
+    → OneShard.refundedFrom c id cost s place .after .slots .count ≡ s .slots .count
+refund-from-keeps-count c id cost s (At i) = refl
+refund-from-keeps-count c id cost s Nowhere = refl
 
-  pub counted-slots-few : lenRefusal s ws ≡ 0 → shape ≡ shapeOf s → i < shape .shards → slotCount (shape .cap) i ws ≤ mostKeysInShard
-  counted-slots-few none is below =
-      let call = len-not-refused s ws none in
-      rw is (le-trans (call .1 i (rw is at below)) (cap-most s (accepted-parts s (call .0 .settings) .1)))
+-- A request of a known key and a refund keep the number of slots, and so the total.
+pub existing-keeps-count : (p : Policy) (r : Request) (cost : ℕ) (at : Nanos) (s : Shard.Shard) (i : ℕ)
+    → OneShard.withExisting p r cost at s i .after .slots .count ≡ s .slots .count
+unfolding OneShard.withExisting
+existing-keeps-count p r cost at s i = refl
+
+pub refund-keeps-count : (c : BucketConfig) (id : Identity) (cost : ℕ) (s : Shard.Shard) → OneShard.refunded c id cost s .after .slots .count ≡ s .slots .count
+unfolding OneShard.refunded
+refund-keeps-count c id cost s = refund-from-keeps-count c id cost s (Shard.placeOf s (id .hash) (id .key))
+
+-- A removal leaves no more slots than there is room for.
+pub removed-count-fits : (s : Shard.Shard) → Shard.Sound s → (id : Identity) → OneShard.removed id s .after .slots .count ≤ Shard.capOf s
+removed-count-fits s sound id = let room = remove-same-room s sound id in rw (room .cap) at (room .sound .count-fits)

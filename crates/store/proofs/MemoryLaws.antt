@@ -4,12 +4,13 @@ use native.Mathlib.Omega.{arith}
 use native.Mathlib.Nat.{mul-le-mul, mul-le-mul-right, le-trans}
 use mathlib.Core.Path.{_≡_, refl, ap, sym, _∙_}
 use mathlib.Core.List.{List}
-use lib.ListN.{length, getD, replicate, length-replicate, getD-replicate, List·getD-eq-default}
+use lib.ListN.{length, length-set, getD, replicate, length-replicate, getD-replicate, List·getD-eq-default}
+use lib.Seq.{getD-set-same}
 use borrow.Rule.Slice.PartMut.{same-len-mid}
 use Rattle.arith.proofs.Cases.{by-le}
 use Rattle.rows.specs.Segments.{segment}
 use Rattle.rows.specs.Outcome.{Outcome}
-use Rattle.rows.proofs.SegmentLaws.{segment-length, segment-back, segment-kept-below, segment-kept-above}
+use Rattle.rows.proofs.SegmentLaws.{segment-length, segment-back, segment-set-below, segment-kept-below, segment-kept-above}
 use Rattle.rows.proofs.ZeroLaws.{zeros-segment}
 use Rattle.settings.specs.declared.Settings.{Settings}
 use Rattle.settings.specs.declared.Shape.{Shape}
@@ -22,7 +23,8 @@ use Rattle.shard_map.specs.Layout.{shardWords}
 use Rattle.shard_map.proofs.LayoutLaws.{cap-is}
 use Rattle.shard_map.proofs.ReadBack.{Sized, Empty, words-length, shard-of-words, debt-cap-is, shard-sized, zeros-empty, zeros-complete}
 use Rattle.shard.proofs.ShardLaws.{SameRoom}
-use Rattle.store.specs.Memory.{withSegment, shardStart, shardEnd, classesAt, wordsIn, memoryWords, partStart, partOf, Placed, shardAt, inShard}
+use Rattle.store.specs.Memory.{withSegment, totalAt, totalOf, totalAfter, shardsAt, shardStart, shardEnd, placesIn, classesAt, wordsIn, memoryWords}
+use Rattle.store.specs.Memory.{partStart, partOf, Placed, shardAt, inShard}
 
 -- A shard ends before one of a higher number begins.
 pub shard-ends-before : (cap i j : ℕ) → i < j → shardEnd cap i ≤ shardStart cap j
@@ -38,12 +40,19 @@ other-shard-kept cap i j ws new fits same other =
     (λ before. segment-kept-below (shardStart cap i) w ws new fits same (shardStart cap j) w (shard-ends-before cap j i before))
 
 -- The words of all shards are few enough to be counted in 64 bits, if the sizes are accepted, and so are those of the class buckets with them.
-shards-end-early : (s : Settings) → sizeRefusal s ≡ 0 → classesAt (shapeOf s) ≤ mostShards * shardWords mostKeysInShard
+shards-end-early : (s : Settings) → sizeRefusal s ≡ 0 → classesAt (shapeOf s) ≤ shardsAt + mostShards * shardWords mostKeysInShard
 shards-end-early s accepted =
     omega (arith, mul-le-mul {m₁ = shardWords (capOf s)} {m₂ = shardWords mostKeysInShard} (shards-most s) (omega (arith, cap-most s accepted)))
 
-pub accepted-shards-end-early : {shape : Shape} → ShapeOfAccepted shape → classesAt shape ≤ mostShards * shardWords mostKeysInShard
+pub accepted-shards-end-early : {shape : Shape} → ShapeOfAccepted shape → classesAt shape ≤ shardsAt + mostShards * shardWords mostKeysInShard
 accepted-shards-end-early shaped = rw (shaped .is) (shards-end-early (shaped .settings) (shaped .accepted))
+
+-- There is room for few slots.
+pub places-few : (s : Settings) → sizeRefusal s ≡ 0 → placesIn (shapeOf s) ≤ mostShards * mostKeysInShard
+places-few s accepted = mul-le-mul (shards-most s) (cap-most s accepted)
+
+pub accepted-places-few : {shape : Shape} → ShapeOfAccepted shape → placesIn shape ≤ mostShards * mostKeysInShard
+accepted-places-few shaped = rw (shaped .is) (places-few (shaped .settings) (shaped .accepted))
 
 pub accepted-words-fit : {shape : Shape} → ShapeOfAccepted shape → wordsIn shape < 2 ^ 64
 accepted-words-fit shaped = omega (arith, accepted-shards-end-early shaped, accepted-classes-few shaped)
@@ -56,14 +65,15 @@ pub shard-fits : (s : Settings) (hash : ℕ) (ws : List ℕ) → length ws ≡ m
 shard-fits s hash ws size = omega (arith, size, shard-ends-before (capOf s) (shardOf s hash) (shardCount s) (shard-below s hash))
 
 pub part-placed : (s : Settings) (hash : ℕ) (ws : List ℕ) → length ws ≡ memoryWords s → Placed (partOf s hash) ws
-part-placed s hash ws size = record { ends = refl; within = shard-fits s hash ws size }
+part-placed s hash ws size = record { begins = omega arith; ends = refl; within = shard-fits s hash ws size }
 
 -- It ends at a small number if the sizes are accepted.
-shard-start-most : (s : Settings) (hash : ℕ) → sizeRefusal s ≡ 0 → partStart (shapeOf s) hash + shardWords (capOf s) ≤ mostShards * shardWords mostKeysInShard
+shard-start-most : (s : Settings) (hash : ℕ) → sizeRefusal s ≡ 0
+    → partStart (shapeOf s) hash + shardWords (capOf s) ≤ shardsAt + mostShards * shardWords mostKeysInShard
 shard-start-most s hash accepted = le-trans (shard-ends-before (capOf s) (shardOf s hash) (shardCount s) (shard-below s hash)) (shards-end-early s accepted)
 
 pub part-ends-early : {shape : Shape} (hash : ℕ) → ShapeOfAccepted shape
-    → partStart shape hash + shardWords (shape .cap) ≤ mostShards * shardWords mostKeysInShard
+    → partStart shape hash + shardWords (shape .cap) ≤ shardsAt + mostShards * shardWords mostKeysInShard
 part-ends-early hash shaped = rw (shaped .is) (shard-start-most (shaped .settings) hash (shaped .accepted))
 
 -- So does the part of a shard by its number.
@@ -81,18 +91,34 @@ module _ {A : Type 0} (s : Settings) (hash : ℕ) (ws : List ℕ) (o : Outcome A
   new-length : length (Layout.wordsOf (o .after)) ≡ shardWords (capOf s)
   new-length = words-length (capOf s) (o .after) sized
 
-  -- The memory keeps its length.
-  pub in-shard-length : length (inShard s hash ws o .after) ≡ memoryWords s
-  in-shard-length =
+  -- The words with the shard in its place, before the total is stored.
+  abbrev placed′ : List ℕ
+  placed′ = withSegment (partStart (shapeOf s) hash) (shardWords (capOf s)) ws (Layout.wordsOf (o .after))
+
+  placed-length : length placed′ ≡ memoryWords s
+  placed-length =
       same-len-mid (partStart (shapeOf s) hash) (shardWords (capOf s)) ws (Layout.wordsOf (o .after))
       (new-length ∙ sym (segment-length (partStart (shapeOf s) hash) (shardWords (capOf s)) ws (shard-fits s hash ws size)))
       ∙ size
+
+  -- The memory keeps its length.
+  pub in-shard-length : length (inShard s hash ws o .after) ≡ memoryWords s
+  in-shard-length = rw length-set placed-length
+
+  -- The total moves with the slots.
+  pub in-shard-total : totalOf (inShard s hash ws o .after) ≡ totalAfter (totalOf ws) (shardAt s hash ws) (o .after)
+  in-shard-total = getD-set-same placed′ totalAt _ 0 (omega (arith, placed-length))
+
+  -- The words behind the total are those with the shard in its place.
+  pub behind-the-total : (a n : ℕ) → shardsAt ≤ a → segment a n (inShard s hash ws o .after) ≡ segment a n placed′
+  behind-the-total a n behind = segment-set-below a n placed′ totalAt _ (omega arith)
 
   -- The shard of the hash is the one that the operation leaves.
   pub in-shard-reads-back : shardAt s hash (inShard s hash ws o .after) ≡ o .after
   in-shard-reads-back =
       ap (Layout.shard (capOf s))
-      (segment-back (partStart (shapeOf s) hash) (shardWords (capOf s)) ws (Layout.wordsOf (o .after)) (shard-fits s hash ws size) new-length)
+      (behind-the-total (partStart (shapeOf s) hash) (shardWords (capOf s)) (omega arith)
+      ∙ segment-back (partStart (shapeOf s) hash) (shardWords (capOf s)) ws (Layout.wordsOf (o .after)) (shard-fits s hash ws size) new-length)
       ∙ shard-of-words (capOf s) (o .after) sized
 
   -- So it is for every hash of that shard.
@@ -104,7 +130,8 @@ module _ {A : Type 0} (s : Settings) (hash : ℕ) (ws : List ℕ) (o : Outcome A
     pub in-shard-leaves-other-words : segment (partStart (shapeOf s) other) (shardWords (capOf s)) (inShard s hash ws o .after)
         ≡ segment (partStart (shapeOf s) other) (shardWords (capOf s)) ws
     in-shard-leaves-other-words =
-        other-shard-kept (capOf s) (shardOf s hash) (shardOf s other) ws (Layout.wordsOf (o .after)) (shard-fits s hash ws size) new-length apart
+        behind-the-total (partStart (shapeOf s) other) (shardWords (capOf s)) (omega arith)
+        ∙ other-shard-kept (capOf s) (shardOf s hash) (shardOf s other) ws (Layout.wordsOf (o .after)) (shard-fits s hash ws size) new-length apart
 
     pub in-shard-leaves-others : shardAt s other (inShard s hash ws o .after) ≡ shardAt s other ws
     in-shard-leaves-others = ap (Layout.shard (capOf s)) in-shard-leaves-other-words

@@ -1,7 +1,6 @@
 -- What a call that is not refused by number may count on, and the other way round: each check refuses nothing just where what it looks at is right.
-use Prim.Native.Nat.{ℕ, zero, suc, _+_, _≤_, _<_}
+use Prim.Native.Nat.{ℕ, suc, _≤_, _<_}
 use native.Mathlib.Omega.{arith}
-use native.Mathlib.Nat.{le-trans, lt-of-lt-of-le, max-le, le-max-left, le-max-right}
 use mathlib.Core.Path.{_≡_, sym, ap, _∙_}
 use mathlib.Core.Bool.{cond}
 use mathlib.Core.List.{List}
@@ -10,12 +9,12 @@ use lib.ListN.{length}
 use Rattle.arith.proofs.Cases.{by-le, by-eq}
 use Rattle.units.specs.declared.Nanos.{Nanos}
 use Rattle.settings.specs.declared.Settings.{Settings}
-use Rattle.settings.specs.Settings.{firstRefusal, settingsRefusal, capOf, shardCount}
+use Rattle.settings.specs.Settings.{firstRefusal, settingsRefusal, capOf, shapeOf}
 use Rattle.settings.proofs.SettingsLaws.{first-refusal-stands, no-refusal-hands-on, neither-refuses}
 use Rattle.shard_map.specs.Model as Shard
-use Rattle.store.specs.Memory.{shardAt, slotCount}
-use Rattle.store.specs.Refusals.{latestMoment, longestMaxWait, memoryRefusal, setUpRefusal, countRefusal, keyedRefusal, momentRefusal, waitRefusal}
-use Rattle.store.specs.Refusals.{mostSlots, slotsRefusalIn, slotsRefusal, lenRefusal}
+use Rattle.store.specs.Memory.{totalOf, shardAt, placesIn}
+use Rattle.store.specs.Refusals.{latestMoment, longestMaxWait, memoryRefusal, setUpRefusal, countRefusal, countsRefusal, keyedRefusal}
+use Rattle.store.specs.Refusals.{momentRefusal, waitRefusal, totalRefusal, lenRefusal}
 use Rattle.store.proofs.MemoryLaws.{shard-at-cap, shard-at-debt-cap, sound-shard}
 use Rattle.store.specs.Memory.{memoryWords}
 use borrow.Author.Tests.{le-ltb, lt-ltb, eq-eqb, ne-eqb}
@@ -41,25 +40,57 @@ module _ (words : ℕ) (ws : List ℕ) where
   unfolding memoryRefusal
   other-length-is-refused other = rw (ne-eqb _ _ other)
 
--- The two counts of a shard.
-module _ (cap : ℕ) (sh : Shard.Shard) where
-  counts-not-refused : countRefusal cap sh ≡ 0 → (sh .slots .count ≤ cap) × (sh .ledger .debts .count ≤ cap)
+-- The total.
+module _ (places total : ℕ) where
+  pub total-not-refused : totalRefusal places total ≡ 0 → total ≤ places
+  unfolding totalRefusal
+  total-not-refused none = within-bound places total 4 0 none .0
+
+  pub total-is-accepted : total ≤ places → totalRefusal places total ≡ 0
+  unfolding totalRefusal
+  total-is-accepted within = rw (le-ltb _ _ within)
+
+  pub total-over-is-refused : places < total → totalRefusal places total ≡ 5
+  unfolding totalRefusal
+  total-over-is-refused over = rw (lt-ltb _ _ over)
+
+-- The two counts of a shard, and the total.
+pub record CountsFit (cap places total : ℕ) (sh : Shard.Shard) : Type 0 where
+  pub slots : sh .slots .count ≤ cap
+  pub debts : sh .ledger .debts .count ≤ cap
+  pub covers : sh .slots .count ≤ total
+  pub within : total ≤ places
+
+module _ (cap places total : ℕ) (sh : Shard.Shard) where
+  pub counts-not-refused : countRefusal cap places total sh ≡ 0 → CountsFit cap places total sh
   unfolding countRefusal
   counts-not-refused none =
-      let slots = within-bound cap (sh .slots .count) 4 (cond (ltb cap (sh .ledger .debts .count)) 5 0) none in
-      (slots .0, within-bound cap (sh .ledger .debts .count) 4 0 (slots .1) .0)
+      let slots = within-bound cap (sh .slots .count) 4 _ none in
+      let debts = within-bound cap (sh .ledger .debts .count) 4 _ (slots .1) in
+      let covers = within-bound total (sh .slots .count) 4 _ (debts .1) in
+      record { slots = slots .0; debts = debts .0; covers = covers .0; within = total-not-refused places total (covers .1) }
 
-  pub counts-are-accepted : sh .slots .count ≤ cap → sh .ledger .debts .count ≤ cap → countRefusal cap sh ≡ 0
+  pub counts-are-accepted : CountsFit cap places total sh → countRefusal cap places total sh ≡ 0
   unfolding countRefusal
-  counts-are-accepted slots debts = rw (le-ltb _ _ slots, le-ltb _ _ debts)
+  counts-are-accepted fit =
+      rw (le-ltb _ _ (fit .slots), le-ltb _ _ (fit .debts), le-ltb _ _ (fit .covers)) (total-is-accepted places total (fit .within))
 
-  pub slots-over-are-refused : cap < sh .slots .count → countRefusal cap sh ≡ 5
+  pub slots-over-are-refused : cap < sh .slots .count → countRefusal cap places total sh ≡ 5
   unfolding countRefusal
   slots-over-are-refused over = rw (lt-ltb _ _ over)
 
-  pub debts-over-are-refused : sh .slots .count ≤ cap → cap < sh .ledger .debts .count → countRefusal cap sh ≡ 5
+  pub debts-over-are-refused : sh .slots .count ≤ cap → cap < sh .ledger .debts .count → countRefusal cap places total sh ≡ 5
   unfolding countRefusal
   debts-over-are-refused slots over = rw (le-ltb _ _ slots, lt-ltb _ _ over)
+
+  pub total-under-is-refused : sh .slots .count ≤ cap → sh .ledger .debts .count ≤ cap → total < sh .slots .count → countRefusal cap places total sh ≡ 5
+  unfolding countRefusal
+  total-under-is-refused slots debts under = rw (le-ltb _ _ slots, le-ltb _ _ debts, lt-ltb _ _ under)
+
+  pub total-decides : sh .slots .count ≤ cap → sh .ledger .debts .count ≤ cap → sh .slots .count ≤ total
+      → countRefusal cap places total sh ≡ totalRefusal places total
+  unfolding countRefusal
+  total-decides slots debts covers = rw (le-ltb _ _ slots, le-ltb _ _ debts, le-ltb _ _ covers)
 
 -- A moment, and the longest wait of a reservation.
 module _ (t : Nanos) where
@@ -103,58 +134,44 @@ module _ (s : Settings) (ws : List ℕ) where
   set-up-is-accepted a =
       no-refusal-hands-on (settingsRefusal s) (memoryRefusal (memoryWords s) ws) (a .settings) ∙ length-is-accepted (memoryWords s) ws (a .size)
 
--- The slot counts of all shards: the largest bounds each, and is within the cap where each is.
-module _ (cap : ℕ) (ws : List ℕ) where
-  pub no-shard-within : mostSlots cap 0 ws ≤ cap
-  unfolding mostSlots
-  no-shard-within = omega arith
+-- A look at the length that is not refused: the total is no more than there is room for.
+pub len-not-refused : (s : Settings) (ws : List ℕ) → lenRefusal s ws ≡ 0 → SetUp s ws × (totalOf ws ≤ placesIn (shapeOf s))
+len-not-refused s ws none =
+    let parts = neither-refuses (setUpRefusal s ws) (totalRefusal (placesIn (shapeOf s)) (totalOf ws)) none in
+    (set-up-not-refused s ws (parts .0), total-not-refused (placesIn (shapeOf s)) (totalOf ws) (parts .1))
 
-  pub next-shard-within : (n : ℕ) → mostSlots cap n ws ≤ cap → slotCount cap n ws ≤ cap → mostSlots cap (n + 1) ws ≤ cap
-  unfolding mostSlots
-  next-shard-within n before this = let next : n + 1 ≡ suc n = omega arith in rw next (max-le before this)
-
-  slot-count-within : (n i : ℕ) → i < n → slotCount cap i ws ≤ mostSlots cap n ws
-  unfolding mostSlots
-  slot-count-within zero i below = absurd (omega arith)
-  slot-count-within (suc n) i below =
-      by-eq i n
-      (λ last. rw last (le-max-right _ _))
-      (λ other. le-trans (slot-count-within n i (omega arith)) (le-max-left _ _))
-
-module _ (s : Settings) (ws : List ℕ) where
-  pub shard-over-is-refused : (i : ℕ) → i < shardCount s → capOf s < slotCount (capOf s) i ws → slotsRefusal s ws ≡ 5
-  unfolding slotsRefusalIn
-  shard-over-is-refused i below over = rw (lt-ltb _ _ (lt-of-lt-of-le over (slot-count-within (capOf s) ws (shardCount s) i below)))
-
-  pub shards-are-accepted : mostSlots (capOf s) (shardCount s) ws ≤ capOf s → slotsRefusal s ws ≡ 0
-  unfolding slotsRefusalIn
-  shards-are-accepted within = rw (le-ltb _ _ within)
-
-  -- A look at the length that is not refused: no shard has more slots than the cap.
-  pub len-not-refused : lenRefusal s ws ≡ 0 → SetUp s ws × ((i : ℕ) → i < shardCount s → slotCount (capOf s) i ws ≤ capOf s)
-  unfolding slotsRefusalIn
-  len-not-refused none =
-      let parts = neither-refuses (setUpRefusal s ws) (slotsRefusal s ws) none in
-      let most = within-bound (capOf s) (mostSlots (capOf s) (shardCount s) ws) 4 0 (parts .1) .0 in
-      (set-up-not-refused s ws (parts .0), λ i below. le-trans (slot-count-within (capOf s) ws (shardCount s) i below) most)
-
--- What a call with a key may count on: a sound shard for the key, too.
+-- What a call with a key may count on: a sound shard for the key, too, and a total that counts its slots and is no more than there is room for.
 pub record Accepted (s : Settings) (hash : ℕ) (ws : List ℕ) : Type 0 where
   pub set-up : SetUp s ws
   pub sound : Shard.Sound (shardAt s hash ws)
+  pub covers : shardAt s hash ws .slots .count ≤ totalOf ws
+  pub within : totalOf ws ≤ placesIn (shapeOf s)
 
 module _ (s : Settings) (hash : ℕ) (ws : List ℕ) where
+  abbrev Fit : Type 0
+  Fit = CountsFit (capOf s) (placesIn (shapeOf s)) (totalOf ws) (shardAt s hash ws)
+
   -- A call with a key is not refused just where that holds.
   pub keyed-not-refused : keyedRefusal s hash ws ≡ 0 → Accepted s hash ws
   keyed-not-refused none =
-      let parts = neither-refuses (setUpRefusal s ws) (countRefusal (capOf s) (shardAt s hash ws)) none in
-      record { set-up = set-up-not-refused s ws (parts .0); sound = sound-shard s hash ws (counts-not-refused (capOf s) (shardAt s hash ws) (parts .1)) }
+      let parts = neither-refuses (setUpRefusal s ws) (countsRefusal (shapeOf s) hash ws) none in
+      let fit : Fit = counts-not-refused (capOf s) (placesIn (shapeOf s)) (totalOf ws) (shardAt s hash ws) (parts .1) in
+      record {
+        set-up = set-up-not-refused s ws (parts .0);
+        sound = sound-shard s hash ws (fit .slots, fit .debts);
+        covers = fit .covers;
+        within = fit .within;
+      }
 
   pub keyed-is-accepted : Accepted s hash ws → keyedRefusal s hash ws ≡ 0
   keyed-is-accepted a =
-      no-refusal-hands-on (setUpRefusal s ws) (countRefusal (capOf s) (shardAt s hash ws)) (set-up-is-accepted s ws (a .set-up))
-      ∙ counts-are-accepted (capOf s) (shardAt s hash ws) (rw (shard-at-cap s hash ws) at (a .sound .count-fits))
-      (rw (shard-at-debt-cap s hash ws) at (a .sound .ledger .count-fits))
+      no-refusal-hands-on (setUpRefusal s ws) (countsRefusal (shapeOf s) hash ws) (set-up-is-accepted s ws (a .set-up))
+      ∙ counts-are-accepted (capOf s) (placesIn (shapeOf s)) (totalOf ws) (shardAt s hash ws) (record {
+        slots = rw (shard-at-cap s hash ws) at (a .sound .count-fits);
+        debts = rw (shard-at-debt-cap s hash ws) at (a .sound .ledger .count-fits);
+        covers = a .covers;
+        within = a .within;
+      })
 
 -- Of three refusals in a row the first that there is stands, however they are taken together.
 pub refusals-in-a-row : (a b c : ℕ) → firstRefusal (firstRefusal a b) c ≡ firstRefusal a (firstRefusal b c)

@@ -1,5 +1,5 @@
 -- The refusals by number, operation by operation, each the first that applies; 0 is none.
-use Prim.Native.Nat.{ℕ, zero, suc, _^_, max}
+use Prim.Native.Nat.{ℕ, _^_}
 use mathlib.Core.Bool.{cond}
 use mathlib.Core.List.{List}
 use lib.Dec.{ltb, eqb}
@@ -9,7 +9,7 @@ use Rattle.settings.specs.declared.Settings.{Settings}
 use Rattle.settings.specs.declared.Shape.{Shape}
 use Rattle.settings.specs.Settings.{firstRefusal, settingsRefusal, shapeOf}
 use Rattle.shard_map.specs.Model.{Shard}
-use Rattle.store.specs.Memory.{partIn, shardIn, slotCount, wordsIn}
+use Rattle.store.specs.Memory.{totalOf, partIn, shardIn, placesIn, wordsIn}
 
 -- The latest moment, and the longest wait that a reservation may ask for, in nanoseconds.
 abbrev pub latestMoment : ℕ
@@ -22,25 +22,36 @@ longestMaxWait = 2 ^ 46
 unfoldable pub memoryRefusal : ℕ → List ℕ → ℕ
 memoryRefusal words ws = cond (eqb (length ws) words) 0 5
 
--- Set-up and clear, in memory of a shape: the settings, then the length.
+-- Set-up and clear, in memory of a shape: the settings, then the length. A set-up without a class table is in memory of the shape with no classes.
 abbrev pub setUpRefusalIn : Shape → Settings → List ℕ → ℕ
 setUpRefusalIn shape s ws = firstRefusal (settingsRefusal s) (memoryRefusal (wordsIn shape) ws)
 
 abbrev pub setUpRefusal : Settings → List ℕ → ℕ
 setUpRefusal s ws = setUpRefusalIn (shapeOf s) s ws
 
--- 5 where a count of a shard is over the cap.
-unfoldable pub countRefusal : ℕ → Shard → ℕ
-countRefusal cap s = cond (ltb cap (s .slots .count)) 5 (cond (ltb cap (s .ledger .debts .count)) 5 0)
+-- 5 where the total is over the slots that there is room for.
+unfoldable pub totalRefusal : ℕ → ℕ → ℕ
+totalRefusal places total = cond (ltb places total) 5 0
 
--- The memory alone: its length, then the counts of the shard of a hash.
+-- 5 where a count of a shard is over the cap, or the total is under its slot count or over the slots that there is room for in all shards.
+unfoldable pub countRefusal : ℕ → ℕ → ℕ → Shard → ℕ
+countRefusal cap places total s =
+    cond (ltb cap (s .slots .count)) 5
+    (cond (ltb cap (s .ledger .debts .count)) 5
+    (cond (ltb total (s .slots .count)) 5 (totalRefusal places total)))
+
+-- The counts in memory of a shape: those of the shard of a hash, and the total.
+abbrev pub countsRefusal : Shape → ℕ → List ℕ → ℕ
+countsRefusal shape hash ws = countRefusal (shape .cap) (placesIn shape) (totalOf ws) (shardIn (partIn shape hash) ws)
+
+-- The memory alone: its length, then these counts.
 abbrev pub shapeRefusal : Shape → ℕ → List ℕ → ℕ
-shapeRefusal shape hash ws = firstRefusal (memoryRefusal (wordsIn shape) ws) (countRefusal (shape .cap) (shardIn (partIn shape hash) ws))
+shapeRefusal shape hash ws = firstRefusal (memoryRefusal (wordsIn shape) ws) (countsRefusal shape hash ws)
 
--- A call on a key: as set-up, then the counts of the key's shard. Of its other arguments, 6 for a moment that is too late, and 7 for a longest wait that is too
--- long.
+-- A call on a key: the settings, then the length by the classes of its settings, then the counts. Of its other arguments, 6 for a moment that is too late, and
+-- 7 for a longest wait that is too long.
 abbrev pub keyedRefusalIn : Shape → Settings → ℕ → List ℕ → ℕ
-keyedRefusalIn shape s hash ws = firstRefusal (setUpRefusalIn shape s ws) (countRefusal (shape .cap) (shardIn (partIn shape hash) ws))
+keyedRefusalIn shape s hash ws = firstRefusal (setUpRefusalIn shape s ws) (countsRefusal shape hash ws)
 
 abbrev pub keyedRefusal : Settings → ℕ → List ℕ → ℕ
 keyedRefusal s hash ws = keyedRefusalIn (shapeOf s) s hash ws
@@ -51,19 +62,9 @@ momentRefusal at = cond (ltb latestMoment (at .0)) 6 0
 unfoldable pub waitRefusal : Nanos → ℕ
 waitRefusal longest = cond (ltb longestMaxWait (longest .0)) 7 0
 
--- Length: as set-up, then 5 where the largest slot count of any shard is over the cap.
-unfoldable pub mostSlots : ℕ → ℕ → List ℕ → ℕ
-mostSlots cap zero ws = 0
-mostSlots cap (suc n) ws = max (mostSlots cap n ws) (slotCount cap n ws)
-
-unfoldable pub slotsRefusalIn : Shape → List ℕ → ℕ
-slotsRefusalIn shape ws = cond (ltb (shape .cap) (mostSlots (shape .cap) (shape .shards) ws)) 5 0
-
-abbrev pub slotsRefusal : Settings → List ℕ → ℕ
-slotsRefusal s ws = slotsRefusalIn (shapeOf s) ws
-
+-- Length: as set-up, then 5 for the total. No shard is looked at.
 abbrev pub lenRefusalIn : Shape → Settings → List ℕ → ℕ
-lenRefusalIn shape s ws = firstRefusal (setUpRefusalIn shape s ws) (slotsRefusalIn shape ws)
+lenRefusalIn shape s ws = firstRefusal (setUpRefusalIn shape s ws) (totalRefusal (placesIn shape) (totalOf ws))
 
 abbrev pub lenRefusal : Settings → List ℕ → ℕ
 lenRefusal s ws = lenRefusalIn (shapeOf s) s ws

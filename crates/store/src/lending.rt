@@ -16,8 +16,8 @@ pub enum Lending {
     Lent(Part),
 }
 
-// Finds the part of a hash's shard in memory of a shape, unless the call is refused. It is refused for the memory's length, else for a count of the shard
-// over the cap, else by `further`, the number for its other arguments. The settings were checked before: they gave the shape.
+// Finds the part of a hash's shard in memory of a shape, unless the call is refused. It is refused for the memory's length, else for a count of the shard or
+// the total, else by `further`, the number for its other arguments. The settings were checked before: they gave the shape.
 pub fn lend(shape: Shape, ws: &[u64], hash: u64, further: u32) -> Lending
     requires { ⌜ ShapeOfAccepted shape ⌝ }
     ensures { λ r. ⌜ r ≡ lentUnless (firstRefusal (shapeRefusal shape hash (now (ws .entry))) further) (partIn shape hash) ⌝ }
@@ -30,7 +30,12 @@ pub fn lend(shape: Shape, ws: &[u64], hash: u64, further: u32) -> Lending
     let start = part.start;
     let end = part.end;
     let refusal = refusals::first_refusal(
-        refusals::count_refusal(&ws[start..end], part.cap),
+        refusals::count_refusal(
+            &ws[start..end],
+            part.cap,
+            words::places_in(shape),
+            ws[words::TOTAL_AT],
+        ),
         further,
     );
     if refusal != 0 {

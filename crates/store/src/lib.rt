@@ -1,22 +1,19 @@
-// The shards of a store, side by side in the lent words. An operation on a key is lent the part of its key's shard alone.
+// The shards of a store, side by side in the lent words, behind the total of their slots. An operation on a key is lent the part of its key's shard alone.
 ghost use mathlib.Core.Path.{_≡_};
-ghost use Prim.Native.Nat.{_≤_, _<_};
-ghost use lib.ListN.{length, replicate};
-ghost use Rattle.rows.specs.Places.{sum};
+ghost use Prim.Native.Nat.{_+_, _-_, _≤_, _<_, _^_};
+ghost use lib.ListN.{length, replicate, set};
 ghost use Rattle.rows.specs.Outcome.{outcome};
 ghost use Rattle.bucket.specs.Bucket.{Accepted};
-ghost use Rattle.settings.specs.Settings.{ShapeOfAccepted, capOf, shardCount};
+ghost use Rattle.settings.specs.Settings.{ShapeOfAccepted};
 ghost use Rattle.ledger.specs.Model as Ledger;
 ghost use Rattle.shard_map.specs.Model.{Sound, slotAt, placeOf};
 ghost use Rattle.shard.specs.Model as OneShard;
-ghost use Rattle.store.specs.Memory.{Placed, shardIn, partIn, inPart, shardEnd, slotCount};
-ghost use Rattle.store.specs.Refusals.{lenRefusal};
+ghost use Rattle.store.specs.Memory.{totalAt, totalOf, Placed, Counted, shardIn, partIn, inPart};
 use bucket::BucketConfig;
 use bucket::BucketCore;
 use bucket::BucketDecision;
 use bucket::Request;
 use rows::Place;
-use settings::Settings;
 use settings::Shape;
 use shard::Identity;
 use shard::Policy;
@@ -83,7 +80,7 @@ pub fn with_existing(
     )
 }
 
-// Runs a request on the bucket that a new key gets.
+// Runs a request on the bucket that a new key gets. The total moves with the slots.
 pub fn admit(
     ws: &mut [u64],
     part: Part,
@@ -93,12 +90,37 @@ pub fn admit(
     cost: u32,
     at: Nanos,
 ) -> BucketDecision
-    requires { ⌜ Placed part (now ws) × Sound (shardIn part (now ws)) × Accepted (policy .config) × (cost ≤ policy .config .capacity) ⌝ }
+    requires { ⌜ Placed part (now ws) × Sound (shardIn part (now ws)) × Accepted (policy .config) × (cost ≤ policy .config .capacity)
+        × Counted part (now ws) ⌝ }
     ensures { λ r. ⌜ outcome r (now (ws .exit)) ≡ inPart part (now (ws .entry)) (OneShard.admit policy id request cost at (shardIn part (now (ws .entry)))) ⌝ }
 {
     let start = part.start;
     let end = part.end;
-    shard::admit(&mut ws[start..end], part.cap, policy, id, request, cost, at)
+    let others = other_slots(ws, part);
+    let decision = shard::admit(&mut ws[start..end], part.cap, policy, id, request, cost, at);
+    move_total(ws, part, others);
+    decision
+}
+
+// How many slots the other shards have, by the total.
+fn other_slots(ws: &[u64], part: Part) -> u64
+    requires { ⌜ Placed part (now ws) × Counted part (now ws) ⌝ }
+    ensures { λ r. ⌜ r ≡ totalOf (now (ws .entry)) - shardIn part (now (ws .entry)) .slots .count ⌝ }
+{
+    let start = part.start;
+    let end = part.end;
+    ws[words::TOTAL_AT] - (shard_map::len(&ws[start..end], part.cap) as u64)
+}
+
+// Stores the total: the slots of the other shards, and those of the shard in the part.
+fn move_total(ws: &mut [u64], part: Part, others: u64)
+    requires { ⌜ Placed part (now ws) × (others + shardIn part (now ws) .slots .count < 2 ^ 64) ⌝ }
+    ensures { λ _. ⌜ now (ws .exit) ≡ set (now (ws .entry)) totalAt (others + shardIn part (now (ws .entry)) .slots .count) ⌝ }
+{
+    let start = part.start;
+    let end = part.end;
+    let own = shard_map::len(&ws[start..end], part.cap) as u64;
+    ws[words::TOTAL_AT] = others + own;
 }
 
 // The bucket that a key has, or would have if it came in now.
@@ -157,39 +179,25 @@ pub fn refund(ws: &mut [u64], part: Part, config: BucketConfig, id: Identity, co
     shard::refund(&mut ws[start..end], part.cap, config, id, cost)
 }
 
-// Forgets a key. Tells whether it had a slot or a debt.
+// Forgets a key. Tells whether it had a slot or a debt. The total moves with the slots.
 pub fn remove(ws: &mut [u64], part: Part, id: Identity) -> bool
-    requires { ⌜ Placed part (now ws) × Sound (shardIn part (now ws)) ⌝ }
+    requires { ⌜ Placed part (now ws) × Sound (shardIn part (now ws)) × Counted part (now ws) ⌝ }
     ensures { λ r. ⌜ outcome r (now (ws .exit)) ≡ inPart part (now (ws .entry)) (OneShard.removed id (shardIn part (now (ws .entry)))) ⌝ }
 {
     let start = part.start;
     let end = part.end;
-    shard::remove(&mut ws[start..end], part.cap, id)
+    let others = other_slots(ws, part);
+    let known = shard::remove(&mut ws[start..end], part.cap, id);
+    move_total(ws, part, others);
+    known
 }
 
-// The slot count of one shard, by its number.
-pub(crate) fn slot_count(ws: &[u64], cap: usize, shard: usize) -> usize
-    requires { ⌜ shardEnd cap shard ≤ length (now ws) ⌝ }
-    ensures { λ r. ⌜ r ≡ slotCount cap shard (now (ws .entry)) ⌝ }
+// The total: how many slots all shards have.
+pub fn len(ws: &[u64]) -> u64
+    requires { ⌜ totalAt < length (now ws) ⌝ }
+    ensures { λ r. ⌜ r ≡ totalOf (now (ws .entry)) ⌝ }
 {
-    let start = words::shard_start(cap, shard);
-    let end = start + shard_map::words::shard_words(cap);
-    shard_map::len(&ws[start..end], cap)
-}
-
-// The slots of all shards.
-pub fn len(ws: &[u64], settings: Settings) -> usize
-    requires { ⌜ lenRefusal settings (now ws) ≡ 0 ⌝ }
-    ensures { λ r. ⌜ r ≡ sum (shardCount settings) (λ i. slotCount (capOf settings) i (now (ws .entry))) ⌝ }
-{
-    let shape = settings.shape();
-    let mut total: usize = 0;
-    let mut i: usize = 0;
-    while i < shape.shards {
-        total += slot_count(ws, shape.cap, i);
-        i += 1;
-    }
-    total
+    ws[words::TOTAL_AT]
 }
 
 // Forgets every key: all words become 0.

@@ -5,7 +5,7 @@ ghost use Prim.Native.Nat.{_≤_};
 ghost use lib.ListN.{length};
 ghost use Rattle.settings.specs.Settings.{firstRefusal, withClasses, mostCounted};
 ghost use Rattle.shard_map.specs.Layout.{shard, shardWords};
-ghost use Rattle.store.specs.Refusals.{memoryRefusal, setUpRefusal, countRefusal, momentRefusal, waitRefusal, slotsRefusal, lenRefusal};
+ghost use Rattle.store.specs.Refusals.{memoryRefusal, setUpRefusal, countRefusal, momentRefusal, waitRefusal, totalRefusal, lenRefusal};
 use crate::words;
 use settings::Settings;
 use shard_map::debts;
@@ -31,18 +31,29 @@ pub(crate) fn memory_refusal(words: usize, ws: &[u64]) -> u32
     if ws.len() == words { 0 } else { 5 }
 }
 
-// 5 where a count of a shard is over the cap.
-pub(crate) fn count_refusal(ws: &[u64], cap: usize) -> u32
-    requires { ⌜ length (now ws) ≡ shardWords cap ⌝ }
-    ensures { λ r. ⌜ r ≡ countRefusal cap (shard cap (now (ws .entry))) ⌝ }
+// 5 where the total is over the slots that there is room for.
+fn total_refusal(places: usize, total: u64) -> u32
+    ensures { λ r. ⌜ r ≡ totalRefusal places total ⌝ }
 {
-    if cap < shard_map::len(ws, cap) {
+    if (places as u64) < total { 5 } else { 0 }
+}
+
+// 5 where a count of a shard is over the cap, or the total does not fit it or the room in all shards.
+pub(crate) fn count_refusal(ws: &[u64], cap: usize, places: usize, total: u64) -> u32
+    requires { ⌜ length (now ws) ≡ shardWords cap ⌝ }
+    ensures { λ r. ⌜ r ≡ countRefusal cap places total (shard cap (now (ws .entry))) ⌝ }
+{
+    let slots = shard_map::len(ws, cap);
+    if cap < slots {
         return 5;
     }
     if cap < debts::len(ws, cap) {
         return 5;
     }
-    0
+    if total < slots as u64 {
+        return 5;
+    }
+    total_refusal(places, total)
 }
 
 // 6 for a moment that is too late.
@@ -72,23 +83,7 @@ pub fn set_up_refusal(settings: Settings, classes: usize, ws: &[u64]) -> u32
     memory_refusal(words::words_in(shape.with_classes(classes)), ws)
 }
 
-// 5 where the slot count of any shard is over the cap.
-fn slots_refusal(settings: Settings, ws: &[u64]) -> u32
-    requires { ⌜ setUpRefusal settings (now ws) ≡ 0 ⌝ }
-    ensures { λ r. ⌜ r ≡ slotsRefusal settings (now (ws .entry)) ⌝ }
-{
-    let shape = settings.shape();
-    let mut i: usize = 0;
-    while i < shape.shards {
-        if shape.cap < crate::slot_count(ws, shape.cap, i) {
-            return 5;
-        }
-        i += 1;
-    }
-    0
-}
-
-// The refusal of length: as set-up, then the slot counts.
+// The refusal of length: as set-up, then the total.
 pub fn len_refusal(settings: Settings, ws: &[u64]) -> u32
     ensures { λ r. ⌜ r ≡ lenRefusal settings (now (ws .entry)) ⌝ }
 {
@@ -96,5 +91,6 @@ pub fn len_refusal(settings: Settings, ws: &[u64]) -> u32
     if refusal != 0 {
         return refusal;
     }
-    slots_refusal(settings, ws)
+    let shape = settings.shape();
+    total_refusal(words::places_in(shape), ws[words::TOTAL_AT])
 }

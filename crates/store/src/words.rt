@@ -2,13 +2,15 @@
 ghost use mathlib.Core.Path.{_≡_};
 ghost use Prim.Native.Nat.{_<_, _^_};
 ghost use Rattle.settings.specs.Settings.{ShapeOfAccepted, sizeRefusal};
-ghost use Rattle.store.specs.Memory.{shardStart, shardEnd, wordsIn, memoryWords};
+ghost use Rattle.store.specs.Memory.{shardStart, shardEnd, placesIn, wordsIn, memoryWords};
 use settings::Settings;
 use settings::Shape;
 use shard_map::words;
 
-// The word at which the first shard begins.
-const SHARDS_AT: usize = 0;
+// The word of the total, and the word at which the first shard begins.
+pub const TOTAL_AT: usize = 0;
+
+const SHARDS_AT: usize = 1;
 
 // The words that a store of these settings is lent.
 pub fn memory_words(settings: Settings) -> usize
@@ -24,6 +26,14 @@ pub(crate) fn words_in(shape: Shape) -> usize
     ensures { λ r. ⌜ r ≡ wordsIn shape ⌝ }
 {
     shard_start(shape.cap, shape.shards) + classes::bucket_words(shape.classes)
+}
+
+// How many slots all shards have room for.
+pub(crate) fn places_in(shape: Shape) -> usize
+    requires { ⌜ ShapeOfAccepted shape ⌝ }
+    ensures { λ r. ⌜ r ≡ placesIn shape ⌝ }
+{
+    shape.shards * shape.cap
 }
 
 // The word at which a shard begins, by its number.

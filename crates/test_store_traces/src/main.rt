@@ -16,7 +16,7 @@ mod line;
 mod operations;
 
 // The most words that a store can have here, those of 4,096 keys in 64 shards. A call that is lent more is not run, and prints nothing.
-const MOST_WORDS: usize = 64 * (words::HEAD_WORDS + words::PLACE_WORDS * 64);
+const MOST_WORDS: usize = 1 + 64 * (words::HEAD_WORDS + words::PLACE_WORDS * 64);
 
 fn main() {
     let mut text = io::large_buffer();

@@ -7,7 +7,7 @@ use limiter_sys::*;
 const HEADER: &str = include_str!("../../../c/limiter.h");
 
 /// The words of a store for one key.
-const ONE: usize = 18;
+const ONE: usize = 19;
 /// 2 tokens a second, one key, one shard.
 const SMALL: LimiterSettings = LimiterSettings {
     period: 1_000_000_000,
@@ -123,10 +123,10 @@ fn the_index_decides_what_is_found() {
         ([9, 9], reply(LIMITER_DONE, 0, 0)),
     ] {
         let mut words = [0; ONE];
-        words[14..16].copy_from_slice(&places);
+        words[15..17].copy_from_slice(&places);
         let granted = slices::try_acquire(SMALL, &mut words, 0, 8, 8, 2);
         assert_eq!(granted, reply(LIMITER_DONE, 0, 0));
-        assert_eq!(words[14..16], places);
+        assert_eq!(words[15..17], places);
         assert_eq!(slices::length(SMALL, &words), reply(LIMITER_DONE, 1, 0));
         assert_eq!(slices::peek(SMALL, &words, 0, 8, 8, 1), then);
     }
@@ -136,7 +136,7 @@ fn the_index_decides_what_is_found() {
 /// next try that is turned away stores it. A refund and a grant leave the word as it is.
 #[test]
 fn the_count_stops() {
-    const COUNT: usize = 9;
+    const COUNT: usize = 10;
     const MOST: u64 = 0xffff_ffff;
     let mut words = [0; ONE];
     let granted = slices::try_acquire(SMALL, &mut words, 0, 7, 7, 2);
@@ -168,12 +168,12 @@ fn the_words_to_lend() {
     assert_eq!(limiter_words(SMALL), ONE as u64);
     assert_eq!(limiter_words(LimiterSettings::default()), ONE as u64);
     let keys = |max_keys| limiter_words(LimiterSettings { max_keys, ..SMALL });
-    assert_eq!([keys(4_096), keys(65_536)], [53_253, 851_988]);
+    assert_eq!([keys(4_096), keys(65_536)], [53_254, 851_989]);
     assert_eq!([keys(65_537), keys(u64::MAX)], [0, 0]);
     let shards = |shards| limiter_words(LimiterSettings { shards, ..SMALL });
     assert_eq!(
         [shards(64), shards(65), shards(u64::MAX)],
-        [64 * ONE as u64, 0, 0]
+        [1 + 64 * (ONE as u64 - 1), 0, 0]
     );
     let classes = |classes| limiter_words(LimiterSettings { classes, ..SMALL });
     assert_eq!(
@@ -267,7 +267,7 @@ fn one_version() {
         .map(|number| number.parse().expect("a number"))
         .collect();
     let number = 65_536 * numbers[0] + 256 * numbers[1] + numbers[2];
-    assert_eq!(limiter_version_0_7(), number);
+    assert_eq!(limiter_version_0_8(), number);
     let lines = [
         format!("#define LIMITER_VERSION \"{version}\""),
         format!("#define LIMITER_VERSION_NUMBER {number:#08x}"),

@@ -32,7 +32,7 @@ admit-requires : tie.Need-admit-requires
 admit-requires c κs =
     let p = c .before .before .before .before .before in
     let pre′ = p .before .before .pre in
-    (pre′ .0, pre′ .1, rw (p .policy .ensures) (pre′ .2), rw (p .policy .ensures) (pre′ .3))
+    (pre′ .0, pre′ .1, rw (p .policy .ensures) (pre′ .2), rw (p .policy .ensures) (pre′ .3), pre′ .4)
 
 same-length : tie.Need-same-length
 same-length c = search needs

@@ -1,5 +1,7 @@
--- `len` tells the refusal, else the slots of all shards.
+-- `len` tells the refusal, else the total, which is there in memory of the right length.
+use native.Mathlib.Omega.{arith}
 use mathlib.Core.Path.{sym, _∙_}
+use Rattle.store.proofs.RefusalLaws.{len-not-refused}
 use Rattle.rules.specs.Rules.{lenIn}
 use Rattle.rules.proofs.RefusedLaws.{number-is-told, unless-refused-accepts}
 use borrow.Author.Needs.{needs}
@@ -14,7 +16,10 @@ unfolding lenIn
 returns c = number-is-told _ _ _ (c .before .len-refusal .ensures) (c .if1 .taken)
 
 len-requires : tie.Need-len-requires
-len-requires c κs = sym (c .before .len-refusal .ensures) ∙ c .if1 .left
+len-requires c κs =
+    let r = c .before in
+    let a = r .before .before .args in
+    omega (arith, len-not-refused (a .settings) (a .ws .now) (sym (r .len-refusal .ensures) ∙ c .if1 .left) .0 .size)
 
 returns-2 : tie.Need-returns-2
 unfolding lenIn

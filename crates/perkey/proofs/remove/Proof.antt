@@ -1,6 +1,6 @@
 -- `remove` answers the refusal, else whether the store knew the key in its shard.
 use Rattle.rules.specs.Asks.{Ask, undoes, removes}
-use Rattle.rules.proofs.KeyedLaws.{unlent-is-told, lent-may-be-asked, lent-is-told}
+use Rattle.rules.proofs.KeyedLaws.{unlent-is-told, lent-may-be-asked, lent-is-counted, lent-is-told}
 use Rattle.perkey.proofs.KnownLaws.{key-is-told}
 use mathlib.Core.Path.{refl}
 use borrow.Author.Needs.{needs}
@@ -27,7 +27,9 @@ remove-requires : tie.Need-remove-requires
 remove-requires c κs =
     let l = c .before .before .before .before in
     let a = start l .args in
-    lent-may-be-asked (a .settings) (a .id) ask (a .ws .now) (l .lend-for .ensures) (c .before .before .part .given .1)
+    let lent = lent-may-be-asked (a .settings) (a .id) ask (a .ws .now) (l .lend-for .ensures) (c .before .before .part .given .1) in
+    let counted = lent-is-counted (a .settings) (a .id) ask (a .ws .now) (l .lend-for .ensures) (c .before .before .part .given .1) in
+    (lent .0, lent .1, counted)
 
 known-reply-requires : tie.Need-known-reply-requires
 known-reply-requires c κs = search needs

@@ -1,5 +1,5 @@
 -- `refund` lends its part to the store, which gives the outcome on the shard in it.
-use Rattle.store.proofs.LendingLaws.{lent-starts, intact-of-sound, lent-answered}
+use Rattle.store.proofs.LendingLaws.{lent-starts, intact-of-sound, lent-answered, refund-keeps-count}
 use Rattle.shard.specs.Model as OneShard
 use native.Mathlib.Omega.{arith}
 use borrow.Author.Needs.{needs}
@@ -32,6 +32,7 @@ returns : tie.Need-returns
 returns c =
     let refund′ = c .before .before .refund in
     lent-answered (c .before .before .before .before .before .pre .0) (OneShard.refunded _ _ _) _ (refund′ .kept .0) (refund′ .ensures)
+    (refund-keeps-count _ _ _ _)
 
 pub refund-spec : {M : Type 1} → statement M
 refund-spec =

@@ -1,5 +1,5 @@
 -- `with_existing` lends its part to the store, which gives the outcome on the shard in it.
-use Rattle.store.proofs.LendingLaws.{lent-starts, intact-of-sound, lent-answered}
+use Rattle.store.proofs.LendingLaws.{lent-starts, intact-of-sound, lent-answered, existing-keeps-count}
 use Rattle.shard.specs.Model as OneShard
 use native.Mathlib.Omega.{arith}
 use borrow.Author.Needs.{needs}
@@ -34,6 +34,7 @@ returns c =
     let existing′ = c .before .before .with-existing in
     lent-answered (c .before .before .before .before .before .pre .0)
     (λ s. OneShard.withExisting (args′ .policy) (args′ .request) (args′ .cost) (args′ .at) s (args′ .pos)) _ (existing′ .kept .0) (existing′ .ensures)
+    (existing-keeps-count (args′ .policy) (args′ .request) (args′ .cost) (args′ .at) _ (args′ .pos))
 
 pub with-existing-spec : {M : Type 1} → statement M
 with-existing-spec =

@@ -8,8 +8,8 @@ use crate::given::Given;
 use crate::rules::Shards;
 use crate::rules::classes::{self, Refusal};
 
-/// The reasons. Refusal 5 has three. Those from the tenth on are of a table, in the order in which it is refused, and of the class that a try names.
-pub const REASONS: [&str; 16] = [
+/// The reasons. Refusal 5 has five. Those from the twelfth on are of a table, in the order in which it is refused, and of the class that a try names.
+pub const REASONS: [&str; 18] = [
     "1 amount",
     "2 period",
     "3 burst",
@@ -17,6 +17,8 @@ pub const REASONS: [&str; 16] = [
     "5 length",
     "5 slots",
     "5 debts",
+    "5 under",
+    "5 over",
     "6 now",
     "7 wait",
     "14 many",
@@ -29,25 +31,31 @@ pub const REASONS: [&str; 16] = [
 ];
 
 /// The reasons before those of a table, and before that of the class that is named.
-const BEFORE_TABLE: usize = 9;
-const BEFORE_NAMED: usize = 15;
+const BEFORE_TABLE: usize = 11;
+const BEFORE_NAMED: usize = 17;
+
+/// The length, which is the first reason for 5; a total over the room, which is the last.
+const LENGTH: usize = 4;
+const TOTAL_OVER: usize = 8;
+
+/// The call that asks for the length, by its place in `NAMES`.
+const LENGTH_CALL: usize = 8;
 
 /// How many of the reasons before those of a table a call can be refused for, by its place in `NAMES`.
 const fn refusable(call: usize) -> usize {
     match call {
-        0 | 7 | 10 | 11 => 5,
-        8 => 6,
-        5 | 6 | 9 => 7,
-        2 => 9,
-        _ => 8,
+        0 | 7 | LENGTH_CALL | 10 | 11 => LENGTH + 1,
+        5 | 6 | 9 => TOTAL_OVER + 1,
+        2 => TOTAL_OVER + 3,
+        _ => TOTAL_OVER + 2,
     }
 }
 
-/// Whether a call can be refused for a reason: the reasons come in order, and length does not look at debts. Three calls are lent a table, and the last of
-/// them names a class.
+/// Whether a call can be refused for a reason: the reasons come in order, but length looks at no shard and at the total alone. Three calls are lent a table,
+/// and the last of them names a class.
 pub const fn reason_applies(call: usize, reason: usize) -> bool {
     match reason {
-        ..BEFORE_TABLE => reason < refusable(call),
+        ..BEFORE_TABLE => reason < refusable(call) || call == LENGTH_CALL && reason == TOTAL_OVER,
         BEFORE_TABLE..BEFORE_NAMED => call >= 10,
         _ => call == 12,
     }
@@ -58,7 +66,7 @@ pub fn reason(given: &Given, words: &[u64], call: &Call, number: u8) -> usize {
     match number {
         1..=4 => usize::from(number) - 1,
         5 => reason_of_five(given, words, call),
-        _ => usize::from(number) + 1,
+        _ => usize::from(number) + 3,
     }
 }
 
@@ -82,16 +90,25 @@ fn is_long_enough(given: &Given, words: &[u64], call: &Call) -> bool {
     Shards { words, classes }.length() == given.shape().words() as u64
 }
 
-/// Which of the three reasons for 5 it is.
+/// Which of the five reasons for 5 it is.
 fn reason_of_five(given: &Given, words: &[u64], call: &Call) -> usize {
     let shape = given.shape();
     if !is_long_enough(given, words, call) {
-        return 4;
+        return LENGTH;
     }
-    let over = |shard| words.slot_count(shape, shard) > shape.cap;
-    match call.key() {
-        Some(key) if !over(shape.shard_of(key.hash)) => 6,
-        _ => 5,
+    let Some(key) = call.key() else {
+        return TOTAL_OVER;
+    };
+    let shard = shape.shard_of(key.hash);
+    let slots = words.slot_count(shape, shard);
+    if slots > shape.cap {
+        5
+    } else if words.debt_count(shape, shard) > shape.cap {
+        6
+    } else if words.total() < slots {
+        7
+    } else {
+        TOTAL_OVER
     }
 }
 

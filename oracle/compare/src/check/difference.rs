@@ -73,6 +73,9 @@ fn place(settings: &Settings, at: usize) -> String {
     if settings.max_keys > MOST_KEYS {
         return "of no shape".to_string();
     }
+    if at == layout::TOTAL {
+        return "total".to_string();
+    }
     let shape = Shape::of(settings);
     let in_shard = |shard: &u64| shape.shard(*shard).contains(&at);
     let Some(shard) = (0..shape.shards).find(in_shard) else {

@@ -1,6 +1,6 @@
 //! A store three times.
 
-use oracle::{Answer, Limiter, Shape};
+use oracle::{Answer, Limiter, Shape, layout};
 
 use super::Step;
 use super::difference::{Checked, differing};
@@ -92,6 +92,7 @@ impl Trio {
         let words = self.shape.words();
         let looked_at = turn || words <= LARGE_MEMORY;
         self.compare_replies(lent, step, replies, looked_at)?;
+        self.compare_total(step)?;
         match step.call.key() {
             _ if !looked_at => Ok(()),
             Some(key) if words > SMALL_MEMORY && !turn => {
@@ -122,6 +123,16 @@ impl Trio {
             return differ("the rules and the Rust", self.shards(), &its);
         }
         Ok(())
+    }
+
+    /// How many slots the Rust has, by its own count, against the rules' total.
+    fn compare_total(&self, step: &Step) -> Checked<()> {
+        let (ruled, its) = (self.words[layout::TOTAL], self.limiter.total());
+        if its == ruled {
+            return Ok(());
+        }
+        let sides = "the rules and the Rust";
+        Err(differing(sides, step, Vec::new(), &[ruled], &[its]))
     }
 
     /// The Rust's words of one shard against the rules'.

@@ -3,7 +3,7 @@
 use oracle::layout;
 use oracle::refusals::{LATEST_MOMENT, LONGEST_PERIOD, LONGEST_WAIT, MOST_KEYS, MOST_SHARDS};
 
-use super::damage::damage;
+use super::damage::{damage, miscount};
 use super::domain::rate;
 use super::tables::{self, Rates};
 use super::{LARGE, Plan, SMALL, indexes};
@@ -95,7 +95,7 @@ impl Aside {
         let tokens = random.pick(&[0, 65_536, 70_000, u32::MAX]);
         let any = random.word();
         let raw = &mut self.given.raw;
-        match random.below(12) {
+        match random.below(14) {
             0 => raw.amount = tokens,
             1 => raw.period = random.pick(&[0, LONGEST_PERIOD + 1, u64::MAX, any]),
             2 => (raw.has_burst, raw.burst) = (1, tokens),
@@ -109,6 +109,7 @@ impl Aside {
             8 => self.late(random),
             9 => raw.classes = random.pick(&[0, 1, 64, 65, u32::MAX, any as u32]),
             10 => self.given.table = self.given.table.iter().copied().skip(6).collect(),
+            11 | 12 => self.miscount(random),
             _ => *raw = other(random, raw),
         }
     }
@@ -137,6 +138,14 @@ impl Aside {
         let over = random.pick(&[shape.cap + 1, shape.cap + 2, u64::MAX, 1 << 63]);
         if let Some(word) = self.words.get_mut(count) {
             *word = over;
+        }
+    }
+
+    /// Another total.
+    fn miscount(&mut self, random: &mut Random) {
+        let (raw, words) = (&self.given.raw, &mut self.words);
+        if raw.max_keys <= MOST_KEYS && words.len() >= self.given.shape().words() {
+            miscount(random, words, self.given.shape());
         }
     }
 

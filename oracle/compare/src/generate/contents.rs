@@ -2,8 +2,8 @@
 
 use std::collections::HashSet;
 
-use oracle::Key;
 use oracle::layout::{self, debt, slot};
+use oracle::{Key, Shape};
 
 use super::{MS, Plan, indexes};
 use crate::random::Random;
@@ -45,11 +45,17 @@ impl Fill {
     }
 }
 
+/// The slots of all shards, by their counts.
+pub fn slots(words: &[u64], shape: Shape) -> u64 {
+    let counts = (0..shape.shards).map(|shard| words[shape.shard(shard)][layout::SLOTS.count]);
+    counts.fold(0, u64::saturating_add)
+}
+
 impl Plan {
     /// Contents that the Rust can hold, sound or not: any hand, sweep, cursor, shortfall, stamp, count and settling moment; sound indexes. After them the
     /// buckets of the classes.
     pub fn contents(&self, random: &mut Random) -> Vec<u64> {
-        let mut words = Vec::new();
+        let mut words = vec![0];
         for shard in 0..self.shape.shards {
             let own: Vec<Key> = self
                 .keys
@@ -59,6 +65,7 @@ impl Plan {
                 .collect();
             words.extend(self.shard(random, shard, own));
         }
+        words[layout::TOTAL] = slots(&words, self.shape);
         words.extend(self.buckets(random));
         words
     }

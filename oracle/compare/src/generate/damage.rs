@@ -3,11 +3,13 @@
 use oracle::Shape;
 use oracle::layout::{self, debt, slot};
 
+use super::contents::slots;
 use super::{Plan, indexes};
 use crate::random::Random;
 
 impl Plan {
-    /// Contents with damaged indexes, and perhaps damaged otherwise. The counts are at most the cap.
+    /// Contents with damaged indexes, and perhaps damaged otherwise. The counts are at most the cap. The total is mostly the slots of all shards, sometimes as
+    /// many as there is room for, so that the next slot is one too many, and sometimes wrong.
     pub fn damaged_contents(&self, random: &mut Random) -> Vec<u64> {
         let mut words = self.contents(random);
         if random.chance(30) {
@@ -16,6 +18,12 @@ impl Plan {
             self.damage_buckets(random, &mut words);
         }
         indexes::damage(random, &mut words, self.shape);
+        words[layout::TOTAL] = slots(&words, self.shape);
+        match random.below(10) {
+            0..2 => words[layout::TOTAL] = self.shape.places(),
+            2 => miscount(random, &mut words, self.shape),
+            _ => {}
+        }
         words
     }
 }
@@ -28,6 +36,24 @@ fn hold_counts(words: &mut [u64], shape: Shape) {
             row[items.count] = row[items.count].min(shape.cap);
         }
     }
+}
+
+/// Makes the total wrong, or perhaps wrong: 0, one less or one more than the slots of all shards, under the slots of a shard, all that there is room for, one
+/// more, the largest word.
+pub fn miscount(random: &mut Random, words: &mut [u64], shape: Shape) {
+    let all = slots(words, shape);
+    let own = words[shape.shard(random.below(shape.shards))][layout::SLOTS.count];
+    let totals = [
+        0,
+        all.saturating_sub(1),
+        all.saturating_add(1),
+        own.saturating_sub(1),
+        own,
+        shape.places(),
+        shape.places() + 1,
+        u64::MAX,
+    ];
+    words[layout::TOTAL] = random.pick(&totals);
 }
 
 /// The first words of a slot, hash and key, are its identity.
@@ -64,5 +90,10 @@ pub fn damage(random: &mut Random, words: &mut [u64], shape: Shape, now: u64) {
             5 => row[slots.at(one) + slot::TURNED_AWAY] = any,
             _ => row[random.below(row.len() as u64) as usize] = random.pick(&numbers),
         }
+    }
+    match random.below(10) {
+        0..6 => words[layout::TOTAL] = slots(words, shape),
+        6..9 => miscount(random, words, shape),
+        _ => {}
     }
 }

@@ -4,7 +4,8 @@
 //!
 //! Of 02 it has request 1, the moment: now + the wait of every grant and every retry (`Wait::moment`); request 3, the indexes by which slots and
 //! debts are found (`index`); request 4, calls by hardware address (`by_address`); request 5, a clock set back (`Bucket::wait`); request 8, the count of
-//! tries that a slot's bucket turned away (`turned_away`); and request 9, the limits above the modem (`classes`).
+//! tries that a slot's bucket turned away (`turned_away`); request 9, the limits above the modem (`classes`); and request 10, the total of
+//! slots before the first shard (`perkey::answer`, `whole::answer`).
 //!
 //! The layers, from below: `bucket` (numbers), `index` and `rows` (items in words), `turned_away` and `entry` (a slot), `ledger` (the debts), `shard_map` and
 //! `evict_one` (a shard), `restore_debt`, `store` (what a key holds), `perkey` (the calls); beside them `classes`. `settings` and `decision` are what goes in
@@ -73,6 +74,10 @@ impl Memory for Shards<'_> {
         let buckets = u128::from(self.classes) * classes::BUCKET_WORDS as u128;
         let rest = (self.words.len() as u128).checked_sub(buckets);
         rest.map_or(u64::MAX, |rest| rest as u64)
+    }
+
+    fn total(&self) -> u64 {
+        self.words.total()
     }
 
     fn slot_count(&self, shape: Shape, shard: u64) -> u64 {

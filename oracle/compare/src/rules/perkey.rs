@@ -1,6 +1,6 @@
 //! The calls with a key, each lent the part of its key's shard alone; a try through a class the buckets of the classes too.
 
-use oracle::Key;
+use oracle::{Key, layout};
 
 use super::bucket::{BucketConfig, Wait};
 use super::classes::Chain;
@@ -14,8 +14,24 @@ use crate::call::Call;
 use crate::given::Given;
 use crate::reply::Reply;
 
-/// A call with a key. Remove and the look at a count ask nothing of the rate; all others ask whether there is one.
+/// A call with a key. Every slot that comes adds 1 to the total, and every slot that goes takes 1 from it.
 pub fn answer(given: &Given, words: &mut [u64], call: &Call, key: Key, hits: &mut Hits) -> Reply {
+    let shape = given.shape();
+    let count = shape.shard(shape.shard_of(key.hash)).start + layout::SLOTS.count;
+    let before = words[count];
+    let reply = answer_in_shard(given, words, call, key, hits);
+    words[layout::TOTAL] = words[layout::TOTAL] - before + words[count];
+    reply
+}
+
+/// The same but for the total. Remove and the look at a count ask nothing of the rate; all others ask whether there is one.
+fn answer_in_shard(
+    given: &Given,
+    words: &mut [u64],
+    call: &Call,
+    key: Key,
+    hits: &mut Hits,
+) -> Reply {
     let (settings, shape) = (given.settings(), given.shape());
     let (shards, classes) = words.split_at_mut(shape.words());
     let map = ShardMap {

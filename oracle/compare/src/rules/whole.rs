@@ -12,7 +12,7 @@ use crate::reply::Reply;
 pub fn answer(given: &Given, words: &mut [u64], call: &Call, hits: &mut Hits) -> Reply {
     let closed = given.settings().rate.is_none();
     match call {
-        Call::Length => len(given.shape(), words, closed, hits),
+        Call::Length => len(words, closed, hits),
         Call::Clear | Call::ClassClear => clear(given.shape(), words, closed, hits),
         _ => set_up(given.shape(), words, hits),
     }
@@ -40,10 +40,9 @@ fn clear(shape: Shape, words: &mut [u64], closed: bool, hits: &mut Hits) -> Repl
     counted(0)
 }
 
-/// Length: the slots of all shards.
-fn len(shape: Shape, words: &[u64], closed: bool, hits: &mut Hits) -> Reply {
-    let slots = |shard| words[shape.shard(shard)][layout::SLOTS.count];
-    let length = (0..shape.shards).map(slots).sum();
+/// Length: the total. No shard is looked at.
+fn len(words: &[u64], closed: bool, hits: &mut Hits) -> Reply {
+    let length = words[layout::TOTAL];
     hits.either(length == 0, (Branch::LengthNone, Branch::LengthSome));
     if closed {
         hits.hit(Branch::ClosedLength);

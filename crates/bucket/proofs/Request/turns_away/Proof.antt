@@ -1,26 +1,17 @@
--- `turns_away` has a case for each kind of request.
+-- `turns_away` is true of a try that this bucket makes wait.
+use mathlib.Core.Path.{sym, _∙_}
 use borrow.Author.Needs.{needs}
 use Rattle.bucket.proofs.Request.turns_away.Statement.{statement}
 use Rattle.bucket.proofs.Request.turns_away.Tie as tie
 
-enum-told : tie.Need-enum-told
-enum-told c = search needs
-
-enum-told-2 : tie.Need-enum-told-2
-enum-told-2 c = search needs
-
-enum-told-3 : tie.Need-enum-told-3
-enum-told-3 c = search needs
+is-try-requires : tie.Need-is-try-requires
+is-try-requires c κs = search needs
 
 returns : tie.Need-returns
-returns c = rw (c .before .enum-told .given .1)
+returns c = rw (sym (c .before .before .is-try .ensures) ∙ c .before .if1 .taken)
 
 returns-2 : tie.Need-returns-2
 returns-2 c = search needs
 
-returns-3 : tie.Need-returns-3
-returns-3 c = rw (c .before .enum-told3 .given .1)
-
 pub turns-away-spec : {M : Type 1} → statement M
-turns-away-spec =
-    tie.close (tie.spec enum-told enum-told-2 enum-told-3 returns returns-2 returns-3)
+turns-away-spec = tie.close (tie.spec is-try-requires returns returns-2)

@@ -1,4 +1,4 @@
--- `lend` looks at the length, then at the counts of the shard, in the part that then lies in the memory, then at the further refusal.
+-- `lend` looks at the length, then at the counts of the shard and the total, in the part that then lies in the memory, then at the further refusal.
 use mathlib.Core.Path.{_≡_, sym, _∙_}
 use native.Mathlib.Omega.{arith}
 use lib.ListN.{length}
@@ -26,7 +26,7 @@ placed p = part-is-placed (start p .args .hash) (start p .args .ws .now) (start 
 
 -- Once the counts and the further refusal are taken together: that is what the call is refused for.
 abbrev lent : tie.After-first-refusal → tie.After-part-of
-lent f = f .before .before .before
+lent f = f .before .before .before .before .before
 
 refused : (f : tie.After-first-refusal) → let a = start (lent f) .args in
     f .first-refusal .result ≡ firstRefusal (shapeRefusal (a .shape) (a .hash) (a .ws .now)) (a .further)
@@ -34,7 +34,8 @@ refused f =
     let p = lent f in
     let a = start p .args in
     let counted = f .before .count-refusal .ensures in
-    counts-refuse (a .hash) (a .ws .now) (start p .pre) (sized p) (p .part-of .ensures) (a .further) counted (f .first-refusal .ensures)
+    let room = f .before .before .before .places-in .ensures in
+    counts-refuse (a .hash) (a .ws .now) (start p .pre) (sized p) (p .part-of .ensures) (a .further) room counted (f .first-refusal .ensures)
 
 words-in-requires : tie.Need-words-in-requires
 words-in-requires c κs = search needs
@@ -63,8 +64,14 @@ part-count-refusal-start c = lent-starts (placed c)
 part-count-refusal-end : tie.Need-part-count-refusal-end
 part-count-refusal-end c = placed c .within
 
+places-in-requires : tie.Need-places-in-requires
+places-in-requires c κs = start (c .before) .pre
+
+shared-slice-read-count-refusal : tie.Need-shared-slice-read-count-refusal
+shared-slice-read-count-refusal c = let p = c .before .before .before in omega (arith, placed p .within, placed p .begins, lent-starts (placed p))
+
 count-refusal-requires : tie.Need-count-refusal-requires
-count-refusal-requires c κs = lent-length (placed (c .before))
+count-refusal-requires c κs = lent-length (placed (c .before .before .before))
 
 first-refusal-requires : tie.Need-first-refusal-requires
 first-refusal-requires c κs = search needs
@@ -87,6 +94,8 @@ lend-spec =
     sub-count-refusal
     part-count-refusal-start
     part-count-refusal-end
+    places-in-requires
+    shared-slice-read-count-refusal
     count-refusal-requires
     first-refusal-requires
     returns-2
