@@ -238,7 +238,7 @@ unfolding ceilDiv rows unrow tableIn removed Index.onward Index.walkFrom Index.w
     Ledger.scanFrom Ledger.scan Ledger.dropChosen Ledger.makeRoom Ledger.recordedAt Ledger.recorded Ledger.paidDown
     Layout.shard Layout.wordsOf Shard.placeOf Shard.removeAt Shard.insert
     noted walkFrom walked evicted OneShard.makeRoom OneShard.withExisting OneShard.admit OneShard.withOrInsert OneShard.refunded
-    Refusals.memoryRefusal Refusals.countRefusal Refusals.momentRefusal Refusals.waitRefusal Refusals.mostSlots Refusals.slotsRefusalIn
+    Refusals.memoryRefusal Refusals.countRefusal Refusals.momentRefusal Refusals.waitRefusal Refusals.totalRefusal
     ClassLayout.classesIn Classes.countRefusal Classes.firstFrom Asks.askedIn Rules.unlessRefused Rules.setUpIn Rules.keyedRuleIn
     Calls.accepted Calls.replies inSpan tokensCounted ifBetween refundedBetween rises
 refunds-computed = record {
