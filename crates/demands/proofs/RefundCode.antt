@@ -1,4 +1,5 @@
--- Code that is as the contracts of its operations tell keeps the window with refunds (request 11 of document 02), and so do the exports that C and Rust call.
+-- Code that is as the contracts of its operations tell keeps the window with refunds (request 11 of document 02) and the same with reservations, and so do
+-- the exports that C and Rust call.
 use Prim.Native.Nat.{ℕ}
 use contract.Lifetimes.{Lfts}
 use Rattle.settings.specs.declared.Settings.{Settings}

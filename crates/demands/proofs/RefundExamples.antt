@@ -205,8 +205,8 @@ halfBack = takes 0 7 4 ∷ returns 7 2 ∷ takes 0 7 4 ∷ []
 abbrev pub toTheLast : List Act
 toTheLast = takes 0 7 4 ∷ returns 7 1 ∷ takes 0 7 1 ∷ takes 2000000000 7 4 ∷ []
 
--- At moment 1 key 7 takes a token twice and gets two back in between, where key 8 gets three back. Key 7 gets another one back before and after these two
--- grants. Then it takes none at moment 1, and one at moment 2.
+-- At moment 1 key 7 takes a token twice and gets two back in between, where key 8 gets three back. Key 7 also gets one back before these two grants and
+-- one after them. Then it takes 0 tokens at moment 1, which bounds nothing, and one at moment 2.
 abbrev pub aroundMomentOne : List Act
 aroundMomentOne =
     takes 0 7 4 ∷ takes 0 8 4 ∷ returns 7 1 ∷ takes 1 7 1 ∷ returns 7 2 ∷ returns 8 3 ∷ takes 1 7 1 ∷ returns 7 1 ∷ takes 1 7 0 ∷ takes 2 7 1 ∷ []

@@ -2,6 +2,7 @@
 --
 -- In plain English. Behind each clause stands the name that states it.
 --
+-- The window with refunds.                                                                               RefundWindow
 -- The list of calls, its settings and the words it starts from are those of the window.                  OfFreshLists
 -- Of the calls that are not refused by number                                                            accepted
 -- all have these settings, the moments never fall, no two name different keys of one hash,               SameSettings, TimesNeverFall, NoSharedHash
@@ -9,15 +10,16 @@
 -- Add up the tokens granted to k in calls with moments from t to u, by tries through a class too.        tokensCounted, calledOf
 -- Add up the tokens refunded to k between the first and the last of these grants.                        refundedBetween
 -- A refund that is answered known, by slot or by debt, counts its stated cost; any other counts 0.       refundedOf
--- Times the period, the first sum is at most burst × period + (u - t) × amount,                          WithinRefunds, partsAllowed
--- plus the second sum times the period.                                                                  RefundWindow
+-- Times the period, the first sum is at most                                                             WithinRefunds
+-- burst × period + (u - t) × amount, plus the second sum times the period.                               partsAllowed
 --
 -- "Between" means by place in the list: a refund counts if one of these grants comes before it and another comes after it. Only grants of at least one token
--- bound it; that makes the claim stronger. The window of Demands adds one moment to those from t to u because waits are rounded up. Here nothing is added: a
--- try is granted without a wait.
+-- bound it; that makes the claim stronger. The window of Demands adds one moment to those from t to u: a reservation that was asked for before t, with its
+-- wait rounded up, can first be usable at t. Here nothing is added: a grant counts only if its call is at t or later.
 --
 -- The same holds if k is reserved for, where a grant counts only if its call is at t or later and its tokens are usable at u or before. For a try both moments
--- are that of the call, so for lists without reservations of k this is the claim above.                  SpanWindow, spannedOf
+-- are that of the call, so for lists that have no reservation for k, refused ones included, this is the
+-- claim above.                                                                                           SpanWindow, spannedOf
 --
 -- Both claims are over any terms, as those of Demands are.
 --
@@ -25,7 +27,8 @@
 -- * `rules-keep-the-refund-window`, `rules-keep-the-span-window`: the rules keep both. `demand2-keeps-the-refund-window`, `demand2-keeps-the-span-window`: so
 --   does every limiter that meets demand 2.
 -- * `contracts-keep-the-refund-window`, `exports-keep-the-refund-window`: so does code that is as the contracts of `perkey`, `modems` and `class_calls`, or of
---   the exports, tell its callers.
+--   the exports, tell its callers. `contracts-keep-the-span-window`, `exports-keep-the-span-window`: so it is with the second claim.
+--   `key-contracts-keep-the-refund-window`: in lists of calls by key.
 -- * `refund-window-without-refunds-is-false-of-the-rules`, `refund-window-by-slots-is-false-of-the-rules`: the refunds cannot be left out, nor can those that
 --   pay down a debt. `refunding-twice-breaks-the-refund-window`: a limiter that gives back twice what a refund states does not keep it.
 use Prim.Native.Nat.{ℕ, _+_, _*_, _-_, _≤_}
@@ -63,7 +66,7 @@ ofUndo refunded removed other (undoes (refunds cost)) = refunded cost
 ofUndo refunded removed other (undoes removes) = removed
 ofUndo refunded removed other (passes table class at cost) = other
 
--- Whether it reserves; whether it removes.
+-- Whether a manner is that of a reservation; whether an ask reserves; whether it removes.
 abbrev pub asReserved : Manner → Bool
 asReserved asTry = false
 asReserved asReservation = true

@@ -1,5 +1,5 @@
 -- The window with refunds for addresses: of the rules, of every limiter that meets demand 2, of code as the contracts tell, and of the exports. In accepted
--- calls the bytes of an address are those of its identity, and a refused call counts nothing. So all sums are those of the identity.
+-- calls an address has the bytes k exactly where it has the identity of k, and a refused call counts nothing. So all sums are those of the identity.
 use Prim.Native.Nat.{ℕ}
 use mathlib.Core.Path.{_≡_, refl, sym, ap, subst, _∙_}
 use mathlib.Core.Bool.{Bool, true, false, _&&_, true≢false}
@@ -116,7 +116,7 @@ module _ {S : Type 0} (means : S → Settings) (fit : S → Bool) where
           → CountAlike (λ a. counted which (a .call) (a .reply)) (λ a. counted other (a .call) (a .reply)) answered
       counts-alike answered kept = every-implies _ _ call-alike answered kept
 
-  -- The bytes of an address are those of its identity; and no address has the bytes of what is none.
+  -- An address has the bytes k exactly where it has the identity of k; and no address has bytes that are no address.
   module _ (k : List ℕ) where
     abbrev own : List ℕ → Bool
     own bytes = sameBytes bytes k

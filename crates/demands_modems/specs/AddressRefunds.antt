@@ -1,8 +1,10 @@
 -- The window with refunds (request 11 of document 02) as it reads for hardware addresses. `Refunds` of crate demands has it for identities, in lists that may
--- mix calls by key and by address. Here names and sums are those of bytes, in lists whose calls name modems by address. The counts are those of `Refunds`, with
--- the bytes of the address for the names that count.
+-- mix calls by key and by address. Here every call names a modem by the bytes of its address. No two accepted calls name different addresses of one hash, and
+-- the calls that count for k are those that name the bytes k (`sameBytes`). The counts and the bound are those of `Refunds`. The claim that allows reservations
+-- (`SpanWindow` of `demands`) is not restated here.
 --
--- Theorems, in proofs/: `rules-keep-the-address-refund-window`, `contracts-keep-the-address-refund-window`, `exports-keep-the-address-refund-window`.
+-- Theorems, in proofs/: `rules-keep-the-address-refund-window`, `demand2-keeps-the-address-refund-window`, `contracts-keep-the-address-refund-window`,
+-- `exports-keep-the-address-refund-window`.
 use Prim.Native.Nat.{ℕ, _≤_}
 use mathlib.Core.Bool.{Bool}
 use mathlib.Core.List.{List}
