@@ -255,7 +255,7 @@ enum {
     LIMITER_BAD_MEMORY = 15,    /* refused as 5: another number of words than the settings ask for: limiter_words(s), where s.classes is at most 64; for
                                    limiter_set_up and limiter_clear that with s.classes 0; for a call with a table that of its classes. Or the count of
                                    slots or of debts of the key's shard is more than the shard can hold; or the total of slots is less than the count of
-                                   the key's shard, or more than all shards can hold. limiter_length looks at the total alone, for the last of these.
+                                   slots of the key's shard, or more than all shards can hold. limiter_length looks at the total alone, for the last of these.
                                    Set-up and clear look at none of them */
     LIMITER_BAD_MOMENT = 16,    /* refused as 6: now is after 2^62 ns */
     LIMITER_BAD_MAX_WAIT = 17,  /* refused as 7: max_wait is over 2^46 ns */
@@ -366,7 +366,8 @@ limiter_reply limiter_remove(limiter_settings s, uint64_t *words, size_t len, ui
  * which limiter_class_clear is. */
 limiter_reply limiter_clear(limiter_settings s, uint64_t *words, size_t len);
 
-/* The number of keys that have a slot: it stands in the first word, so the call takes the same time for any number of shards. 0 with `number` keys, or
+/* The number of keys that have a slot: it stands in the first word, so the call takes the same time for any number of shards, and on
+ * damaged words it is what stands there. 0 with `number` keys, or
  * refused as 1 to 5.
  *
  * It is also the check of words that were saved and loaded again: it refuses settings out of range, another number of words, and a total of

@@ -17,7 +17,7 @@ use Rattle.classes.specs.declared.OptionClass.{OptionClass}
 use Rattle.classes.specs.declared.OptionClass.the-variants.{None, Some}
 use Rattle.classes.specs.Classes.{classAt, ends, countRefusal, numberRefusal, chainRefusal, refusedBy, firstFrom, tableRefusal}
 use Rattle.classes.specs.Chains.{chain, among, fullBucket, bucketAt, leastBurst, ownWait, chainWait, charged}
-use Rattle.demands.specs.Passings.{Passing, Way, chainOf, letsPass, chargedFor, bucketsAfter, byTheRules, tokensPassed, tokensThrough}
+use Rattle.demands.specs.Passings.{Passing, Way, letsPass, chargedFor, bucketsAfter, byTheRules, tokensPassed, tokensThrough}
 use Rattle.demands.specs.Passings.{InOrder, ClassWindowAdding}
 
 -- Classes are never charged.

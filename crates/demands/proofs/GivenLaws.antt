@@ -120,7 +120,7 @@ known-is-told true = refl
 known-is-told false = refl
 
 -- The tokens of a grant are usable after the wait told.
-usable-after-the-wait : (m : Manner) (at : Nanos) (wait : ℕ) → at .0 + waitTold m wait ≡ usableFrom m at wait
+pub usable-after-the-wait : (m : Manner) (at : Nanos) (wait : ℕ) → at .0 + waitTold m wait ≡ usableFrom m at wait
 usable-after-the-wait asTry at wait = omega arith
 usable-after-the-wait asReservation at wait = refl
 

@@ -29,6 +29,8 @@ pub mod PassingLaws
 pub mod ClassImpostors
 pub mod ClassTheorem
 pub mod Theorem
+pub mod RefundSums
+pub mod RefundTheorem
 pub mod RefusalTheorem
 pub mod SizeTheorem
 pub mod MomentLaws
@@ -39,7 +41,9 @@ pub mod TurnAwayTheorem
 pub mod IsolationTheorem
 pub mod CodeTheorem
 pub mod ExportTheorem
+pub mod RefundCode
 pub mod ExampleLaws
+pub mod RefundExamples
 pub mod Computed
 pub mod Worked
 pub mod TellingLaws

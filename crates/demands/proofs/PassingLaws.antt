@@ -1,6 +1,6 @@
 -- The window of a class: over any list of tries in the order of their moments, the tokens that pass through a class from t to u, times its period, are at most
 -- its burst times the period, and what comes back from t to u. It holds from any class buckets: it needs no fresh store, no rule when full and no hashes.
-use Prim.Native.Nat.{ℕ, _+_, _*_, _-_, _≤_, _<_}
+use Prim.Native.Nat.{ℕ, _+_, _<_}
 use mathlib.Core.Path.{_≡_, refl}
 use mathlib.Core.List.{List, [], _∷_}
 use native.Mathlib.Omega.{arith}
@@ -11,13 +11,14 @@ use Rattle.bucket.specs.declared.BucketCore.{BucketCore}
 use Rattle.bucket.specs.Bucket.{Accepted}
 use Rattle.settings.proofs.RateLaws.{accepted-rate}
 use Rattle.classes.specs.declared.Class.{Class}
-use Rattle.classes.specs.Classes.{classAt, tableRefusal}
+use Rattle.classes.specs.Classes.{classAt}
 use Rattle.classes.specs.Chains.{among, configAt}
 use Rattle.classes.proofs.RefusalLaws.{accepted-table-is-sound}
 use Rattle.demands.specs.Passings.{Passing, chainOf, letsPass, bucketsAfter, byTheRules, tokensPassed, tokensThrough}
+use Rattle.demands.specs.Refunds.{inSpan}
 use Rattle.demands.specs.Passings.{InOrder, ClassWindowAdding}
 use Rattle.demands.proofs.LineBound.{LineBound, BoundOf}
-use Rattle.demands.proofs.RefundBound.{inSpan, Event, within, between, span-from-bound, refundBound}
+use Rattle.demands.proofs.RefundBound.{Event, within, between, span-from-bound, refundBound}
 use Rattle.demands.proofs.RunLaws.{HoldsBySomeLine}
 use Rattle.demands.proofs.ClassKept.{passingAdds, ClassStands, class-stands-at-first, class-stands-later, try-stands}
 

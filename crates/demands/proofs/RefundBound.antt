@@ -4,22 +4,13 @@
 -- bucket.
 use Prim.Native.Nat.{ℕ, _+_, _*_, _-_, _≤_, _<_}
 use mathlib.Core.Path.{_≡_, refl, ap}
-use mathlib.Core.Bool.{cond}
 use mathlib.Core.List.{List, [], _∷_}
 use native.Mathlib.Nat.{mul-le-mul-right}
 use native.Mathlib.Omega.{arith}
-use lib.Dec.{leb}
 use borrow.Author.Tests.{le-leb, lt-leb}
 use Rattle.arith.proofs.Cases.{by-le}
+use Rattle.demands.specs.Refunds.{inSpan, ifBetween}
 use Rattle.demands.proofs.LineBound.{Soonest, LineBound}
-
--- The tokens of a grant, if its call is at t or later and its tokens are usable at u or before.
-unfoldable pub inSpan : ℕ → ℕ → ℕ → ℕ → ℕ → ℕ
-inSpan t u asked ready cost = cond (leb t asked) (cond (leb ready u) cost 0) 0
-
--- Refunded tokens count if tokens were granted before them and tokens are granted after them.
-unfoldable pub ifBetween : ℕ → ℕ → ℕ → ℕ
-ifBetween before after tokens = cond (leb 1 before) (cond (leb 1 after) tokens 0) 0
 
 -- What happened to the key, the latest first: a grant, by the moment of its call, the moment from which its tokens are usable, and the tokens; or a refund.
 pub data Event : Type 0 where

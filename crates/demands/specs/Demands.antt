@@ -47,13 +47,19 @@
 -- * `rules-meet-demand3`: the rules meet it. `demand2-gives-demand3`: so does every limiter that meets demand 2.
 -- * `demand2-changes-nothing-where-refused`: a limiter that meets demand 2 changes no word where it refuses.
 -- * `contracts-meet-demand2`, `contracts-meet-demand3`: so does code that is as the contracts of `perkey`, `modems` and `class_calls` tell its callers, in
--- lists that mix their calls.
+--   lists that mix their calls.
 -- * `exports-meet-demand2`: what C and Rust call gives the rules' replies as numbers. `exports-meet-demand3`: so their callers have a limiter that meets it.
 -- * `window-adding-none-is-false-of-the-rules`: the + 1 cannot be left out.
 -- * `demand2-tells-moments`, `told-moments-count-alike`: the tokens that the window counts are those counted by the moments that grants tell (Moments).
 -- * `rules-keep-the-class-window-exactly`, `demand2-keeps-the-class-window-exactly`: the window of a class holds without the + 1 as well.
+-- * Request 10, isolation, has its own page: `Isolated` in Isolation. `rules-are-isolated`, `limiters-are-isolated`, `contracts-are-isolated`,
+--   `exports-are-isolated`: the rules, every limiter that meets demand 2, code and exports have it. `grown-total-is-the-sum`: on a grown store the total is the
+--   slots of all shards.
+-- * Request 11, the window of a key that may be refunded, has its own page: `RefundWindow` in Refunds. `rules-keep-the-refund-window`: the rules keep it.
+--   `demand2-keeps-the-refund-window`, `contracts-keep-the-refund-window`, `exports-keep-the-refund-window`: so do every limiter that meets demand 2, code and
+--   exports. It is about the same lists as the window here, with tries through a class among them: a granted one counts as a grant to its key.
 -- * Impostors are refuted in ImpostorLaws and ClassImpostors. Demand 3 alone admits a limiter that turns every newcomer away at first
--- (`turns-newcomers-away-meets-demand3`);
+--   (`turns-newcomers-away-meets-demand3`);
 --   demand 2 shuts it out (`turns-newcomers-away-fails-demand2`).
 use Prim.Native.Nat.{ℕ, _+_, _*_, _-_, _≤_, _<_}
 use mathlib.Core.Path.{_≡_}

@@ -1,5 +1,5 @@
--- Isolation (request 10 of document 02). Class buckets apart, a call on a key depends on the shards of other keys through the total alone, on any memory. On a
--- store that has grown from fresh it depends on them through nothing.
+-- Isolation (request 10 of document 02). Class buckets apart, what a call on a key answers and leaves in the key's shard depends on the other shards
+-- through the total alone, on any memory. On a store that has grown from fresh it depends on them through nothing.
 use Prim.Native.Nat.{ℕ}
 use mathlib.Core.Path.{_≡_}
 use mathlib.Core.Bool.{true}
@@ -25,7 +25,7 @@ pub record SameShardAndTotal (s : Settings) (hash : ℕ) (ws vs : List ℕ) : Ty
   pub own : SameShard s hash ws vs
   pub total : totalOf ws ≡ totalOf vs
 
--- A call gives the same answer on both, and leaves two such memories.
+-- A call gives the same answer on both, and leaves two memories with the same shard and class buckets; in the second record, with the same total, too.
 pub record AlikeInShard (s : Settings) (hash : ℕ) (o q : Outcome Reply (List ℕ)) : Type 0 where
   pub answer : o .answer ≡ q .answer
   pub after : SameShard s hash (o .after) (q .after)
@@ -42,7 +42,7 @@ module _ {S N : Type 0} (terms : Terms S N) where
   abbrev pub hashOf : N → ℕ
   hashOf n = terms .identity n .hash
 
-  -- The claims, of an implementation whose calls can be made on some words: for every call on a key, whatever it asks.
+  -- Which calls can be made on which words. The claims below are about every call on a key that can be made on both memories, whatever it asks.
   abbrev pub CanBeMade : Type 1
   CanBeMade = Call S N → List ℕ → Type 0
 

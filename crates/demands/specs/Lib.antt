@@ -8,4 +8,5 @@ pub mod TurnAways
 pub mod Contracts
 pub mod Exports
 pub mod Moments
+pub mod Refunds
 pub mod Passings

@@ -35,7 +35,7 @@ abbrev pub IsAddress : List ℕ → Type 0
 IsAddress k = (length k ≡ addressBytes) × (areBytes k ≡ true)
 
 -- The same bytes are equal lists.
-same-bytes-are-equal : (a b : List ℕ) → sameBytes a b ≡ true → a ≡ b
+pub same-bytes-are-equal : (a b : List ℕ) → sameBytes a b ≡ true → a ≡ b
 same-bytes-are-equal [] [] = λ same. refl
 same-bytes-are-equal [] (y ∷ b) = λ same. absurd (false≢true same)
 same-bytes-are-equal (x ∷ a) [] = λ same. absurd (false≢true same)
@@ -54,7 +54,7 @@ grant-le f g le Done = omega arith
 grant-le f g le (Count n) = omega arith
 grant-le f g le (Refused n) = omega arith
 
-grant-of-nothing : (reply : Reply) → ofGrant {A = ℕ} (λ wait. 0) 0 reply ≡ 0
+pub grant-of-nothing : (reply : Reply) → ofGrant {A = ℕ} (λ wait. 0) 0 reply ≡ 0
 grant-of-nothing (Tried (Acquired due)) = refl
 grant-of-nothing (Tried (Retry due)) = refl
 grant-of-nothing (Tried Impossible) = refl
@@ -124,7 +124,7 @@ module _ {S : Type 0} (means : S → Settings) (fit : S → Bool) where
       (every-implies _ _ (λ b agree taken also. keys-agree (a .call) (b .call) (agree taken also)) rest (apart .0), no-shared-hash rest (apart .1))
 
   -- The bytes of an accepted call are an address.
-  accepted-is-address : (s : S) (bytes : List ℕ) (ask : Ask) (reply : Reply) (ws : List ℕ) → fits terms (keyed s bytes ask) ≡ true
+  pub accepted-is-address : (s : S) (bytes : List ℕ) (ask : Ask) (reply : Reply) (ws : List ℕ) → fits terms (keyed s bytes ask) ≡ true
       → accepted terms (record { call = keyed s bytes ask; reply = reply; rulesWords = ws }) ≡ true → IsAddress bytes
   accepted-is-address s bytes ask reply ws fits′ taken =
       let none = accepted-not-refused terms (record { call = keyed s bytes ask; reply = reply; rulesWords = ws }) taken in

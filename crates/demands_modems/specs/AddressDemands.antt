@@ -25,6 +25,7 @@
 -- * `rules-meet-address-demand3`: the rules meet it. `demand2-gives-address-demand3`: so does every limiter that meets demand 2.
 -- * `contracts-meet-address-demand3`: so does code that is as the contracts of `perkey` and `modems` tell its callers.
 -- * `exports-meet-address-demand3`: so do the exports that C and Rust call.
+-- * Request 11 for addresses has its own page: `AddressRefundWindow` in AddressRefunds.
 use Prim.Native.Nat.{ℕ, _+_, _*_, _-_, _≤_}
 use mathlib.Core.Path.{_≡_}
 use mathlib.Core.Bool.{Bool, true, false, cond, _&&_}

@@ -1,1 +1,2 @@
 pub mod AddressDemands
+pub mod AddressRefunds

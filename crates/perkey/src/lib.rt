@@ -242,7 +242,7 @@ pub fn clear(settings: Settings, ws: &mut [u64]) -> Reply
     set_up(settings, ws)
 }
 
-// How many keys have a slot.
+// The total: on a grown store, how many keys have a slot. No shard is looked at.
 pub fn len(settings: Settings, ws: &[u64]) -> Reply
     ensures { λ r. ⌜ outcome r (now (ws .exit)) ≡ Rules.len settings (now (ws .entry)) ⌝ }
 {

@@ -28,7 +28,7 @@ unlessRefused refusal ws accepted = cond (eqb refusal 0) accepted (outcome (Refu
 abbrev pub askRefusalIn : Shape → Settings → Identity → Ask → List ℕ → ℕ
 askRefusalIn shape s id ask ws = firstRefusal (keyedRefusalIn shape s (id .hash) ws) (furtherOf ask)
 
--- Else it does what it asks in the shard of its key. The other shards stay as they are.
+-- Else it does what it asks in the shard of its key, and the total moves with the slots. The other shards stay as they are.
 abbrev pub shardOutcome : Shape → Settings → Identity → Ask → List ℕ → Outcome Reply (List ℕ)
 shardOutcome shape s id ask ws = let part = partIn shape (id .hash) in inPart part ws (inItsShard s id ask (bucketsAt shape ws) (shardIn part ws))
 

@@ -18,7 +18,7 @@ use Rattle.store.specs.declared.Part.{Part}
 abbrev pub withSegment : ℕ → ℕ → List ℕ → List ℕ → List ℕ
 withSegment a n ws new = take a ws ++ (new ++ drop n (drop a ws))
 
--- The first word is the total: how many slots all shards have.
+-- The first word is the total: on a grown store, how many slots all shards have.
 abbrev pub totalAt : ℕ
 totalAt = 0
 
@@ -74,7 +74,8 @@ shardAt s hash ws = shardIn (partOf s hash) ws
 abbrev pub totalAfter : ℕ → Shard → Shard → ℕ
 totalAfter total before after = total + after .slots .count - before .slots .count
 
--- What an operation on the shard in a part gives, and all words after it: the other shards stay as they are.
+-- What an operation on the shard in a part gives, and all words after it: the total moves with the slots, the other shards and the class buckets stay as they
+-- are.
 abbrev pub inPart : {A : Type 0} → Part → List ℕ → Outcome A Shard → Outcome A (List ℕ)
 inPart p ws o =
     let moved = withSegment (p .start) (shardWords (p .cap)) ws (wordsOf (o .after)) in
@@ -96,7 +97,7 @@ pub record Placed (p : Part) (ws : List ℕ) : Type 0 where
   pub ends : p .end ≡ p .start + shardWords (p .cap)
   pub within : p .end ≤ length ws
 
--- The total counts the slots of the shard in a part, and is small.
+-- The total is no less than the slot count of the shard in a part, and is small enough to grow.
 pub record Counted (p : Part) (ws : List ℕ) : Type 0 where
   pub covers : shardIn p ws .slots .count ≤ totalOf ws
   pub small : totalOf ws < 2 ^ 63

@@ -62,7 +62,7 @@ momentRefusal at = cond (ltb latestMoment (at .0)) 6 0
 unfoldable pub waitRefusal : Nanos → ℕ
 waitRefusal longest = cond (ltb longestMaxWait (longest .0)) 7 0
 
--- Length: as set-up, then 5 for the total. No shard is looked at.
+-- Length: the settings, then the size by the classes of its settings, then 5 for the total. No shard is looked at.
 abbrev pub lenRefusalIn : Shape → Settings → List ℕ → ℕ
 lenRefusalIn shape s ws = firstRefusal (setUpRefusalIn shape s ws) (totalRefusal (placesIn shape) (totalOf ws))
 

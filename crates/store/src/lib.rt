@@ -192,7 +192,7 @@ pub fn remove(ws: &mut [u64], part: Part, id: Identity) -> bool
     known
 }
 
-// The total: how many slots all shards have.
+// The total: on a grown store, how many slots all shards have.
 pub fn len(ws: &[u64]) -> u64
     requires { ⌜ totalAt < length (now ws) ⌝ }
     ensures { λ r. ⌜ r ≡ totalOf (now (ws .entry)) ⌝ }

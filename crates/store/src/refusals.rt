@@ -38,7 +38,7 @@ fn total_refusal(places: usize, total: u64) -> u32
     if (places as u64) < total { 5 } else { 0 }
 }
 
-// 5 where a count of a shard is over the cap, or the total does not fit it or the room in all shards.
+// 5 where a count of a shard is over the cap, or the total is under its slot count or over the slots that all shards have room for.
 pub(crate) fn count_refusal(ws: &[u64], cap: usize, places: usize, total: u64) -> u32
     requires { ⌜ length (now ws) ≡ shardWords cap ⌝ }
     ensures { λ r. ⌜ r ≡ countRefusal cap places total (shard cap (now (ws .entry))) ⌝ }
@@ -83,7 +83,7 @@ pub fn set_up_refusal(settings: Settings, classes: usize, ws: &[u64]) -> u32
     memory_refusal(words::words_in(shape.with_classes(classes)), ws)
 }
 
-// The refusal of length: as set-up, then the total.
+// The refusal of length: the settings, then the size by the classes of its settings, then the total.
 pub fn len_refusal(settings: Settings, ws: &[u64]) -> u32
     ensures { λ r. ⌜ r ≡ lenRefusal settings (now (ws .entry)) ⌝ }
 {

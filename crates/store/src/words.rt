@@ -1,4 +1,4 @@
-// Where the shards of a store lie in its words, and how many words it has.
+// Where the total and the shards of a store lie in its words, and how many words it has.
 ghost use mathlib.Core.Path.{_≡_};
 ghost use Prim.Native.Nat.{_<_, _^_};
 ghost use Rattle.settings.specs.Settings.{ShapeOfAccepted, sizeRefusal};
@@ -20,7 +20,7 @@ pub fn memory_words(settings: Settings) -> usize
     words_in(settings.shape())
 }
 
-// The words of a memory of a shape: its shards, and its class buckets.
+// The words of a memory of a shape: the total, its shards and its class buckets.
 pub(crate) fn words_in(shape: Shape) -> usize
     requires { ⌜ ShapeOfAccepted shape ⌝ }
     ensures { λ r. ⌜ r ≡ wordsIn shape ⌝ }
