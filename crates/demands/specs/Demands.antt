@@ -59,8 +59,7 @@
 --   `demand2-keeps-the-refund-window`, `contracts-keep-the-refund-window`, `exports-keep-the-refund-window`: so do every limiter that meets demand 2, code and
 --   exports. It is about the same lists as the window here, with tries through a class among them: a granted one counts as a grant to its key.
 -- * Impostors are refuted in ImpostorLaws and ClassImpostors. Demand 3 alone admits a limiter that turns every newcomer away at first
---   (`turns-newcomers-away-meets-demand3`);
---   demand 2 shuts it out (`turns-newcomers-away-fails-demand2`).
+--   (`turns-newcomers-away-meets-demand3`); demand 2 shuts it out (`turns-newcomers-away-fails-demand2`).
 use Prim.Native.Nat.{ℕ, _+_, _*_, _-_, _≤_, _<_}
 use mathlib.Core.Path.{_≡_}
 use mathlib.Core.Bool.{Bool, true, cond}

@@ -44,8 +44,7 @@ freshShards s =
     let fresh : List ℕ = replicate (memoryWords s) 0 in
     record { numbered = λ i. inPlaceOrder (shardNumbered s i fresh); buckets = bucketsAt (shapeOf s) fresh }
 
--- What is asked of a key, in the shard of the key; the other shards stay as they are. A granted try through a class charges the buckets on its
--- chain.
+-- What is asked of a key, in the shard of the key; the other shards stay as they are. A granted try through a class charges the buckets on its chain.
 abbrev pub askedOnShards : Settings → Identity → Ask → Shards → Outcome Reply Shards
 askedOnShards s id ask store =
     let o = inItsShard s id ask (store .buckets) (store .numbered (shardOf s (id .hash))) in
