@@ -1,5 +1,6 @@
 pub mod Replies
 pub mod Asks
 pub mod Rules
+pub mod Debts
 pub mod Widths
 pub mod Calls

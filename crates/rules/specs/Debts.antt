@@ -1,0 +1,79 @@
+-- The debts of one shard as a list, for the morning shift. A call names a moment and a shard by its number, and lends a list of records, each a hash and the
+-- moment at which the debt of that hash settles. The debts that settle after the moment of the call are written over the first records.
+use Prim.Native.Nat.{ℕ}
+use mathlib.Core.Bool.{cond}
+use mathlib.Core.List.{List, [], _∷_, _++_}
+use lib.Dec.{ltb, eqb}
+use lib.ListN.{length, take, drop}
+use Rattle.rows.specs.Outcome.{Outcome, outcome}
+use Rattle.units.specs.declared.Nanos.{Nanos}
+use Rattle.settings.specs.declared.Settings.{Settings}
+use Rattle.settings.specs.declared.Shape.{Shape}
+use Rattle.settings.specs.Settings.{firstRefusal, shapeOf}
+use Rattle.ledger.specs.declared.Debt.{Debt}
+use Rattle.ledger.specs.Model.{Ledger, settledBy}
+use Rattle.shard_map.specs.Model.{Shard}
+use Rattle.store.specs.Memory.{partAt, shardIn}
+use Rattle.store.specs.Refusals.{setUpRefusalIn, momentRefusal}
+use Rattle.rules.specs.declared.Reply.{Reply}
+use Rattle.rules.specs.declared.Reply.the-variants.{Count, Refused}
+
+-- Of some debts, those that settle after a moment, in their order.
+unfoldable pub unsettled : Nanos → List Debt → List Debt
+unsettled at [] = []
+unsettled at (d ∷ ds) = cond (settledBy at d) (unsettled at ds) (d ∷ unsettled at ds)
+
+-- Those of a ledger: it holds the debts in its first places.
+unfoldable pub listed : Nanos → Ledger → List Debt
+listed at l = unsettled at (take (l .debts .count) (l .debts .places))
+
+-- A lent list after some debts were written over its first records. The other records stay.
+unfoldable pub written : List Debt → List Debt → List Debt
+written ds records = ds ++ drop (length ds) records
+
+-- The shard of a number.
+abbrev pub shardNumbered : Shape → ℕ → List ℕ → Shard
+shardNumbered shape i ws = shardIn (partAt shape i) ws
+
+-- 16 where no shard has the number. 5 where a ledger counts more debts than it has room for. 17 where fewer records are lent than are to be written.
+unfoldable pub shardRefusal : Shape → ℕ → ℕ
+shardRefusal shape i = cond (ltb i (shape .shards)) 0 16
+
+unfoldable pub debtCountRefusal : ℕ → Ledger → ℕ
+debtCountRefusal cap l = cond (ltb cap (l .debts .count)) 5 0
+
+unfoldable pub recordsRefusal : ℕ → ℕ → ℕ
+recordsRefusal lent needed = cond (ltb lent needed) 17 0
+
+-- The number by which a call is refused that lends so many records; 0 if it is not refused. The settings and the length come first, then the moment, then the
+-- shard's number, its debt count and the records. Slot counts and the total are not looked at.
+abbrev pub ledgerRefusal : Shape → Nanos → ℕ → Ledger → ℕ
+ledgerRefusal shape at lent l = firstRefusal (debtCountRefusal (shape .cap) l) (recordsRefusal lent (length (listed at l)))
+
+abbrev pub debtsRefusalIn : Shape → Settings → Nanos → ℕ → ℕ → List ℕ → ℕ
+debtsRefusalIn shape s at i lent ws =
+    firstRefusal (setUpRefusalIn shape s ws)
+    (firstRefusal (momentRefusal at)
+    (firstRefusal (shardRefusal shape i) (ledgerRefusal shape at lent (shardNumbered shape i ws .ledger))))
+
+-- The reply depends on the lent records through their number alone: it is how many debts are listed.
+unfoldable pub debtsReplyIn : Shape → Settings → Nanos → ℕ → ℕ → List ℕ → Reply
+debtsReplyIn shape s at i lent ws =
+    let refusal = debtsRefusalIn shape s at i lent ws in
+    cond (eqb refusal 0) (Count (length (listed at (shardNumbered shape i ws .ledger)))) (Refused refusal)
+
+-- The records after the call: a call that is refused leaves them as they are.
+unfoldable pub recordsAfterIn : Shape → Settings → Nanos → ℕ → List Debt → List ℕ → List Debt
+recordsAfterIn shape s at i records ws =
+    cond (eqb (debtsRefusalIn shape s at i (length records) ws) 0) (written (listed at (shardNumbered shape i ws .ledger)) records) records
+
+-- The call changes no word of the store: as a call of a list it has its reply, and leaves the words.
+abbrev pub debtsIn : Shape → Settings → Nanos → ℕ → ℕ → List ℕ → Outcome Reply (List ℕ)
+debtsIn shape s at i lent ws = outcome (debtsReplyIn shape s at i lent ws) ws
+
+-- What its caller has who lends the records: the reply, and the records after it. The shape is that of the settings.
+abbrev pub recordsAfter : Settings → Nanos → ℕ → List Debt → List ℕ → List Debt
+recordsAfter s at i records ws = recordsAfterIn (shapeOf s) s at i records ws
+
+abbrev pub listDebts : Settings → Nanos → ℕ → List Debt → List ℕ → Outcome Reply (List Debt)
+listDebts s at i records ws = outcome (debtsReplyIn (shapeOf s) s at i (length records) ws) (recordsAfter s at i records ws)
