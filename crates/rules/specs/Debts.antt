@@ -3,7 +3,7 @@
 use Prim.Native.Nat.{ℕ}
 use mathlib.Core.Bool.{cond}
 use mathlib.Core.List.{List, [], _∷_, _++_}
-use lib.Dec.{ltb, eqb}
+use lib.Dec.{ltb}
 use lib.ListN.{length, take, drop}
 use Rattle.rows.specs.Outcome.{Outcome, outcome}
 use Rattle.units.specs.declared.Nanos.{Nanos}
@@ -16,7 +16,8 @@ use Rattle.shard_map.specs.Model.{Shard}
 use Rattle.store.specs.Memory.{partAt, shardIn}
 use Rattle.store.specs.Refusals.{setUpRefusalIn, momentRefusal}
 use Rattle.rules.specs.declared.Reply.{Reply}
-use Rattle.rules.specs.declared.Reply.the-variants.{Count, Refused}
+use Rattle.rules.specs.declared.Reply.the-variants.{Count}
+use Rattle.rules.specs.Rules.{unlessRefused}
 
 -- Of some debts, those that settle after a moment, in their order.
 unfoldable pub unsettled : Nanos → List Debt → List Debt
@@ -56,24 +57,16 @@ debtsRefusalIn shape s at i lent ws =
     (firstRefusal (momentRefusal at)
     (firstRefusal (shardRefusal shape i) (ledgerRefusal shape at lent (shardNumbered shape i ws .ledger))))
 
--- The reply depends on the lent records through their number alone: it is how many debts are listed.
-unfoldable pub debtsReplyIn : Shape → Settings → Nanos → ℕ → ℕ → List ℕ → Reply
-debtsReplyIn shape s at i lent ws =
-    let refusal = debtsRefusalIn shape s at i lent ws in
-    cond (eqb refusal 0) (Count (length (listed at (shardNumbered shape i ws .ledger)))) (Refused refusal)
+-- As a call of a list it is given the number of lent records alone. It answers how many debts are listed, and changes no word of the store.
+unfoldable pub debtsIn : Shape → Settings → Nanos → ℕ → ℕ → List ℕ → Outcome Reply (List ℕ)
+debtsIn shape s at i lent ws =
+    unlessRefused (debtsRefusalIn shape s at i lent ws) ws (outcome (Count (length (listed at (shardNumbered shape i ws .ledger)))) ws)
 
--- The records after the call: a call that is refused leaves them as they are.
-unfoldable pub recordsAfterIn : Shape → Settings → Nanos → ℕ → List Debt → List ℕ → List Debt
-recordsAfterIn shape s at i records ws =
-    cond (eqb (debtsRefusalIn shape s at i (length records) ws) 0) (written (listed at (shardNumbered shape i ws .ledger)) records) records
-
--- The call changes no word of the store: as a call of a list it has its reply, and leaves the words.
-abbrev pub debtsIn : Shape → Settings → Nanos → ℕ → ℕ → List ℕ → Outcome Reply (List ℕ)
-debtsIn shape s at i lent ws = outcome (debtsReplyIn shape s at i lent ws) ws
-
--- What its caller has who lends the records: the reply, and the records after it. The shape is that of the settings.
-abbrev pub recordsAfter : Settings → Nanos → ℕ → List Debt → List ℕ → List Debt
-recordsAfter s at i records ws = recordsAfterIn (shapeOf s) s at i records ws
+-- What its caller has who lends the records: the same answer, and the records after it. A call that is refused leaves them as they are.
+unfoldable pub listDebtsIn : Shape → Settings → Nanos → ℕ → List Debt → List ℕ → Outcome Reply (List Debt)
+listDebtsIn shape s at i records ws =
+    let ds = listed at (shardNumbered shape i ws .ledger) in
+    unlessRefused (debtsRefusalIn shape s at i (length records) ws) records (outcome (Count (length ds)) (written ds records))
 
 abbrev pub listDebts : Settings → Nanos → ℕ → List Debt → List ℕ → Outcome Reply (List Debt)
-listDebts s at i records ws = outcome (debtsReplyIn (shapeOf s) s at i (length records) ws) (recordsAfter s at i records ws)
+listDebts s at i records ws = listDebtsIn (shapeOf s) s at i records ws
