@@ -26,16 +26,16 @@ pub data Whole : Type 0 where
 
 abbrev pub clockAfterWhole : Whole → ℕ → ℕ
 clockAfterWhole len before = before
-clockAfterWhole (debts at i lent) before = at .0
+clockAfterWhole (debts at i room) before = at .0
 
 abbrev pub wholeFits : Whole → Bool
 wholeFits len = true
-wholeFits (debts at i lent) = fits64 (at .0) && fits64 i && fits64 lent
+wholeFits (debts at i room) = fits64 (at .0) && fits64 i && fits64 room
 
 -- The rule of such a call, in memory of a shape.
 abbrev pub wholeRuleIn : Shape → Settings → Whole → List ℕ → Outcome Reply (List ℕ)
 wholeRuleIn shape s len ws = lenIn shape s ws
-wholeRuleIn shape s (debts at i lent) ws = debtsIn shape s at i lent ws
+wholeRuleIn shape s (debts at i room) ws = debtsIn shape s at i room ws
 
 -- A call has its settings. It asks something of a key, which it names, or something that names no key. Set-up and clear are no calls of a list.
 pub data Call (S N : Type 0) : Type 0 where
@@ -96,7 +96,7 @@ module _ {S N : Type 0} where
   length s = whole s len
 
   abbrev pub listDebts : S → Nanos → ℕ → ℕ → Call S N
-  listDebts s at i lent = whole s (debts at i lent)
+  listDebts s at i room = whole s (debts at i room)
 
   -- Of a call: its settings as it writes them; the clock after it, given the clock before; the kind of its reply.
   abbrev pub writtenOf : Call S N → S

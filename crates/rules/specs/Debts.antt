@@ -44,29 +44,38 @@ unfoldable pub debtCountRefusal : ℕ → Ledger → ℕ
 debtCountRefusal cap l = cond (ltb cap (l .debts .count)) 5 0
 
 unfoldable pub recordsRefusal : ℕ → ℕ → ℕ
-recordsRefusal lent needed = cond (ltb lent needed) 17 0
+recordsRefusal room needed = cond (ltb room needed) 17 0
 
--- The number by which a call is refused that lends so many records; 0 if it is not refused. The settings and the length come first, then the moment, then the
--- shard's number, its debt count and the records. Slot counts and the total are not looked at.
-abbrev pub ledgerRefusal : Shape → Nanos → ℕ → Ledger → ℕ
-ledgerRefusal shape at lent l = firstRefusal (debtCountRefusal (shape .cap) l) (recordsRefusal lent (length (listed at l)))
+-- The number by which a call is refused that lends so many records (`room`); 0 if it is not refused. The settings and the length come first, then the moment,
+-- then the shard's number, its debt count and the records. Slot counts and the total are not looked at.
+abbrev pub ledgerRefusal : ℕ → Nanos → ℕ → Ledger → ℕ
+ledgerRefusal cap at room l = firstRefusal (debtCountRefusal cap l) (recordsRefusal room (length (listed at l)))
 
 abbrev pub debtsRefusalIn : Shape → Settings → Nanos → ℕ → ℕ → List ℕ → ℕ
-debtsRefusalIn shape s at i lent ws =
+debtsRefusalIn shape s at i room ws =
     firstRefusal (setUpRefusalIn shape s ws)
     (firstRefusal (momentRefusal at)
-    (firstRefusal (shardRefusal shape i) (ledgerRefusal shape at lent (shardNumbered shape i ws .ledger))))
+    (firstRefusal (shardRefusal shape i) (ledgerRefusal (shape .cap) at room (shardNumbered shape i ws .ledger))))
 
 -- As a call of a list it is given the number of lent records alone. It answers how many debts are listed, and changes no word of the store.
 unfoldable pub debtsIn : Shape → Settings → Nanos → ℕ → ℕ → List ℕ → Outcome Reply (List ℕ)
-debtsIn shape s at i lent ws =
-    unlessRefused (debtsRefusalIn shape s at i lent ws) ws (outcome (Count (length (listed at (shardNumbered shape i ws .ledger)))) ws)
+debtsIn shape s at i room ws =
+    unlessRefused (debtsRefusalIn shape s at i room ws) ws (outcome (Count (length (listed at (shardNumbered shape i ws .ledger)))) ws)
 
--- What its caller has who lends the records: the same answer, and the records after it. A call that is refused leaves them as they are.
-unfoldable pub listDebtsIn : Shape → Settings → Nanos → ℕ → List Debt → List ℕ → Outcome Reply (List Debt)
-listDebtsIn shape s at i records ws =
-    let ds = listed at (shardNumbered shape i ws .ledger) in
-    unlessRefused (debtsRefusalIn shape s at i (length records) ws) records (outcome (Count (length ds)) (written ds records))
+-- What its caller lends: the words of the store, and the records.
+pub record Lent : Type 0 where
+  pub words : List ℕ
+  pub records : List Debt
 
-abbrev pub listDebts : Settings → Nanos → ℕ → List Debt → List ℕ → Outcome Reply (List Debt)
-listDebts s at i records ws = listDebtsIn (shapeOf s) s at i records ws
+abbrev pub lent : List ℕ → List Debt → Lent
+lent ws records = record { words = ws; records = records }
+
+-- What its caller has: the same answer, the words as they were, and the records after it. A call that is refused leaves the records as they are, too.
+unfoldable pub listDebtsIn : Shape → Settings → Nanos → ℕ → Lent → Outcome Reply Lent
+listDebtsIn shape s at i before =
+    let ds = listed at (shardNumbered shape i (before .words) .ledger) in
+    unlessRefused (debtsRefusalIn shape s at i (length (before .records)) (before .words)) before
+    (outcome (Count (length ds)) (lent (before .words) (written ds (before .records))))
+
+abbrev pub listDebts : Settings → Nanos → ℕ → Lent → Outcome Reply Lent
+listDebts s at i before = listDebtsIn (shapeOf s) s at i before
