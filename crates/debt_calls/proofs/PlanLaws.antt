@@ -24,7 +24,7 @@ use Rattle.store.proofs.RefusalLaws.{SetUp, set-up-not-refused, refusals-in-a-r
 use Rattle.rules.specs.declared.Reply.{Reply}
 use Rattle.rules.specs.declared.Reply.the-variants.{Count, Refused}
 use Rattle.rules.specs.Rules.{unlessRefused}
-use Rattle.rules.specs.Debts.{listed, written, shardRefusal, debtCountRefusal, recordsRefusal, ledgerRefusal, debtsRefusalIn, listDebts, listDebtsIn}
+use Rattle.rules.specs.Debts.{listed, written, shardRefusal, debtCountRefusal, recordsRefusal, ledgerRefusal, debtsRefusalIn, Lent, lent, listDebts, listDebtsIn}
 use Rattle.debt_calls.specs.declared.Plan.{Plan}
 use Rattle.debt_calls.specs.code.Listing.{ledgerIn, Readable, Fillable, callRefusal, refusedPlan, planFor, ledgerPlan, planOf, replyTo}
 
@@ -53,17 +53,17 @@ module _ (cap : ℕ) (l : Ledger) where
   pub debts-not-refused : debtCountRefusal cap l ≡ 0 → l .debts .count ≤ cap
   debts-not-refused none = by-le (l .debts .count) cap (λ within. within) (λ over. absurd (omega (arith, none, debts-over-are-refused over)))
 
-module _ (lent needed : ℕ) where
-  pub few-records-are-refused : lent < needed → 17 ≡ recordsRefusal lent needed
+module _ (room needed : ℕ) where
+  pub few-records-are-refused : room < needed → 17 ≡ recordsRefusal room needed
   unfolding recordsRefusal
   few-records-are-refused short = rw (lt-ltb _ _ short)
 
-  pub records-are-accepted : needed ≤ lent → 0 ≡ recordsRefusal lent needed
+  pub records-are-accepted : needed ≤ room → 0 ≡ recordsRefusal room needed
   unfolding recordsRefusal
   records-are-accepted enough = rw (le-ltb _ _ enough)
 
-  records-not-refused : recordsRefusal lent needed ≡ 0 → needed ≤ lent
-  records-not-refused none = by-le needed lent (λ enough. enough) (λ short. absurd (omega (arith, none, few-records-are-refused short)))
+  records-not-refused : recordsRefusal room needed ≡ 0 → needed ≤ room
+  records-not-refused none = by-le needed room (λ enough. enough) (λ short. absurd (omega (arith, none, few-records-are-refused short)))
 
 -- A plan by its refusal: a number that is told leaves nothing to write, none leaves the part and the count.
 module _ {told refusal : ℕ} (part′ : Part) (n : ℕ) (is : told ≡ refusal) where
@@ -104,37 +104,37 @@ module _ (s : Settings) (at : Nanos) (i : ℕ) (ws : List ℕ) where
       }
 
   -- The call is refused first by these, then for its ledger.
-  module _ (lent : ℕ) where
+  module _ (room : ℕ) where
     abbrev ledger : Ledger
     ledger = ledgerIn (partAt (shapeOf s) i) ws
 
-    pub refusals-of-the-call : debtsRefusalIn (shapeOf s) s at i lent ws ≡ firstRefusal (callRefusal s at i ws) (ledgerRefusal (shapeOf s) at lent ledger)
+    pub refusals-of-the-call : debtsRefusalIn (shapeOf s) s at i room ws ≡ firstRefusal (callRefusal s at i ws) (ledgerRefusal (shapeOf s .cap) at room ledger)
     refusals-of-the-call =
-        let last : ℕ = ledgerRefusal (shapeOf s) at lent ledger in
+        let last : ℕ = ledgerRefusal (shapeOf s .cap) at room ledger in
         sym
         (refusals-in-a-row (setUpRefusal s ws) (firstRefusal (momentRefusal at) (shardRefusal (shapeOf s) i)) last
         ∙ ap (firstRefusal (setUpRefusal s ws)) (refusals-in-a-row (momentRefusal at) (shardRefusal (shapeOf s) i) last))
 
-    pub call-refused : {told : ℕ} {plan : Plan} → told ≡ callRefusal s at i ws → (told ≡ 0 → ⊥) → plan ≡ refusedPlan told → plan ≡ planOf s at i lent ws
+    pub call-refused : {told : ℕ} {plan : Plan} → told ≡ callRefusal s at i ws → (told ≡ 0 → ⊥) → plan ≡ refusedPlan told → plan ≡ planOf s at i room ws
     call-refused is some planned =
         planned
         ∙ plan-refused (partAt (shapeOf s) i) (length (listed at ledger))
         (is ∙ sym (first-refusal-stands _ _ (λ none. some (is ∙ none))) ∙ sym refusals-of-the-call) some
 
     pub ledger-decides : {part′ : Part} {plan : Plan} → callRefusal s at i ws ≡ 0 → part′ ≡ partAt (shapeOf s) i
-        → plan ≡ ledgerPlan part′ at lent (ledgerIn part′ ws) → plan ≡ planOf s at i lent ws
+        → plan ≡ ledgerPlan part′ at room (ledgerIn part′ ws) → plan ≡ planOf s at i room ws
     ledger-decides none is planned =
         planned
-        ∙ ap (λ (p : Part). ledgerPlan p at lent (ledgerIn p ws)) is
+        ∙ ap (λ (p : Part). ledgerPlan p at room (ledgerIn p ws)) is
         ∙ ap (λ (n : ℕ). planFor n (partAt (shapeOf s) i) (length (listed at ledger))) (sym (refusals-of-the-call ∙ no-refusal-hands-on _ _ none))
 
 -- What `fill` asks of a plan.
-pub record Ready (ws : List ℕ) (at : Nanos) (lent : ℕ) (plan : Plan) : Type 0 where
+pub record Ready (ws : List ℕ) (at : Nanos) (room : ℕ) (plan : Plan) : Type 0 where
   pub fillable : Fillable (plan .part) ws at (plan .count)
-  pub enough : plan .count ≤ lent
+  pub enough : plan .count ≤ room
 
-refused-ready : (ws : List ℕ) (at : Nanos) (lent refusal : ℕ) → Ready ws at lent (refusedPlan refusal)
-refused-ready ws at lent refusal = record { fillable = record { readable = λ some. absurd (omega (arith, some)); enough = omega arith }; enough = omega arith }
+refused-ready : (ws : List ℕ) (at : Nanos) (room refusal : ℕ) → Ready ws at room (refusedPlan refusal)
+refused-ready ws at room refusal = record { fillable = record { readable = λ some. absurd (omega (arith, some)); enough = omega arith }; enough = omega arith }
 
 -- A plan that is the call's can be written, and the reply and the records are then the call's.
 module _ (s : Settings) (at : Nanos) (i : ℕ) (records : List Debt) (ws : List ℕ) where
@@ -161,16 +161,17 @@ module _ (s : Settings) (at : Nanos) (i : ℕ) (records : List Debt) (ws : List 
       }
 
   -- What a plan leads to.
-  abbrev leadsTo : Plan → Outcome Reply (List Debt)
-  leadsTo plan = outcome (replyTo (plan .refusal) (plan .count)) (written (take (plan .count) (listed at (ledgerIn (plan .part) ws))) records)
+  abbrev leadsTo : Plan → Outcome Reply Lent
+  leadsTo plan =
+      outcome (replyTo (plan .refusal) (plan .count)) (lent ws (written (take (plan .count) (listed at (ledgerIn (plan .part) ws))) records))
 
-  refused-leads : (number ≡ 0 → ⊥) → leadsTo (refusedPlan number) ≡ listDebts s at i records ws
+  refused-leads : (number ≡ 0 → ⊥) → leadsTo (refusedPlan number) ≡ listDebts s at i (lent ws records)
   unfolding listDebtsIn unlessRefused written
-  refused-leads some = rw (ne-eqb _ _ some) (ap (λ (r : Reply). outcome r records) (sym (reply-refused number 0 some)))
+  refused-leads some = rw (ne-eqb _ _ some) (ap (λ (r : Reply). outcome r (lent ws records)) (sym (reply-refused number 0 some)))
 
-  made-leads : number ≡ 0 → leadsTo (record { part = chosen; count = length debts; refusal = 0 }) ≡ listDebts s at i records ws
+  made-leads : number ≡ 0 → leadsTo (record { part = chosen; count = length debts; refusal = 0 }) ≡ listDebts s at i (lent ws records)
   unfolding listDebtsIn unlessRefused
-  made-leads none = rw (eq-eqb _ _ none, take-length debts) (ap (λ (r : Reply). outcome r (written debts records)) (sym (reply-counts 0 (length debts) refl)))
+  made-leads none = rw (eq-eqb _ _ none, take-length debts) (ap (λ (r : Reply). outcome r (lent ws (written debts records))) (sym (reply-counts 0 (length debts) refl)))
 
   abbrev plan-is : {Q : Plan → Type 0} → (number ≡ 0 → Q (record { part = chosen; count = length debts; refusal = 0 }))
       → ((number ≡ 0 → ⊥) → Q (refusedPlan number)) → {plan : Plan} → plan ≡ planOf s at i (length records) ws → Q plan
@@ -184,5 +185,5 @@ module _ (s : Settings) (at : Nanos) (i : ℕ) (records : List Debt) (ws : List 
     plan-is-ready = plan-is {Q = λ p. Ready ws at (length records) p} made-ready (λ some. refused-ready ws at (length records) number) is
 
     pub plan-leads : {reply : Reply} {after : List Debt} → reply ≡ replyTo (plan .refusal) (plan .count)
-        → after ≡ written (take (plan .count) (listed at (ledgerIn (plan .part) ws))) records → outcome reply after ≡ listDebts s at i records ws
-    plan-leads replied wrote = rw (replied, wrote) (plan-is {Q = λ p. leadsTo p ≡ listDebts s at i records ws} made-leads refused-leads is)
+        → after ≡ written (take (plan .count) (listed at (ledgerIn (plan .part) ws))) records → outcome reply (lent ws after) ≡ listDebts s at i (lent ws records)
+    plan-leads replied wrote = rw (replied, wrote) (plan-is {Q = λ p. leadsTo p ≡ listDebts s at i (lent ws records)} made-leads refused-leads is)

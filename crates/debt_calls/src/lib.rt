@@ -95,10 +95,10 @@ fn debt_count_refusal(ws: &[u64], part: Part) -> u32
 }
 
 // 17 where fewer records are lent than are to be written.
-fn records_refusal(lent: usize, needed: usize) -> u32
-    ensures { λ r. ⌜ r ≡ Debts.recordsRefusal lent needed ⌝ }
+fn records_refusal(room: usize, needed: usize) -> u32
+    ensures { λ r. ⌜ r ≡ Debts.recordsRefusal room needed ⌝ }
 {
-    if lent < needed { 17 } else { 0 }
+    if room < needed { 17 } else { 0 }
 }
 
 // The refusal before the ledger is looked at: the settings, the length, the moment, then the shard's number.
@@ -132,16 +132,16 @@ fn refused(refusal: u32) -> Plan
 }
 
 // The plan for the ledger of a part, where so many records are lent.
-fn ledger_plan(ws: &[u64], part: Part, at: Nanos, lent: usize) -> Plan
+fn ledger_plan(ws: &[u64], part: Part, at: Nanos, room: usize) -> Plan
     requires { ⌜ Placed part (now ws) ⌝ }
-    ensures { λ r. ⌜ r ≡ ledgerPlan part at lent (ledgerIn part (now (ws .entry))) ⌝ }
+    ensures { λ r. ⌜ r ≡ ledgerPlan part at room (ledgerIn part (now (ws .entry))) ⌝ }
 {
     let refusal = debt_count_refusal(ws, part);
     if refusal != 0 {
         return refused(refusal);
     }
     let count = count_unsettled(ws, part, at);
-    let refusal = records_refusal(lent, count);
+    let refusal = records_refusal(room, count);
     if refusal != 0 {
         return refused(refusal);
     }
@@ -153,15 +153,15 @@ fn ledger_plan(ws: &[u64], part: Part, at: Nanos, lent: usize) -> Plan
 }
 
 // All that the call decides, where so many records are lent.
-fn planned(settings: Settings, ws: &[u64], at: Nanos, shard: u64, lent: usize) -> Plan
-    ensures { λ r. ⌜ r ≡ planOf settings at shard lent (now (ws .entry)) ⌝ }
+fn planned(settings: Settings, ws: &[u64], at: Nanos, shard: u64, room: usize) -> Plan
+    ensures { λ r. ⌜ r ≡ planOf settings at shard room (now (ws .entry)) ⌝ }
 {
     let refusal = call_refusal(settings, ws, at, shard);
     if refusal != 0 {
         return refused(refusal);
     }
     let part = store::part_at(settings.shape(), shard as usize);
-    ledger_plan(ws, part, at, lent)
+    ledger_plan(ws, part, at, room)
 }
 
 // The reply to a call that is refused by a number, or wrote so many records.
@@ -182,7 +182,8 @@ pub fn list_debts(
     shard: u64,
     records: &mut [Debt],
 ) -> Reply
-    ensures { λ r. ⌜ outcome r (now (records .exit)) ≡ Debts.listDebts settings at shard (now (records .entry)) (now (ws .entry)) ⌝ }
+    ensures { λ r. ⌜ outcome r (Debts.lent (now (ws .exit)) (now (records .exit)))
+        ≡ Debts.listDebts settings at shard (Debts.lent (now (ws .entry)) (now (records .entry))) ⌝ }
 {
     let plan = planned(settings, ws, at, shard, records.len());
     fill(records, ws, plan.part, at, plan.count);

@@ -14,7 +14,7 @@ use Rattle.store.specs.Memory.{Placed, partAt, shardIn}
 use Rattle.store.specs.Refusals.{setUpRefusal, momentRefusal}
 use Rattle.rules.specs.declared.Reply.{Reply}
 use Rattle.rules.specs.declared.Reply.the-variants.{Count, Refused}
-use Rattle.rules.specs.Debts.{unsettled, listed, shardRefusal, debtCountRefusal, recordsRefusal, debtsRefusalIn}
+use Rattle.rules.specs.Debts.{unsettled, listed, shardRefusal, ledgerRefusal, debtsRefusalIn}
 use Rattle.debt_calls.specs.declared.Plan.{Plan}
 
 -- The ledger in a part.
@@ -49,14 +49,13 @@ planFor refusal part n = cond (eqb refusal 0) (record { part = part; count = n; 
 
 -- The plan by the ledger alone, and that of the call.
 abbrev pub ledgerPlan : Part → Nanos → ℕ → Ledger → Plan
-ledgerPlan part at lent l =
-    let needed = length (listed at l) in
-    planFor (firstRefusal (debtCountRefusal (part .cap) l) (recordsRefusal lent needed)) part needed
+ledgerPlan part at room l =
+    planFor (ledgerRefusal (part .cap) at room l) part (length (listed at l))
 
 abbrev pub planOf : Settings → Nanos → ℕ → ℕ → List ℕ → Plan
-planOf s at i lent ws =
+planOf s at i room ws =
     let part = partAt (shapeOf s) i in
-    planFor (debtsRefusalIn (shapeOf s) s at i lent ws) part (length (listed at (ledgerIn part ws)))
+    planFor (debtsRefusalIn (shapeOf s) s at i room ws) part (length (listed at (ledgerIn part ws)))
 
 -- The reply to a call that is refused by a number, 0 for none, or wrote so many records.
 unfoldable pub replyTo : ℕ → ℕ → Reply
