@@ -247,7 +247,8 @@ module _ (s : Settings) (rate : Rate) (k : Identity) (B : BoundOf (configOf rate
           rw (not-refused-is-ruled terms (keyed s′ name ask) ws none, fair .settings)
           (stored-stands s rate k B (clockAfterAsk ask n) ask reply _
           (ask-stands rated id n ws g v (fair .alone) (rw (fair .settings) at (asked .0)) ask (asked .1) (fair .later) (fair .undone)))
-      accepted-stands (whole s′ what) none fair = rw (looks-change-nothing terms (whole s′ what) ws looks-at-all) v
+      accepted-stands (whole s′ what) none fair =
+          rw (looks-change-nothing terms (whole s′ what) ws looks-at-all) (standing-later s rate k B n (clockAfter (whole s′ what) n) ws (fair .later) v)
 
       -- Every call: accepted ones as above; refused ones change nothing.
       pub call-stands : (c : Call S N) → (accepted terms (ruled terms c ws) ≡ true → Fair n c)

@@ -1,18 +1,20 @@
--- Code as its caller knows it: what the contracts of the ten operations of `perkey`, of the five of `modems` and of the three of `class_calls` tell. They
--- answer calls of one list, in which each call names a modem by key or by address (`byName`). `Asked` and `Learnt` are an operation's `requires` and `ensures`
+-- Code as its caller knows it: what the contracts of the ten operations of `perkey`, of the five of `modems`, of the three of `class_calls` and of the one of
+-- `debt_calls` tell. They answer calls of one list, in which each call names a modem by key or by address (`byName`). `Asked` and `Learnt` are an operation's `requires` and `ensures`
 -- (src/lib.rt of these crates) as the check gives them to its callers: `Asked` of the arguments, `Learnt` of the arguments at entry, the result, and the
 -- arguments at exit.
 use Prim.Native.Nat.{ℕ}
 use mathlib.Core.Path.{_≡_}
 use mathlib.Core.Bool.{true}
 use mathlib.Core.List.{List}
+use lib.ListN as ListN
 use contract.Lifetimes.{Lfts}
 use denote.Ref.{RefT}
 use Rattle.units.specs.declared.Nanos.{Nanos}
 use Rattle.settings.specs.declared.Settings.{Settings}
+use Rattle.ledger.specs.declared.Debt.{Debt}
 use Rattle.shard.specs.declared.Identity.{Identity}
-use Rattle.rules.specs.Widths.{settingsFit, lendable}
-use Rattle.rules.specs.Calls.{try, reserve, peek, available, timesTurnedAway, length, refund, remove, classTry, fits}
+use Rattle.rules.specs.Widths.{settingsFit, lendable, recordsFit}
+use Rattle.rules.specs.Calls.{try, reserve, peek, available, timesTurnedAway, length, refund, remove, classTry, listDebts, fits}
 use Rattle.modems.specs.Names.{Name, key, address, byName}
 use Rattle.perkey.proofs.set_up.Reads as SetUp
 use Rattle.perkey.proofs.clear.Reads as Clear
@@ -32,10 +34,11 @@ use Rattle.modems.proofs.remove.Reads as ModemRemove
 use Rattle.class_calls.proofs.class_set_up.Reads as ClassSetUp
 use Rattle.class_calls.proofs.class_clear.Reads as ClassClear
 use Rattle.class_calls.proofs.class_try.Reads as ClassTry
+use Rattle.debt_calls.proofs.list_debts.Reads as ListDebts
 use Rattle.demands.specs.Demands.{untabled, tabled, Limiter}
 
--- Words or bytes that are lent, at some place.
-abbrev pub lentAt : ℕ × ℕ → ℕ → List ℕ → RefT (List ℕ)
+-- Words, bytes or records that are lent, at some place.
+abbrev pub lentAt : {A : Type 0} → ℕ × ℕ → ℕ → List A → RefT (List A)
 lentAt ptr name ws = record { ptr = ptr; name = name; now = ws }
 
 -- For any lifetimes and any place of the lent words: no answer depends on them.
@@ -142,9 +145,24 @@ module _ (κs : Lfts 2) (ptr tablePtr : ℕ × ℕ) (name tableName : ℕ) where
         ClassTry.Asked κs (withTable s table ws (at, (id, (class, (cost, tt))))) →
         ClassTry.Learnt κs (withTable s table ws (at, (id, (class, (cost, tt))))) (o .answer) (withTable s table (o .after) (at, (id, (class, (cost, tt)))))
 
--- Of all three crates.
+-- The operation of `debt_calls` is lent records, too. Its contract is told for all records of a number: the answer and the words are those that the limiter has
+-- for that number, and the records are its `lists`.
+module _ (κs : Lfts 2) (ptr recordsPtr : ℕ × ℕ) (name recordsName : ℕ) where
+  -- The arguments of the operation as its contract has them: the settings, the words, the moment, the shard's number and the records.
+  abbrev withRecords : Settings → List ℕ → Nanos → ℕ → List Debt → Settings × (RefT (List ℕ) × (Nanos × (ℕ × (RefT (List Debt) × Unit {0}))))
+  withRecords s ws at i records = (s, (lentAt ptr name ws, (at, (i, (lentAt recordsPtr recordsName records, tt)))))
+
+  pub record DebtContracts (l : Limiter Settings Name) : Type 0 where
+    pub lists : (s : Settings) (at : Nanos) (i : ℕ) (records : List Debt) (ws : List ℕ) → fits byName (listDebts s at i (ListN.length records)) ≡ true
+        → recordsFit records ≡ true → lendable ws ≡ true →
+        let o = l .answers (listDebts s at i (ListN.length records)) ws in
+        ListDebts.Asked κs (withRecords s ws at i records) →
+        ListDebts.Learnt κs (withRecords s ws at i records) (o .answer) (withRecords s (o .after) at i (l .lists s at i records ws))
+
+-- Of all four crates.
 module _ (κs : Lfts 1) (κs₂ : Lfts 2) (ptr otherPtr : ℕ × ℕ) (name otherName : ℕ) where
   pub record Contracts (l : Limiter Settings Name) : Type 0 where
     pub by-key : KeyContracts κs ptr name l
     pub by-address : AddressContracts κs₂ ptr otherPtr name otherName l
     pub by-class : ClassContracts κs₂ ptr otherPtr name otherName l
+    pub of-debts : DebtContracts κs₂ ptr otherPtr name otherName l

@@ -2,6 +2,7 @@ pub mod RefusedLaws
 pub mod RuleLaws
 pub mod KeyedLaws
 pub mod KindLaws
+pub mod DebtLaws
 pub mod CallLaws
 pub mod WaitLaws
 pub mod StoredLaws
