@@ -5,13 +5,13 @@ use mathlib.Core.Path.{_≡_, refl, sym, ap, _∙_}
 use mathlib.Core.List.{List}
 use lib.ListN.{length, take}
 use lib.Seq.{take-length}
-use borrow.Author.Tests.{eq-eqb, ne-eqb, lt-ltb, le-ltb}
-use Rattle.arith.proofs.Cases.{by-eq, by-le}
+use borrow.Author.Tests.{eq-eqb, ne-eqb}
+use Rattle.arith.proofs.Cases.{by-eq}
 use Rattle.units.specs.declared.Nanos.{Nanos}
 use Rattle.rows.specs.Outcome.{Outcome, outcome}
 use Rattle.settings.specs.declared.Settings.{Settings}
 use Rattle.settings.specs.declared.Shape.{Shape}
-use Rattle.settings.specs.Settings.{firstRefusal, shapeOf, mostCounted, ShapeOfAccepted}
+use Rattle.settings.specs.Settings.{firstRefusal, shapeOf, shardCount, mostCounted, ShapeOfAccepted}
 use Rattle.settings.proofs.SettingsLaws.{first-refusal-stands, no-refusal-hands-on, neither-refuses}
 use Rattle.ledger.specs.declared.Debt.{Debt}
 use Rattle.ledger.specs.Model.{Ledger}
@@ -23,47 +23,11 @@ use Rattle.store.proofs.LendingLaws.{accepted-shape}
 use Rattle.store.proofs.RefusalLaws.{SetUp, set-up-not-refused, refusals-in-a-row}
 use Rattle.rules.specs.declared.Reply.{Reply}
 use Rattle.rules.specs.declared.Reply.the-variants.{Count, Refused}
-use Rattle.rules.specs.Rules.{unlessRefused}
-use Rattle.rules.specs.Debts.{listed, written, shardRefusal, debtCountRefusal, recordsRefusal, ledgerRefusal, debtsRefusalIn, Lent, lent, listDebts, listDebtsIn}
+use Rattle.rules.specs.Debts.{listed, written, shardRefusal, ledgerRefusal, debtsRefusalIn, Lent, lent, listDebts, listDebtsIn}
+use Rattle.rules.proofs.DebtLaws.{shard-not-refused, debt-count-not-refused, DebtsAccepted, debts-not-refused}
+use Rattle.rules.proofs.RefusedLaws.{unless-refused-accepts, unless-refused-refuses}
 use Rattle.debt_calls.specs.declared.Plan.{Plan}
 use Rattle.debt_calls.specs.code.Listing.{ledgerIn, Readable, Fillable, callRefusal, refusedPlan, planFor, ledgerPlan, planOf, replyTo}
-
--- Each check refuses nothing just where what it looks at is right.
-module _ (shape : Shape) (i : ℕ) where
-  pub shard-is-accepted : i < shape .shards → 0 ≡ shardRefusal shape i
-  unfolding shardRefusal
-  shard-is-accepted below = rw (lt-ltb _ _ below)
-
-  pub no-shard-is-refused : shape .shards ≤ i → 16 ≡ shardRefusal shape i
-  unfolding shardRefusal
-  no-shard-is-refused past = rw (le-ltb _ _ past)
-
-  shard-not-refused : shardRefusal shape i ≡ 0 → i < shape .shards
-  shard-not-refused none = by-le (shape .shards) i (λ past. absurd (omega (arith, none, no-shard-is-refused past))) (λ below. below)
-
-module _ (cap : ℕ) (l : Ledger) where
-  pub debts-over-are-refused : cap < l .debts .count → 5 ≡ debtCountRefusal cap l
-  unfolding debtCountRefusal
-  debts-over-are-refused over = rw (lt-ltb _ _ over)
-
-  pub debts-are-accepted : l .debts .count ≤ cap → 0 ≡ debtCountRefusal cap l
-  unfolding debtCountRefusal
-  debts-are-accepted within = rw (le-ltb _ _ within)
-
-  pub debts-not-refused : debtCountRefusal cap l ≡ 0 → l .debts .count ≤ cap
-  debts-not-refused none = by-le (l .debts .count) cap (λ within. within) (λ over. absurd (omega (arith, none, debts-over-are-refused over)))
-
-module _ (room needed : ℕ) where
-  pub few-records-are-refused : room < needed → 17 ≡ recordsRefusal room needed
-  unfolding recordsRefusal
-  few-records-are-refused short = rw (lt-ltb _ _ short)
-
-  pub records-are-accepted : needed ≤ room → 0 ≡ recordsRefusal room needed
-  unfolding recordsRefusal
-  records-are-accepted enough = rw (le-ltb _ _ enough)
-
-  records-not-refused : recordsRefusal room needed ≡ 0 → needed ≤ room
-  records-not-refused none = by-le needed room (λ enough. enough) (λ short. absurd (omega (arith, none, few-records-are-refused short)))
 
 -- A plan by its refusal: a number that is told leaves nothing to write, none leaves the part and the count.
 module _ {told refusal : ℕ} (part′ : Part) (n : ℕ) (is : told ≡ refusal) where
@@ -91,6 +55,10 @@ pub record Called (s : Settings) (i : ℕ) (ws : List ℕ) : Type 0 where
   pub below : i < shapeOf s .shards
   pub placed : Placed (partAt (shapeOf s) i) ws
 
+-- The part of a shard by its number lies in memory of the right length.
+shard-placed : (s : Settings) (i : ℕ) (ws : List ℕ) → SetUp s ws → i < shardCount s → Placed (partAt (shapeOf s) i) ws
+shard-placed s i ws set-up below = record { begins = omega arith; ends = refl; within = shard-ends s i ws (set-up .size) below }
+
 module _ (s : Settings) (at : Nanos) (i : ℕ) (ws : List ℕ) where
   pub call-not-refused : callRefusal s at i ws ≡ 0 → Called s i ws
   call-not-refused none =
@@ -100,7 +68,7 @@ module _ (s : Settings) (at : Nanos) (i : ℕ) (ws : List ℕ) where
       record {
         shaped = λ few. accepted-shape s (set-up .settings) few refl;
         below = number;
-        placed = record { begins = omega arith; ends = refl; within = shard-ends s i ws (set-up .size) number };
+        placed = shard-placed s i ws set-up number;
       }
 
   -- The call is refused first by these, then for its ledger.
@@ -149,15 +117,16 @@ module _ (s : Settings) (at : Nanos) (i : ℕ) (records : List Debt) (ws : List 
 
   made-ready : number ≡ 0 → Ready ws at (length records) (record { part = chosen; count = length debts; refusal = 0 })
   made-ready none =
-      let both = neither-refuses (callRefusal s at i ws) _ (sym (refusals-of-the-call s at i ws (length records)) ∙ none) in
-      let called = call-not-refused s at i ws (both .0) in
-      let last = neither-refuses (debtCountRefusal (chosen .cap) (ledgerIn chosen ws)) _ (both .1) in
+      let call = debts-not-refused s at i (length records) ws none in
       record {
         fillable = record {
-          readable = λ some. record { placed = called .placed; few = debts-not-refused _ _ (last .0) };
+          readable = λ some. record {
+            placed = shard-placed s i ws (set-up-not-refused s ws (call .set-up)) (call .shard);
+            few = debt-count-not-refused (chosen .cap) (ledgerIn chosen ws) (call .count-fits);
+          };
           enough = omega arith;
         };
-        enough = records-not-refused _ _ (last .1);
+        enough = call .records-fit;
       }
 
   -- What a plan leads to.
@@ -166,24 +135,28 @@ module _ (s : Settings) (at : Nanos) (i : ℕ) (records : List Debt) (ws : List 
       outcome (replyTo (plan .refusal) (plan .count)) (lent ws (written (take (plan .count) (listed at (ledgerIn (plan .part) ws))) records))
 
   refused-leads : (number ≡ 0 → ⊥) → leadsTo (refusedPlan number) ≡ listDebts s at i (lent ws records)
-  unfolding listDebtsIn unlessRefused written
-  refused-leads some = rw (ne-eqb _ _ some) (ap (λ (r : Reply). outcome r (lent ws records)) (sym (reply-refused number 0 some)))
+  unfolding listDebtsIn written
+  refused-leads some =
+      ap (λ (r : Reply). outcome r (lent ws records)) (sym (reply-refused number 0 some)) ∙ sym (unless-refused-refuses number (lent ws records) _ some)
 
   made-leads : number ≡ 0 → leadsTo (record { part = chosen; count = length debts; refusal = 0 }) ≡ listDebts s at i (lent ws records)
-  unfolding listDebtsIn unlessRefused
-  made-leads none = rw (eq-eqb _ _ none, take-length debts) (ap (λ (r : Reply). outcome r (lent ws (written debts records))) (sym (reply-counts 0 (length debts) refl)))
+  unfolding listDebtsIn
+  made-leads none =
+      rw (take-length debts)
+      (ap (λ (r : Reply). outcome r (lent ws (written debts records))) (sym (reply-counts 0 (length debts) refl))
+      ∙ sym (unless-refused-accepts number (lent ws records) _ none))
 
-  abbrev plan-is : {Q : Plan → Type 0} → (number ≡ 0 → Q (record { part = chosen; count = length debts; refusal = 0 }))
+  abbrev plan-is : (Q : Plan → Type 0) → (number ≡ 0 → Q (record { part = chosen; count = length debts; refusal = 0 }))
       → ((number ≡ 0 → ⊥) → Q (refusedPlan number)) → {plan : Plan} → plan ≡ planOf s at i (length records) ws → Q plan
-  plan-is made refused is =
+  plan-is Q made refused is =
       by-eq number 0
       (λ none. rw (is ∙ sym (plan-made chosen (length debts) refl none)) (made none))
       (λ some. rw (is ∙ sym (plan-refused chosen (length debts) refl some)) (refused some))
 
   module _ {plan : Plan} (is : plan ≡ planOf s at i (length records) ws) where
     pub plan-is-ready : Ready ws at (length records) plan
-    plan-is-ready = plan-is {Q = λ p. Ready ws at (length records) p} made-ready (λ some. refused-ready ws at (length records) number) is
+    plan-is-ready = plan-is (Ready ws at (length records)) made-ready (λ some. refused-ready ws at (length records) number) is
 
     pub plan-leads : {reply : Reply} {after : List Debt} → reply ≡ replyTo (plan .refusal) (plan .count)
         → after ≡ written (take (plan .count) (listed at (ledgerIn (plan .part) ws))) records → outcome reply (lent ws after) ≡ listDebts s at i (lent ws records)
-    plan-leads replied wrote = rw (replied, wrote) (plan-is {Q = λ p. leadsTo p ≡ listDebts s at i (lent ws records)} made-leads refused-leads is)
+    plan-leads replied wrote = rw (replied, wrote) (plan-is (λ (p : Plan). leadsTo p ≡ listDebts s at i (lent ws records)) made-leads refused-leads is)

@@ -91,7 +91,11 @@ fn debt_count_refusal(ws: &[u64], part: Part) -> u32
     requires { ⌜ Placed part (now ws) ⌝ }
     ensures { λ r. ⌜ r ≡ Debts.debtCountRefusal (part .cap) (ledgerIn part (now (ws .entry))) ⌝ }
 {
-    if part.cap < debts::len(ws, part) { 5 } else { 0 }
+    if part.cap < debts::len(ws, part) {
+        5
+    } else {
+        0
+    }
 }
 
 // 17 where fewer records are lent than are to be written.

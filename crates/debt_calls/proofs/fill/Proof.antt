@@ -169,8 +169,8 @@ module _ {M : Type 1} (𝓤 : URA M) (H : Heap 𝓤) (A : Atoms 𝓤) (W : Given
   to-g i = (((κ′, tt), (q′, tt), tt, (wr, (part, (at, (i, tt)))), (wv ∷ [], (part-val part ∷ [], (at-val at ∷ [], (vint w64 i ∷ [], tt))))), tt)
 
   goes-g : (i : ℕ) → i < 2 ^ 64 → 0 < n → 0 < length (listedFrom at led i) → ent 𝓤 (sep 𝓤 (A .lft κ′ q′) (sem 𝓤 H A Words)) (G 𝓤 H A mem run .pre (to-g i))
-  goes-g i i-fits some more =
-      qed W (‵ (flft κ′ q′) ∷ ‵ Words ∷ []) ∵ says ! (enough .0 .readable some, more) $ nothing ! $ move ! (1 ∷ 0 ∷ []) $ join ! $ frame ! $
+  goes-g i i-fits asked more =
+      qed W (‵ (flft κ′ q′) ∷ ‵ Words ∷ []) ∵ says ! (enough .0 .readable asked, more) $ nothing ! $ move ! (1 ∷ 0 ∷ []) $ join ! $ frame ! $
       nothing ! $ owned ! usize (Is usize) (uint-makes 𝓤 H A W w64) i _ (refl, i-fits) $ fjoin ! $ owned ! N.the-row (Is N.the-row) (LL.makes N.the-type N′.the-plain 𝓤 H A) at _ is-at $ fjoin ! $
       owned ! P.the-row (Is P.the-row) (LL.makes P.the-type P′.the-plain 𝓤 H A) part _ is-part $ fjoin ! $ move ! (1 ∷ 0 ∷ []) $ fjoin ! $ done !
 
@@ -240,7 +240,7 @@ module _ {M : Type 1} (𝓤 : URA M) (H : Heap 𝓤) (A : Atoms 𝓤) (W : Given
         land ! (from ! (stop !)) (init ! 10 refl (LL.lawful O.the-type O′.the-laws 𝓤 H A W .typed r _ is .0)) $
         rewrite ! 10 (λ (y : Val). ‵ (fat fullShare (τ 8) l₈ 0 y)) (ap only (LL.tells O.the-type O′.the-laws r (v ∷ []) is)) refl $
         assigns ! (bin ! (load ! (from ! (stop !)) (look ! 12 refl)) (lit ! tt) (record { fits = scaled })) (from ! (stop !)) (init ! 6 refl (tt, record { fits = scaled })) $
-        assigns ! (bin ! (load ! (from ! (fld ! {τ = tyPtr} {d = 0} refl (stop !))) (look-in ! 24 {τ = tyPtr} (sub ! 0 {τ = tyPtr} {d = 0} refl (whole !)))) (load ! (from ! (stop !)) (look ! 6 refl)) tt) (from ! (stop !)) (init ! 4 refl (tt, tt)) $
+        assigns ! (bin ! (load ! (from ! (fld ! {d = 0} refl (stop !))) (look-in ! 24 (sub ! 0 {d = 0} refl (whole !)))) (load ! (from ! (stop !)) (look ! 6 refl)) tt) (from ! (stop !)) (init ! 4 refl (tt, tt)) $
         rewrite ! 4 (λ (p : ℕ). ‵ (fat fullShare tyPtr l₁₁ 0 (vptr b p))) (sym (place-is 16 o i)) refl $
         move ! (28 ∷ []) $ elem-out ! T.the-row (Is T.the-row) (shows 𝓤 H A T.the-row) (LL.vals T.the-type T′.the-laws) (LL.tells T.the-type T′.the-laws) fullShare (t .list) i (r .debt) b o within (λ _.
         -- [list[i]; what it owns; the others; what r owns; the words' token; true; the words; _11 at 7; _10 at 9; _9 at 11; _8 at 13; ..]
