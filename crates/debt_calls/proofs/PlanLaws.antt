@@ -35,9 +35,9 @@ module _ {told refusal : ℕ} (part′ : Part) (n : ℕ) (is : told ≡ refusal)
   unfolding planFor
   plan-refused some = rw (is, ne-eqb refusal 0 (λ none. some (is ∙ none)))
 
-  pub plan-made : told ≡ 0 → record { part = part′; count = n; refusal = 0 } ≡ planFor refusal part′ n
+  pub plan-made : {count : ℕ} → told ≡ 0 → count ≡ n → record { part = part′; count = count; refusal = 0 } ≡ planFor refusal part′ n
   unfolding planFor
-  plan-made none = rw (eq-eqb refusal 0 (sym is ∙ none))
+  plan-made none counted = rw (eq-eqb refusal 0 (sym is ∙ none), counted)
 
 -- The reply by the refusal.
 module _ (refusal n : ℕ) where
@@ -150,7 +150,7 @@ module _ (s : Settings) (at : Nanos) (i : ℕ) (records : List Debt) (ws : List 
       → ((number ≡ 0 → ⊥) → Q (refusedPlan number)) → {plan : Plan} → plan ≡ planOf s at i (length records) ws → Q plan
   plan-is Q made refused is =
       by-eq number 0
-      (λ none. rw (is ∙ sym (plan-made chosen (length debts) refl none)) (made none))
+      (λ none. rw (is ∙ sym (plan-made chosen (length debts) refl none refl)) (made none))
       (λ some. rw (is ∙ sym (plan-refused chosen (length debts) refl some)) (refused some))
 
   module _ {plan : Plan} (is : plan ≡ planOf s at i (length records) ws) where
@@ -158,5 +158,6 @@ module _ (s : Settings) (at : Nanos) (i : ℕ) (records : List Debt) (ws : List 
     plan-is-ready = plan-is (Ready ws at (length records)) made-ready (λ some. refused-ready ws at (length records) number) is
 
     pub plan-leads : {reply : Reply} {after : List Debt} → reply ≡ replyTo (plan .refusal) (plan .count)
-        → after ≡ written (take (plan .count) (listed at (ledgerIn (plan .part) ws))) records → outcome reply (lent ws after) ≡ listDebts s at i (lent ws records)
+        → after ≡ written (take (plan .count) (listed at (ledgerIn (plan .part) ws))) records
+        → outcome reply (lent ws after) ≡ listDebts s at i (lent ws records)
     plan-leads replied wrote = rw (replied, wrote) (plan-is (λ (p : Plan). leadsTo p ≡ listDebts s at i (lent ws records)) made-leads refused-leads is)

@@ -65,8 +65,8 @@ unfolding ceilDiv exponentFrom exponentFor rows tableIn sizeRefusal firstRefusal
     listed written shardRefusal debtCountRefusal recordsRefusal listDebtsIn
 the-list-worked = (refl, refl, refl, refl)
 
--- There is no shard 1, nor one of the largest number. A debt count of 4 is over the room for three, and told before the records are too few. A moment that is too
--- late is told before the shard's number.
+-- There is no shard 1, nor one of the largest number. A debt count of 4 is over the room for three, and told before the records are too few. A moment that is
+-- too late is told before the shard's number.
 the-refusals-worked : refuses 16 10 1 three 3 × refuses 16 10 (2 ^ 64 - 1) three 3 × refuses 5 10 0 [] 4 × refuses 6 (2 ^ 62 + 1) 1 [] 4
 unfolding ceilDiv exponentFrom exponentFor rows tableIn sizeRefusal firstRefusal Ledger.ledger Shard.shard memoryRefusal momentRefusal unlessRefused unsettled
     listed written shardRefusal debtCountRefusal recordsRefusal listDebtsIn

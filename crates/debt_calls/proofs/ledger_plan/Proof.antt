@@ -15,7 +15,8 @@ refused-requires : tie.Need-refused-requires
 refused-requires c κs = search needs
 
 returns : tie.Need-returns
-returns c = c .refused .ensures ∙ plan-refused _ _ (first-is-told _ (c .before .before .debt-count-refusal .ensures) (c .before .if1 .taken)) (c .before .if1 .taken)
+returns c =
+    c .refused .ensures ∙ plan-refused _ _ (first-is-told _ (c .before .before .debt-count-refusal .ensures) (c .before .if1 .taken)) (c .before .if1 .taken)
 
 count-unsettled-requires : tie.Need-count-unsettled-requires
 count-unsettled-requires c κs = record {
@@ -41,8 +42,7 @@ returns-3 c =
     let r = c .before in
     let e = r .before .before in
     let told = rw (r .before .count-unsettled .ensures) at (r .records-refusal .ensures) in
-    rw (r .before .count-unsettled .ensures)
-    (plan-made _ _ (second-is-told (e .before .debt-count-refusal .ensures) (e .if1 .left) told) (c .if2 .left))
+    plan-made _ _ (second-is-told (e .before .debt-count-refusal .ensures) (e .if1 .left) told) (c .if2 .left) (r .before .count-unsettled .ensures)
 
 pub ledger-plan-spec : {M : Type 1} → statement M
 ledger-plan-spec =

@@ -22,7 +22,8 @@ refused-requires c κs = search needs
 returns : tie.Need-returns
 returns c =
     let a = c .before .before .before .before .args in
-    call-refused (a .settings) (a .at) (a .shard) (a .ws .now) (a .room) (c .before .before .call-refusal .ensures) (c .before .if1 .taken) (c .refused .ensures)
+    call-refused (a .settings) (a .at) (a .shard) (a .ws .now) (a .room) (c .before .before .call-refusal .ensures) (c .before .if1 .taken)
+    (c .refused .ensures)
 
 shape-requires : tie.Need-shape-requires
 shape-requires c κs = search needs
@@ -37,7 +38,8 @@ returns-2 : tie.Need-returns-2
 returns-2 c =
     let p = c .before in
     let a = p .before .before .before .before .before .args in
-    ledger-decides (a .settings) (a .at) (a .shard) (a .ws .now) (a .room) (none (p .before)) (rw (p .before .shape .ensures) at (p .part-at .ensures)) (c .ledger-plan .ensures)
+    ledger-decides (a .settings) (a .at) (a .shard) (a .ws .now) (a .room) (none (p .before)) (rw (p .before .shape .ensures) at (p .part-at .ensures))
+    (c .ledger-plan .ensures)
 
 pub planned-spec : {M : Type 1} → statement M
 planned-spec =
