@@ -118,7 +118,10 @@ module _ {M : Type 1} (𝓤 : URA M) (H : Heap 𝓤) (A : Atoms 𝓤) (mem : Mem
   abbrev G : Contract 𝓤
   G = tripleOf 𝓤 H A g.signature (g.spec 𝓤 H A mem run)
 
-module _ {M : Type 1} (𝓤 : URA M) (H : Heap 𝓤) (A : Atoms 𝓤) (W : Given 𝓤 H A) (mem : Memory → SProp 𝓤) (run : Routine → Fun 𝓤) (κ κ′ : Lft) (q q′ : Share) (b o : ℕ) (γ : GName) (ys : List Debt) (wr : RefT (List ℕ)) (part : Part) (at : Nanos) (n : ℕ) (is-part : Is P.the-row part (part-val part ∷ [])) (is-at : Is N.the-row at (at-val at ∷ [])) (n-fits : n < 2 ^ 64) (room : Room T.the-row (length ys)) (enough : Fillable part (wr .now) at n × (n ≤ length ys)) where
+module _ {M : Type 1} (𝓤 : URA M) (H : Heap 𝓤) (A : Atoms 𝓤) (W : Given 𝓤 H A) (mem : Memory → SProp 𝓤) (run : Routine → Fun 𝓤) (κ κ′ : Lft) (q q′ : Share)
+    (b o : ℕ) (γ : GName) (ys : List Debt) (wr : RefT (List ℕ)) (part : Part) (at : Nanos) (n : ℕ) (is-part : Is P.the-row part (part-val part ∷ []))
+    (is-at : Is N.the-row at (at-val at ∷ [])) (n-fits : n < 2 ^ 64) (room : Room T.the-row (length ys))
+    (enough : Fillable part (wr .now) at n × (n ≤ length ys)) where
   abbrev led : Ledger
   led = ledgerIn part (wr .now)
 
@@ -243,7 +246,9 @@ module _ {M : Type 1} (𝓤 : URA M) (H : Heap 𝓤) (A : Atoms 𝓤) (W : Given
         -- [what the list says; the borrow; its token; _11 at 3; _10 at 5; _9 at 7; .. _0 at 25; the words' token; the words]
         returns ! (look ! 25 refl) $ forget ! 7 refl $ forget ! 11 refl $ forget ! 13 refl $ forget ! 15 refl $ forget ! 17 refl $ forget ! 19 refl $
         forget ! 21 refl $ forget ! 23 refl $ forget ! 25 refl $
-        move ! (25 ∷ 26 ∷ []) $ free1 ! $ move ! (23 ∷ 24 ∷ []) $ free1 ! $ move ! (21 ∷ 22 ∷ []) $ free1 ! $ move ! (19 ∷ 20 ∷ []) $ free1 ! $ move ! (17 ∷ 18 ∷ []) $ free1 ! $ move ! (15 ∷ 16 ∷ []) $ free1 ! $ move ! (13 ∷ 14 ∷ []) $ free1 ! $ move ! (11 ∷ 12 ∷ []) $ free1 ! $ move ! (9 ∷ 10 ∷ []) $ free1 ! $ move ! (7 ∷ 8 ∷ []) $ free1 ! $ move ! (5 ∷ 6 ∷ []) $ free1 ! $ move ! (3 ∷ 4 ∷ []) $ free1 ! $ free0 ! $
+        move ! (25 ∷ 26 ∷ []) $ free1 ! $ move ! (23 ∷ 24 ∷ []) $ free1 ! $ move ! (21 ∷ 22 ∷ []) $ free1 ! $ move ! (19 ∷ 20 ∷ []) $ free1 ! $
+        move ! (17 ∷ 18 ∷ []) $ free1 ! $ move ! (15 ∷ 16 ∷ []) $ free1 ! $ move ! (13 ∷ 14 ∷ []) $ free1 ! $ move ! (11 ∷ 12 ∷ []) $ free1 ! $
+        move ! (9 ∷ 10 ∷ []) $ free1 ! $ move ! (7 ∷ 8 ∷ []) $ free1 ! $ move ! (5 ∷ 6 ∷ []) $ free1 ! $ move ! (3 ∷ 4 ∷ []) $ free1 ! $ free0 ! $
         by ! (exits (t .list) (t .long) (sym (writes-none n (t .list) (listedFrom at led (t .place-next)))
         ∙ ap (λ (k : ℕ). toWrite n k (t .list) (listedFrom at led (t .place-next))) (sym all) ∙ t .same)))
         (λ (h : t .done-so-far < n).
@@ -279,7 +284,9 @@ module _ {M : Type 1} (𝓤 : URA M) (H : Heap 𝓤) (A : Atoms 𝓤) (W : Given
         move ! (28 ∷ []) $ elem-out ! T.the-row (Is T.the-row) (shows 𝓤 H A T.the-row) (LL.vals T.the-type T′.the-laws)
         (LL.tells T.the-type T′.the-laws) fullShare (t .list) i (r .debt) b o within (λ _.
         -- [list[i]; what it owns; the others; what r owns; the words' token; true; the words; _11 at 7; _10 at 9; _9 at 11; _8 at 13; ..]
-        assigns ! (of-opd ! (load ! (from ! (fld ! {τ = T′.mir} {d = 0} refl (stop !))) (look-in ! 13 {τ = T′.mir} (sub ! 0 {τ = T′.mir} {d = 0} refl (whole !))))) (from ! (hop ! (look ! 7 refl) (stop !))) (store-raw ! 0 refl (LL.lawful T.the-type T′.the-laws 𝓤 H A W .typed (r .debt) _ (fields .0) .0)) $
+        assigns ! (of-opd ! (load ! (from ! (fld ! {τ = T′.mir} {d = 0} refl (stop !)))
+        (look-in ! 13 {τ = T′.mir} (sub ! 0 {τ = T′.mir} {d = 0} refl (whole !))))) (from ! (hop ! (look ! 7 refl) (stop !)))
+        (store-raw ! 0 refl (LL.lawful T.the-type T′.the-laws 𝓤 H A W .typed (r .debt) _ (fields .0) .0)) $
         move ! (1 ∷ []) $ drop ! $ owned ! T.the-row (Is T.the-row) (LL.makes T.the-type T′.the-plain 𝓤 H A) (r .debt) _ (fields .0) $ move ! (1 ∷ 0 ∷ []) $
         elem-put ! T.the-row fullShare (t .list) i (r .debt) (val (r .debt) ∷ []) b o within $
         -- [the elements; what r owns; the words' token; true; the words; _11 at 5; _10 at 7; _9 at 9; _8 at 11; _7 at 13; _6 at 15; .. _0 at 27; the open
@@ -320,7 +327,19 @@ module _ {M : Type 1} (𝓤 : URA M) (H : Heap 𝓤) (A : Atoms 𝓤) (W : Given
       (are .1 .1 .0) (are .1 .1 .1 .0) (are .1 .1 .1 .1 .0 .1) (are .0 .0 .1) enough 𝓣 fm known-g (are .1 .0 .0 .1)))
 
   goes : AllGo 𝓤 H A W 2 (f.signature .params) (f.ended .kept) stayed
-  goes = (goes-slice 𝓤 H A W 2 0 tt (plain (λ _. T.the-row)), (goes-none-slice 𝓤 H A W 2 (1 ∷ []) tt (plain (λ _. u64)) yes, (goes-none 𝓤 H A W 2 (λ _. P.the-row) yes (λ κs x f. refl), (goes-none 𝓤 H A W 2 (λ _. N.the-row) yes (λ κs x f. refl), (goes-none 𝓤 H A W 2 (λ _. usize) yes (λ κs x f. refl), tt)))))
+  goes = (
+    goes-slice 𝓤 H A W 2 0 tt (plain (λ _. T.the-row)),
+    (
+      goes-none-slice 𝓤 H A W 2 (1 ∷ []) tt (plain (λ _. u64)) yes,
+      (
+        goes-none 𝓤 H A W 2 (λ _. P.the-row) yes (λ κs x f. refl),
+        (
+          goes-none 𝓤 H A W 2 (λ _. N.the-row) yes (λ κs x f. refl),
+          (goes-none 𝓤 H A W 2 (λ _. usize) yes (λ κs x f. refl), tt),
+        ),
+      ),
+    ),
+  )
 
 meets : {M : Type 1} (𝓤 : URA M) (H : Heap 𝓤) (A : Atoms 𝓤) (W : Given 𝓤 H A) (mem : Memory → SProp 𝓤) (run : Routine → Fun 𝓤) (𝓣 : Tables 𝓤 H)
     → Triple 𝓤 (𝓣 .C g-def.name) (G 𝓤 H A mem run)

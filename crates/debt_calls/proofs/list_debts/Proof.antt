@@ -108,7 +108,9 @@ module _ {M : Type 1} (𝓤 : URA M) (H : Heap 𝓤) (A : Atoms 𝓤) (mem : Mem
   abbrev K : Contract 𝓤
   K = tripleOf 𝓤 H A k.signature (k.spec 𝓤 H A mem run)
 
-module _ {M : Type 1} (𝓤 : URA M) (H : Heap 𝓤) (A : Atoms 𝓤) (W : Given 𝓤 H A) (mem : Memory → SProp 𝓤) (run : Routine → Fun 𝓤) (κ κ′ : Lft) (q q′ : Share) (b o : ℕ) (γ : GName) (set : Settings) (wr : RefT (List ℕ)) (at : Nanos) (shard : ℕ) (ys : List Debt) (is-set : Is S.the-row set (set-val set ∷ [])) (is-at : Is N.the-row at (at-val at ∷ [])) (shard-fits : shard < 2 ^ 64) (room : Room T.the-row (length ys)) where
+module _ {M : Type 1} (𝓤 : URA M) (H : Heap 𝓤) (A : Atoms 𝓤) (W : Given 𝓤 H A) (mem : Memory → SProp 𝓤) (run : Routine → Fun 𝓤) (κ κ′ : Lft) (q q′ : Share)
+    (b o : ℕ) (γ : GName) (set : Settings) (wr : RefT (List ℕ)) (at : Nanos) (shard : ℕ) (ys : List Debt) (is-set : Is S.the-row set (set-val set ∷ []))
+    (is-at : Is N.the-row at (at-val at ∷ [])) (shard-fits : shard < 2 ^ 64) (room : Room T.the-row (length ys)) where
   abbrev x : RefT (List Debt)
   x = record { ptr = (b, o); name = γ; now = ys }
 
@@ -236,7 +238,9 @@ module _ {M : Type 1} (𝓤 : URA M) (H : Heap 𝓤) (A : Atoms 𝓤) (W : Given
         -- [pre; the words; _10 at 2; _9 at 4; _8 at 6; _7 at 8; _6 at 10; _5 at 12; _4 at 14; _3 at 16; _2 at 18; _1 at 20; _0 at 22; the list at 24; its
         -- token]
         calls-at ! fm (G 𝓤 H A mem run) known-g to-g
-        (and-then ! (load ! (from ! (stop !)) (look ! 20 refl)) (and-then ! (load ! (from ! (stop !)) (look ! 18 refl)) (and-then ! (load ! (from ! (stop !)) (look ! 16 refl)) (and-then ! (load ! (from ! (stop !)) (look ! 14 refl)) (and-then ! (load ! (from ! (stop !)) (look ! 8 refl)) (no-more !)))))) (λ v.
+        (and-then ! (load ! (from ! (stop !)) (look ! 20 refl)) (and-then ! (load ! (from ! (stop !)) (look ! 18 refl)) (and-then ! (load !
+        (from ! (stop !)) (look ! 16 refl)) (and-then ! (load ! (from ! (stop !)) (look ! 14 refl)) (and-then ! (load !
+        (from ! (stop !)) (look ! 8 refl)) (no-more !)))))) (λ v.
         use1 W (later (some (λ (r : Plan). ((‵ (flft κ q) ⊛ ‵ ftrue) ⊛ ‵ (L.the-row .own r (v ∷ [])))
         ⊛ raw (ensured 𝓤 H A g.ended (g.clauses 𝓤 H A mem run) (κ, tt) g-args tt r)))) (id⊢ 𝓤 _) $ await ! tt $ pick ! (λ r.
         split ! $ move ! (1 ∷ []) $ use1 W (raw (fact 𝓤 (Planned r))) (said-g r) $ heard ! (Planned r) (λ e. split ! $ split ! $ move ! (2 ∷ []) $
@@ -247,7 +251,9 @@ module _ {M : Type 1} (𝓤 : URA M) (H : Heap 𝓤) (A : Atoms 𝓤) (W : Given
         rewrite ! 12 (λ (y : Val). ‵ (fat fullShare L′.mir l₆ 0 y)) (ap only (LL.tells L.the-type L′.the-laws r (v ∷ []) is)) refl $
         assigns ! (addr ! (from ! (fld ! {d = 0} refl (hop ! (look-in ! 14 (sub ! 0 {d = 0} refl (whole !))) (stop !))))) (from ! (stop !))
         (init ! 6 refl (tt, tt)) $
-        assigns ! (agg ! (and-then ! (load ! (from ! (stop !)) (look ! 6 refl)) (and-then ! (load ! (from ! (fld ! {τ = tyInt w64} {d = 8} refl (stop !))) (look-in ! 14 {τ = tyInt w64} (sub ! 1 {τ = tyInt w64} {d = 8} refl (whole !)))) (no-more !)))) (from ! (stop !)) (init ! 4 refl (tt, (tt, (record { fits = room .0 }, tt)))) $
+        assigns ! (agg ! (and-then ! (load ! (from ! (stop !)) (look ! 6 refl)) (and-then ! (load ! (from ! (fld ! {τ = tyInt w64} {d = 8} refl (stop !)))
+        (look-in ! 14 {τ = tyInt w64} (sub ! 1 {τ = tyInt w64} {d = 8} refl (whole !)))) (no-more !)))) (from ! (stop !))
+        (init ! 4 refl (tt, (tt, (record { fits = room .0 }, tt)))) $
         move ! (3 ∷ []) $ use1 W (‵ Words ⊛ ‵ Words) (shr-slice-copy 𝓤 H A W (named 0) κ u64 .twice wr (wv ∷ [])) $ split ! $
         -- [the words; the words; what r owns; the words' token; true; _10 at 5; .. _0 at 25; the list at 27; its token at 28]
         move ! (28 ∷ 3 ∷ []) $ join ! $ move ! (0 ∷ 27 ∷ 1 ∷ []) $
@@ -271,7 +277,10 @@ module _ {M : Type 1} (𝓤 : URA M) (H : Heap 𝓤) (A : Atoms 𝓤) (W : Given
         use1 W (raw (K 𝓤 H A mem run .pre (to-k r))) (goes-k r (fields .1 .0 .1)) $
         -- [pre; the words' token; true; the list's token; its last value; ..; the words at 6; what r owns; true; _10 at 9; _9 at 11; _8 at 13; _7 at 15; _6 at
         -- 17; .. _0 at 29]
-        calls-at ! fm (K 𝓤 H A mem run) known-k (to-k r) (and-then ! (load ! (from ! (fld ! {τ = tyInt w32} {d = 32} refl (stop !))) (look-in ! 17 {τ = tyInt w32} (sub ! 2 {τ = tyInt w32} {d = 32} refl (whole !)))) (and-then ! (load ! (from ! (fld ! {τ = tyInt w64} {d = 24} refl (stop !))) (look-in ! 17 {τ = tyInt w64} (sub ! 1 {τ = tyInt w64} {d = 24} refl (whole !)))) (no-more !))) (λ w.
+        calls-at ! fm (K 𝓤 H A mem run) known-k (to-k r) (and-then ! (load ! (from ! (fld ! {τ = tyInt w32} {d = 32} refl (stop !)))
+        (look-in ! 17 {τ = tyInt w32} (sub ! 2 {τ = tyInt w32} {d = 32} refl (whole !)))) (and-then ! (load !
+        (from ! (fld ! {τ = tyInt w64} {d = 24} refl (stop !)))
+        (look-in ! 17 {τ = tyInt w64} (sub ! 1 {τ = tyInt w64} {d = 24} refl (whole !)))) (no-more !))) (λ w.
         use1 W (later (some (λ (p : Reply). (‵ ftrue ⊛ ‵ (R.the-row .own p (w ∷ [])))
         ⊛ raw (ensured 𝓤 H A k.ended (k.clauses 𝓤 H A mem run) tt (k-args r) tt p)))) (id⊢ 𝓤 _) $ await ! tt $ pick ! (λ p.
         split ! $ move ! (1 ∷ []) $ use1 W (raw (fact 𝓤 (p ≡ replyTo (r .refusal) (r .count)))) (said-k r p) $
@@ -280,7 +289,9 @@ module _ {M : Type 1} (𝓤 : URA M) (H : Heap 𝓤) (A : Atoms 𝓤) (W : Given
         (λ is₃. land ! (from ! (stop !)) (init ! 29 refl (EL.lawful R.the-type R′.the-laws 𝓤 H A W tt .typed p _ is₃ .0)) $
         returns ! (look ! 29 refl) $ forget ! 9 refl $ forget ! 11 refl $ forget ! 13 refl $ forget ! 15 refl $ forget ! 17 refl $ forget ! 19 refl $
         forget ! 21 refl $ forget ! 23 refl $ forget ! 25 refl $ forget ! 27 refl $ forget ! 29 refl $
-        move ! (29 ∷ 30 ∷ []) $ free1 ! $ move ! (27 ∷ 28 ∷ []) $ free1 ! $ move ! (25 ∷ 26 ∷ []) $ free1 ! $ move ! (23 ∷ 24 ∷ []) $ free1 ! $ move ! (21 ∷ 22 ∷ []) $ free1 ! $ move ! (19 ∷ 20 ∷ []) $ free1 ! $ move ! (17 ∷ 18 ∷ []) $ free1 ! $ move ! (15 ∷ 16 ∷ []) $ free1 ! $ move ! (13 ∷ 14 ∷ []) $ free1 ! $ move ! (11 ∷ 12 ∷ []) $ free1 ! $ move ! (9 ∷ 10 ∷ []) $ free1 ! $ free0 ! $
+        move ! (29 ∷ 30 ∷ []) $ free1 ! $ move ! (27 ∷ 28 ∷ []) $ free1 ! $ move ! (25 ∷ 26 ∷ []) $ free1 ! $ move ! (23 ∷ 24 ∷ []) $ free1 ! $
+        move ! (21 ∷ 22 ∷ []) $ free1 ! $ move ! (19 ∷ 20 ∷ []) $ free1 ! $ move ! (17 ∷ 18 ∷ []) $ free1 ! $ move ! (15 ∷ 16 ∷ []) $ free1 ! $
+        move ! (13 ∷ 14 ∷ []) $ free1 ! $ move ! (11 ∷ 12 ∷ []) $ free1 ! $ move ! (9 ∷ 10 ∷ []) $ free1 ! $ free0 ! $
         keep ! (0 ∷ 1 ∷ 3 ∷ 4 ∷ 6 ∷ []) $ by ! (exits r p w (zs .0) e e₂ e₃ l))))))))))))))))))))))))))
 
 module _ {M : Type 1} (𝓤 : URA M) (H : Heap 𝓤) (A : Atoms 𝓤) (W : Given 𝓤 H A) (mem : Memory → SProp 𝓤) (run : Routine → Fun 𝓤) where
@@ -299,7 +310,19 @@ module _ {M : Type 1} (𝓤 : URA M) (H : Heap 𝓤) (A : Atoms 𝓤) (W : Given
       (are .0) (are .1 .1 .0) (are .1 .1 .1 .0 .1) (are .1 .1 .1 .1 .0 .0 .1) C Λ fm known-g known-h known-k (are .1 .0 .0 .1)))
 
   goes : AllGo 𝓤 H A W 2 (f.signature .params) (f.ended .kept) stayed
-  goes = (goes-none 𝓤 H A W 2 (λ _. S.the-row) yes (λ κs x f. refl), (goes-none-slice 𝓤 H A W 2 (0 ∷ []) tt (plain (λ _. u64)) yes, (goes-none 𝓤 H A W 2 (λ _. N.the-row) yes (λ κs x f. refl), (goes-none 𝓤 H A W 2 (λ _. u64) yes (λ κs x f. refl), (goes-gave-slice 𝓤 H A W 2 1 tt (plain (λ _. T.the-row)), tt)))))
+  goes = (
+    goes-none 𝓤 H A W 2 (λ _. S.the-row) yes (λ κs x f. refl),
+    (
+      goes-none-slice 𝓤 H A W 2 (0 ∷ []) tt (plain (λ _. u64)) yes,
+      (
+        goes-none 𝓤 H A W 2 (λ _. N.the-row) yes (λ κs x f. refl),
+        (
+          goes-none 𝓤 H A W 2 (λ _. u64) yes (λ κs x f. refl),
+          (goes-gave-slice 𝓤 H A W 2 1 tt (plain (λ _. T.the-row)), tt),
+        ),
+      ),
+    ),
+  )
 
 meets : {M : Type 1} (𝓤 : URA M) (H : Heap 𝓤) (A : Atoms 𝓤) (W : Given 𝓤 H A) (mem : Memory → SProp 𝓤) (run : Routine → Fun 𝓤) (𝓣 : Tables 𝓤 H)
     → Triple 𝓤 (𝓣 .C g-def.name) (G 𝓤 H A mem run) → Triple 𝓤 (𝓣 .C h-def.name) (F 𝓤 H A mem run) → Triple 𝓤 (𝓣 .C k-def.name) (K 𝓤 H A mem run)
