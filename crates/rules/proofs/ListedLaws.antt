@@ -35,6 +35,7 @@ use Rattle.shard.proofs.OwnBucketLaws.{view-without-slot}
 use Rattle.rules.specs.Asks.{tokensIn}
 use Rattle.rules.specs.Debts.{unsettled, listed}
 use Rattle.rules.specs.MorningList.{ofHash, owedAfter, tokensLeft}
+use Rattle.rules.proofs.Worked as Worked
 
 -- A debt that settles after the moment is not left out, and one that settles by then is.
 module _ (at : Nanos) (d : Debt) where

@@ -37,7 +37,7 @@ module _ (l : Ledger) where
   unfolding listed unsettled
   unused-places-are-not-listed = refl
 
-  -- Two debts of one hash would be listed twice. No ledger of a store has that, and `listed-is-owed` asks for it.
+  -- Two debts of one hash would be listed twice. In a ledger that finds each debt no two have one hash: that is why `listed-is-owed` asks for such a ledger.
   a-hash-held-twice-is-listed-twice : ofHash 1 (listed (moment 0) (holding l 3 (owing 1 5 ∷ owing 2 6 ∷ owing 1 7 ∷ []))) ≡ owing 1 5 ∷ owing 1 7 ∷ []
   unfolding listed unsettled ofHash
   a-hash-held-twice-is-listed-twice = refl
@@ -47,11 +47,11 @@ the-other-records-stay : written (owing 1 5 ∷ []) (owing 8 8 ∷ owing 9 9 ∷
 unfolding written
 the-other-records-stay = refl
 
--- A bucket of 3 tokens, of which one comes back every 10 nanoseconds, and a fresh one with so many tokens.
+-- A bucket of 3 tokens. One token comes back every 10 nanoseconds, and a fresh bucket has the initial tokens.
 abbrev three : ℕ → BucketConfig
 three initial = record { capacity = 3; amount = 1; period = moment 10; initial = initial }
 
--- A debt that settles a nanosecond later costs a whole token; after 10 nanoseconds it is still one, then two.
+-- A debt that settles 1 nanosecond after the moment costs a whole token, and so does one that settles 10 nanoseconds after it. 11 nanoseconds cost two.
 a-nanosecond-costs-a-token : tokensLeft (three 3) (moment 5) (owing 1 6) ≡ 2
 unfolding ceilDiv
 a-nanosecond-costs-a-token = refl
@@ -64,7 +64,7 @@ eleven-nanoseconds-cost-two : tokensLeft (three 3) (moment 5) (owing 1 16) ≡ 1
 unfolding ceilDiv
 eleven-nanoseconds-cost-two = refl
 
--- A debt of more than a bucket leaves none. A debt that leaves more tokens than a fresh bucket has leaves those of a fresh bucket.
+-- A debt of more than a full bucket leaves no token. A small debt leaves no more tokens than a fresh bucket has.
 a-long-debt-leaves-none : tokensLeft (three 3) (moment 5) (owing 1 100) ≡ 0
 unfolding ceilDiv
 a-long-debt-leaves-none = refl

@@ -1,4 +1,5 @@
--- What the list of debts is compared with: the debts that the store itself finds, and the tokens of a key that comes back. These stand in claims alone.
+-- What the list of debts is compared with: the debts that the store itself finds, and the tokens of a key that comes back. No operation uses
+-- these definitions: they stand in claims.
 use Prim.Native.Nat.{ℕ, _-_, min}
 use mathlib.Core.Bool.{cond}
 use mathlib.Core.List.{List, [], _∷_}
