@@ -39,8 +39,8 @@ fn count_unsettled(ws: &[u64], part: Part, at: Nanos) -> usize
     let mut count: usize = 0;
     let mut i: usize = 0;
     while i < held {
-        let debt = debts::load(ws, part, i);
-        if at.0 < debt.settles.0 {
+        let settles = debts::load(ws, part, i).settles;
+        if at.0 < settles.0 {
             count += 1;
         }
         i += 1;
