@@ -39,6 +39,7 @@ pub mod GrownLaws
 pub mod PlaceOrderTheorem
 pub mod TurnAwayTheorem
 pub mod IsolationTheorem
+pub mod DebtCalls
 pub mod CodeTheorem
 pub mod ExportTheorem
 pub mod RefundCode

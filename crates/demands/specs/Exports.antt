@@ -50,7 +50,8 @@ use Rattle.limiter_debts.proofs.limiter_debts.Reads as Debts
 use Rattle.demands.specs.Demands.{Table, untabled, tabled, tableFits, Limiter, setUpBy, recordsBy}
 use Rattle.demands.specs.Contracts.{lentAt}
 
--- What each export gives for its numbers, bytes and words: three numbers, and words.
+-- What each export gives for its numbers, bytes and words: three numbers, and words. A list of debts gives them for a number of lent records, and leaves
+-- records, too.
 abbrev Gives : Type 0
 Gives = List ℕ → Outcome Told (List ℕ)
 
@@ -73,6 +74,8 @@ pub record Exports : Type 0 where
   pub class-set-up : LimiterSettings → (table : List ℕ) → Gives
   pub class-clear : LimiterSettings → (table : List ℕ) → Gives
   pub class-try : LimiterSettings → (table : List ℕ) → (at hash key class cost : ℕ) → Gives
+  pub debts : LimiterSettings → (at shard room : ℕ) → Gives
+  pub records : LimiterSettings → (at shard : ℕ) → List Debt → List ℕ → List Debt
 
 -- The numbers of a settings struct fit their widths.
 abbrev pub numbersFit : LimiterSettings → Bool
