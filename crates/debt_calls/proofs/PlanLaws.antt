@@ -10,7 +10,6 @@ use Rattle.arith.proofs.Cases.{by-eq}
 use Rattle.units.specs.declared.Nanos.{Nanos}
 use Rattle.rows.specs.Outcome.{Outcome, outcome}
 use Rattle.settings.specs.declared.Settings.{Settings}
-use Rattle.settings.specs.declared.Shape.{Shape}
 use Rattle.settings.specs.Settings.{firstRefusal, shapeOf, shardCount, mostCounted, ShapeOfAccepted}
 use Rattle.settings.proofs.SettingsLaws.{first-refusal-stands, no-refusal-hands-on, neither-refuses}
 use Rattle.ledger.specs.declared.Debt.{Debt}
@@ -24,10 +23,10 @@ use Rattle.store.proofs.RefusalLaws.{SetUp, set-up-not-refused, refusals-in-a-r
 use Rattle.rules.specs.declared.Reply.{Reply}
 use Rattle.rules.specs.declared.Reply.the-variants.{Count, Refused}
 use Rattle.rules.specs.Debts.{listed, written, shardRefusal, ledgerRefusal, debtsRefusalIn, Lent, lent, listDebts, listDebtsIn}
-use Rattle.rules.proofs.DebtLaws.{shard-not-refused, debt-count-not-refused, DebtsAccepted, debts-not-refused}
+use Rattle.rules.proofs.DebtLaws.{shard-not-refused, debt-count-not-refused, debts-not-refused}
 use Rattle.rules.proofs.RefusedLaws.{unless-refused-accepts, unless-refused-refuses}
 use Rattle.debt_calls.specs.declared.Plan.{Plan}
-use Rattle.debt_calls.specs.code.Listing.{ledgerIn, Readable, Fillable, callRefusal, refusedPlan, planFor, ledgerPlan, planOf, replyTo}
+use Rattle.debt_calls.specs.code.Listing.{ledgerIn, Fillable, callRefusal, refusedPlan, planFor, ledgerPlan, planOf, replyTo}
 
 -- A plan by its refusal: a number that is told leaves nothing to write, none leaves the part and the count.
 module _ {told refusal : ℕ} (part′ : Part) (n : ℕ) (is : told ≡ refusal) where

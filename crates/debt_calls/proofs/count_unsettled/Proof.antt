@@ -1,6 +1,6 @@
 -- `count_unsettled` has counted the debts before its place: with those listed from there on they are all that are listed.
 use Prim.Native.Nat.{_-_, _+_, _≤_, _<_}
-use mathlib.Core.Path.{_≡_, refl, ap}
+use mathlib.Core.Path.{_≡_, ap}
 use mathlib.Core.Logic.{⊎-elim}
 use native.Mathlib.Omega.{arith}
 use lib.ListN.{length}

@@ -1,7 +1,6 @@
 -- `ledger_plan` looks at the debt count first; where it is not refused the debts can be counted, and their number is held against the records.
-use mathlib.Core.Path.{_≡_, sym, ap, _∙_}
+use mathlib.Core.Path.{sym, _∙_}
 use Rattle.store.proofs.RefusalLaws.{first-is-told, second-is-told}
-use Rattle.rules.specs.Debts.{debtCountRefusal}
 use Rattle.rules.proofs.DebtLaws.{debt-count-not-refused}
 use Rattle.debt_calls.proofs.PlanLaws.{plan-refused, plan-made}
 use borrow.Author.Needs.{needs}

@@ -1,7 +1,7 @@
 -- `list_debts` meets its contract, by a walk of its MIR. `planned` decides; what it says is what `fill` asks for, and `fill` is passed the records for good;
 -- `reply_to` makes the reply. There is no branch: a call that is refused fills nothing.
 use mathlib.Core.Path.{_≡_, refl, sym, ap, subst}
-use Prim.Native.Nat.{ℕ, _≤_, _<_, _^_}
+use Prim.Native.Nat.{ℕ, _<_, _^_}
 use mathlib.Core.List.{[], _∷_, List}
 use lib.Dec.{T as Holds}
 use lib.ListN.{length, take}
