@@ -63,7 +63,7 @@ module _ (κs : Lfts 1) (κs₂ : Lfts 2) (ptr otherPtr : ℕ × ℕ) (name othe
       clears = λ s table ws _ _ _ _. refl;
       tries = λ s table class at id cost ws _ _ _. named s id (passes table class at cost) ws;
     };
-    of-debts = record { lists = λ s at i records ws _ _ _ _. sym (listing-is-the-call (shapeOf s) s at i ws records) };
+    of-debts = record { lists = λ s at i records ws _ _ _. sym (listing-is-the-call (shapeOf s) s at i ws records) };
   }
 
   module _ (l : Limiter Settings Name) (all : Contracts κs κs₂ ptr otherPtr name otherName l) where
@@ -99,13 +99,13 @@ module _ (κs : Lfts 1) (κs₂ : Lfts 2) (ptr otherPtr : ℕ × ℕ) (name othe
         → recordsFit records ≡ true → lendable ws ≡ true → l .lists s at i records ws ≡ recordsBy byName s at i records ws
     records-as-the-rules s at i records ws fit small lent =
         records-as-told (λ r. r) s at i ws (λ room. l .answers (listDebts s at i room) ws) (λ rs. l .lists s at i rs ws) records
-        (all .of-debts .lists s at i records ws fit small lent tt)
+        (all .of-debts .lists s at i records ws fit small lent)
 
     debts-as-the-rules : (s : Settings) (at : Nanos) (i room : ℕ) (ws : List ℕ) → fits byName (listDebts s at i room) ≡ true → lendable ws ≡ true
         → l .answers (listDebts s at i room) ws ≡ rules byName (listDebts s at i room) ws
     debts-as-the-rules s at i room ws fit lent =
         room-as-told (λ r. r) s at i ws (λ n. l .answers (listDebts s at i n) ws) (λ rs. l .lists s at i rs ws) room
-        (all .of-debts .lists s at i (blank room) ws (rw (length-replicate {A = Debt} room noDebt) fit) (blank-fits room) lent tt)
+        (all .of-debts .lists s at i (blank room) ws (rw (length-replicate {A = Debt} room noDebt) fit) (blank-fits room) lent)
 
     -- The same limiter where every call names a key.
     abbrev asNamed : Call Settings Identity → Call Settings Name

@@ -155,7 +155,7 @@ module _ (κs : Lfts 1) (κs₂ : Lfts 2) (ptr otherPtr : ℕ × ℕ) (name othe
       tries = λ n table class at id cost ws _ _ _. refl;
     };
     of-debts = record {
-      lists = λ n at i records ws _ _ _ _.
+      lists = λ n at i records ws _ _ _.
           let s = Exported.settingsOf n in
           sym (ap told (listing-is-the-call (shapeOf s) s at i ws records));
     };
@@ -182,13 +182,13 @@ module _ (κs : Lfts 1) (κs₂ : Lfts 2) (ptr otherPtr : ℕ × ℕ) (name othe
             → e .records n (at .0) i records ws ≡ recordsBy exported n at i records ws
         records-ruled n at i records ws fit small lent =
             records-as-told toldOf (Exported.settingsOf n) at i ws (λ room. e .debts n (at .0) i room ws) (λ rs. e .records n (at .0) i rs ws) records
-            (c .of-debts .lists n at i records ws fit small lent tt)
+            (c .of-debts .lists n at i records ws fit small lent)
 
         debts-ruled : (n : LimiterSettings) (at : Nanos) (i room : ℕ) (ws : List ℕ) → fits exported (listDebts n at i room) ≡ true → lendable ws ≡ true
             → e .debts n (at .0) i room ws ≡ told (rules exported (listDebts n at i room) ws)
         debts-ruled n at i room ws fit lent =
             room-as-told toldOf (Exported.settingsOf n) at i ws (λ m. e .debts n (at .0) i m ws) (λ rs. e .records n (at .0) i rs ws) room
-            (c .of-debts .lists n at i (blank room) ws (rw (length-replicate {A = Debt} room noDebt) fit) (blank-fits room) lent tt)
+            (c .of-debts .lists n at i (blank room) ws (rw (length-replicate {A = Debt} room noDebt) fit) (blank-fits room) lent)
 
         -- A call that names a key follows the rule of what it asks.
         keyed-rule : (n : LimiterSettings) (id : Identity) (ask : Ask) (ws : List ℕ) {o : Outcome Told (List ℕ)}

@@ -36,6 +36,7 @@ pub mod SizeTheorem
 pub mod MomentLaws
 pub mod OneShardLaws
 pub mod GrownLaws
+pub mod MorningTheorem
 pub mod PlaceOrderTheorem
 pub mod TurnAwayTheorem
 pub mod IsolationTheorem

@@ -9,11 +9,15 @@ use mathlib.Core.List.{List}
 use lib.ListN as ListN
 use contract.Lifetimes.{Lfts}
 use denote.Ref.{RefT}
+use Rattle.rows.specs.Outcome.{outcome}
 use Rattle.units.specs.declared.Nanos.{Nanos}
 use Rattle.settings.specs.declared.Settings.{Settings}
 use Rattle.ledger.specs.declared.Debt.{Debt}
 use Rattle.shard.specs.declared.Identity.{Identity}
+use Rattle.rules.specs.declared.Reply.{Reply}
 use Rattle.rules.specs.Widths.{settingsFit, lendable, recordsFit}
+use Rattle.rules.specs.Debts as Debts
+use Rattle.rules.specs.Debts.{Lent}
 use Rattle.rules.specs.Calls.{try, reserve, peek, available, timesTurnedAway, length, refund, remove, classTry, listDebts, fits}
 use Rattle.modems.specs.Names.{Name, key, address, byName}
 use Rattle.perkey.proofs.set_up.Reads as SetUp
@@ -34,7 +38,6 @@ use Rattle.modems.proofs.remove.Reads as ModemRemove
 use Rattle.class_calls.proofs.class_set_up.Reads as ClassSetUp
 use Rattle.class_calls.proofs.class_clear.Reads as ClassClear
 use Rattle.class_calls.proofs.class_try.Reads as ClassTry
-use Rattle.debt_calls.proofs.list_debts.Reads as ListDebts
 use Rattle.demands.specs.Demands.{untabled, tabled, Limiter}
 
 -- Words, bytes or records that are lent, at some place.
@@ -145,19 +148,17 @@ module _ (κs : Lfts 2) (ptr tablePtr : ℕ × ℕ) (name tableName : ℕ) where
         ClassTry.Asked κs (withTable s table ws (at, (id, (class, (cost, tt))))) →
         ClassTry.Learnt κs (withTable s table ws (at, (id, (class, (cost, tt))))) (o .answer) (withTable s table (o .after) (at, (id, (class, (cost, tt)))))
 
--- The operation of `debt_calls` is lent records, too. Its contract is told for all records of a number: the answer and the words are those that the limiter has
--- for that number, and the records are its `lists`.
-module _ (κs : Lfts 2) (ptr recordsPtr : ℕ × ℕ) (name recordsName : ℕ) where
-  -- The arguments of the operation as its contract has them: the settings, the words, the moment, the shard's number and the records.
-  abbrev withRecords : Settings → List ℕ → Nanos → ℕ → List Debt → Settings × (RefT (List ℕ) × (Nanos × (ℕ × (RefT (List Debt) × Unit {0}))))
-  withRecords s ws at i records = (s, (lentAt ptr name ws, (at, (i, (lentAt recordsPtr recordsName records, tt)))))
+-- The operation of `debt_calls` is lent records, too. The check makes no `Asked` and `Learnt` of such a function. So what its `ensures` tells is written out here;
+-- `list-debts-is-read` (proofs/DebtCalls.antt) shows by computation that it is this fact, and that nothing is asked. It is told for all records of a number: the
+-- answer and the words are those that the limiter has for that number, and the records are its `lists`.
+abbrev pub ListDebtsLearnt : Settings → Nanos → ℕ → Lent → Reply → Lent → Type 0
+ListDebtsLearnt s at i before r after = outcome r after ≡ Debts.listDebts s at i before
 
-  pub record DebtContracts (l : Limiter Settings Name) : Type 0 where
-    pub lists : (s : Settings) (at : Nanos) (i : ℕ) (records : List Debt) (ws : List ℕ) → fits byName (listDebts s at i (ListN.length records)) ≡ true
-        → recordsFit records ≡ true → lendable ws ≡ true →
-        let o = l .answers (listDebts s at i (ListN.length records)) ws in
-        ListDebts.Asked κs (withRecords s ws at i records) →
-        ListDebts.Learnt κs (withRecords s ws at i records) (o .answer) (withRecords s (o .after) at i (l .lists s at i records ws))
+pub record DebtContracts (l : Limiter Settings Name) : Type 0 where
+  pub lists : (s : Settings) (at : Nanos) (i : ℕ) (records : List Debt) (ws : List ℕ) → fits byName (listDebts s at i (ListN.length records)) ≡ true
+      → recordsFit records ≡ true → lendable ws ≡ true →
+      let o = l .answers (listDebts s at i (ListN.length records)) ws in
+      ListDebtsLearnt s at i (Debts.lent ws records) (o .answer) (Debts.lent (o .after) (l .lists s at i records ws))
 
 -- Of all four crates.
 module _ (κs : Lfts 1) (κs₂ : Lfts 2) (ptr otherPtr : ℕ × ℕ) (name otherName : ℕ) where
@@ -165,4 +166,4 @@ module _ (κs : Lfts 1) (κs₂ : Lfts 2) (ptr otherPtr : ℕ × ℕ) (name othe
     pub by-key : KeyContracts κs ptr name l
     pub by-address : AddressContracts κs₂ ptr otherPtr name otherName l
     pub by-class : ClassContracts κs₂ ptr otherPtr name otherName l
-    pub of-debts : DebtContracts κs₂ ptr otherPtr name otherName l
+    pub of-debts : DebtContracts l

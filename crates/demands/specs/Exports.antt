@@ -12,6 +12,7 @@ use contract.Lifetimes.{Lfts}
 use denote.Ref.{RefT}
 use Rattle.rows.specs.Outcome.{Outcome, outcome}
 use Rattle.units.specs.declared.Nanos.{Nanos}
+use Rattle.units.specs.Units.{nanosOf}
 use Rattle.bucket.specs.declared.Request.the-variants.{Acquire, Reserve, Through}
 use Rattle.bucket.specs.declared.Due.{Due}
 use Rattle.settings.specs.declared.decision.Decision.the-variants.{Acquired, Retry, Impossible}
@@ -23,6 +24,8 @@ use Rattle.rules.specs.declared.codes.Told.{Told}
 use Rattle.rules.specs.Replies.{toldOf, told, Kind, decides, reserves, counts, knows}
 use Rattle.rules.specs.Asks.{requests, looks, undoes, passes, peeks, tokens, turnedAway, refunds, removes}
 use Rattle.rules.specs.Widths.{fits64, fits32, lendable, recordsFit}
+use Rattle.rules.specs.Debts as Debts
+use Rattle.rules.specs.Debts.{Lent}
 use Rattle.rules.specs.Calls.{Call, keyed, whole, len, debts, Terms, try, reserve, peek, available, timesTurnedAway, length, refund, remove, classTry, kindOf, rules}
 use Rattle.rules.specs.Calls.{listDebts, fits}
 use Rattle.modems.specs.Names.{Name, key, address, namedIn}
@@ -46,7 +49,6 @@ use Rattle.limiter_modems.proofs.limiter_modem_remove.Reads as ModemRemove
 use Rattle.limiter_classes.proofs.limiter_table_set_up.Reads as ClassSetUp
 use Rattle.limiter_classes.proofs.limiter_table_clear.Reads as ClassClear
 use Rattle.limiter_classes.proofs.limiter_table_try.Reads as ClassTry
-use Rattle.limiter_debts.proofs.limiter_debts.Reads as Debts
 use Rattle.demands.specs.Demands.{Table, untabled, tabled, tableFits, Limiter, setUpBy, recordsBy}
 use Rattle.demands.specs.Contracts.{lentAt}
 
@@ -284,18 +286,16 @@ module _ (κs : Lfts 2) (ptr tablePtr : ℕ × ℕ) (name tableName : ℕ) where
         ClassTry.Asked κs (withTable n table ws (numbersOf at id class cost)) →
         ClassTry.Learnt κs (withTable n table ws (numbersOf at id class cost)) (o .answer) (withTable n table (o .after) (numbersOf at id class cost))
 
--- The export of `limiter_debts` is lent records, too. For all records of a number it gives the numbers and the words that `debts` has for that number, and the
--- records are those of `records`.
-module _ (κs : Lfts 2) (ptr recordsPtr : ℕ × ℕ) (name recordsName : ℕ) where
-  abbrev withRecords : LimiterSettings → List ℕ → Nanos → ℕ → List Debt → LimiterSettings × (RefT (List ℕ) × (ℕ × (ℕ × (RefT (List Debt) × Unit {0}))))
-  withRecords n ws at i records = (n, (lentAt ptr name ws, (at .0, (i, (lentAt recordsPtr recordsName records, tt)))))
+-- The export of `limiter_debts` is lent records, too. What its `ensures` tells is written out here, as for the operation (Contracts; `limiter-debts-is-read`). For
+-- all records of a number it gives the numbers and the words that `debts` has for that number, and the records are those of `records`.
+abbrev pub DebtsLearnt : LimiterSettings → ℕ → ℕ → Lent → Told → Lent → Type 0
+DebtsLearnt n at i before t after = outcome t after ≡ told (Debts.listDebts (settingsOf n) (nanosOf at) i before)
 
-  pub record DebtExportContracts (e : Exports) : Type 0 where
-    pub lists : (n : LimiterSettings) (at : Nanos) (i : ℕ) (records : List Debt) (ws : List ℕ) →
-        fits exported (listDebts n at i (ListN.length records)) ≡ true → recordsFit records ≡ true → lendable ws ≡ true →
-        let o = e .debts n (at .0) i (ListN.length records) ws in
-        Debts.Asked κs (withRecords n ws at i records) →
-        Debts.Learnt κs (withRecords n ws at i records) (o .answer) (withRecords n (o .after) at i (e .records n (at .0) i records ws))
+pub record DebtExportContracts (e : Exports) : Type 0 where
+  pub lists : (n : LimiterSettings) (at : Nanos) (i : ℕ) (records : List Debt) (ws : List ℕ) →
+      fits exported (listDebts n at i (ListN.length records)) ≡ true → recordsFit records ≡ true → lendable ws ≡ true →
+      let o = e .debts n (at .0) i (ListN.length records) ws in
+      DebtsLearnt n (at .0) i (Debts.lent ws records) (o .answer) (Debts.lent (o .after) (e .records n (at .0) i records ws))
 
 -- Of these four objects of the archive.
 module _ (κs : Lfts 1) (κs₂ : Lfts 2) (ptr otherPtr : ℕ × ℕ) (name otherName : ℕ) where
@@ -303,4 +303,4 @@ module _ (κs : Lfts 1) (κs₂ : Lfts 2) (ptr otherPtr : ℕ × ℕ) (name othe
     pub by-key : KeyExportContracts κs ptr name e
     pub by-address : AddressExportContracts κs₂ ptr otherPtr name otherName e
     pub by-class : ClassExportContracts κs₂ ptr otherPtr name otherName e
-    pub of-debts : DebtExportContracts κs₂ ptr otherPtr name otherName e
+    pub of-debts : DebtExportContracts e
