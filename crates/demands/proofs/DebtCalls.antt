@@ -56,11 +56,10 @@ module _ {M : Type 1} (𝓤 : URA M) (H : Heap 𝓤) (A : Atoms 𝓤) (mem : Mem
   limiter-debts-asks-nothing n at i before = refl
 
 -- There are records of every number.
-abbrev blank : ℕ → List Debt
+abbrev pub blank : ℕ → List Debt
 blank room = replicate room noDebt
 
-blank-fits : (room : ℕ) → recordsFit (blank room) ≡ true
-unfolding replicate
+pub blank-fits : (room : ℕ) → recordsFit (blank room) ≡ true
 blank-fits zero = refl
 blank-fits (suc room) = blank-fits room
 
