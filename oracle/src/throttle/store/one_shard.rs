@@ -99,6 +99,16 @@ impl<'a> OneShard<'a> {
         self.read().ledger.debts.len()
     }
 
+    /// The debts, in the order of the ledger: the hash and the settling moment of each.
+    #[must_use]
+    pub fn debts(&self) -> Vec<(u64, u64)> {
+        let map = self.read();
+        let debts = map.ledger.debts.iter();
+        debts
+            .map(|debt| (debt.hash, nanos(debt.settles_at)))
+            .collect()
+    }
+
     /// Gives the tables of an empty shard the places of its indexes, so that they can be shown. The published code knows of none.
     pub(crate) fn give_places(&self) {
         let (mut map, places) = (self.write(), layout::places(self.cap()));
