@@ -8,8 +8,8 @@
 //! slots before the first shard (`perkey::answer`, `whole::answer`); and request 12, the list of debts (`debts`).
 //!
 //! The layers, from below: `bucket` (numbers), `index` and `rows` (items in words), `turned_away` and `entry` (a slot), `ledger` (the debts), `shard_map` and
-//! `evict_one` (a shard), `restore_debt`, `store` (what a key holds), `perkey` (the calls); beside them `classes` and `debts`. `settings` and `decision` are what
-//! goes in and what comes out.
+//! `evict_one` (a shard), `restore_debt`, `store` (what a key holds), `perkey` (the calls); beside them `classes` and `debts`. `settings` and `decision` are
+//! what goes in and what comes out.
 
 mod bucket;
 pub mod by_address;
