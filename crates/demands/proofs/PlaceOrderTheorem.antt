@@ -117,7 +117,6 @@ module _ {S N : Type 0} (terms : Terms S N) where
             ∙ sum-same (shardCount settings) _ _ (λ i below. ap (λ t. t .slots .count) (same-by-number settings ws shards places i below)));
         places = places;
       }
-
   taken-call-same (whole s (debts at i room)) ws shards memory places none =
       let settings = terms .settings s in
       let below = debts-not-refused settings at i room ws none .shard in

@@ -128,7 +128,6 @@ module _ {S N : Type 0} (terms : Terms S N) where
   refused-alike (whole s len) ws vs like =
       let settings = terms .settings s in
       λ j. firstRefusal (set-up-refused-alike settings ws vs like j) (totalRefusal (placesIn (shapeOf settings)) (like .total j))
-
   refused-alike (whole s (debts at i room)) ws vs like =
       let settings = terms .settings s in
       let further = ap (firstRefusal (momentRefusal at))

@@ -84,10 +84,14 @@ listing-is-the-call shape s at i ws records =
     let refusal = debtsRefusalIn shape s at i (length records) ws in
     let ds = listed at (shardNumbered shape i ws .ledger) in
     by-eq refusal 0
-    (λ none. rw (unless-refused-accepts refusal ws (outcome (Count (length ds)) ws) none,
-    unless-refused-accepts refusal (lent ws records) (outcome (Count (length ds)) (lent ws (written ds records))) none))
-    (λ some. rw (unless-refused-refuses refusal ws (outcome (Count (length ds)) ws) some,
-    unless-refused-refuses refusal (lent ws records) (outcome (Count (length ds)) (lent ws (written ds records))) some))
+    (λ none. rw (
+      unless-refused-accepts refusal ws (outcome (Count (length ds)) ws) none,
+      unless-refused-accepts refusal (lent ws records) (outcome (Count (length ds)) (lent ws (written ds records))) none,
+    ))
+    (λ some. rw (
+      unless-refused-refuses refusal ws (outcome (Count (length ds)) ws) some,
+      unless-refused-refuses refusal (lent ws records) (outcome (Count (length ds)) (lent ws (written ds records))) some,
+    ))
 
 -- A call that is refused leaves the records as they are.
 pub refused-leaves-the-records : (s : Settings) (at : Nanos) (i : ℕ) (ws : List ℕ) (records : List Debt)

@@ -3,6 +3,8 @@ pub mod RuleLaws
 pub mod KeyedLaws
 pub mod KindLaws
 pub mod DebtLaws
+pub mod Worked
+pub mod ListedLaws
 pub mod CallLaws
 pub mod WaitLaws
 pub mod StoredLaws
