@@ -236,9 +236,15 @@ impl Limiter {
         if let Some(number) = refusals::debts(&self.settings, self, now, shard) {
             return refused(number);
         }
-        let ledger = self.shard(shard as usize).map(|shard| shard.debts());
-        let mut debts = ledger.expect("calls after a refused set-up are refused");
-        debts.retain(|&(_, settles_at)| settles_at > now);
+        let shard = self
+            .shard(shard as usize)
+            .expect("calls after a refused set-up are refused");
+        let mut debts = Vec::new();
+        shard.each_debt(|hash, settles_at| {
+            if settles_at > now {
+                debts.push((hash, settles_at));
+            }
+        });
         match refusals::records(lent, debts.len()) {
             Some(number) => refused(number),
             None => (Answer::done(debts.len() as u64), debts),

@@ -99,14 +99,11 @@ impl<'a> OneShard<'a> {
         self.read().ledger.debts.len()
     }
 
-    /// The debts, in the order of the ledger: the hash and the settling moment of each.
-    #[must_use]
-    pub fn debts(&self) -> Vec<(u64, u64)> {
-        let map = self.read();
-        let debts = map.ledger.debts.iter();
-        debts
-            .map(|debt| (debt.hash, nanos(debt.settles_at)))
-            .collect()
+    /// Shows every debt, in the order of the ledger: its hash and its settling moment.
+    pub fn each_debt(&self, mut show: impl FnMut(u64, u64)) {
+        for debt in &self.read().ledger.debts {
+            show(debt.hash, nanos(debt.settles_at));
+        }
     }
 
     /// Gives the tables of an empty shard the places of its indexes, so that they can be shown. The published code knows of none.
