@@ -15,8 +15,8 @@ pub enum Listed {
 /// A moment at which every debt has settled.
 const LATE: u64 = 1 << 61;
 
-/// The debts of the first shard, again and again. Its ledger is full: more modems came than there is room for, each emptied its bucket, and a bucket takes 1,000
-/// seconds to be full.
+/// The debts of the first shard, again and again. Its ledger is full: more modems came than there is room for, each emptied its bucket, and a bucket takes
+/// 1,000 seconds to be full.
 pub fn debts(calls: usize, row: &Row, listed: Listed) -> Scenario {
     let setup = Setup {
         amount: 1,
