@@ -396,8 +396,8 @@ limiter_reply limiter_length(limiter_settings s, const uint64_t *words, size_t l
  * not find its bucket full.
  *
  * `records` and `count` are the list: an array of `count` records that the call may write, aligned to 8 bytes. It must not lie in `words`, and no one else may
- * use it during the call. Records of any content are safe. NULL with count 0 is safe too. A shard has at most max_keys / shards in use debts, rounded up, and
- * at least room for 1: a list of so many records is always enough. A refusal as 17 does not say how many are missing.
+ * use it during the call. Records of any content are safe. NULL with count 0 is safe too. A shard has room for as many debts as keys: max_keys divided by the
+ * shards in use, rounded up, and at least 1. A list of so many records is always enough. A refusal as 17 does not say how many are missing.
  *
  * `shard` counts from 0. The shards in use are those asked for, raised and rounded up as limiter_settings says. To list a whole store begin at 0 and go on
  * until LIMITER_BAD_SHARD; nobody may write the words in between.
