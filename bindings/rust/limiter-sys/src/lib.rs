@@ -7,6 +7,7 @@
 #![no_std]
 
 pub mod classes;
+pub mod debts;
 pub mod modem;
 pub mod slices;
 
@@ -66,7 +67,7 @@ pub struct LimiterClass {
 pub struct LimiterReply {
     /// One of the codes below.
     pub code: u64,
-    /// A wait in nanoseconds, tokens, or a count of tries or of keys, as the call says; else 0.
+    /// A wait in nanoseconds, tokens, or a count of tries, of keys or of debts, as the call says; else 0.
     pub number: u64,
     /// `now` and the wait: when granted tokens may be used, or when to try again; else 0.
     pub moment: u64,
@@ -152,6 +153,10 @@ pub const LIMITER_BAD_BUFFER: u64 = 23;
 pub const LIMITER_BAD_CLASS: u64 = 24;
 /// Refused as 15: a chain of parents does not end within 8 classes.
 pub const LIMITER_BAD_CHAIN: u64 = 25;
+/// Refused as 16: the store has no shard of this number.
+pub const LIMITER_BAD_SHARD: u64 = 26;
+/// Refused as 17: fewer records are lent than there are debts to write.
+pub const LIMITER_BAD_RECORDS: u64 = 27;
 
 /// The most classes of a table.
 pub const LIMITER_MOST_CLASSES: usize = 64;
