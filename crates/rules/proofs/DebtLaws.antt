@@ -21,6 +21,7 @@ use Rattle.rules.specs.declared.Reply.the-variants.{Count}
 use Rattle.rules.specs.Debts.{listed, written, shardNumbered, shardRefusal, debtCountRefusal, recordsRefusal, ledgerRefusal, debtsRefusalIn}
 use Rattle.rules.specs.Debts.{debtsIn, Lent, lent, listDebtsIn, listDebts}
 use Rattle.rules.proofs.RefusedLaws.{unless-refused-accepts, unless-refused-refuses}
+use Rattle.rules.proofs.Worked as Worked
 
 -- The list looks at the count and the places alone.
 pub listed-in-place-order : (at : Nanos) (l : Ledger) → listed at (Ledger.inPlaceOrder l) ≡ listed at l

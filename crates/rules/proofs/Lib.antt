@@ -2,8 +2,8 @@ pub mod RefusedLaws
 pub mod RuleLaws
 pub mod KeyedLaws
 pub mod KindLaws
-pub mod DebtLaws
 pub mod Worked
+pub mod DebtLaws
 pub mod ListedLaws
 pub mod CallLaws
 pub mod WaitLaws

@@ -7,7 +7,8 @@ use Rattle.units.specs.declared.Nanos.{Nanos}
 use Rattle.bucket.specs.declared.BucketConfig.{BucketConfig}
 use Rattle.ledger.specs.declared.Debt.{Debt}
 use Rattle.ledger.specs.Model.{Ledger, withDebts, noDebt}
-use Rattle.rules.specs.Debts.{unsettled, listed, written}
+use Rattle.settings.specs.Settings.{firstRefusal}
+use Rattle.rules.specs.Debts.{unsettled, listed, written, debtCountRefusal, recordsRefusal, ledgerRefusal}
 use Rattle.rules.specs.MorningList.{ofHash, tokensLeft}
 
 -- A moment by its nanoseconds, and a debt.
@@ -36,6 +37,15 @@ module _ (l : Ledger) where
   unused-places-are-not-listed : listed (moment 0) (holding l 1 (owing 1 5 ∷ owing 2 6 ∷ noDebt ∷ [])) ≡ owing 1 5 ∷ []
   unfolding listed unsettled
   unused-places-are-not-listed = refl
+
+  -- A count of 3 where there is room for 2 is refused as 5, though no record is lent and one is needed. A count of 2 is refused as 17.
+  debt-count-is-told-before-records : ledgerRefusal 2 (moment 0) 0 (holding l 3 (owing 1 5 ∷ owing 2 6 ∷ [])) ≡ 5
+  unfolding listed unsettled debtCountRefusal recordsRefusal firstRefusal
+  debt-count-is-told-before-records = refl
+
+  too-few-records-are-told : ledgerRefusal 2 (moment 5) 0 (holding l 2 (owing 1 5 ∷ owing 2 6 ∷ [])) ≡ 17
+  unfolding listed unsettled debtCountRefusal recordsRefusal firstRefusal
+  too-few-records-are-told = refl
 
   -- Two debts of one hash would be listed twice. In a ledger that finds each debt no two have one hash: that is why `listed-is-owed` asks for such a ledger.
   a-hash-held-twice-is-listed-twice : ofHash 1 (listed (moment 0) (holding l 3 (owing 1 5 ∷ owing 2 6 ∷ owing 1 7 ∷ []))) ≡ owing 1 5 ∷ owing 1 7 ∷ []
