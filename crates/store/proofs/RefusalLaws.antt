@@ -26,6 +26,13 @@ within-bound bound number refusal rest none =
     (λ within. (within, rw (le-ltb bound number within) at none))
     (λ over. absurd (omega (arith, rw (lt-ltb bound number over) at none)))
 
+-- Where the rest of the checks refuse as 5, a check before them that refuses as 5 changes nothing.
+refused-anyway : (bound number : ℕ) {rest : ℕ} → rest ≡ 5 → cond (ltb bound number) 5 rest ≡ 5
+refused-anyway bound number told =
+    by-le number bound
+    (λ within. rw (le-ltb bound number within) told)
+    (λ over. rw (lt-ltb bound number over))
+
 -- A check refuses nothing just where what it looks at is right; here for each check, both ways. First the length of the memory.
 module _ (words : ℕ) (ws : List ℕ) where
   pub length-not-refused : memoryRefusal words ws ≡ 0 → length ws ≡ words
@@ -44,7 +51,7 @@ module _ (words : ℕ) (ws : List ℕ) where
 module _ (places total : ℕ) where
   pub total-not-refused : totalRefusal places total ≡ 0 → total ≤ places
   unfolding totalRefusal
-  total-not-refused none = within-bound places total 4 0 none .0
+  total-not-refused none = within-bound _ total 4 0 none .0
 
   pub total-is-accepted : total ≤ places → totalRefusal places total ≡ 0
   unfolding totalRefusal
@@ -75,22 +82,27 @@ module _ (cap places total : ℕ) (sh : Shard.Shard) where
   counts-are-accepted fit =
       rw (le-ltb _ _ (fit .slots), le-ltb _ _ (fit .debts), le-ltb _ _ (fit .covers)) (total-is-accepted places total (fit .within))
 
+  -- Any one of them that is wrong is refused, whatever the others are. So the code may look at them in any order.
   pub slots-over-are-refused : cap < sh .slots .count → countRefusal cap places total sh ≡ 5
   unfolding countRefusal
   slots-over-are-refused over = rw (lt-ltb _ _ over)
 
-  pub debts-over-are-refused : sh .slots .count ≤ cap → cap < sh .ledger .debts .count → countRefusal cap places total sh ≡ 5
+  pub debts-over-are-refused : cap < sh .ledger .debts .count → countRefusal cap places total sh ≡ 5
   unfolding countRefusal
-  debts-over-are-refused slots over = rw (le-ltb _ _ slots, lt-ltb _ _ over)
+  debts-over-are-refused over = refused-anyway cap (sh .slots .count) (rw (lt-ltb cap (sh .ledger .debts .count) over))
 
-  pub total-under-is-refused : sh .slots .count ≤ cap → sh .ledger .debts .count ≤ cap → total < sh .slots .count → countRefusal cap places total sh ≡ 5
+  pub total-under-is-refused : total < sh .slots .count → countRefusal cap places total sh ≡ 5
   unfolding countRefusal
-  total-under-is-refused slots debts under = rw (le-ltb _ _ slots, le-ltb _ _ debts, lt-ltb _ _ under)
+  total-under-is-refused under =
+      refused-anyway cap (sh .slots .count) (refused-anyway cap (sh .ledger .debts .count) (rw (lt-ltb total (sh .slots .count) under)))
 
-  pub total-decides : sh .slots .count ≤ cap → sh .ledger .debts .count ≤ cap → sh .slots .count ≤ total
-      → countRefusal cap places total sh ≡ totalRefusal places total
+  pub total-over-the-room-is-refused : (totalRefusal places total ≡ 0 → ⊥) → countRefusal cap places total sh ≡ 5
   unfolding countRefusal
-  total-decides slots debts covers = rw (le-ltb _ _ slots, le-ltb _ _ debts, le-ltb _ _ covers)
+  total-over-the-room-is-refused some =
+      by-le total places
+      (λ within. absurd (some (total-is-accepted places total within)))
+      (λ over. refused-anyway cap (sh .slots .count)
+      (refused-anyway cap (sh .ledger .debts .count) (refused-anyway total (sh .slots .count) (total-over-is-refused places total over))))
 
 -- A moment, and the longest wait of a reservation.
 module _ (t : Nanos) where

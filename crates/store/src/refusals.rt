@@ -38,7 +38,8 @@ fn total_refusal(places: usize, total: u64) -> u32
     if (places as u64) < total { 5 } else { 0 }
 }
 
-// 5 where a count of a shard is over the cap, or the total is under its slot count or over the slots that all shards have room for.
+// 5 where a count of a shard is over the cap, or the total is under its slot count or over the slots that all shards have room for. The order of the tests
+// does not matter for the number. This one keeps the total and the room in registers, which nothing after the tests needs (docs/DECISIONS.md).
 pub(crate) fn count_refusal(ws: &[u64], cap: usize, places: usize, total: u64) -> u32
     requires { ⌜ length (now ws) ≡ shardWords cap ⌝ }
     ensures { λ r. ⌜ r ≡ countRefusal cap places total (shard cap (now (ws .entry))) ⌝ }
@@ -47,13 +48,16 @@ pub(crate) fn count_refusal(ws: &[u64], cap: usize, places: usize, total: u64) -
     if cap < slots {
         return 5;
     }
-    if cap < debts::len(ws, cap) {
-        return 5;
-    }
     if total < slots as u64 {
         return 5;
     }
-    total_refusal(places, total)
+    if total_refusal(places, total) != 0 {
+        return 5;
+    }
+    if cap < debts::len(ws, cap) {
+        return 5;
+    }
+    0
 }
 
 // 6 for a moment that is too late.
