@@ -45,10 +45,10 @@ pub(crate) fn count_refusal(ws: &[u64], cap: usize, places: usize, total: u64) -
     ensures { λ r. ⌜ r ≡ countRefusal cap places total (shard cap (now (ws .entry))) ⌝ }
 {
     let slots = shard_map::len(ws, cap);
-    if cap < slots {
+    if total < slots as u64 {
         return 5;
     }
-    if total < slots as u64 {
+    if cap < slots {
         return 5;
     }
     if total_refusal(places, total) != 0 {

@@ -1,4 +1,4 @@
--- `count_refusal` compares the slots with the cap, the total with the slots and with the room, and the debts with the cap.
+-- `count_refusal` compares the total with the slots, the slots with the cap, the total with the room, and the debts with the cap.
 use native.Mathlib.Omega.{arith}
 use mathlib.Core.Path.{sym, _∙_}
 use Rattle.store.proofs.RefusalLaws.{slots-over-are-refused, debts-over-are-refused, total-under-is-refused, total-over-the-room-is-refused}
@@ -11,10 +11,10 @@ len-requires : tie.Need-len-requires
 len-requires c κs = search needs
 
 returns : tie.Need-returns
-returns c = sym (slots-over-are-refused _ _ _ _ (omega (arith, c .if1 .taken, c .before .len .ensures)))
+returns c = sym (total-under-is-refused _ _ _ _ (omega (arith, c .if1 .taken, c .before .len .ensures)))
 
 returns-2 : tie.Need-returns-2
-returns-2 c = sym (total-under-is-refused _ _ _ _ (omega (arith, c .if2 .taken, c .before .before .len .ensures)))
+returns-2 c = sym (slots-over-are-refused _ _ _ _ (omega (arith, c .if2 .taken, c .before .before .len .ensures)))
 
 total-refusal-requires : tie.Need-total-refusal-requires
 total-refusal-requires c κs = search needs
@@ -31,12 +31,12 @@ returns-4 c = sym (debts-over-are-refused _ _ _ _ (omega (arith, c .if4 .taken, 
 returns-5 : tie.Need-returns-5
 returns-5 c =
     let told = c .before .before in
-    let covering = told .before .before in
-    let counted = covering .before .before in
+    let fitting = told .before .before in
+    let counted = fitting .before .before in
     sym (counts-are-accepted _ _ _ _ (record {
-      slots = omega (arith, covering .before .if1 .left, counted .len .ensures);
+      slots = omega (arith, fitting .if2 .left, counted .len .ensures);
       debts = omega (arith, c .if4 .left, c .before .len2 .ensures);
-      covers = omega (arith, covering .if2 .left, counted .len .ensures);
+      covers = omega (arith, fitting .before .if1 .left, counted .len .ensures);
       within = total-not-refused _ _ (sym (told .before .total-refusal .ensures) ∙ told .if3 .left);
     }))
 
