@@ -63,12 +63,15 @@ pub blank-fits : (room : ℕ) → recordsFit (blank room) ≡ true
 blank-fits zero = refl
 blank-fits (suc room) = blank-fits room
 
--- `given room` is what a limiter answers and leaves where so many records are lent, and `left records` the records that it leaves. `says` is how it tells a reply.
-module _ {R : Type 0} (says : Reply → R) (s : Settings) (at : Nanos) (i : ℕ) (ws : List ℕ) (given : ℕ → Outcome R (List ℕ)) (left : List Debt → List Debt) where
+-- `given room` is what a limiter answers and leaves where so many records are lent, and `left records` the records that it leaves. `says` is how it tells a
+-- reply.
+module _ {R : Type 0} (says : Reply → R) (s : Settings) (at : Nanos) (i : ℕ) (ws : List ℕ)
+    (given : ℕ → Outcome R (List ℕ)) (left : List Debt → List Debt) where
   abbrev AsTold : List Debt → Type 0
   AsTold records =
       let o = listDebts s at i (lent ws records) in
-      _≡_ {A = Outcome R Lent} (outcome (given (length records) .answer) (lent (given (length records) .after) (left records))) (outcome (says (o .answer)) (o .after))
+      let g = given (length records) in
+      _≡_ {A = Outcome R Lent} (outcome (g .answer) (lent (g .after) (left records))) (outcome (says (o .answer)) (o .after))
 
   -- Its records are those of the rules.
   pub records-as-told : (records : List Debt) → AsTold records → left records ≡ listDebts s at i (lent ws records) .after .records

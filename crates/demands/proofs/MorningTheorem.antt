@@ -56,8 +56,9 @@ module _ (s : Settings) (ws : List ℕ) (memory : SoundMemory s ws) where
   listed-key-is-told rate rated at early id new d is =
       let own = shardAt s (id .hash) ws in
       let accepted = accepted-rate rate (sym (ap limitRefusal rated) ∙ neither-refuses (limitRefusal (s .limit)) (sizeRefusal s) (memory .settings) .0) in
-      let has : tokensIn (Open rate) at id own ≡ tokensLeft (configOf rate) at d = listed-key-has rate accepted own (memory .finds-each (id .hash)) at id new d is in
-      let fewer = listed-key-lacks-tokens rate accepted own (memory .finds-each (id .hash)) at id new (λ none. no-record d (sym is ∙ none)) in
+      let each = memory .finds-each (id .hash) in
+      let has : tokensIn (Open rate) at id own ≡ tokensLeft (configOf rate) at d = listed-key-has rate accepted own each at id new d is in
+      let fewer = listed-key-lacks-tokens rate accepted own each at id new (λ none. no-record d (sym is ∙ none)) in
       (tokens-are-told at early id ∙ ap (λ (limit : Limit). Count (tokensIn limit at id own)) rated ∙ ap Count has, rw has at fewer)
 
   pub sound-list-is-true : ListIsTrue s ws

@@ -1,6 +1,6 @@
 -- The limiter as C and Rust call it: the ten exports of `limiter` that are lent words, on plain numbers, the five of `limiter_modems`, on numbers and the bytes
--- of an address, the three of `limiter_classes`, on numbers and the words of a class table, and the one of `limiter_debts`, on numbers and records; demand 2 of them; and the limiter that a caller has in them,
--- who reads replies from their numbers. Each call of a list writes its settings as numbers of its own. The other exports are lent no words, so they are no
+-- of an address, the three of `limiter_classes`, on numbers and the words of a class table, and the one of `limiter_debts`, on numbers and records; demand 2 of
+-- them; and the limiter that a caller has in them, who reads replies from their numbers. Each call of a list writes its settings as numbers of its own. The other exports are lent no words, so they are no
 -- calls of a list: the number of words, the hash of a key, the identity of an address, the version.
 use Prim.Native.Nat.{ℕ, _-_}
 use mathlib.Core.Path.{_≡_}
@@ -26,8 +26,8 @@ use Rattle.rules.specs.Asks.{requests, looks, undoes, passes, peeks, tokens, tu
 use Rattle.rules.specs.Widths.{fits64, fits32, lendable, recordsFit}
 use Rattle.rules.specs.Debts as Debts
 use Rattle.rules.specs.Debts.{Lent}
-use Rattle.rules.specs.Calls.{Call, keyed, whole, len, debts, Terms, try, reserve, peek, available, timesTurnedAway, length, refund, remove, classTry, kindOf, rules}
-use Rattle.rules.specs.Calls.{listDebts, fits}
+use Rattle.rules.specs.Calls.{Call, keyed, whole, len, debts, Terms, try, reserve, peek, available, timesTurnedAway, length, refund, remove, classTry, kindOf}
+use Rattle.rules.specs.Calls.{listDebts, rules, fits}
 use Rattle.modems.specs.Names.{Name, key, address, namedIn}
 use Rattle.limiter.specs.declared.LimiterSettings.{LimiterSettings}
 use Rattle.limiter.specs.Exported.{settingsOf}
@@ -286,8 +286,9 @@ module _ (κs : Lfts 2) (ptr tablePtr : ℕ × ℕ) (name tableName : ℕ) where
         ClassTry.Asked κs (withTable n table ws (numbersOf at id class cost)) →
         ClassTry.Learnt κs (withTable n table ws (numbersOf at id class cost)) (o .answer) (withTable n table (o .after) (numbersOf at id class cost))
 
--- The export of `limiter_debts` is lent records, too. What its `ensures` tells is written out here, as for the operation (Contracts; `limiter-debts-is-read`). For
--- all records of a number it gives the numbers and the words that `debts` has for that number, and the records are those of `records`.
+-- The export of `limiter_debts` is lent records, too. What its `ensures` tells is written out here, as for the operation (Contracts; `limiter-debts-is-read`,
+-- `limiter-debts-asks-nothing`). For all records of a number it gives the numbers and the words that `debts` has for that number, and the records are those of
+-- `records`.
 abbrev pub DebtsLearnt : LimiterSettings → ℕ → ℕ → Lent → Told → Lent → Type 0
 DebtsLearnt n at i before t after = outcome t after ≡ told (Debts.listDebts (settingsOf n) (nanosOf at) i before)
 
