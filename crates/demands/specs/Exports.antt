@@ -1,7 +1,7 @@
 -- The limiter as C and Rust call it: the ten exports of `limiter` that are lent words, on plain numbers, the five of `limiter_modems`, on numbers and the bytes
 -- of an address, the three of `limiter_classes`, on numbers and the words of a class table, and the one of `limiter_debts`, on numbers and records; demand 2 of
--- them; and the limiter that a caller has in them, who reads replies from their numbers. Each call of a list writes its settings as numbers of its own. The other exports are lent no words, so they are no
--- calls of a list: the number of words, the hash of a key, the identity of an address, the version.
+-- them; and the limiter that a caller has in them, who reads replies from their numbers. Each call of a list writes its settings as numbers of its own. The
+-- other exports are lent no words, so they are no calls of a list: the number of words, the hash of a key, the identity of an address, the version.
 use Prim.Native.Nat.{ℕ, _-_}
 use mathlib.Core.Path.{_≡_}
 use mathlib.Core.Bool.{Bool, true, cond, _&&_}
