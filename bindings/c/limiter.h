@@ -23,9 +23,9 @@
 
 /* The version of this interface. A change that a caller has to know of raises the minor number while the major one is 0. */
 #define LIMITER_VERSION_MAJOR 0
-#define LIMITER_VERSION_MINOR 8
+#define LIMITER_VERSION_MINOR 9
 #define LIMITER_VERSION_PATCH 0
-#define LIMITER_VERSION "0.8.0"
+#define LIMITER_VERSION "0.9.0"
 /* The same as one number: 65,536 times the major number, 256 times the minor one, and the patch. */
 #define LIMITER_VERSION_NUMBER 0x000800
 
@@ -35,23 +35,23 @@ extern "C" {
 
 /* The version of the library that is linked, as LIMITER_VERSION_NUMBER has it. The name has the major and the minor number in it: a library of
  * another minor version does not define it. Every object that is compiled with this header refers to it, so header and library of two
- * versions do not link ("undefined reference to limiter_version_0_8"). The patch may differ. */
-uint32_t limiter_version_0_8(void);
+ * versions do not link ("undefined reference to limiter_version_0_9"). The patch may differ. */
+uint32_t limiter_version_0_9(void);
 #if defined(__has_attribute)
 #if __has_attribute(retain)
-static uint32_t (*const limiter_version_needed)(void) __attribute__((used, retain)) = limiter_version_0_8;
+static uint32_t (*const limiter_version_needed)(void) __attribute__((used, retain)) = limiter_version_0_9;
 #define LIMITER_VERSION_IS_NEEDED
 #endif
 #endif
 #if defined(__GNUC__) && !defined(LIMITER_VERSION_IS_NEEDED)
-static uint32_t (*const limiter_version_needed)(void) __attribute__((used)) = limiter_version_0_8;
+static uint32_t (*const limiter_version_needed)(void) __attribute__((used)) = limiter_version_0_9;
 #endif
 #undef LIMITER_VERSION_IS_NEEDED
 
 /* The version of the library that is linked, for a log. */
 static inline uint32_t limiter_version(void)
 {
-    return limiter_version_0_8();
+    return limiter_version_0_9();
 }
 
 /* What a store is set up with. Times are in nanoseconds. A flag is set if it is not 0. A value whose flag is not set is not read: write settings

@@ -168,7 +168,7 @@ pub const LIMITER_LONGEST_LINE: usize = 76;
 
 /// Every program that has this crate in it refers to the version by its name, so a library of another minor version does not link.
 #[used]
-static VERSION_NEEDED: extern "C" fn() -> u32 = limiter_version_0_8;
+static VERSION_NEEDED: extern "C" fn() -> u32 = limiter_version_0_9;
 
 // The three functions that are lent nothing are safe with any arguments. What the others ask of a caller: those with `words` and `len`, that these are
 // words that it may read, and write unless they are `const`, for the length of the call; those with `buffer` and `len`, that these are bytes that it may
@@ -177,7 +177,7 @@ static VERSION_NEEDED: extern "C" fn() -> u32 = limiter_version_0_8;
 unsafe extern "C" {
     pub safe fn limiter_words(settings: LimiterSettings) -> u64;
     pub safe fn limiter_key_hash(key: u64) -> u64;
-    pub safe fn limiter_version_0_8() -> u32;
+    pub safe fn limiter_version_0_9() -> u32;
 
     pub fn limiter_set_up(settings: LimiterSettings, words: *mut u64, len: usize) -> LimiterReply;
     pub fn limiter_try(

@@ -298,7 +298,7 @@ fn one_version() {
         .map(|number| number.parse().expect("a number"))
         .collect();
     let number = 65_536 * numbers[0] + 256 * numbers[1] + numbers[2];
-    assert_eq!(limiter_version_0_8(), number);
+    assert_eq!(limiter_version_0_9(), number);
     let lines = [
         format!("#define LIMITER_VERSION \"{version}\""),
         format!("#define LIMITER_VERSION_NUMBER {number:#08x}"),
