@@ -27,7 +27,7 @@
 #define LIMITER_VERSION_PATCH 0
 #define LIMITER_VERSION "0.9.0"
 /* The same as one number: 65,536 times the major number, 256 times the minor one, and the patch. */
-#define LIMITER_VERSION_NUMBER 0x000800
+#define LIMITER_VERSION_NUMBER 0x000900
 
 #ifdef __cplusplus
 extern "C" {
@@ -250,7 +250,7 @@ LIMITER_OFFSET(debt, settles_at, 8);
  *
  * A call is refused for the first thing that is wrong, in the order 1 to 7 for most calls. A call by address is refused for its address (11, 12) before
  * that. A call with a table of classes looks at the table after that, so that 1 to 3 come again, for the rates of the classes: limiter_class_set_up has the
- * order. limiter_debts looks at the shard after that, so that 5 comes again, for its count of debts. */
+ * order. limiter_debts looks at the shard after 6: 16 for its number, 5 again for its count of debts, then 17. */
 enum {
     LIMITER_DONE = 0,           /* granted, from moment on; or accepted, known, counted */
     LIMITER_RETRY = 1,          /* not now; number is the wait in ns, and moment when it is over */
@@ -392,8 +392,8 @@ limiter_reply limiter_length(limiter_settings s, const uint64_t *words, size_t l
 
 /* Who is still in debt? Lists the debts of one shard that settle after `now`, strictly: a debt that settles at `now` has settled. They are written over the
  * first records of a lent list, in the order of the shard's ledger, which is neither that of the moments nor that of the hashes. 0 with `number` records
- * written. The records past them stay, and no word of the store changes. A closed limiter is listed too. A key of a listed hash that comes back at `now` does
- * not find its bucket full.
+ * written. The records past them stay, and no word of the store changes. The debts of a closed limiter are listed too. With a rate, a key of a
+ * listed hash that comes back at `now` does not find its bucket full.
  *
  * `records` and `count` are the list: an array of `count` records that the call may write, aligned to 8 bytes. It must not lie in `words`, and no one else may
  * use it during the call. Records of any content are safe. NULL with count 0 is safe too. A shard has room for as many debts as keys: max_keys divided by the

@@ -120,7 +120,7 @@ fn call_refusal(settings: Settings, ws: &[u64], at: Nanos, shard: u64) -> u32
     shard_refusal(settings.shape(), shard)
 }
 
-// Nothing to write, and the number.
+// The plan of a refused call: nothing to write, and the number of the refusal.
 fn refused(refusal: u32) -> Plan
     ensures { λ r. ⌜ r ≡ refusedPlan refusal ⌝ }
 {
@@ -135,7 +135,7 @@ fn refused(refusal: u32) -> Plan
     }
 }
 
-// The plan for the ledger of a part, where so many records are lent.
+// The plan for the ledger of a part, where `room` records are lent.
 fn ledger_plan(ws: &[u64], part: Part, at: Nanos, room: usize) -> Plan
     requires { ⌜ Placed part (now ws) ⌝ }
     ensures { λ r. ⌜ r ≡ ledgerPlan part at room (ledgerIn part (now (ws .entry))) ⌝ }
@@ -156,7 +156,7 @@ fn ledger_plan(ws: &[u64], part: Part, at: Nanos, room: usize) -> Plan
     }
 }
 
-// All that the call decides, where so many records are lent.
+// All that the call decides, where `room` records are lent.
 fn planned(settings: Settings, ws: &[u64], at: Nanos, shard: u64, room: usize) -> Plan
     ensures { λ r. ⌜ r ≡ planOf settings at shard room (now (ws .entry)) ⌝ }
 {

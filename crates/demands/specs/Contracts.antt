@@ -1,7 +1,7 @@
 -- Code as its caller knows it: what the contracts of the ten operations of `perkey`, of the five of `modems`, of the three of `class_calls` and of the one of
 -- `debt_calls` tell. They answer calls of one list, in which each call names a modem by key or by address (`byName`). `Asked` and `Learnt` are an operation's
--- `requires` and `ensures` (src/lib.rt of these crates) as the check gives them to its callers: `Asked` of the arguments, `Learnt` of the arguments at entry,
--- the result, and the arguments at exit.
+-- `requires` and `ensures` (src/lib.rt of the first three crates) as the check gives them to its callers: `Asked` of the arguments, `Learnt` of the arguments
+-- at entry, the result, and the arguments at exit.
 use Prim.Native.Nat.{ℕ}
 use mathlib.Core.Path.{_≡_}
 use mathlib.Core.Bool.{true}
@@ -149,8 +149,8 @@ module _ (κs : Lfts 2) (ptr tablePtr : ℕ × ℕ) (name tableName : ℕ) where
         ClassTry.Learnt κs (withTable s table ws (at, (id, (class, (cost, tt))))) (o .answer) (withTable s table (o .after) (at, (id, (class, (cost, tt)))))
 
 -- The operation of `debt_calls` is lent records, too. The check makes no `Asked` and `Learnt` of such a function, so what its `ensures` tells is written out
--- here. `list-debts-is-read` and `list-debts-asks-nothing` (proofs/DebtCalls.antt) show by computation that its contract says this and asks nothing. It tells
--- this for all records of a number: the answer and the words are those that the limiter has for that number, and the records are its `lists`.
+-- here. `list-debts-is-read` and `list-debts-asks-nothing` (proofs/DebtCalls.antt) show by computation that its contract says this and asks nothing. Whatever
+-- records are lent, the answer and the words are those that the limiter has for how many they are. The records after are those of `lists`.
 abbrev pub ListDebtsLearnt : Settings → Nanos → ℕ → Lent → Reply → Lent → Type 0
 ListDebtsLearnt s at i before r after = outcome r after ≡ Debts.listDebts s at i before
 

@@ -106,8 +106,9 @@ tableWords (tabled words) = words
 abbrev pub tableFits : Table → Bool
 tableFits table = lendable (tableWords table)
 
--- A limiter, as its caller has it: set-up, clear, and an answer to every other call. Each gives a reply and leaves words. A list of debts also leaves
--- records: `lists` gives them, for the settings, the moment, the shard's number, the records that are lent, and the words.
+-- A limiter, as its caller has it: set-up, clear, and an answer to every other call. Each gives a reply and leaves words. A list of debts is
+-- answered for the number of lent records: by its contract the answer depends on nothing else of them. The records after it are those of `lists`, for the
+-- settings, the moment, the shard's number, the records that are lent, and the words.
 pub record Limiter (S N : Type 0) : Type 0 where
   pub sets-up : Table → S → List ℕ → Outcome Reply (List ℕ)
   pub clears : Table → S → List ℕ → Outcome Reply (List ℕ)

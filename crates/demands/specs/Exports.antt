@@ -126,7 +126,8 @@ abbrev pub clearThrough : Exports → Table → LimiterSettings → Gives
 clearThrough e untabled n = e .clear n
 clearThrough e (tabled table) n = e .class-clear n table
 
--- Demand 2 of the exports: whatever numbers the settings are written in, all numbers of a reply are those of the rules' reply, and all words are theirs.
+-- Demand 2 of the exports: whatever numbers the settings are written in, all numbers of a reply are those of the rules' reply, and all words and records are
+-- those of the rules.
 pub record ExportDemand2 (e : Exports) : Type 0 where
   pub sets-up : (table : Table) (n : LimiterSettings) (ws : List ℕ) → tableFits table ≡ true → numbersFit n ≡ true → lendable ws ≡ true
       → setUpThrough e table n ws ≡ told (setUpBy exported table n ws)
@@ -287,8 +288,8 @@ module _ (κs : Lfts 2) (ptr tablePtr : ℕ × ℕ) (name tableName : ℕ) where
         ClassTry.Learnt κs (withTable n table ws (numbersOf at id class cost)) (o .answer) (withTable n table (o .after) (numbersOf at id class cost))
 
 -- The export of `limiter_debts` is lent records, too. What its `ensures` tells is written out here, as for the operation (Contracts; `limiter-debts-is-read`,
--- `limiter-debts-asks-nothing`). For all records of a number it gives the numbers and the words that `debts` has for that number, and the records are those of
--- `records`.
+-- `limiter-debts-asks-nothing`). Whatever records are lent, the numbers and the words are those that `debts` has for how many they are. The records after are
+-- those of `records`.
 abbrev pub DebtsLearnt : LimiterSettings → ℕ → ℕ → Lent → Told → Lent → Type 0
 DebtsLearnt n at i before t after = outcome t after ≡ told (Debts.listDebts (settingsOf n) (nanosOf at) i before)
 

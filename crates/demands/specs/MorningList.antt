@@ -1,4 +1,5 @@
--- What the morning shift reads is what the server will do (request 12 of document 02), on a store that has grown from fresh.
+-- What the morning shift reads is what the server will do (request 12 of document 02): of the rules, on a store that has grown from fresh. That the shard of a
+-- debt is the shard of its hash is not among the claims (docs/DECISIONS.md).
 use Prim.Native.Nat.{ℕ, _<_}
 use mathlib.Core.Path.{_≡_}
 use mathlib.Core.List.{List, [], _∷_}
@@ -39,7 +40,12 @@ module _ (s : Settings) (ws : List ℕ) where
         → ofHash (debtAt (ledgerNumbered i) p .hash) (listed at (ledgerNumbered i)) ≡ debtAt (ledgerNumbered i) p ∷ []
     -- The records of a hash in the list of its shard are the debt that a call on a key of that hash would find, if it settles after the moment.
     pub as-found : (at : Nanos) (hash : ℕ) → ofHash hash (listed at (ledgerOf hash)) ≡ owedAfter at hash (owedBy (ledgerOf hash) hash)
-    -- A key without a slot that comes back at the moment of the list lacks tokens if its hash is listed. It has exactly those that its record leaves it.
+    -- A look at the tokens of a key without a slot, at the moment of the list, answers what the listed record of its hash leaves it. That is less than the
+    -- burst.
     pub lacks : (rate : Rate) → s .limit ≡ Open rate → (at : Nanos) → momentRefusal at ≡ 0 → (id : Identity)
         → placeOf (shardAt s (id .hash) ws) (id .hash) (id .key) ≡ Nowhere → (d : Debt) → recordsOf at id ≡ d ∷ []
         → (available s at id ws .answer ≡ Count (tokensLeft (configOf rate) at d)) × (tokensLeft (configOf rate) at d < burstOf rate)
+    -- If no record has its hash, the look answers the tokens of a fresh bucket.
+    pub is-fresh : (rate : Rate) → s .limit ≡ Open rate → (at : Nanos) → momentRefusal at ≡ 0 → (id : Identity)
+        → placeOf (shardAt s (id .hash) ws) (id .hash) (id .key) ≡ Nowhere → recordsOf at id ≡ []
+        → available s at id ws .answer ≡ Count (configOf rate .initial)

@@ -1,24 +1,28 @@
--- The list of a shard's debts: each check refuses nothing just where what it looks at is right, and the answer depends on the shard's ledger alone.
+-- The list of a shard's debts: each check refuses nothing just where what it looks at is right, and what the call looks at is the shard's ledger alone.
 use Prim.Native.Nat.{ℕ, _≤_, _<_}
 use native.Mathlib.Omega.{arith}
 use mathlib.Core.Path.{_≡_, refl, sym, ap, _∙_}
-use mathlib.Core.List.{List}
-use lib.ListN.{length}
+use mathlib.Core.Bool.{Bool, true, false, cond}
+use mathlib.Core.List.{List, [], _∷_}
+use lib.Dec.{eqb}
+use lib.ListN.{length, take, length-take}
 use borrow.Author.Tests.{le-ltb, lt-ltb}
-use Rattle.arith.proofs.Cases.{by-le, by-eq}
+use Rattle.arith.proofs.Cases.{by-le, by-eq, by-test}
 use Rattle.rows.specs.Outcome.{Outcome, outcome}
 use Rattle.units.specs.declared.Nanos.{Nanos}
 use Rattle.settings.specs.declared.Settings.{Settings}
 use Rattle.settings.specs.declared.Shape.{Shape}
-use Rattle.settings.specs.Settings.{firstRefusal, shapeOf, shardCount}
+use Rattle.settings.specs.Settings.{firstRefusal, settingsRefusal, shapeOf, shardCount}
 use Rattle.settings.proofs.SettingsLaws.{first-refusal-stands, no-refusal-hands-on, neither-refuses}
 use Rattle.ledger.specs.declared.Debt.{Debt}
-use Rattle.ledger.specs.Model.{Ledger}
+use Rattle.ledger.specs.Model.{Ledger, settledBy}
 use Rattle.ledger.specs.Model as Ledger
-use Rattle.store.specs.Refusals.{setUpRefusal, momentRefusal}
+use Rattle.store.specs.Memory.{wordsIn}
+use Rattle.store.specs.Refusals.{memoryRefusal, setUpRefusal, momentRefusal}
 use Rattle.rules.specs.declared.Reply.{Reply}
-use Rattle.rules.specs.declared.Reply.the-variants.{Count}
-use Rattle.rules.specs.Debts.{listed, written, shardNumbered, shardRefusal, debtCountRefusal, recordsRefusal, ledgerRefusal, debtsRefusalIn}
+use Rattle.rules.specs.declared.Reply.the-variants.{Count, Refused}
+use Rattle.rules.specs.Rules.{unlessRefused}
+use Rattle.rules.specs.Debts.{unsettled, listed, written, shardNumbered, shardRefusal, debtCountRefusal, recordsRefusal, ledgerRefusal, debtsRefusalIn}
 use Rattle.rules.specs.Debts.{debtsIn, Lent, lent, listDebtsIn, listDebts}
 use Rattle.rules.proofs.RefusedLaws.{unless-refused-accepts, unless-refused-refuses}
 use Rattle.rules.proofs.Worked as Worked
@@ -76,6 +80,32 @@ module _ (room needed : ℕ) where
   records-not-refused none =
       by-le needed room (λ enough. enough) (λ few. absurd (omega (arith, sym (few-records-are-refused few) ∙ none)))
 
+-- No more debts are listed than the ledger counts. So as many records as a shard has room for are enough.
+unsettled-are-fewer : (at : Nanos) (ds : List Debt) → length (unsettled at ds) ≤ length ds
+unfolding unsettled
+unsettled-are-fewer at [] = omega arith
+unsettled-are-fewer at (d ∷ ds) =
+    by-test (settledBy at d) (λ settled. rw settled (omega (arith, unsettled-are-fewer at ds))) (λ owing. rw owing (omega (arith, unsettled-are-fewer at ds)))
+
+pub as-many-records-as-places-are-enough : (at : Nanos) (cap room : ℕ) (l : Ledger) → debtCountRefusal cap l ≡ 0 → cap ≤ room
+    → ledgerRefusal cap at room l ≡ 0
+unfolding listed
+as-many-records-as-places-are-enough at cap room l none enough =
+    let held = take (l .debts .count) (l .debts .places) in
+    let few : length held ≤ l .debts .count = omega (arith, length-take (l .debts .count) (l .debts .places)) in
+    no-refusal-hands-on _ _ none
+    ∙ records-are-accepted room (length (unsettled at held)) (omega (arith, unsettled-are-fewer at held, few, debt-count-not-refused cap l none, enough))
+
+-- The answer, and the records, of one of two outcomes.
+answer-of : {A : Type 0} (b : Bool) (one other : Reply) (after : A) → cond b (outcome one after) (outcome other after) .answer ≡ cond b one other
+answer-of true one other after = refl
+answer-of false one other after = refl
+
+records-of : (b : Bool) (one other : Reply) (ws : List ℕ) (ds records : List Debt)
+    → cond b (outcome one (lent ws ds)) (outcome other (lent ws records)) .after .records ≡ cond b ds records
+records-of true one other ws ds records = refl
+records-of false one other ws ds records = refl
+
 -- A caller who lends records has the answer and the words that the call has in a list, where it names the number of the records alone.
 pub listing-is-the-call : (shape : Shape) (s : Settings) (at : Nanos) (i : ℕ) (ws : List ℕ) (records : List Debt)
     → let o = debtsIn shape s at i (length records) ws in
@@ -93,6 +123,33 @@ listing-is-the-call shape s at i ws records =
       unless-refused-refuses refusal ws (outcome (Count (length ds)) ws) some,
       unless-refused-refuses refusal (lent ws records) (outcome (Count (length ds)) (lent ws (written ds records))) some,
     ))
+
+-- Of the memory the call looks at the length and at the shard of the number alone: the answer is the same on two memories with these, and so are the records.
+module _ (shape : Shape) (s : Settings) (at : Nanos) (i : ℕ) (ws vs : List ℕ) (size : length ws ≡ length vs)
+    (same : shardNumbered shape i ws ≡ shardNumbered shape i vs) where
+  lengths-refused-alike : memoryRefusal (wordsIn shape) ws ≡ memoryRefusal (wordsIn shape) vs
+  unfolding memoryRefusal
+  lengths-refused-alike = ap (λ (n : ℕ). cond (eqb n (wordsIn shape)) 0 5) size
+
+  debts-refused-alike : (room : ℕ) → debtsRefusalIn shape s at i room ws ≡ debtsRefusalIn shape s at i room vs
+  debts-refused-alike room j =
+      firstRefusal (firstRefusal (settingsRefusal s) (lengths-refused-alike j))
+      (firstRefusal (momentRefusal at) (firstRefusal (shardRefusal shape i) (ledgerRefusal (shape .cap) at room (same j .ledger))))
+
+  pub debts-look-at-one-shard : (room : ℕ) → debtsIn shape s at i room ws .answer ≡ debtsIn shape s at i room vs .answer
+  unfolding debtsIn unlessRefused
+  debts-look-at-one-shard room =
+      answer-of (eqb (debtsRefusalIn shape s at i room ws) 0) _ _ ws
+      ∙ (λ j. let refusal = debts-refused-alike room j in cond (eqb refusal 0) (Count (length (listed at (same j .ledger)))) (Refused refusal))
+      ∙ sym (answer-of (eqb (debtsRefusalIn shape s at i room vs) 0) _ _ vs)
+
+  pub records-look-at-one-shard : (records : List Debt)
+      → listDebtsIn shape s at i (lent ws records) .after .records ≡ listDebtsIn shape s at i (lent vs records) .after .records
+  unfolding listDebtsIn unlessRefused
+  records-look-at-one-shard records =
+      records-of (eqb (debtsRefusalIn shape s at i (length records) ws) 0) _ _ ws _ records
+      ∙ (λ j. cond (eqb (debts-refused-alike (length records) j) 0) (written (listed at (same j .ledger)) records) records)
+      ∙ sym (records-of (eqb (debtsRefusalIn shape s at i (length records) vs) 0) _ _ vs _ records)
 
 -- A call that is refused leaves the records as they are.
 pub refused-leaves-the-records : (s : Settings) (at : Nanos) (i : ℕ) (ws : List ℕ) (records : List Debt)

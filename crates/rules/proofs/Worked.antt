@@ -38,7 +38,7 @@ module _ (l : Ledger) where
   unfolding listed unsettled
   unused-places-are-not-listed = refl
 
-  -- A count of 3 where there is room for 2 is refused as 5, though no record is lent and one is needed. A count of 2 is refused as 17.
+  -- A count of 3 where there is room for 2 debts is refused as 5, also where too few records are lent. With a count of 2 it is 17.
   debt-count-is-told-before-records : ledgerRefusal 2 (moment 0) 0 (holding l 3 (owing 1 5 ∷ owing 2 6 ∷ [])) ≡ 5
   unfolding listed unsettled debtCountRefusal recordsRefusal firstRefusal
   debt-count-is-told-before-records = refl

@@ -19,7 +19,8 @@ use Rattle.rules.specs.Rules.{unlessRefused, keyedRuleIn, lenIn}
 use Rattle.rules.specs.Debts.{debtsIn}
 use Rattle.rules.specs.Widths.{fits64, settingsFit, keyFits, askFits}
 
--- What a call asks that names no key: how many keys have a slot, or, at a moment, the debts of a shard, given its number and how many records are lent.
+-- What a call asks that names no key: how many keys have a slot, or, at a moment, the debts of a shard, given the shard's number and how many
+-- records are lent.
 pub data Whole : Type 0 where
   len : Whole
   debts : Nanos → ℕ → ℕ → Whole

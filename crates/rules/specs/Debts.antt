@@ -24,7 +24,7 @@ unfoldable pub unsettled : Nanos → List Debt → List Debt
 unsettled at [] = []
 unsettled at (d ∷ ds) = cond (settledBy at d) (unsettled at ds) (d ∷ unsettled at ds)
 
--- Those of a ledger: it holds the debts in its first places.
+-- The unsettled debts of a ledger, in the order of its places. Its debts stand in the first places.
 unfoldable pub listed : Nanos → Ledger → List Debt
 listed at l = unsettled at (take (l .debts .count) (l .debts .places))
 
@@ -36,33 +36,36 @@ written ds records = ds ++ drop (length ds) records
 abbrev pub shardNumbered : Shape → ℕ → List ℕ → Shard
 shardNumbered shape i ws = shardIn (partAt shape i) ws
 
--- 16 where no shard has the number. 5 where a ledger counts more debts than it has room for. 17 where fewer records are lent than are to be written.
+-- 16 where no shard has the number.
 unfoldable pub shardRefusal : Shape → ℕ → ℕ
 shardRefusal shape i = cond (ltb i (shape .shards)) 0 16
 
+-- 5 where a ledger counts more debts than it has room for.
 unfoldable pub debtCountRefusal : ℕ → Ledger → ℕ
 debtCountRefusal cap l = cond (ltb cap (l .debts .count)) 5 0
 
+-- 17 where fewer records are lent than are to be written.
 unfoldable pub recordsRefusal : ℕ → ℕ → ℕ
 recordsRefusal room needed = cond (ltb room needed) 17 0
 
--- The number by which a call is refused that lends so many records (`room`); 0 if it is not refused. The settings and the length come first, then the moment,
--- then the shard's number, its debt count and the records. Slot counts and the total are not looked at.
+-- The refusal for the ledger of the shard, where `room` records are lent: its debt count, then the records.
 abbrev pub ledgerRefusal : ℕ → Nanos → ℕ → Ledger → ℕ
 ledgerRefusal cap at room l = firstRefusal (debtCountRefusal cap l) (recordsRefusal room (length (listed at l)))
 
+-- The number by which a call is refused, 0 if it is not. The settings and the length come first, then the moment, then the shard's number, then its ledger.
+-- Slot counts and the total are not looked at.
 abbrev pub debtsRefusalIn : Shape → Settings → Nanos → ℕ → ℕ → List ℕ → ℕ
 debtsRefusalIn shape s at i room ws =
     firstRefusal (setUpRefusalIn shape s ws)
     (firstRefusal (momentRefusal at)
     (firstRefusal (shardRefusal shape i) (ledgerRefusal (shape .cap) at room (shardNumbered shape i ws .ledger))))
 
--- As a call of a list it is given the number of lent records alone. It answers how many debts are listed, and changes no word of the store.
+-- In a list of calls this call names only how many records are lent. It answers how many debts are listed, and changes no word of the store.
 unfoldable pub debtsIn : Shape → Settings → Nanos → ℕ → ℕ → List ℕ → Outcome Reply (List ℕ)
 debtsIn shape s at i room ws =
     unlessRefused (debtsRefusalIn shape s at i room ws) ws (outcome (Count (length (listed at (shardNumbered shape i ws .ledger)))) ws)
 
--- What its caller lends: the words of the store, and the records.
+-- What the caller lends: the words of the store, and the records.
 pub record Lent : Type 0 where
   pub words : List ℕ
   pub records : List Debt
@@ -70,7 +73,7 @@ pub record Lent : Type 0 where
 abbrev pub lent : List ℕ → List Debt → Lent
 lent ws records = record { words = ws; records = records }
 
--- What its caller has: the same answer, the words as they were, and the records after it. A call that is refused leaves the records as they are, too.
+-- What the caller has then: the same answer, the words as they were, and the records after the call. A refused call leaves the records as they are, too.
 unfoldable pub listDebtsIn : Shape → Settings → Nanos → ℕ → Lent → Outcome Reply Lent
 listDebtsIn shape s at i before =
     let ds = listed at (shardNumbered shape i (before .words) .ledger) in

@@ -22,6 +22,7 @@ abbrev pub owedAfter : Nanos → ℕ → OptionNanos → List Debt
 owedAfter at hash None = []
 owedAfter at hash (Some settles) = unsettled at (record { hash = hash; settles = settles } ∷ [])
 
--- The tokens that a debt leaves its key at a moment: a full bucket less the tokens that come back until the debt settles, and no more than a fresh bucket has.
+-- The tokens that a debt leaves its key at a moment: a full bucket less the tokens, rounded up, that come back until the debt settles, and no more than a
+-- fresh bucket has.
 abbrev pub tokensLeft : BucketConfig → Nanos → Debt → ℕ
 tokensLeft c at d = min (c .initial) (c .capacity - missingTokens c (d .settles .0 - at .0))

@@ -54,7 +54,7 @@ wordsFit (w ∷ ws) = fits64 w && wordsFit ws
 abbrev pub lendable : List ℕ → Bool
 lendable ws = fits64 (length ws) && wordsFit ws
 
--- Records of debts can be lent where both numbers of each fit.
+-- Records of debts can be lent where both numbers of each fit, and their number (`wholeFits` of Calls).
 abbrev pub recordsFit : List Debt → Bool
 recordsFit [] = true
 recordsFit (d ∷ ds) = fits64 (d .hash) && fits64 (d .settles .0) && recordsFit ds
