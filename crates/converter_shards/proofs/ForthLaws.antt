@@ -134,7 +134,7 @@ zeros-twice zero n = let none : 0 + n ≡ n = omega arith in rw none
 zeros-twice (suc m) n = let next : suc m + n ≡ suc (m + n) = omega arith in rw next (ap {B = List ℕ} (λ r. 0 ∷ r) (zeros-twice m n))
 
 -- A present shard has room for cap slots and cap debts.
-present-sized01 : (cap : ℕ) (ws : List ℕ) → Sized01 cap (shard cap ws)
+pub present-sized01 : (cap : ℕ) (ws : List ℕ) → Sized01 cap (shard cap ws)
 unfolding shard
 present-sized01 cap ws = record { slots = cap-is cap ws; debts = debt-cap-is cap ws; others = refl }
 

@@ -47,7 +47,7 @@ pub(crate) fn debt_rows(cap: usize) -> Rows
 }
 
 // How many slots are held, and how many debts.
-pub(crate) fn slot_count(ws: &[u64], cap: usize) -> usize
+pub fn slot_count(ws: &[u64], cap: usize) -> usize
     requires { ⌜ length (now ws) ≡ shardWords01 cap ⌝ }
     ensures { λ r. ⌜ r ≡ shard01 cap (now (ws .entry)) .slots .count ⌝ }
 {

@@ -1,0 +1,3 @@
+pub mod ShardLaws
+pub mod RefusalLaws
+pub mod MoveLaws
