@@ -28,7 +28,7 @@ use Rattle.converter.specs.Layouts.{shardSize, startOf, endOf, shardOf, 
 use Rattle.converter.specs.Conversion.{refusedBy, anyRefusedBy, wordsFor, InShards, Undamaged}
 
 -- A shard below the number of shards ends within the words.
-rows-within : (size shards i : ℕ) → i < shards → i * size + size ≤ shards * size
+pub rows-within : (size shards i : ℕ) → i < shards → i * size + size ≤ shards * size
 rows-within size shards i below =
     let m : (i + 1) * size ≤ shards * size = mul-le-mul-right {m = i + 1} {n = shards} size (omega arith) in omega arith
 

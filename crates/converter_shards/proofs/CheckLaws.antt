@@ -116,6 +116,13 @@ none-twinned n alike none i j below lower = none-passes i (alike i) (none-passes
 pub same-both : (h k h′ k′ : ℕ) → h ≡ h′ → k ≡ k′ → bothSame h k h′ k′ ≡ true
 same-both h k h′ k′ a b = rw (eq-eqb h h′ a) (eq-eqb k k′ b)
 
+-- What it says that two hashes and keys are the same.
+pub same-hashes : (h k h′ k′ : ℕ) → bothSame h k h′ k′ ≡ true → h ≡ h′
+same-hashes h k h′ k′ same = by-eq h h′ (λ e. e) (λ n. both-ways same (rw (ne-eqb h h′ n)))
+
+pub same-keys : (h k h′ k′ : ℕ) → bothSame h k h′ k′ ≡ true → k ≡ k′
+same-keys h k h′ k′ same = eqb-true k k′ (rw (eq-eqb h h′ (same-hashes h k h′ k′ same)) at same)
+
 -- Where no two items are alike no two have one identity, which is the hash and the key.
 module _ {A : Type 0} (items : Items A) (key : A → ℕ) where
   pub no-twins-single : {I : Type 0} (identity : A → I) → ((x y : A) → identity x ≡ identity y → (items .hash x ≡ items .hash y) × (key x ≡ key y))
@@ -129,6 +136,22 @@ module _ {A : Type 0} (items : Items A) (key : A → ℕ) where
       by-le i j
       (λ le. both-ways (same-both _ _ _ _ (other .0) (other .1)) (none-twinned (h .count) (alikeIn items key h) none j i belowJ (omega (arith, differ))))
       (λ lt. both-ways (same-both _ _ _ _ (both .0) (both .1)) (none-twinned (h .count) (alikeIn items key h) none i j belowI lt)))
+
+-- And where no two have one identity no two are alike.
+module _ {A : Type 0} (items : Items A) (key : A → ℕ) where
+  pub single-no-twins : {I : Type 0} (identity : A → I) → ((x y : A) → items .hash x ≡ items .hash y → key x ≡ key y → identity x ≡ identity y)
+      → (h : Held A) → Single items identity h → hasTwins items key h ≡ false
+  unfolding hasTwins
+  single-no-twins identity together h single =
+      none-of (h .count) (λ i. anyBelow i (alikeIn items key h i)) (λ i below. none-of i (alikeIn items key h i) (λ j lower.
+      by-test (alikeIn items key h i j)
+      (λ alike.
+      let x : A = itemAt items h i in
+      let y : A = itemAt items h j in
+      let hashes = same-hashes (items .hash x) (key x) (items .hash y) (key y) alike in
+      let keys = same-keys (items .hash x) (key x) (items .hash y) (key y) alike in
+      absurd (omega (arith, single i j below (omega arith) (together x y hashes keys))))
+      (λ t. t)))
 
 -- Two rows by the tests of the code.
 module _ (rows : Rows) (ws : List ℕ) (i j : ℕ) where

@@ -20,7 +20,7 @@ use Rattle.slot.specs.Slot as Slot
 use Rattle.ledger.specs.declared.Debt.{Debt}
 use Rattle.ledger.specs.Model.{debtItems}
 use Rattle.ledger.proofs.StepLaws as LedgerOrder
-use Rattle.shard_map.specs.Model.{Shard, slotItems}
+use Rattle.shard_map.specs.Model.{Shard, slotItems, inPlaceOrder}
 use Rattle.shard_map.specs.Layout.{slotWords, shardWords, shard, wordsOf}
 use Rattle.shard_map.proofs.ReadBack.{Sized, shard-of-words, words-length}
 use Rattle.shard_map.proofs.RoomLaws.{FindsEach, identityOf}
@@ -28,8 +28,9 @@ use Rattle.converter_shards.specs.Layout01.{slotsAt01, slotWidth01, slot
 use Rattle.converter_shards.specs.Checks.{hasTwins, slotKey, debtKey, shardTwins, isUsed, anyUsed, usedPast, usedPastBy, shardUsedPast01, shardUsedPast}
 use Rattle.converter_shards.specs.Checks.{countOver, Counted, exactly, indexesExact}
 use Rattle.converter_shards.specs.Forth.{addedUpTo, builtIndex, withIndex, forth, back}
-use Rattle.converter_shards.proofs.Layout01Laws.{cap01-is, debt-cap01-is, words-shard01}
-use Rattle.converter_shards.proofs.CheckLaws.{both-ways, any-first, no-twins-single}
+use Rattle.converter_shards.proofs.Layout01Laws.{cap01-is, debt-cap01-is, in-place-order01, words-shard01}
+use Rattle.converter_shards.proofs.CheckLaws.{both-ways, no-twins-single, single-no-twins}
+use Rattle.converter_shards.proofs.PastLaws.{used-next, past-slots-are-free, past-debts-are-free, free-shard-is-unused}
 use Rattle.converter_shards.proofs.ExactTestLaws.{exact-is-exactly}
 use Rattle.converter_shards.proofs.ShardLaws.{slots-fit-cap, debts-fit-cap}
 use Rattle.converter_shards.proofs.ForthLaws.{added-length, built-exact, indexed-sized}
@@ -40,10 +41,6 @@ unfolding forth shardTwins hasTwins
 forth-has-twins-alike cap s = refl
 
 -- So does the check of the words past a count, which has one word more a slot to look at: that word is 0.
-used-next : (w : ℕ) (ws : List ℕ) → anyUsed (w ∷ ws) ≡ cond (isUsed w) true (anyUsed ws)
-unfolding anyUsed
-used-next w ws = any-first (length ws) (λ k. isUsed (getD (w ∷ ws) k 0))
-
 slot-used-alike : (row rest rest′ : List ℕ) → anyUsed rest ≡ anyUsed rest′
     → anyUsed (slotWords (slotOf01 row) ++ rest) ≡ anyUsed (slotWords01 (slotOf01 row) ++ rest′)
 slot-used-alike row rest rest′ same =
@@ -86,6 +83,17 @@ module _ (s : Shard) (none : shardTwins s ≡ false) where
   pub debts-single : Singles.Single debtItems LedgerOrder.hashOf (s .ledger .debts)
   debts-single = no-twins-single debtItems debtKey LedgerOrder.hashOf (λ x y e. (e, e)) (s .ledger .debts) no-debt-twins
 
+-- The way back refuses no shard in which lookup finds each slot and each debt: its indexes are exact, no two items are alike, and no word past a count is used.
+module _ {s : Shard} (each : FindsEach s) where
+  pub found-has-no-twins : shardTwins s ≡ false
+  unfolding shardTwins
+  found-has-no-twins =
+      rw (single-no-twins slotItems slotKey identityOf (λ x y h k. λ j. (h j, k j)) (s .slots) (each .slots .single))
+      (single-no-twins debtItems debtKey LedgerOrder.hashOf (λ x y h k. h) (s .ledger .debts) (each .ledger .single))
+
+  pub found-is-not-used-past : shardUsedPast s ≡ false
+  found-is-not-used-past = free-shard-is-unused s (each .slots .free-past) (each .ledger .free-past)
+
 -- Items with an index that was built in order: it is exact, and lookup misses none.
 module _ {A : Type 0} (items : Items A) (cap : ℕ) (h : Held A) (full : length (h .places) ≡ cap) (fits : h .count ≤ cap) (room : 0 < cap) where
   index-exact : Exact (hashAt items (withIndex items cap h)) (h .count) (builtIndex items cap h)
@@ -126,6 +134,11 @@ module _ {cap : ℕ} {ws : List ℕ} (counted : Counted cap ws) where
       let zeros-long : length {A = ℕ} (replicate (placesFor cap) 0) ≡ placesFor cap = length-replicate {A = ℕ} (placesFor cap) 0 in
       indexed-sized counted _ _ (added-length _ _ _ ∙ zeros-long) (added-length _ _ _ ∙ zeros-long)
 
+  -- All its counts are 0, so in place order alone it is that shard, too.
+  pub forth-in-place-order : inPlaceOrder (forth cap own) ≡ own
+  unfolding forth
+  forth-in-place-order = in-place-order01 cap ws
+
   -- Its present words are as many as they have to be, and read as it.
   pub forth-words-are-a-shards : length (wordsOf (forth cap own)) ≡ shardWords cap
   forth-words-are-a-shards = words-length cap (forth cap own) forth-sized
@@ -151,18 +164,20 @@ module _ {cap : ℕ} {ws : List ℕ} (counted : Counted cap ws) where
         rw (exact-is-exactly _ _ _ (index-exact slotItems cap (own .slots) (cap01-is cap ws) slots-fit room))
         (exact-is-exactly _ _ _ (index-exact debtItems cap (own .ledger .debts) (debt-cap01-is cap ws) debts-fit room))
 
-    -- Where no two items are alike lookup finds each.
-    pub forth-finds-each : shardTwins own ≡ false → FindsEach (forth cap own)
+    -- Where no two items are alike, and no word past a count is used, lookup finds each.
+    pub forth-finds-each : shardTwins own ≡ false → shardUsedPast01 own ≡ false → FindsEach (forth cap own)
     unfolding forth
-    forth-finds-each none = record {
+    forth-finds-each none unused = let clean : shardUsedPast (forth cap own) ≡ false = forth-is-used-past-alike cap ws ∙ unused in record {
       slots = record {
         sound = index-sound slotItems cap (own .slots) (cap01-is cap ws) slots-fit room;
         complete = index-complete slotItems cap (own .slots) (cap01-is cap ws) slots-fit room;
         single = slots-single own none;
+        free-past = past-slots-are-free (forth cap own) clean;
       };
       ledger = record {
         sound = index-sound debtItems cap (own .ledger .debts) (debt-cap01-is cap ws) debts-fit room;
         complete = index-complete debtItems cap (own .ledger .debts) (debt-cap01-is cap ws) debts-fit room;
         single = debts-single own none;
+        free-past = past-debts-are-free (forth cap own) clean;
       };
     }

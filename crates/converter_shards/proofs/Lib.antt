@@ -4,6 +4,7 @@ pub mod ExactTestLaws
 pub mod ShardLaws
 pub mod CarryLaws
 pub mod ForthLaws
+pub mod PastLaws
 pub mod ConvertedLaws
 pub mod StrayLaws
 pub mod PresentLaws

@@ -15,18 +15,11 @@ use Rattle.index.specs.declared.Index.{Index}
 use Rattle.index.specs.Layout.{placesOf, hashOf, keyOf, keyed}
 use Rattle.index.proofs.FindLaws.{find-sound, find-nowhere}
 use Rattle.converter_shards.specs.Checks.{anyBelow, bothSame, twinned, strayed, strays}
-use Rattle.converter_shards.proofs.CheckLaws.{both-ways, any-passes, none-of, by-some, none-twinned, same-both}
+use Rattle.converter_shards.proofs.CheckLaws.{both-ways, any-passes, none-of, by-some, none-twinned, same-both, same-hashes, same-keys}
 
 by-place : {Q : Type 0} (p : Place) → ((i : ℕ) → p ≡ At i → Q) → (p ≡ Nowhere → Q) → Q
 by-place (At i) found none = found i refl
 by-place Nowhere found none = none refl
-
--- What it says that two hashes and keys are the same.
-same-hash : (h k h′ k′ : ℕ) → bothSame h k h′ k′ ≡ true → h ≡ h′
-same-hash h k h′ k′ same = by-eq h h′ (λ e. e) (λ n. both-ways same (rw (ne-eqb h h′ n)))
-
-same-key : (h k h′ k′ : ℕ) → bothSame h k h′ k′ ≡ true → k ≡ k′
-same-key h k h′ k′ same = eqb-true k k′ (rw (eq-eqb h h′ (same-hash h k h′ k′ same)) at same)
 
 -- What a lookup that gave a place says of the item that was looked up.
 pub strayed-own : (i j : ℕ) → j ≡ i → false ≡ strayed i (At j)
@@ -51,8 +44,8 @@ module _ (hash key : ℕ → ℕ) (n : ℕ) (ix : List ℕ) (E : Exact hash n ix
   -- Two are alike, so both are looked up at one place, and one of them strays.
   twins-stray : (i j : ℕ) → i < n → j < i → alike i j ≡ true → anyBelow n stray ≡ true
   twins-stray i j below lower same =
-      let h : hash i ≡ hash j = same-hash (hash i) (key i) (hash j) (key j) same in
-      let k : key i ≡ key j = same-key (hash i) (key i) (hash j) (key j) same in
+      let h : hash i ≡ hash j = same-hashes (hash i) (key i) (hash j) (key j) same in
+      let k : key i ≡ key j = same-keys (hash i) (key i) (hash j) (key j) same in
       let one : lookup j ≡ lookup i = rw (h, k) in
       by-place (lookup i)
       (λ p e.
@@ -72,8 +65,8 @@ module _ (hash key : ℕ → ℕ) (n : ℕ) (ix : List ℕ) (E : Exact hash n ix
       (λ other.
       by-le p i
       (λ le.
-      let h : hash i ≡ hash p = sym (same-hash (hash p) (key p) (hash i) (key i) (f .passes)) in
-      let k : key i ≡ key p = sym (same-key (hash p) (key p) (hash i) (key i) (f .passes)) in
+      let h : hash i ≡ hash p = sym (same-hashes (hash p) (key p) (hash i) (key i) (f .passes)) in
+      let k : key i ≡ key p = sym (same-keys (hash p) (key p) (hash i) (key i) (f .passes)) in
       both-ways (same-both (hash i) (key i) (hash p) (key p) h k) (none-twinned n alike none i p below (omega (arith, other))))
       (λ lt. both-ways (f .passes) (none-twinned n alike none p i (f .below) lt))))
       (λ e. absurd (find-nowhere E (λ j. alike j i) (hash i) e i below refl (same-both (hash i) (key i) (hash i) (key i) refl refl)))
