@@ -162,7 +162,9 @@ module _ (s : Settings) (source target : List ℕ) (a : Accepted Old s source ta
   first-again (suc n) within =
       let w : ℕ = shardWords01 cap in
       let next : suc n * w ≡ n * w + w = omega arith in
-      rw (first-again n (omega arith), forth-again n (omega arith), next) (sym (take-add (n * w) w source))
+      let begins : startOf Old cap n ≡ n * w = omega arith in
+      let there : part Old cap n source ≡ take w (drop (n * w) source) = ap (λ (k : ℕ). take w (drop k source)) begins in
+      rw (first-again n (omega arith), forth-again n (omega arith) ∙ there, next) (sym (take-add (n * w) w source))
 
   all-again : movedWords Present shards cap left ≡ source
   all-again = first-again shards (omega arith) ∙ take-all (shards * shardWords01 cap) source (omega (arith, a .source-size))
@@ -173,8 +175,9 @@ pub forth-then-back-is-the-first : (s : Settings) (source target again : List �
 forth-then-back-is-the-first s source target again done long =
     let a = done-is-accepted Old s source target done in
     let words : List ℕ = movedWords Old (shardCount s) (capOf s) source in
-    rw (accepted-is-done Old s source target a)
-    (accepted-is-done Present s words again (forth-goes-back s source target a again long) ∙ ap (λ (w : List ℕ). outcome Done w) (all-again s source target a))
+    ap (λ (o : Outcome Reply (List ℕ)). back s (o .after) again) (accepted-is-done Old s source target a)
+    ∙ accepted-is-done Present s words again (forth-goes-back s source target a again long)
+    ∙ ap (λ (w : List ℕ). outcome Done w) (all-again s source target a)
 
 -- Back of a store in whose shards lookup finds each slot and each debt, whose indexes are exact and whose total is the sum.
 pub record Found (s : Settings) (ws : List ℕ) : Type 0 where

@@ -234,8 +234,8 @@ module _ {S N : Type 0} (terms : Terms S N) (s : Settings) where
         record {
           first = turn-keeps-sound terms s (calls c) x (alike .first) (blind .0);
           second = turn-keeps-sound terms s (calls c) y (alike .second) (blind .0);
-          first-store = onShards terms c (alike .first-store);
-          second-store = onShards terms c (alike .second-store);
+          first-store = onShards terms c (alike .first-store) .after;
+          second-store = onShards terms c (alike .second-store) .after;
           first-places = one .places;
           second-places = two .places;
           stores = between .after;
