@@ -17,7 +17,7 @@ use Rattle.store.proofs.RefusalLaws.{length-not-refused, length-is-accepted, ot
 use Rattle.converter.specs.declared.Layout.{Layout}
 use Rattle.converter.specs.declared.Layout.the-variants.{Old, Present}
 use Rattle.converter.specs.Layouts.{other, slotsOf, totalWrong}
-use Rattle.converter.specs.Conversion.{anyRefusedBy, sourceRefusal, mostKeysMoved, keysRefusal, wordsFor, lengthsRefusal, refusalOf, InShards, Undamaged}
+use Rattle.converter.specs.Conversion.{anyRefusedBy, sourceRefusal, mostKeysMoved, keysRefusal, oldWords, wordsFor, lengthsRefusal, refusalOf, InShards, Undamaged}
 
 -- Too many keys.
 module _ (s : Settings) where
@@ -32,6 +32,20 @@ module _ (s : Settings) where
   -- Settings that are not refused have an accepted size.
   pub size-is-accepted : {told : ℕ} → told ≡ firstRefusal (settingsRefusal s) (keysRefusal s) → told ≡ 0 → sizeRefusal s ≡ 0
   size-is-accepted is none = accepted-parts s (neither-refuses (settingsRefusal s) (keysRefusal s) (sym is ∙ none) .0) .1
+
+  -- The words to lend, by the tests of the code.
+  module _ {told : ℕ} (is : told ≡ sizeRefusal s) where
+    pub refused-size-has-none : (told ≡ 0 → ⊥) → 0 ≡ oldWords s
+    unfolding oldWords
+    refused-size-has-none some = rw (← is, ne-eqb told 0 some)
+
+    pub many-keys-have-none : told ≡ 0 → mostKeysMoved < s .eviction .«max_keys» → 0 ≡ oldWords s
+    unfolding oldWords
+    many-keys-have-none none more = rw (← is, eq-eqb told 0 none, lt-ltb _ _ more)
+
+    pub words-to-lend : told ≡ 0 → s .eviction .«max_keys» ≤ mostKeysMoved → {n : ℕ} → n ≡ wordsFor Old s → n ≡ oldWords s
+    unfolding oldWords
+    words-to-lend none few words = rw (← is, eq-eqb told 0 none, le-ltb _ _ few) words
 
 -- The total, by the tests of the code.
 module _ (shards cap : ℕ) (ws : List ℕ) {total slots : ℕ} (stored : total ≡ totalOf ws) (counted : slots ≡ slotsOf Present shards cap ws) where

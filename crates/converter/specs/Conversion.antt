@@ -8,7 +8,7 @@ use lib.Dec.{eqb, ltb}
 use lib.ListN.{length, set}
 use Rattle.rows.specs.Outcome.{Outcome, outcome}
 use Rattle.settings.specs.declared.Settings.{Settings}
-use Rattle.settings.specs.Settings.{firstRefusal, settingsRefusal, shardCount, capOf}
+use Rattle.settings.specs.Settings.{firstRefusal, settingsRefusal, sizeRefusal, shardCount, capOf}
 use Rattle.shard_map.specs.Model.{Shard}
 use Rattle.store.specs.Memory.{totalAt, withSegment}
 use Rattle.store.specs.Refusals.{memoryRefusal}
@@ -46,6 +46,10 @@ keysRefusal s = cond (ltb mostKeysMoved (s .eviction .«max_keys»)) 4 0
 -- The words of a store of these settings.
 abbrev pub wordsFor : Layout → Settings → ℕ
 wordsFor layout s = startOf layout (capOf s) (shardCount s)
+
+-- The words to lend for document 01's layout, 0 where it has no store of this size.
+unfoldable pub oldWords : Settings → ℕ
+oldWords s = cond (eqb (sizeRefusal s) 0) (cond (ltb mostKeysMoved (s .eviction .«max_keys»)) 0 (wordsFor Old s)) 0
 
 -- 5 where the source or the target has not its length. Of the target nothing else is looked at.
 abbrev pub lengthsRefusal : Layout → Settings → List ℕ → List ℕ → ℕ

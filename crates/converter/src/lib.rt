@@ -231,8 +231,21 @@ fn settings_refusal(settings: Settings) -> u32
     0
 }
 
+// The words to lend for document 01's layout, 0 where it has no store of this size.
+pub fn old_words(settings: Settings) -> usize
+    ensures { λ r. ⌜ r ≡ Conversion.oldWords settings ⌝ }
+{
+    if settings.size_refusal() != 0 {
+        return 0;
+    }
+    if MOST_KEYS < settings.eviction.max_keys {
+        return 0;
+    }
+    words_for(Layout::Old, settings)
+}
+
 // The words of a store of these settings in a layout.
-pub fn words_for(layout: Layout, settings: Settings) -> usize
+fn words_for(layout: Layout, settings: Settings) -> usize
     requires { ⌜ sizeRefusal settings ≡ 0 ⌝ }
     ensures { λ r. ⌜ r ≡ Conversion.wordsFor layout settings ⌝ }
 {
