@@ -101,7 +101,8 @@ first-is-set (w ∷ ws) n some = refl
 
 -- The total, then the shards: all words of the target.
 pub total-then-shards : (from : Layout) (shards cap : ℕ) (source target : List ℕ) → InShards (other from) shards cap target
-    → take (firstWord (other from)) (withTotal from (slotsOf from shards cap source) target) ++ movedUpTo from shards cap source ≡ movedWords from shards cap source
+    → take (firstWord (other from)) (withTotal from (slotsOf from shards cap source) target) ++ movedUpTo from shards cap source
+    ≡ movedWords from shards cap source
 total-then-shards Old shards cap source target held =
     ap (λ (front : List ℕ). front ++ movedUpTo Old shards cap source)
     (first-is-set target (slotsOf Old shards cap source) (omega (arith, held .size)))

@@ -17,7 +17,8 @@ use Rattle.store.proofs.RefusalLaws.{length-not-refused, length-is-accepted, ot
 use Rattle.converter.specs.declared.Layout.{Layout}
 use Rattle.converter.specs.declared.Layout.the-variants.{Old, Present}
 use Rattle.converter.specs.Layouts.{other, slotsOf, totalWrong}
-use Rattle.converter.specs.Conversion.{anyRefusedBy, sourceRefusal, mostKeysMoved, keysRefusal, oldWords, wordsFor, lengthsRefusal, refusalOf, InShards, Undamaged}
+use Rattle.converter.specs.Conversion.{anyRefusedBy, sourceRefusal, mostKeysMoved, keysRefusal, oldWords, wordsFor, lengthsRefusal, refusalOf, InShards}
+use Rattle.converter.specs.Conversion.{Undamaged}
 
 -- Too many keys.
 module _ (s : Settings) where
@@ -157,7 +158,8 @@ module _ (from : Layout) (s : Settings) (source target : List ℕ) where
       source-length-is-told {n} long differs =
           let five : memoryRefusal (wordsFor from s) source ≡ 5 = other-length-is-refused (wordsFor from s) source (λ same. differs (same ∙ sym long)) in
           second-is-told is none
-          (first-is-told words (sym (first-refusal-stands _ (memoryRefusal (wordsFor (other from) s) target) (λ zero. absurd (omega (arith, sym five ∙ zero))) ∙ five))
+          (first-is-told words
+          (sym (first-refusal-stands _ (memoryRefusal (wordsFor (other from) s) target) (λ zero. absurd (omega (arith, sym five ∙ zero))) ∙ five))
           (λ zero. absurd (omega (arith, zero))))
 
       pub target-length-is-told : {n m : ℕ} → n ≡ wordsFor from s → length source ≡ n → m ≡ wordsFor (other from) s → (length target ≡ m → ⊥)
@@ -165,7 +167,8 @@ module _ (from : Layout) (s : Settings) (source target : List ℕ) where
       target-length-is-told {n} {m} long same also differs =
           let five = other-length-is-refused (wordsFor (other from) s) target (λ e. differs (e ∙ sym also)) in
           second-is-told is none
-          (first-is-told words (sym (no-refusal-hands-on _ (memoryRefusal (wordsFor (other from) s) target) (length-is-accepted (wordsFor from s) source (same ∙ long)) ∙ five))
+          (first-is-told words
+          (sym (no-refusal-hands-on _ (memoryRefusal (wordsFor (other from) s) target) (length-is-accepted (wordsFor from s) source (same ∙ long)) ∙ five))
           (λ zero. absurd (omega (arith, zero))))
 
       pub words-are-told : {n m r : ℕ} → n ≡ wordsFor from s → length source ≡ n → m ≡ wordsFor (other from) s → length target ≡ m → r ≡ words

@@ -32,7 +32,8 @@ use Rattle.converter_shards.proofs.Layout01Laws.{shard01-of-words, words01-of-b
 use Rattle.converter_shards.proofs.ShardLaws.{none-over-cap}
 use Rattle.converter_shards.proofs.ForthLaws.{present-sized01}
 use Rattle.converter_shards.proofs.ConvertedLaws.{forth-has-twins-alike, forth-is-used-past-alike, forth-counts-alike, forth-in-place-order-is-the-same}
-use Rattle.converter_shards.proofs.ConvertedLaws.{forth-in-place-order, forth-words-read-back, back-of-forth-is-the-first, forth-indexes-are-exact, forth-finds-each}
+use Rattle.converter_shards.proofs.ConvertedLaws.{forth-in-place-order, forth-words-read-back, back-of-forth-is-the-first, forth-indexes-are-exact}
+use Rattle.converter_shards.proofs.ConvertedLaws.{forth-finds-each}
 use Rattle.converter_shards.proofs.ConvertedLaws.{found-has-no-twins, found-is-not-used-past}
 use Rattle.converter.specs.declared.Layout.{Layout}
 use Rattle.converter.specs.declared.Layout.the-variants.{Old, Present}
@@ -121,7 +122,8 @@ module _ (s : Settings) (source target : List ℕ) (a : Accepted Old s source ta
 
     forth-again : words01 (Shards.back (shardAt Present cap i left)) ≡ part Old cap i source
     forth-again =
-        ap (λ (w : List ℕ). words01 (Shards.back (shardOf Present cap w))) (part-of-moved Old shards cap source free i below) ∙ back-of-forth-is-the-first counted
+        ap (λ (w : List ℕ). words01 (Shards.back (shardOf Present cap w))) (part-of-moved Old shards cap source free i below)
+        ∙ back-of-forth-is-the-first counted
 
     forth-whole : damaged Present cap (shardAt Present cap i left) ≡ false
     forth-whole =

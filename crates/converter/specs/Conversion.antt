@@ -1,5 +1,5 @@
--- A conversion: the refusals in their order, and the words that it leaves in the target. `forth` is from document 01's layout to the present one, `back` the other
--- way. A class table is read as empty, whatever number of classes the settings have.
+-- A conversion: the refusals in their order, and the words that it leaves in the target. `forth` is from document 01's layout to the present one, `back` the
+-- other way. A class table is read as empty, whatever number of classes the settings have.
 use Prim.Native.Nat.{ℕ, zero, suc, _<_}
 use mathlib.Core.Path.{_≡_}
 use mathlib.Core.Bool.{Bool, false, cond}

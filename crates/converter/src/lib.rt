@@ -1,5 +1,5 @@
-// Moves a store between document 01's layout and the present one without classes, from one lent memory to another. Settings and words are of any kind. A refusal
-// by number changes neither memory, and the source is read only.
+// Moves a store between document 01's layout and the present one without classes, from one lent memory to another. Settings and words are of any kind. A
+// refusal by number changes neither memory, and the source is read only.
 ghost use mathlib.Core.Path.{_≡_};
 ghost use Prim.Native.Nat.{_+_, _*_, _≤_, _<_, _^_};
 ghost use mathlib.Core.Bool.{true, false, cond, not};

@@ -21,6 +21,9 @@ const DEBTS_01: usize = 2;
 
 const DEBT_WIDTH_01: usize = 2;
 
+// The word of a debt that is compared besides its hash: a debt has no key, so it is the hash again.
+const DEBT_KEY_01: usize = 0;
+
 // The words that each place of a present shard adds before the index of its debts.
 const BEFORE_DEBT_INDEX: usize = SLOT_WIDTH + ledger::words::DEBT_WIDTH + index::PLACES_PER_ITEM;
 
@@ -42,7 +45,7 @@ pub(crate) fn debt_rows(cap: usize) -> Rows
     Rows {
         first: SLOTS + DEBTS_01 + SLOT_WIDTH_01 * cap,
         width: DEBT_WIDTH_01,
-        key: 0,
+        key: DEBT_KEY_01,
     }
 }
 

@@ -1,4 +1,5 @@
--- On two stores in place order that are equal but for the counts of tries turned away, every list of calls and clears answers alike but for the look at a count.
+-- On two stores in place order that are equal but for the counts of tries turned away, every list of calls and clears answers alike but for the look at a
+-- count.
 use Prim.Native.Nat.{ℕ}
 use mathlib.Core.Path.{_≡_, refl, sym, ap, _∙_}
 use mathlib.Core.Bool.{true, false, cond}

@@ -41,14 +41,15 @@ use Rattle.converter.proofs.Theorem.{done-is-accepted, accepted-is-done, forth-
 use Rattle.converter.proofs.Theorem.{Found, found-goes-back, back-is-alike}
 use Rattle.demands.specs.Demands.{WithinWindow}
 use Rattle.demands.specs.Grown.{Grown, slotsOf}
-use Rattle.demands.specs.PlaceOrder.{shardNumbered, Shards, freshShards, IndexesExact, refusedAs, onShards, Turn, calls, byRules, stepWithoutIndexes, run, AllOf}
+use Rattle.demands.specs.PlaceOrder.{shardNumbered, Shards, freshShards, IndexesExact, refusedAs, onShards, Turn, calls, byRules, stepWithoutIndexes, run}
+use Rattle.demands.specs.PlaceOrder.{AllOf}
 use Rattle.demands.specs.PlaceOrder.{SameWithoutIndexes}
-use Rattle.demands.specs.TurnAways.{callReadsTurnAways, SameReplies}
+use Rattle.demands.specs.TurnAways.{SameReplies}
 use Rattle.demands.proofs.GrownLaws.{SoundMemory, of-every-shard, grown-memory-is-sound, sound-indexes-are-exact-by-number, sound-kept-by-calls}
 use Rattle.demands.proofs.PlaceOrderTheorem.{SamePlaces, SameOutcome, run-same, call-same, turn-same, turn-keeps-sound, grown-store-is-as-without-indexes}
 use Rattle.demands.proofs.OwnBucket.{own-bucket-answers}
 use Rattle.demands.proofs.Theorem.{rules-stay-within-the-window}
-use Rattle.demands_converter.specs.OldStore.{classless, oldStore, EqualButForCounts}
+use Rattle.demands_converter.specs.OldStore.{classless, oldStore, EqualButForCounts, leftBy, Blind}
 use Rattle.demands_converter.proofs.CountLaws.{turn-alike, run-alike}
 
 -- A store without classes has no class buckets.
@@ -203,15 +204,6 @@ module _ (s : Settings) (source target : List ℕ) (done : forth s source target
       rw (eq-eqb _ _ taken, same) in
       ap (λ (w : List ℕ). rules terms c w .answer) (forth-leaves s source target done) ∙ both .answer ∙ asked
       ∙ own-bucket-answers (classless s) id r at cost (shard-of id) (old-is-sound id) rate rated least most holding
-
--- The words that a list of calls leaves.
-unfoldable pub leftBy : {S N : Type 0} → Terms S N → List (Call S N) → List ℕ → List ℕ
-leftBy terms [] ws = ws
-leftBy terms (c ∷ cs) ws = leftBy terms cs (rules terms c ws .after)
-
--- A call of the store that looks at no count.
-abbrev pub Blind : {S N : Type 0} → Terms S N → Settings → Call S N → Type 0
-Blind terms s c = (settingsOf terms c ≡ s) × (callReadsTurnAways c ≡ false)
 
 module _ {S N : Type 0} (terms : Terms S N) (s : Settings) where
   -- Two memories whose stores in place order are equal but for counts.

@@ -9,16 +9,19 @@
 --   would have grown.
 -- * `forth-decides-by-the-old-debt`: a key that holds a slot or a debt on the old store is decided by it on the new one.
 -- * `converted-store-stays-within-the-window`: the window, over a list that begins on the one store and goes on, converted, on the other.
-use Prim.Native.Nat.{ℕ, _<_}
+use Prim.Native.Nat.{ℕ, suc, _<_}
 use mathlib.Core.Path.{_≡_}
-use mathlib.Core.List.{List, []}
+use mathlib.Core.Bool.{false}
+use mathlib.Core.List.{List, [], _∷_}
 use Rattle.bucket.specs.declared.BucketCore.{BucketCore}
 use Rattle.settings.specs.declared.Settings.{Settings}
 use Rattle.settings.specs.Settings.{shardCount, capOf, shardOf, withClasses}
 use Rattle.shard_map.specs.Model.{Shard, uncounted}
 use Rattle.converter.specs.declared.Layout.the-variants.{Old}
 use Rattle.converter.specs.Layouts.{shardAt}
+use Rattle.rules.specs.Calls.{Call, Terms, rules, settingsOf}
 use Rattle.demands.specs.PlaceOrder.{Shards}
+use Rattle.demands.specs.TurnAways.{callReadsTurnAways}
 
 -- The settings of a store without classes.
 abbrev pub classless : Settings → Settings
@@ -32,3 +35,12 @@ oldStore s ws = record { numbered = λ i. shardAt Old (capOf s) i ws; buckets = 
 pub record EqualButForCounts (s : Settings) (a b : Shards) : Type 0 where
   pub shards : (hash : ℕ) → uncounted (a .numbered (shardOf s hash)) ≡ uncounted (b .numbered (shardOf s hash))
   pub buckets : a .buckets ≡ b .buckets
+
+-- The words that a list of calls leaves.
+unfoldable pub leftBy : {S N : Type 0} → Terms S N → List (Call S N) → List ℕ → List ℕ
+leftBy terms [] ws = ws
+leftBy terms (c ∷ cs) ws = leftBy terms cs (rules terms c ws .after)
+
+-- A call of the store that looks at no count.
+abbrev pub Blind : {S N : Type 0} → Terms S N → Settings → Call S N → Type 0
+Blind terms s c = (settingsOf terms c ≡ s) × (callReadsTurnAways c ≡ false)

@@ -1,12 +1,10 @@
+-- `all_slots` adds shard by shard; the loop holds that the sum so far is that of the shards so far.
 use Prim.Native.Nat.{_-_}
 use native.Mathlib.Omega.{arith}
 use Rattle.converter.proofs.ShardLaws.{part-ends, Summing, summing-start, summing-fits, summing-next, summing-over}
 use borrow.Author.Needs.{needs}
 use Rattle.converter.proofs.all_slots.Statement.{statement}
 use Rattle.converter.proofs.all_slots.Tie as tie
-use Rattle.converter.proofs.all_slots.Reads as reads
-use Rattle.converter.proofs.all_slots.Lts as lts
-use Rattle.converter.proofs.slots_numbered.Reads as slots-numbered-reads
 
 abbrev Inv-loop : tie.InvT-loop
 Inv-loop ws layout shards cap slots₀ i₀ slots i = Summing layout shards cap ws slots i
@@ -14,31 +12,25 @@ Inv-loop ws layout shards cap slots₀ i₀ slots i = Summing layout shards cap 
 abbrev μ-loop : tie.MeasureT-loop
 μ-loop ws layout shards cap slots₀ i₀ slots i = shards - i
 
--- src/lib.rt:177:5
 loop-holds : tie.Need-loop-holds Inv-loop μ-loop
 loop-holds c = summing-start _ _ _ _
 
--- src/lib.rt:178:18
 slots-numbered-requires : tie.Need-slots-numbered-requires Inv-loop μ-loop
 slots-numbered-requires c κs = part-ends (c .before .before .before .pre .in-shards) _ (c .loop-test .taken)
 
--- src/lib.rt:178:9
 add-slots : tie.Need-add-slots Inv-loop μ-loop
-add-slots c = omega (arith, summing-fits (c .before .before .before .before .pre) (c .before .before .loop .inv) (c .before .loop-test .taken) (c .slots-numbered .ensures))
+add-slots c = omega
+    (arith, summing-fits (c .before .before .before .before .pre) (c .before .before .loop .inv) (c .before .loop-test .taken) (c .slots-numbered .ensures))
 
--- src/lib.rt:179:9
 add-i : tie.Need-add-i Inv-loop μ-loop
 add-i c = search needs
 
--- src/lib.rt:177:5
 loop-less : tie.Need-loop-less Inv-loop μ-loop
 loop-less c = search needs
 
--- src/lib.rt:177:5
 loop-again : tie.Need-loop-again Inv-loop μ-loop
 loop-again c = summing-next (c .before .before .before .before .pre) (c .before .before .loop .inv) (c .before .loop-test .taken) (c .slots-numbered .ensures)
 
--- src/lib.rt:171:1
 returns : tie.Need-returns Inv-loop μ-loop
 returns c = summing-over (c .before .loop .inv) (c .loop-test .left)
 

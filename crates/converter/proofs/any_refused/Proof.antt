@@ -1,3 +1,4 @@
+-- `any_refused` goes through the shards; the loop holds that none so far is refused.
 use Prim.Native.Nat.{_-_}
 use Rattle.converter.specs.Conversion.{refusedBy}
 use Rattle.converter.specs.Layouts.{shardAt}
@@ -6,9 +7,6 @@ use Rattle.converter.proofs.ShardLaws.{part-ends}
 use borrow.Author.Needs.{needs}
 use Rattle.converter.proofs.any_refused.Statement.{statement}
 use Rattle.converter.proofs.any_refused.Tie as tie
-use Rattle.converter.proofs.any_refused.Reads as reads
-use Rattle.converter.proofs.any_refused.Lts as lts
-use Rattle.converter.proofs.numbered_refused.Reads as numbered-refused-reads
 
 abbrev Inv-loop : tie.InvT-loop
 Inv-loop ws layout shards cap number i₀ i = NoneBelow (λ k. refusedBy layout number cap (shardAt layout cap k ws)) shards i
@@ -16,34 +14,27 @@ Inv-loop ws layout shards cap number i₀ i = NoneBelow (λ k. refusedBy layout 
 abbrev μ-loop : tie.MeasureT-loop
 μ-loop ws layout shards cap number i₀ i = shards - i
 
--- src/lib.rt:140:5
 loop-holds : tie.Need-loop-holds Inv-loop μ-loop
 loop-holds c = none-start _ _
 
--- src/lib.rt:141:12
 numbered-refused-requires : tie.Need-numbered-refused-requires Inv-loop μ-loop
 numbered-refused-requires c κs =
     let start′ = c .before .before .before in
     let loop-test′ = c .loop-test in
     (part-ends (start′ .pre .0) _ (loop-test′ .taken), start′ .pre .0 .room, λ not-5. none-passes _ _ (start′ .pre .1 not-5) _ (loop-test′ .taken))
 
--- src/lib.rt:142:13
 returns : tie.Need-returns Inv-loop μ-loop
 returns c = none-found _ _ (c .before .before .loop-test .taken) (c .before .numbered-refused .ensures) (c .if1 .taken)
 
--- src/lib.rt:144:9
 add-i : tie.Need-add-i Inv-loop μ-loop
 add-i c = search needs
 
--- src/lib.rt:140:5
 loop-less : tie.Need-loop-less Inv-loop μ-loop
 loop-less c = search needs
 
--- src/lib.rt:140:5
 loop-again : tie.Need-loop-again Inv-loop μ-loop
 loop-again c = none-next _ _ (c .before .before .before .loop .inv) (c .before .before .loop-test .taken) (c .before .numbered-refused .ensures) (c .if1 .left)
 
--- src/lib.rt:135:1
 returns-2 : tie.Need-returns-2 Inv-loop μ-loop
 returns-2 c = none-over _ _ (c .before .loop .inv) (c .loop-test .left)
 

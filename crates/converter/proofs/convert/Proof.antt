@@ -1,3 +1,4 @@
+-- `convert` refuses before it writes, then stores the total, then moves the shards.
 use mathlib.Core.Path.{sym, _∙_}
 use Rattle.converter.specs.Layouts.{slotsOf}
 use Rattle.settings.specs.Settings.{shardCount, capOf}
@@ -7,52 +8,57 @@ use Rattle.converter.proofs.RefusalLaws.{not-refused-is-accepted, sourc
 use borrow.Author.Needs.{needs}
 use Rattle.converter.proofs.convert.Statement.{statement}
 use Rattle.converter.proofs.convert.Tie as tie
-use Rattle.converter.proofs.convert.Reads as reads
-use Rattle.converter.proofs.convert.Lts as lts
-use Rattle.converter.proofs.move_all.Reads as move-all-reads
-use Rattle.converter.proofs.refusal_of.Reads as refusal-of-reads
-use Rattle.converter.proofs.store_total.Reads as store-total-reads
-use Rattle.settings.proofs.Settings.shape.Reads as shape-reads
 
--- src/lib.rt:322:9
 refusal-of-requires : tie.Need-refusal-of-requires
 refusal-of-requires c κs = search needs
 
--- src/lib.rt:324:9
 same-length : tie.Need-same-length
 same-length c = search needs
 
--- src/lib.rt:324:9
 returns : tie.Need-returns
 returns c = number-is-told _ _ _ (c .before .refusal-of .ensures) (c .if1 .taken)
 
--- src/lib.rt:326:9
 shape-requires : tie.Need-shape-requires
 shape-requires c κs = search needs
 
--- src/lib.rt:327:5
 store-total-requires : tie.Need-store-total-requires
 store-total-requires c κs =
-    let start′ = c .before .before .before .before .before .before .before in
-    let a = not-refused-is-accepted (start′ .args .from) (start′ .args .settings) (start′ .args .source .now) (start′ .args .target .now) (sym (c .before .before .before .refusal-of .ensures) ∙ c .before .before .if1 .left) in rw (c .before .shape .ensures) (source-undamaged a, target-in-shards a)
+    let at2 = c .before .before in
+    let at3 = at2 .before in
+    let at7 = at3 .before .before .before .before in
+    let start′ = at7 in let a = not-refused-is-accepted (start′ .args .from) (start′ .args .settings) (start′ .args .source .now) (start′ .args
+    .target .now) (sym (at3 .refusal-of .ensures) ∙ at2 .if1 .left) in rw (c .before .shape .ensures) (source-undamaged a, target-in-shards a)
 
--- src/lib.rt:328:5
 move-all-requires : tie.Need-move-all-requires
 move-all-requires c κs =
-    let start′ = c .before .before .before .before .before .before .before .before .before .before .before in
-    let shape′ = c .before .before .before .before .before .shape in
-    let a = not-refused-is-accepted (start′ .args .from) (start′ .args .settings) (start′ .args .source .now) (start′ .args .target .now) (sym (c .before .before .before .before .before .before .before .refusal-of .ensures) ∙ c .before .before .before .before .before .before .if1 .left) in let s = start′ .args .settings in rw (shape′ .ensures) (source-undamaged a, total-in-shards (start′ .args .from) (shardCount s) (capOf s) (slotsOf (start′ .args .from) (shardCount s) (capOf s) (start′ .args .source .now)) (start′ .args .target .now) (target-in-shards a) (rw (shape′ .ensures) at (c .before .before .before .store-total .ensures)))
+    let at3 = c .before .before .before in
+    let at5 = at3 .before .before in
+    let at6 = at5 .before in
+    let at7 = at6 .before in
+    let at11 = at7 .before .before .before .before in
+    let start′ = at11 in let shape′ = at5 .shape in let a = not-refused-is-accepted (start′ .args .from) (start′ .args .settings) (start′ .args
+    .source .now) (start′ .args .target .now) (sym (at7 .refusal-of .ensures) ∙ at6 .if1 .left) in let s = start′ .args .settings in rw (shape′
+    .ensures) (
+      source-undamaged a,
+      total-in-shards (start′ .args .from) (shardCount s) (capOf s) (slotsOf (start′ .args .from) (shardCount s) (capOf
+          s) (start′ .args .source .now)) (start′ .args .target .now) (target-in-shards a) (rw (shape′ .ensures) at (at3 .store-total .ensures)),
+    )
 
--- src/lib.rt:319:1
 same-length-2 : tie.Need-same-length-2
 same-length-2 c = search needs
 
--- src/lib.rt:319:1
 returns-2 : tie.Need-returns-2
 returns-2 c =
-    let start′ = c .before .before .before .before .before .before .before .before .before .before .before .before .before .before in
-    let shape′ = c .before .before .before .before .before .before .before .before .shape in
-    conversion-done (start′ .args .from) (start′ .args .settings) (start′ .args .source .now) (start′ .args .target .now) (not-refused-is-accepted (start′ .args .from) (start′ .args .settings) (start′ .args .source .now) (start′ .args .target .now) (sym (c .before .before .before .before .before .before .before .before .before .before .refusal-of .ensures) ∙ c .before .before .before .before .before .before .before .before .before .if1 .left)) (rw (shape′ .ensures) at (c .before .before .before .before .before .before .store-total .ensures)) (rw (shape′ .ensures) at (c .before .before .move-all .ensures))
+    let at2 = c .before .before in
+    let at6 = at2 .before .before .before .before in
+    let at8 = at6 .before .before in
+    let at9 = at8 .before in
+    let at10 = at9 .before in
+    let at14 = at10 .before .before .before .before in
+    let start′ = at14 in let shape′ = at8 .shape in conversion-done (start′ .args .from) (start′ .args .settings) (start′ .args .source .now) (start′
+    .args .target .now) (not-refused-is-accepted (start′ .args .from) (start′ .args .settings) (start′ .args .source .now) (start′ .args .target .now)
+    (sym (at10 .refusal-of .ensures) ∙ at9 .if1 .left)) (rw (shape′ .ensures) at (at6 .store-total .ensures)) (rw (shape′ .ensures) at (at2 .move-all
+    .ensures))
 
 pub convert-spec : {M : Type 1} → statement M
 convert-spec =

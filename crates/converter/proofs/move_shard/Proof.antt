@@ -1,46 +1,38 @@
+-- `move_shard` goes by the layout.
 use borrow.Author.Needs.{needs}
 use Rattle.converter.proofs.move_shard.Statement.{statement}
 use Rattle.converter.proofs.move_shard.Tie as tie
-use Rattle.converter.proofs.move_shard.Reads as reads
-use Rattle.converter.proofs.move_shard.Lts as lts
-use Rattle.converter_shards.proofs.back.Reads as back-reads
-use Rattle.converter_shards.proofs.forth.Reads as forth-reads
 
--- src/lib.rt:269:45
 enum-told : tie.Need-enum-told
 enum-told c = search needs
 
--- src/lib.rt:269:13
 forth-requires : tie.Need-forth-requires
 forth-requires c κs =
     let enum-told′ = c .before .enum-told in
-    let start′ = c .before .before .before .before .before in
-    (record { size = rw (enum-told′ .given .1) at (start′ .pre .0); fits = rw (enum-told′ .given .1) at (start′ .pre .3) }, rw (enum-told′ .given .1) at (start′ .pre .1), start′ .pre .2)
+    let start′ = c .before .before .before .before .before in (
+      record { size = rw (enum-told′ .given .1) at (start′ .pre .0); fits = rw (enum-told′ .given .1) at (start′ .pre .3) },
+      rw (enum-told′ .given .1) at (start′ .pre .1),
+      start′ .pre .2,
+    )
 
--- src/lib.rt:272:44
 enum-told-2 : tie.Need-enum-told-2
 enum-told-2 c = search needs
 
--- src/lib.rt:272:13
 back-requires : tie.Need-back-requires
 back-requires c κs =
     let enum-told2′ = c .before .enum-told2 in
     let start′ = c .before .before .before .before .before in
     (rw (enum-told2′ .given .1) at (start′ .pre .0), rw (enum-told2′ .given .1) at (start′ .pre .1))
 
--- src/lib.rt:262:1
 same-length : tie.Need-same-length
 same-length c = search needs
 
--- src/lib.rt:262:1
 returns : tie.Need-returns
 returns c = rw (c .before .before .before .before .enum-told .given .1) (c .before .before .forth .ensures)
 
--- src/lib.rt:262:1
 same-length-2 : tie.Need-same-length-2
 same-length-2 c = search needs
 
--- src/lib.rt:262:1
 returns-2 : tie.Need-returns-2
 returns-2 c = rw (c .before .before .before .before .enum-told2 .given .1) (c .before .before .back .ensures)
 

@@ -18,7 +18,8 @@ words-for-requires : tie.Need-words-for-requires
 words-for-requires c κs = sym (c .before .before .before .size-refusal .ensures) ∙ c .before .before .if1 .left
 
 returns-3 : tie.Need-returns-3
-returns-3 c = words-to-lend _ (c .before .before .before .before .size-refusal .ensures) (c .before .before .before .if1 .left) (c .before .if2 .left) (c .words-for .ensures)
+returns-3 c = words-to-lend _ (c .before .before .before .before .size-refusal .ensures) (c .before .before .before .if1 .left) (c .before .if2 .left)
+    (c .words-for .ensures)
 
 pub old-words-spec : {M : Type 1} → statement M
 old-words-spec = tie.close (tie.spec size-refusal-requires returns returns-2 words-for-requires returns-3)

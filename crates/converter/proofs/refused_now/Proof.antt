@@ -1,40 +1,31 @@
+-- `refused_now` tells the test of a number; a shard that is looked at for 18 or 19 is not damaged.
 use mathlib.Core.Path.{_∙_}
 use Rattle.converter.specs.declared.Layout.the-variants.{Present}
 use Rattle.converter.proofs.ShardLaws.{refused-by-5, refused-by-18, refused-by-19, undamaged-shard, undamaged-intact, indexes-are-exact}
 use borrow.Author.Needs.{needs}
 use Rattle.converter.proofs.refused_now.Statement.{statement}
 use Rattle.converter.proofs.refused_now.Tie as tie
-use Rattle.converter.proofs.refused_now.Reads as reads
-use Rattle.converter.proofs.refused_now.Lts as lts
-use Rattle.converter.proofs.damaged_now.Reads as damaged-now-reads
-use Rattle.converter_shards.proofs.twins_by_lookup.Reads as twins-by-lookup-reads
-use Rattle.converter_shards.proofs.used_past_now.Reads as used-past-now-reads
 
--- src/lib.rt:103:9
 damaged-now-requires : tie.Need-damaged-now-requires
 damaged-now-requires c κs = search needs
 
--- src/lib.rt:103:9
 returns : tie.Need-returns
 returns c = c .damaged-now .ensures ∙ refused-by-5 Present _ _ (c .before .if1 .taken)
 
--- src/lib.rt:106:9
 twins-by-lookup-requires : tie.Need-twins-by-lookup-requires
 twins-by-lookup-requires c κs =
     let start′ = c .before .before .before in
-    let none = undamaged-shard Present _ _ (start′ .pre .2 (c .before .if1 .left)) in (undamaged-intact (start′ .pre .0) (start′ .pre .1) none, indexes-are-exact _ _ none)
+    let none = undamaged-shard Present _ _ (start′ .pre .2 (c .before .if1 .left)) in
+    (undamaged-intact (start′ .pre .0) (start′ .pre .1) none, indexes-are-exact _ _ none)
 
--- src/lib.rt:106:9
 returns-2 : tie.Need-returns-2
 returns-2 c = c .twins-by-lookup .ensures ∙ refused-by-18 Present _ _ (c .before .if2 .taken)
 
--- src/lib.rt:108:5
 used-past-now-requires : tie.Need-used-past-now-requires
 used-past-now-requires c κs =
     let start′ = c .before .before .before in
     undamaged-intact (start′ .pre .0) (start′ .pre .1) (undamaged-shard Present _ _ (start′ .pre .2 (c .before .if1 .left)))
 
--- src/lib.rt:98:1
 returns-3 : tie.Need-returns-3
 returns-3 c = c .used-past-now .ensures ∙ refused-by-19 Present _ _ (c .before .before .if1 .left) (c .before .if2 .left)
 

@@ -1,38 +1,29 @@
+-- `shard_refused` goes by the layout.
 use borrow.Author.Needs.{needs}
 use Rattle.converter.proofs.shard_refused.Statement.{statement}
 use Rattle.converter.proofs.shard_refused.Tie as tie
-use Rattle.converter.proofs.shard_refused.Reads as reads
-use Rattle.converter.proofs.shard_refused.Lts as lts
-use Rattle.converter.proofs.refused_now.Reads as refused-now-reads
-use Rattle.converter.proofs.refused_old.Reads as refused-old-reads
 
--- src/lib.rt:118:24
 enum-told : tie.Need-enum-told
 enum-told c = search needs
 
--- src/lib.rt:118:24
 refused-old-requires : tie.Need-refused-old-requires
 refused-old-requires c κs =
     let enum-told′ = c .enum-told in
     let start′ = c .before .before .before in
     (rw (enum-told′ .given .1) at (start′ .pre .0), rw (enum-told′ .given .1) at (start′ .pre .2))
 
--- src/lib.rt:119:28
 enum-told-2 : tie.Need-enum-told-2
 enum-told-2 c = search needs
 
--- src/lib.rt:119:28
 refused-now-requires : tie.Need-refused-now-requires
 refused-now-requires c κs =
     let enum-told2′ = c .enum-told2 in
     let start′ = c .before .before .before in
     (rw (enum-told2′ .given .1) at (start′ .pre .0), start′ .pre .1, rw (enum-told2′ .given .1) at (start′ .pre .2))
 
--- src/lib.rt:112:1
 returns : tie.Need-returns
 returns c = rw (c .before .enum-told .given .1) (c .refused-old .ensures)
 
--- src/lib.rt:112:1
 returns-2 : tie.Need-returns-2
 returns-2 c = rw (c .before .enum-told2 .given .1) (c .refused-now .ensures)
 

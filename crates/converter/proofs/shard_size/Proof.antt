@@ -1,32 +1,23 @@
+-- `shard_size` is that of the layout's own function.
 use borrow.Author.Needs.{needs}
 use Rattle.converter.proofs.shard_size.Statement.{statement}
 use Rattle.converter.proofs.shard_size.Tie as tie
-use Rattle.converter.proofs.shard_size.Reads as reads
-use Rattle.converter.proofs.shard_size.Lts as lts
-use Rattle.converter_shards.proofs.words.shard_words_01.Reads as shard-words-01-reads
-use Rattle.shard_map.proofs.words.shard_words.Reads as shard-words-reads
 
--- src/lib.rt:56:24
 enum-told : tie.Need-enum-told
 enum-told c = search needs
 
--- src/lib.rt:56:24
 shard-words-01-requires : tie.Need-shard-words-01-requires
 shard-words-01-requires c κs = rw (c .enum-told .given .1) at (c .before .before .pre)
 
--- src/lib.rt:57:28
 enum-told-2 : tie.Need-enum-told-2
 enum-told-2 c = search needs
 
--- src/lib.rt:57:28
 shard-words-requires : tie.Need-shard-words-requires
 shard-words-requires c κs = rw (c .enum-told2 .given .1) at (c .before .before .pre)
 
--- src/lib.rt:51:1
 returns : tie.Need-returns
 returns c = rw (c .before .enum-told .given .1) (c .shard-words-01 .ensures)
 
--- src/lib.rt:51:1
 returns-2 : tie.Need-returns-2
 returns-2 c = rw (c .before .enum-told2 .given .1) (c .shard-words .ensures)
 

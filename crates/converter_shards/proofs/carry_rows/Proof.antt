@@ -1,3 +1,4 @@
+-- `carry_rows` carries row by row; the loop holds that the rows so far are carried.
 use Rattle.converter_shards.proofs.CarryLaws.{rows-again}
 use Prim.Native.Nat.{_-_}
 use native.Mathlib.Omega.{arith}
@@ -5,9 +6,6 @@ use Rattle.converter_shards.proofs.CarryLaws.{CarryingRows, rows-start,
 use borrow.Author.Needs.{needs}
 use Rattle.converter_shards.proofs.carry_rows.Statement.{statement}
 use Rattle.converter_shards.proofs.carry_rows.Tie as tie
-use Rattle.converter_shards.proofs.carry_rows.Reads as reads
-use Rattle.converter_shards.proofs.carry_rows.Lts as lts
-use Rattle.converter_shards.proofs.carry.Reads as carry-reads
 
 abbrev Inv-loop : tie.InvT-loop
 Inv-loop source target₀ from to n i₀ target i = CarryingRows from to n source target₀ target i
@@ -15,98 +13,79 @@ Inv-loop source target₀ from to n i₀ target i = CarryingRows from to n sourc
 abbrev μ-loop : tie.MeasureT-loop
 μ-loop source target₀ from to n i₀ target i = n - i
 
--- src/lib.rt:231:5
 loop-holds : tie.Need-loop-holds Inv-loop μ-loop
 loop-holds c = rows-start _ _ _ _ _
 
--- src/lib.rt:232:18
 mul-at : tie.Need-mul-at Inv-loop μ-loop
 mul-at c =
     let start′ = c .before .before .before .before in
     omega (arith, source-row-ends _ _ _ _ _ (start′ .pre .0) (start′ .pre .1) (c .before .loop .inv) (c .loop-test .taken))
 
--- src/lib.rt:233:22
 add-at-end : tie.Need-add-at-end Inv-loop μ-loop
 add-at-end c =
     let start′ = c .before .before .before .before in
     omega (arith, source-row-ends _ _ _ _ _ (start′ .pre .0) (start′ .pre .1) (c .before .loop .inv) (c .loop-test .taken))
 
--- src/lib.rt:234:20
 mul-onto : tie.Need-mul-onto Inv-loop μ-loop
 mul-onto c =
     let start′ = c .before .before .before .before in
     omega (arith, target-row-ends _ _ _ _ _ (start′ .pre .0) (start′ .pre .1) (c .before .loop .inv) (c .loop-test .taken))
 
--- src/lib.rt:235:24
 add-onto-end : tie.Need-add-onto-end Inv-loop μ-loop
 add-onto-end c =
     let start′ = c .before .before .before .before in
     omega (arith, target-row-ends _ _ _ _ _ (start′ .pre .0) (start′ .pre .1) (c .before .loop .inv) (c .loop-test .taken))
 
--- src/lib.rt:236:15
 mul-carry : tie.Need-mul-carry Inv-loop μ-loop
 mul-carry c =
     let start′ = c .before .before .before .before in
     omega (arith, source-row-ends _ _ _ _ _ (start′ .pre .0) (start′ .pre .1) (c .before .loop .inv) (c .loop-test .taken))
 
--- src/lib.rt:236:15
 sub-carry : tie.Need-sub-carry Inv-loop μ-loop
 sub-carry c = omega arith
 
--- src/lib.rt:236:15
 part-carry-start : tie.Need-part-carry-start Inv-loop μ-loop
 part-carry-start c = omega arith
 
--- src/lib.rt:236:15
 part-carry-end : tie.Need-part-carry-end Inv-loop μ-loop
 part-carry-end c =
     let start′ = c .before .before .before .before in
     omega (arith, source-row-ends _ _ _ _ _ (start′ .pre .0) (start′ .pre .1) (c .before .loop .inv) (c .loop-test .taken))
 
--- src/lib.rt:236:36
 mul-carry-2 : tie.Need-mul-carry-2 Inv-loop μ-loop
 mul-carry-2 c =
     let start′ = c .before .before .before .before .before in
     omega (arith, target-row-ends _ _ _ _ _ (start′ .pre .0) (start′ .pre .1) (c .before .before .loop .inv) (c .before .loop-test .taken))
 
--- src/lib.rt:236:36
 sub-carry-2 : tie.Need-sub-carry-2 Inv-loop μ-loop
 sub-carry-2 c = omega arith
 
--- src/lib.rt:236:36
 part-carry-start-2 : tie.Need-part-carry-start-2 Inv-loop μ-loop
 part-carry-start-2 c = omega arith
 
--- src/lib.rt:236:36
 part-carry-end-2 : tie.Need-part-carry-end-2 Inv-loop μ-loop
 part-carry-end-2 c =
     let start′ = c .before .before .before .before .before in
     omega (arith, target-row-ends _ _ _ _ _ (start′ .pre .0) (start′ .pre .1) (c .before .before .loop .inv) (c .before .loop-test .taken))
 
--- src/lib.rt:236:9
 carry-requires : tie.Need-carry-requires Inv-loop μ-loop
 carry-requires c κs = search needs
 
--- src/lib.rt:237:9
 add-i : tie.Need-add-i Inv-loop μ-loop
 add-i c = search needs
 
--- src/lib.rt:231:5
 loop-less : tie.Need-loop-less Inv-loop μ-loop
 loop-less c = search needs
 
--- src/lib.rt:231:5
 loop-again : tie.Need-loop-again Inv-loop μ-loop
 loop-again c =
     let start′ = c .before .before .before .before .before .before .before .before .before in
     rows-again _ _ _ _ _ (start′ .pre .0) (start′ .pre .1) (c .before .before .before .before .before .before .loop .inv)
     (c .before .before .before .before .before .loop-test .taken) (c .before .before .carry .ensures)
 
--- src/lib.rt:226:1
 same-length : tie.Need-same-length Inv-loop μ-loop
 same-length c = c .before .loop .inv .same
 
--- src/lib.rt:226:1
 returns : tie.Need-returns Inv-loop μ-loop
 returns c =
     let start′ = c .before .before .before .before in

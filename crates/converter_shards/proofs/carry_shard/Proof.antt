@@ -1,137 +1,107 @@
+-- `carry_shard` carries the words before the slots, the slots row by row, and the rest.
 use Rattle.converter_shards.proofs.CarryLaws.{shard-lent}
 use borrow.Author.Needs.{needs}
 use Rattle.converter_shards.proofs.carry_shard.Statement.{statement}
 use Rattle.converter_shards.proofs.carry_shard.Tie as tie
-use Rattle.converter_shards.proofs.carry_shard.Reads as reads
-use Rattle.converter_shards.proofs.carry_shard.Lts as lts
-use Rattle.converter_shards.proofs.carry.Reads as carry-reads
-use Rattle.converter_shards.proofs.carry_rows.Reads as carry-rows-reads
 
--- src/lib.rt:247:22
 mul-at : tie.Need-mul-at
 mul-at c = search needs
 
--- src/lib.rt:247:14
 add-at : tie.Need-add-at
 add-at c = search needs
 
--- src/lib.rt:249:24
 mul-onto : tie.Need-mul-onto
 mul-onto c = search needs
 
--- src/lib.rt:249:16
 add-onto : tie.Need-add-onto
 add-onto c = search needs
 
--- src/lib.rt:251:11
 sub-carry : tie.Need-sub-carry
 sub-carry c = search needs
 
--- src/lib.rt:251:11
 part-carry-start : tie.Need-part-carry-start
 part-carry-start c = search needs
 
--- src/lib.rt:251:11
 part-carry-end : tie.Need-part-carry-end
 part-carry-end c = search needs
 
--- src/lib.rt:251:30
 sub-carry-2 : tie.Need-sub-carry-2
 sub-carry-2 c = search needs
 
--- src/lib.rt:251:30
 part-carry-start-2 : tie.Need-part-carry-start-2
 part-carry-start-2 c = search needs
 
--- src/lib.rt:251:30
 part-carry-end-2 : tie.Need-part-carry-end-2
 part-carry-end-2 c = search needs
 
--- src/lib.rt:251:5
 carry-requires : tie.Need-carry-requires
 carry-requires c κs = search needs
 
--- src/lib.rt:252:16
 mul-carry-rows : tie.Need-mul-carry-rows
 mul-carry-rows c = search needs
 
--- src/lib.rt:252:16
 sub-carry-rows : tie.Need-sub-carry-rows
 sub-carry-rows c = search needs
 
--- src/lib.rt:252:16
 part-carry-rows-start : tie.Need-part-carry-rows-start
 part-carry-rows-start c = search needs
 
--- src/lib.rt:252:16
 part-carry-rows-end : tie.Need-part-carry-rows-end
 part-carry-rows-end c = search needs
 
--- src/lib.rt:252:36
 mul-carry-rows-2 : tie.Need-mul-carry-rows-2
 mul-carry-rows-2 c = search needs
 
--- src/lib.rt:252:36
 sub-carry-rows-2 : tie.Need-sub-carry-rows-2
 sub-carry-rows-2 c = search needs
 
--- src/lib.rt:252:36
 part-carry-rows-start-2 : tie.Need-part-carry-rows-start-2
 part-carry-rows-start-2 c = search needs
 
--- src/lib.rt:252:36
 part-carry-rows-end-2 : tie.Need-part-carry-rows-end-2
 part-carry-rows-end-2 c = search needs
 
--- src/lib.rt:252:5
 carry-rows-requires : tie.Need-carry-rows-requires
 carry-rows-requires c κs = search needs
 
--- src/lib.rt:253:11
 mul-carry : tie.Need-mul-carry
 mul-carry c = search needs
 
--- src/lib.rt:253:11
 sub-carry-3 : tie.Need-sub-carry-3
 sub-carry-3 c = search needs
 
--- src/lib.rt:253:11
 part-carry-start-3 : tie.Need-part-carry-start-3
 part-carry-start-3 c = search needs
 
--- src/lib.rt:253:11
 part-carry-end-3 : tie.Need-part-carry-end-3
 part-carry-end-3 c = search needs
 
--- src/lib.rt:253:32
 mul-carry-2 : tie.Need-mul-carry-2
 mul-carry-2 c = search needs
 
--- src/lib.rt:253:32
 sub-carry-4 : tie.Need-sub-carry-4
 sub-carry-4 c = search needs
 
--- src/lib.rt:253:32
 part-carry-start-4 : tie.Need-part-carry-start-4
 part-carry-start-4 c = search needs
 
--- src/lib.rt:253:32
 part-carry-end-4 : tie.Need-part-carry-end-4
 part-carry-end-4 c = search needs
 
--- src/lib.rt:253:5
 carry-requires-2 : tie.Need-carry-requires-2
 carry-requires-2 c κs = search needs
 
--- src/lib.rt:242:1
 same-length : tie.Need-same-length
 same-length c = search needs
 
--- src/lib.rt:242:1
 returns : tie.Need-returns
 returns c =
-    let start′ = c .before .before .before .before .before .before .before .before .before .before .before .before .before .before .before .before .before in
-    shard-lent _ _ _ (start′ .args .source .now) (start′ .args .target .now) (start′ .pre .0) (start′ .pre .1) (c .before .before .before .before .before .before .before .before .before .before .before .before .carry .ensures) (c .before .before .before .before .before .before .before .carry-rows .ensures) (c .before .before .carry2 .ensures)
+    let at2 = c .before .before in
+    let at7 = at2 .before .before .before .before .before in
+    let at12 = at7 .before .before .before .before .before in
+    let at17 = at12 .before .before .before .before .before in
+    let start′ = at17 in shard-lent _ _ _ (start′ .args .source .now) (start′ .args .target .now) (start′ .pre .0) (start′ .pre .1) (at12 .carry
+    .ensures) (at7 .carry-rows .ensures) (at2 .carry2 .ensures)
 
 pub carry-shard-spec : {M : Type 1} → statement M
 carry-shard-spec =

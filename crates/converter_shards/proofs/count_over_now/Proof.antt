@@ -1,29 +1,21 @@
+-- `count_over_now` compares the slot count with the cap, then the debt count.
 use Rattle.converter_shards.proofs.ShardLaws.{over-slots, over-debts, none-over-cap}
 use borrow.Author.Needs.{needs}
 use Rattle.converter_shards.proofs.count_over_now.Statement.{statement}
 use Rattle.converter_shards.proofs.count_over_now.Tie as tie
-use Rattle.converter_shards.proofs.count_over_now.Reads as reads
-use Rattle.converter_shards.proofs.count_over_now.Lts as lts
-use Rattle.shard_map.proofs.debts.len.Reads as debts-len-reads
-use Rattle.shard_map.proofs.len.Reads as len-reads
 
--- src/lib.rt:344:14
 len-requires : tie.Need-len-requires
 len-requires c κs = search needs
 
--- src/lib.rt:345:9
 returns : tie.Need-returns
 returns c = over-slots _ _ (c .before .len .ensures) (c .if1 .taken)
 
--- src/lib.rt:347:14
 len-requires-2 : tie.Need-len-requires-2
 len-requires-2 c κs = search needs
 
--- src/lib.rt:348:9
 returns-2 : tie.Need-returns-2
 returns-2 c = over-debts _ _ (c .before .before .before .len .ensures) (c .before .before .if1 .left) (c .before .len2 .ensures) (c .if2 .taken)
 
--- src/lib.rt:340:1
 returns-3 : tie.Need-returns-3
 returns-3 c = none-over-cap _ _ (c .before .before .before .len .ensures) (c .before .before .if1 .left) (c .before .len2 .ensures) (c .if2 .left)
 

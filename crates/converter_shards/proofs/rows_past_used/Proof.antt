@@ -1,59 +1,47 @@
+-- `rows_past_used` lends the words past the first n rows.
 use native.Mathlib.Nat.{mul-le-mul-left}
 use native.Mathlib.Omega.{arith}
 use borrow.Author.Needs.{needs}
 use Rattle.converter_shards.proofs.rows_past_used.Statement.{statement}
 use Rattle.converter_shards.proofs.rows_past_used.Tie as tie
-use Rattle.converter_shards.proofs.rows_past_used.Reads as reads
-use Rattle.converter_shards.proofs.rows_past_used.Lts as lts
-use Rattle.converter_shards.proofs.any_used.Reads as any-used-reads
 
--- src/lib.rt:98:24
 mul-from : tie.Need-mul-from
 mul-from c =
     let start′ = c .before in
     omega (arith, mul-le-mul-left {m = start′ .args .n} {n = start′ .args .cap} (start′ .args .width) (start′ .pre .1), start′ .pre .0)
 
--- src/lib.rt:98:16
 add-from : tie.Need-add-from
 add-from c =
     let start′ = c .before in
     omega (arith, mul-le-mul-left {m = start′ .args .n} {n = start′ .args .cap} (start′ .args .width) (start′ .pre .1), start′ .pre .0)
 
--- src/lib.rt:99:22
 mul-to : tie.Need-mul-to
 mul-to c = search needs
 
--- src/lib.rt:99:14
 add-to : tie.Need-add-to
 add-to c = search needs
 
--- src/lib.rt:100:14
 mul-any-used : tie.Need-mul-any-used
 mul-any-used c =
     let start′ = c .before in
     omega (arith, mul-le-mul-left {m = start′ .args .n} {n = start′ .args .cap} (start′ .args .width) (start′ .pre .1), start′ .pre .0)
 
--- src/lib.rt:100:14
 sub-any-used : tie.Need-sub-any-used
 sub-any-used c =
     let start′ = c .before in
     omega (arith, mul-le-mul-left {m = start′ .args .n} {n = start′ .args .cap} (start′ .args .width) (start′ .pre .1), start′ .pre .0)
 
--- src/lib.rt:100:14
 part-any-used-start : tie.Need-part-any-used-start
 part-any-used-start c =
     let start′ = c .before in
     omega (arith, mul-le-mul-left {m = start′ .args .n} {n = start′ .args .cap} (start′ .args .width) (start′ .pre .1), start′ .pre .0)
 
--- src/lib.rt:100:14
 part-any-used-end : tie.Need-part-any-used-end
 part-any-used-end c = search needs
 
--- src/lib.rt:100:5
 any-used-requires : tie.Need-any-used-requires
 any-used-requires c κs = search needs
 
--- src/lib.rt:94:1
 returns : tie.Need-returns
 returns c = search needs
 

@@ -1,32 +1,24 @@
+-- `limiter_convert_forth` tells the outcome that the call of `converter` gives.
 use Rattle.rules.proofs.RuleLaws.{outcome-is-told}
 use borrow.Author.Needs.{needs}
 use Rattle.limiter_converter.proofs.limiter_convert_forth.Statement.{statement}
 use Rattle.limiter_converter.proofs.limiter_convert_forth.Tie as tie
-use Rattle.limiter_converter.proofs.limiter_convert_forth.Reads as reads
-use Rattle.limiter_converter.proofs.limiter_convert_forth.Lts as lts
-use Rattle.converter.proofs.convert_forth.Reads as convert-forth-reads
-use Rattle.limiter.proofs.settings_of.Reads as settings-of-reads
-use Rattle.rules.proofs.Reply.told.Reads as told-reads
 
--- src/lib.rt:23:30
 settings-of-requires : tie.Need-settings-of-requires
 settings-of-requires c κs = search needs
 
--- src/lib.rt:23:5
 convert-forth-requires : tie.Need-convert-forth-requires
 convert-forth-requires c κs = search needs
 
--- src/lib.rt:23:5
 told-requires : tie.Need-told-requires
 told-requires c κs = search needs
 
--- src/lib.rt:14:1
 same-length : tie.Need-same-length
 same-length c = search needs
 
--- src/lib.rt:14:1
 returns : tie.Need-returns
-returns c = outcome-is-told (rw (c .before .before .before .before .before .settings-of .ensures) at (c .before .before .before .convert-forth .ensures)) (c .told .ensures)
+returns c = outcome-is-told (rw (c .before .before .before .before .before .settings-of .ensures) at (c .before .before .before .convert-forth .ensures))
+    (c .told .ensures)
 
 pub limiter-convert-forth-spec : {M : Type 1} → statement M
 limiter-convert-forth-spec =

@@ -1,3 +1,4 @@
+-- `words::debt_index` says where the index of the debts lies.
 use Prim.Native.Nat.{ℕ, _+_, _*_}
 use native.Mathlib.Omega.{arith}
 use mathlib.Core.Path.{_≡_}
@@ -7,30 +8,22 @@ use Rattle.index.specs.Layout.{placesFor}
 use borrow.Author.Needs.{needs}
 use Rattle.converter_shards.proofs.words.debt_index.Statement.{statement}
 use Rattle.converter_shards.proofs.words.debt_index.Tie as tie
-use Rattle.converter_shards.proofs.words.debt_index.Reads as reads
-use Rattle.converter_shards.proofs.words.debt_index.Lts as lts
 
--- src/words.rt:70:46
 mul-t2 : tie.Need-mul-t2
 mul-t2 c = search needs
 
--- src/words.rt:70:15
 add-t3 : tie.Need-add-t3
 add-t3 c = search needs
 
--- src/words.rt:71:15
 mul-t4 : tie.Need-mul-t4
 mul-t4 c = search needs
 
--- src/words.rt:72:47
 mul-t5 : tie.Need-mul-t5
 mul-t5 c = search needs
 
--- src/words.rt:72:16
 add-t6 : tie.Need-add-t6
 add-t6 c = search needs
 
--- src/words.rt:65:1
 returns : tie.Need-returns
 returns c = let cap = c .args .cap in let starts : 5 + 11 * cap ≡ debtIndexInShard cap .base = omega arith in let begins : 5 + 7 * cap
     ≡ debtIndexInShard cap .first = omega arith in λ j. record { base = starts j; size = placesFor cap; first = begins j; width = 2; key = 0 }
