@@ -1,6 +1,6 @@
 -- A store in document 01's words, with the rules as they now stand. The present calls refuse such words for their length, so the rules are those over a store
 -- whose slots and debts are found in place order (`stepWithoutIndexes` of `demands`): decisions, sweeps, eviction and debts are the present ones. Document 01
--- keeps no count of tries turned away, so request 8's look is left out where two stores are compared (`SameReplies`).
+-- keeps no count of tries turned away, so request 8's look is left out where two stores are compared (`SameReplies` of `demands`).
 --
 -- Theorems, in proofs/:
 -- * `forth-answers-alike`: every list of calls and clears answers alike on the old store and on the words that a conversion forth leaves.

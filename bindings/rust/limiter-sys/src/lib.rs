@@ -7,6 +7,7 @@
 #![no_std]
 
 pub mod classes;
+pub mod converter;
 pub mod modem;
 pub mod slices;
 
@@ -152,6 +153,10 @@ pub const LIMITER_BAD_BUFFER: u64 = 23;
 pub const LIMITER_BAD_CLASS: u64 = 24;
 /// Refused as 15: a chain of parents does not end within 8 classes.
 pub const LIMITER_BAD_CHAIN: u64 = 25;
+/// Refused as 18, by a conversion: two slots of one hash and key, or two debts of one hash.
+pub const LIMITER_TWINS: u64 = 28;
+/// Refused as 19, by a conversion: a word past a count is not 0.
+pub const LIMITER_USED_PAST: u64 = 29;
 
 /// The most classes of a table.
 pub const LIMITER_MOST_CLASSES: usize = 64;

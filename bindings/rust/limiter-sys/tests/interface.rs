@@ -64,10 +64,12 @@ fn no_words_may_be_null() {
             classes::limiter_table_set_up(SMALL, null(), 0, null_mut(), 0),
             classes::limiter_table_clear(SMALL, null(), 0, null_mut(), 0),
             classes::limiter_table_try(SMALL, null(), 0, null_mut(), 0, 0, 7, 7, 0, 1),
+            converter::limiter_convert_forth(SMALL, null(), 0, null_mut(), 0),
+            converter::limiter_convert_back(SMALL, null(), 0, null_mut(), 0),
         ]
     };
     let refused = reply(LIMITER_BAD_MEMORY, 0, 0);
-    assert_eq!(replies, [refused; 13]);
+    assert_eq!(replies, [refused; 15]);
 }
 
 /// A table is words, six a class; words past a multiple of six are not read. The class's own words stand after the shards: shortfall and stamp.
@@ -201,6 +203,8 @@ fn the_header_has_the_same_codes() {
         ("BAD_BUFFER", LIMITER_BAD_BUFFER),
         ("BAD_CLASS", LIMITER_BAD_CLASS),
         ("BAD_CHAIN", LIMITER_BAD_CHAIN),
+        ("TWINS", LIMITER_TWINS),
+        ("USED_PAST", LIMITER_USED_PAST),
         ("LONGEST_LINE", LIMITER_LONGEST_LINE as u64),
         ("MOST_CLASSES", LIMITER_MOST_CLASSES as u64),
         ("LONGEST_CHAIN", LIMITER_LONGEST_CHAIN as u64),

@@ -30,9 +30,13 @@ loop-less : tie.Need-loop-less Inv-loop μ-loop
 loop-less c = search needs
 
 loop-again : tie.Need-loop-again Inv-loop μ-loop
-loop-again c = adding-next (c .before .before .before .before .before .before .before .before .before .pre)
-    (c .before .before .before .before .before .before .before .loop .inv) (c .before .before .before .before .before .before .loop-test .taken)
-    (c .before .before .before .before .item-word .ensures) (c .before .before .add .ensures)
+loop-again c =
+    let at2 = c .before .before in
+    let at4 = at2 .before .before in
+    let at6 = at4 .before .before in
+    let at7 = at6 .before in
+    let at9 = at7 .before .before in
+    adding-next (at9 .pre) (at7 .loop .inv) (at6 .loop-test .taken) (at4 .item-word .ensures) (at2 .add .ensures)
 
 same-length : tie.Need-same-length Inv-loop μ-loop
 same-length c = adding-long (c .before .before .before .pre) (c .before .loop .inv)

@@ -79,9 +79,11 @@ loop-less c = search needs
 
 loop-again : tie.Need-loop-again Inv-loop μ-loop
 loop-again c =
-    let start′ = c .before .before .before .before .before .before .before .before .before in
-    rows-again _ _ _ _ _ (start′ .pre .0) (start′ .pre .1) (c .before .before .before .before .before .before .loop .inv)
-    (c .before .before .before .before .before .loop-test .taken) (c .before .before .carry .ensures)
+    let at2 = c .before .before in
+    let at5 = at2 .before .before .before in
+    let at6 = at5 .before in
+    let at9 = at6 .before .before .before in
+    let start′ = at9 in rows-again _ _ _ _ _ (start′ .pre .0) (start′ .pre .1) (at6 .loop .inv) (at5 .loop-test .taken) (at2 .carry .ensures)
 
 same-length : tie.Need-same-length Inv-loop μ-loop
 same-length c = c .before .loop .inv .same

@@ -15,9 +15,10 @@ slot-count-requires c κs = search needs
 
 add-items-requires : tie.Need-add-items-requires
 add-items-requires c κs =
-    let start′ = c .before .before .before .before .before .before .before .before .before in
-    rw (c .before .index .ensures) (slots-fits (start′ .pre .0) (start′ .pre .1) (c .before .before .before .before .before .carry-shard .ensures)
-    (c .slot-count .ensures) (start′ .pre .2))
+    let at5 = c .before .before .before .before .before in
+    let at9 = at5 .before .before .before .before in
+    let start′ = at9 in rw (c .before .index .ensures) (slots-fits (start′ .pre .0) (start′ .pre .1) (at5 .carry-shard .ensures) (c .slot-count
+    .ensures) (start′ .pre .2))
 
 debt-index-requires : tie.Need-debt-index-requires
 debt-index-requires c κs = search needs
