@@ -13,8 +13,8 @@ use std::time::Duration;
 use limiter::{Decision, Key, OwnedStore, Rate, Settings, convert_back, convert_forth};
 
 /// What a file begins with: one of the first layout, and one of the present layout.
-const OLD_MARK: &[u8; 8] = b"limiter1";
-const NEW_MARK: &[u8; 8] = b"limiter2";
+const OLD_MARK: [u8; 8] = *b"limiter1";
+const NEW_MARK: [u8; 8] = *b"limiter2";
 
 type Fault = Box<dyn Error>;
 
@@ -100,10 +100,15 @@ fn checksum(bytes: &[u8]) -> u64 {
 }
 
 /// Writes the mark, the settings, the words and the checksum, each number as eight bytes, lowest first, as the example `save_and_resume` does.
-fn save(mark: &[u8; 8], settings: Settings, words: &[u64], file: &Path) -> io::Result<()> {
+fn save(mark: [u8; 8], settings: Settings, words: &[u64], file: &Path) -> io::Result<()> {
     let numbers = settings.numbers();
     let mut bytes = mark.to_vec();
-    bytes.extend(numbers.iter().chain(words).flat_map(|number| number.to_le_bytes()));
+    bytes.extend(
+        numbers
+            .iter()
+            .chain(words)
+            .flat_map(|number| number.to_le_bytes()),
+    );
     bytes.extend(checksum(&bytes).to_le_bytes());
     replace(file, &bytes)
 }
@@ -118,13 +123,13 @@ fn replace(file: &Path, bytes: &[u8]) -> io::Result<()> {
 }
 
 /// The words of a file, if it is whole and was saved under these settings.
-fn load(mark: &[u8; 8], settings: Settings, file: &Path) -> Result<Vec<u64>, Fault> {
+fn load(mark: [u8; 8], settings: Settings, file: &Path) -> Result<Vec<u64>, Fault> {
     let bytes = fs::read(file)?;
     let (eights, rest) = bytes.as_chunks::<8>();
     let Some((sum, whole)) = eights.split_last() else {
         return Err("no saved store".into());
     };
-    if whole.first() != Some(mark) || !rest.is_empty() {
+    if whole.first() != Some(&mark) || !rest.is_empty() {
         return Err("no saved store of this layout".into());
     }
     if u64::from_le_bytes(*sum) != checksum(whole.as_flattened()) {

@@ -313,7 +313,11 @@ mod tests {
 
     #[test]
     fn a_refusal_has_the_code_that_it_was_told_by() {
-        for (code, refusal) in (11..=17).chain(21..=25).chain(28..=29).zip(Refusal::NUMBERED) {
+        for (code, refusal) in (11..=17)
+            .chain(21..=25)
+            .chain(28..=29)
+            .zip(Refusal::NUMBERED)
+        {
             assert_eq!(refusal.code(), code);
             assert_eq!(known(reply(code)), Err(refusal));
         }

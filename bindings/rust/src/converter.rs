@@ -2,8 +2,8 @@
 
 use limiter_sys::converter::{self, limiter_words_01};
 
-use crate::answer::{self, Refusal};
 use crate::Settings;
+use crate::answer::{self, Refusal};
 
 impl Settings {
     /// How many words the first layout has for these settings. It follows from the sizes alone; the rate is not looked at.
@@ -23,7 +23,11 @@ impl Settings {
 ///
 /// With the target as it was: settings out of range, more than 4,096 keys, another number of words than [`Settings::first_layout_words`] for the source or
 /// than [`Settings::words`] for the target, a count that is more than a shard holds, [`Refusal::Twins`], [`Refusal::UsedPast`].
-pub fn convert_forth(settings: Settings, source: &[u64], target: &mut [u64]) -> Result<(), Refusal> {
+pub fn convert_forth(
+    settings: Settings,
+    source: &[u64],
+    target: &mut [u64],
+) -> Result<(), Refusal> {
     answer::done(converter::forth(settings.raw(), source, target))
 }
 

@@ -1,5 +1,7 @@
 //! The conversions, against an account of them that is written here from the request and not from the library's definitions.
 
+#![cfg(feature = "alloc")]
+
 use core::time::Duration;
 
 use limiter::{Key, OwnedStore, Rate, Refusal, Settings, convert_back, convert_forth};
@@ -14,6 +16,11 @@ impl Numbers {
         self.0 ^= self.0 << 17;
         self.0 % bound
     }
+}
+
+/// A small number, as a place.
+fn at(word: u64) -> usize {
+    usize::try_from(word).expect("a place")
 }
 
 /// A store's shards and the keys of each.
@@ -33,12 +40,12 @@ impl Shape {
     }
 
     /// The words of one shard.
-    fn old(self, words: &[u64], shard: usize) -> &[u64] {
+    fn old_part(self, words: &[u64], shard: usize) -> &[u64] {
         let size = 5 + 8 * self.cap;
         &words[shard * size..][..size]
     }
 
-    fn new(self, words: &[u64], shard: usize) -> &[u64] {
+    fn present_part(self, words: &[u64], shard: usize) -> &[u64] {
         let size = 5 + 13 * self.cap;
         &words[1 + shard * size..][..size]
     }
@@ -56,7 +63,10 @@ fn shard(words: &[u64], cap: usize, width: usize) -> Shard {
     let ledger = 3 + width * cap;
     Shard {
         head: [words[0], words[1], words[2]],
-        slots: words[3..ledger].chunks(width).map(<[u64]>::to_vec).collect(),
+        slots: words[3..ledger]
+            .chunks(width)
+            .map(<[u64]>::to_vec)
+            .collect(),
         debts_head: [words[ledger], words[ledger + 1]],
         debts: (0..cap)
             .map(|i| [words[ledger + 2 + 2 * i], words[ledger + 3 + 2 * i]])
@@ -65,8 +75,8 @@ fn shard(words: &[u64], cap: usize, width: usize) -> Shard {
 }
 
 impl Shard {
-    const fn counts(&self) -> (usize, usize) {
-        (self.head[0] as usize, self.debts_head[0] as usize)
+    fn counts(&self) -> (usize, usize) {
+        (at(self.head[0]), at(self.debts_head[0]))
     }
 
     const fn count_over(&self, cap: usize) -> bool {
@@ -92,7 +102,7 @@ impl Shard {
         let places = 2 * cap;
         let mut index = vec![0; places];
         for (item, hash) in hashes.iter().enumerate() {
-            let mut place = (hash % places as u64) as usize;
+            let mut place = at(hash % places as u64);
             while index[place] != 0 {
                 place = (place + 1) % places;
             }
@@ -116,7 +126,7 @@ fn exact(index: &[u64], hashes: &[u64]) -> bool {
     let used = index.iter().filter(|&&word| word != 0).count();
     used == hashes.len()
         && hashes.iter().enumerate().all(|(item, hash)| {
-            let mut place = (hash % places as u64) as usize;
+            let mut place = at(hash % places as u64);
             for _ in 0..places {
                 if index[place] == item as u64 + 1 {
                     return true;
@@ -146,7 +156,7 @@ fn refusal(shards: &[Shard], damaged: bool) -> Result<(), Refusal> {
 
 fn expected_forth(shape: Shape, source: &[u64]) -> Result<Vec<u64>, Refusal> {
     let shards: Vec<_> = (0..shape.shards)
-        .map(|i| shard(shape.old(source, i), shape.cap, 6))
+        .map(|i| shard(shape.old_part(source, i), shape.cap, 6))
         .collect();
     refusal(&shards, shards.iter().any(|s| s.count_over(shape.cap)))?;
     let mut words = vec![shards.iter().map(|s| s.head[0]).sum()];
@@ -166,7 +176,9 @@ fn expected_forth(shape: Shape, source: &[u64]) -> Result<Vec<u64>, Refusal> {
 }
 
 fn expected_back(shape: Shape, source: &[u64]) -> Result<Vec<u64>, Refusal> {
-    let parts: Vec<_> = (0..shape.shards).map(|i| shape.new(source, i)).collect();
+    let parts: Vec<_> = (0..shape.shards)
+        .map(|i| shape.present_part(source, i))
+        .collect();
     let shards: Vec<_> = parts.iter().map(|part| shard(part, shape.cap, 7)).collect();
     let over = shards.iter().any(|s| s.count_over(shape.cap));
     let inexact = || {
@@ -176,7 +188,8 @@ fn expected_back(shape: Shape, source: &[u64]) -> Result<Vec<u64>, Refusal> {
             !exact(first, &slots) || !exact(second, &debts)
         })
     };
-    let total = || shards.iter().map(|s| u128::from(s.head[0])).sum::<u128>() != u128::from(source[0]);
+    let total =
+        || shards.iter().map(|s| u128::from(s.head[0])).sum::<u128>() != u128::from(source[0]);
     refusal(&shards, over || inexact() || total())?;
     let mut words = Vec::new();
     for s in &shards {
@@ -226,7 +239,7 @@ fn check_back(settings: Settings, shape: Shape, source: &[u64]) -> Result<Vec<u6
 }
 
 fn settings(keys: usize, shards: usize) -> Settings {
-    Settings::new(Rate::per_second(2).burst(3), keys).shards(shards)
+    Settings::new(Rate::per_second(2).burst(3), keys as u64).shards(shards as u64)
 }
 
 /// A store that some calls have grown, and its words.
@@ -266,7 +279,10 @@ fn grown_stores_go_back_and_forth() {
             let key = Key::fnv1a(numbers.below(3 * keys as u64));
             assert_eq!(converted.peek(now, key, 2), store.peek(now, key, 2));
             assert_eq!(converted.available(now, key), store.available(now, key));
-            assert_eq!(converted.try_acquire(now, key, 2), store.try_acquire(now, key, 2));
+            assert_eq!(
+                converted.try_acquire(now, key, 2),
+                store.try_acquire(now, key, 2)
+            );
             if numbers.below(9) == 0 {
                 assert_eq!(converted.refund(key, 1), store.refund(key, 1));
                 assert_eq!(converted.remove(key), store.remove(key));
@@ -294,20 +310,29 @@ fn damage_of_each_word_is_told_as_expected() {
         }] += 1;
     };
     for at in 0..old.len() {
-        for word in [0, 1, 2, 3, 4, u64::MAX, old[at] ^ 1].into_iter().chain(old.clone()) {
+        for word in [0, 1, 2, 3, 4, u64::MAX, old[at] ^ 1]
+            .into_iter()
+            .chain(old.clone())
+        {
             let mut damaged = old.clone();
             damaged[at] = word;
             count(check_forth(settings, shape, &damaged));
         }
     }
     for at in 0..new.len() {
-        for word in [0, 1, 2, 3, 4, u64::MAX, new[at] ^ 1].into_iter().chain(new.clone()) {
+        for word in [0, 1, 2, 3, 4, u64::MAX, new[at] ^ 1]
+            .into_iter()
+            .chain(new.clone())
+        {
             let mut damaged = new.clone();
             damaged[at] = word;
             count(check_back(settings, shape, &damaged));
         }
     }
-    assert!(seen[..4].iter().all(|&times| times > 0) && seen[4] == 0, "{seen:?}");
+    assert!(
+        seen[..4].iter().all(|&times| times > 0) && seen[4] == 0,
+        "{seen:?}"
+    );
 }
 
 /// Small words of any kind, with twins in the last shard among them.
@@ -322,12 +347,12 @@ fn small_images_are_told_as_expected() {
         for shard in 0..2 {
             let start = shard * (5 + 8 * shape.cap);
             let (slots, debts) = (old[start], old[start + 15]);
-            for slot in slots as usize..2 {
+            for slot in at(slots)..2 {
                 if numbers.below(8) > 0 {
                     old[start + 3 + 6 * slot..][..6].fill(0);
                 }
             }
-            for debt in debts as usize..2 {
+            for debt in at(debts)..2 {
                 if numbers.below(8) > 0 {
                     old[start + 17 + 2 * debt..][..2].fill(0);
                 }
@@ -336,8 +361,8 @@ fn small_images_are_told_as_expected() {
         if let Ok(mut new) = check_forth(settings, shape, &old) {
             accepted += 1;
             assert_eq!(check_back(settings, shape, &new), Ok(old));
-            let at = numbers.below(new.len() as u64) as usize;
-            new[at] = numbers.below(4);
+            let place = at(numbers.below(new.len() as u64));
+            new[place] = numbers.below(4);
             let _ = check_back(settings, shape, &new);
         }
     }
