@@ -1,0 +1,5 @@
+pub mod ShardLaws
+pub mod RefusalLaws
+pub mod MoveLaws
+pub mod MovedLaws
+pub mod Theorem

@@ -1,0 +1,3 @@
+pub mod Layout01
+pub mod Checks
+pub mod Forth
