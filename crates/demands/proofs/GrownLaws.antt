@@ -24,7 +24,7 @@ use Rattle.ledger.specs.Model.{debtItems}
 use Rattle.shard_map.specs.Model.{Shard, slotItems}
 use Rattle.shard_map.proofs.PlaceOrderLaws.{FindsEach, found-is-sound, found-is-complete, empty-finds-each}
 use Rattle.shard.specs.declared.Identity.{Identity}
-use Rattle.store.specs.Memory.{totalOf, memoryWords, placesIn, shardAt, bucketsAt, slotCount}
+use Rattle.store.specs.Memory.{totalOf, memoryWords, roomIn, shardAt, bucketsAt, slotCount}
 use Rattle.store.specs.Refusals.{setUpRefusal, keyedRefusal, totalRefusal}
 use Rattle.store.proofs.MemoryLaws.{shard-at-cap, shard-at-sized, fresh-sound, fresh-shards-are-complete, fresh-shards-are-empty}
 use Rattle.store.proofs.RefusalLaws.{set-up-is-accepted, keyed-is-accepted, total-is-accepted}
@@ -172,7 +172,7 @@ module _ (s : Settings) (ws : List ℕ) (memory : SoundMemory s ws) where
       of-every-shard s (λ j. slotCount (capOf s) j ws ≤ capOf s)
       (λ hash. rw (shard-at-cap s hash ws) at (found-is-sound (memory .finds-each hash) .count-fits))
 
-  total-is-within : totalOf ws ≤ placesIn (shapeOf s)
+  total-is-within : totalOf ws ≤ roomIn (shapeOf s)
   total-is-within = rw (memory .total) (sum-within (shardCount s) (capOf s) _ slots-are-within-the-cap)
 
   key-is-not-refused : (hash : ℕ) → keyedRefusal s hash ws ≡ 0
@@ -204,8 +204,8 @@ module _ {S N : Type 0} (terms : Terms S N) where
       ap (firstRefusal (terms .refusal n)) (no-refusal-hands-on _ (furtherOf ask) (key-is-not-refused settings ws memory (terms .identity n .hash)))
   refusal-is-the-calls-own (whole s len) ws memory =
       let settings = terms .settings s in
-      no-refusal-hands-on _ (totalRefusal (placesIn (shapeOf settings)) (totalOf ws)) (settings-and-length-are-not-refused settings ws memory)
-      ∙ total-is-accepted (placesIn (shapeOf settings)) (totalOf ws) (total-is-within settings ws memory)
+      no-refusal-hands-on _ (totalRefusal (roomIn (shapeOf settings)) (totalOf ws)) (settings-and-length-are-not-refused settings ws memory)
+      ∙ total-is-accepted (roomIn (shapeOf settings)) (totalOf ws) (total-is-within settings ws memory)
 
   pub sound-refusal-is-the-calls-own : {s : Settings} {ws : List ℕ} → SoundMemory s ws → (c : Call S N) → settingsOf terms c ≡ s
       → refusalOf terms c ws ≡ refusedAs terms c

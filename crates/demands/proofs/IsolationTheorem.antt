@@ -11,7 +11,7 @@ use Rattle.settings.specs.declared.Settings.{Settings}
 use Rattle.settings.specs.Settings.{firstRefusal, settingsRefusal, shapeOf, capOf}
 use Rattle.shard_map.specs.Model.{Shard}
 use Rattle.shard.specs.declared.Identity.{Identity}
-use Rattle.store.specs.Memory.{totalOf, totalAfter, memoryWords, placesIn, shardAt, bucketsAt}
+use Rattle.store.specs.Memory.{totalOf, totalAfter, memoryWords, roomIn, shardAt, bucketsAt}
 use Rattle.store.specs.Refusals.{memoryRefusal, countRefusal}
 use Rattle.rules.specs.declared.Reply.{Reply}
 use Rattle.rules.specs.Asks.{Ask, furtherOf, inItsShard, bucketsAfter}
@@ -52,7 +52,7 @@ ask-refused-alike : (s : Settings) (id : Identity) (ask : Ask) (ws vs : List ℕ
     → askRefusal s id ask ws ≡ askRefusal s id ask vs
 unfolding memoryRefusal
 ask-refused-alike s id ask ws vs size like =
-    let counts : ℕ → Shard → ℕ = λ total own. countRefusal (capOf s) (placesIn (shapeOf s)) total own in
+    let counts : ℕ → Shard → ℕ = λ total own. countRefusal (capOf s) (roomIn (shapeOf s)) total own in
     λ j. firstRefusal (firstRefusal (firstRefusal (settingsRefusal s) (cond (eqb (size j) (memoryWords s)) 0 5)) (counts (like .total j) (like .own .shard j)))
     (furtherOf ask)
 

@@ -32,7 +32,7 @@ use Rattle.shard.specs.Model as OneShard
 use Rattle.shard.proofs.ShardLaws.{SameRoom, ask-same-room, refund-same-room, remove-same-room}
 use Rattle.store.specs.Memory.{withSegment, totalAt, totalOf, totalAfter, partStart, shardAt, inShard, classesAt, classWords, bucketsAt, withBuckets}
 use Rattle.store.specs.Refusals.{setUpRefusal}
-use Rattle.store.proofs.MemoryLaws.{shard-at-cap, places-few, same-room-sized, in-shard-length}
+use Rattle.store.proofs.MemoryLaws.{shard-at-cap, room-small, same-room-sized, in-shard-length}
 use Rattle.store.proofs.ClassLaws.{buckets-at-length, with-buckets-length}
 use Rattle.store.proofs.RefusalLaws.{Accepted}
 use Rattle.rules.specs.declared.Reply.{Reply}
@@ -77,7 +77,7 @@ module _ (s : Settings) (hash : ℕ) (ws : List ℕ) (lent : lendable ws ≡ tru
   total-fits o room =
       let sizes = accepted-parts s (accepted .set-up .settings) .1 in
       let few : o .after .slots .count ≤ capOf s = rw (room .cap ∙ shard-at-cap s hash ws) at (room .sound .count-fits) in
-      omega (arith, few, cap-most s sizes, accepted .within, places-few s sizes)
+      omega (arith, few, cap-most s sizes, accepted .within, room-small s sizes)
 
   operation-leaves-lendable : {A : Type 0} (o : Outcome A Shard) → SameRoom (shardAt s hash ws) (o .after) → ShardFits (o .after)
       → lendable (inShard s hash ws o .after) ≡ true

@@ -14,7 +14,7 @@ use Rattle.classes.specs.Layout.{classesIn}
 use Rattle.shard_map.specs.Model.{Shard, uncounted}
 use Rattle.shard_map.proofs.TurnAwayLaws.{equal-but-for-turn-aways}
 use Rattle.shard.specs.declared.Identity.{Identity}
-use Rattle.store.specs.Memory.{totalOf, totalAfter, memoryWords, placesIn, shardAt, bucketsAt}
+use Rattle.store.specs.Memory.{totalOf, totalAfter, memoryWords, roomIn, shardAt, bucketsAt}
 use Rattle.store.specs.Refusals.{memoryRefusal, totalRefusal, countRefusal, countsRefusal, setUpRefusal}
 use Rattle.rules.specs.declared.Reply.{Reply}
 use Rattle.rules.specs.declared.Reply.the-variants.{Count}
@@ -69,7 +69,7 @@ module _ (s : Settings) (ws vs : List ℕ) (like : EqualButForTurnAways s ws vs)
 
   counts-refused-alike : (hash : ℕ) → countsRefusal (shapeOf s) hash ws ≡ countsRefusal (shapeOf s) hash vs
   unfolding countRefusal
-  counts-refused-alike hash = λ j. countRefusal (capOf s) (placesIn (shapeOf s)) (like .total j) (like .shards hash j)
+  counts-refused-alike hash = λ j. countRefusal (capOf s) (roomIn (shapeOf s)) (like .total j) (like .shards hash j)
 
   set-up-refused-alike : setUpRefusal s ws ≡ setUpRefusal s vs
   set-up-refused-alike = ap (firstRefusal (settingsRefusal s)) length-refused-alike
@@ -115,7 +115,7 @@ module _ {S N : Type 0} (terms : Terms S N) where
       ap (firstRefusal (terms .refusal n)) (ask-refused-alike (inForce ask (terms .settings s)) ws vs like (terms .identity n) ask)
   refused-alike (whole s len) ws vs like =
       let settings = terms .settings s in
-      λ j. firstRefusal (set-up-refused-alike settings ws vs like j) (totalRefusal (placesIn (shapeOf settings)) (like .total j))
+      λ j. firstRefusal (set-up-refused-alike settings ws vs like j) (totalRefusal (roomIn (shapeOf settings)) (like .total j))
 
   ruled-alike : (c : Call S N) (ws vs : List ℕ) → EqualButForTurnAways (settingsOf terms c) ws vs → refusalOf terms c ws ≡ 0 → refusalOf terms c vs ≡ 0
       → DecidedAlike (settingsOf terms c) (callReadsTurnAways c) (ruleOf terms c ws) (ruleOf terms c vs)

@@ -85,7 +85,7 @@ pub extern "C" fn limiter_try(
         Attempt::Answered(reply) => reply.told(),
         Attempt::Left(why) => {
             let request = Request::Acquire;
-            finish(settings, ws, at, hash, key, request, cost, why).told()
+            finish(ws, at, hash, key, settings, request, cost, why).told()
         }
     }
 }
@@ -115,7 +115,7 @@ pub extern "C" fn limiter_reserve(
         Attempt::Answered(reply) => reply.told(),
         Attempt::Left(why) => {
             let request = Request::Reserve(Nanos(max_wait));
-            finish(settings, ws, at, hash, key, request, cost, why).told()
+            finish(ws, at, hash, key, settings, request, cost, why).told()
         }
     }
 }
@@ -246,12 +246,13 @@ pub extern "C" fn limiter_version_0_8() -> u32
 }
 
 // The rest of a request that an attempt left. It takes the settings as numbers, so that a known key's call need not keep the converted settings in registers.
+// The arguments that an export gets in registers come first, in the same order, so that they need not be moved.
 fn finish(
-    settings: LimiterSettings,
     ws: &mut [u64],
     at: u64,
     hash: u64,
     key: u64,
+    settings: LimiterSettings,
     request: Request,
     cost: u32,
     why: Why,

@@ -1,6 +1,6 @@
 -- What an attempt comes to, case by case, for a try and a reservation alike: it gives the answer of the rule, or leaves the request.
 use Prim.Native.Nat.{ℕ, _≤_, _<_}
-use mathlib.Core.Path.{_≡_, sym, ap, _∙_}
+use mathlib.Core.Path.{_≡_, refl, sym, ap, _∙_}
 use mathlib.Core.List.{List}
 use borrow.Author.Tests.{le-leb, lt-leb, eq-eqb, ne-eqb}
 use Rattle.rows.specs.Outcome.{Outcome, outcome}
@@ -15,6 +15,7 @@ use Rattle.settings.specs.declared.Shape.{Shape}
 use Rattle.settings.specs.declared.rate.Rate.{Rate}
 use Rattle.settings.specs.Rate.{burstOf}
 use Rattle.settings.specs.Settings.{firstRefusal, settingsRefusal, shapeOf}
+use Rattle.settings.proofs.SettingsLaws.{neither-refuses}
 use Rattle.shard.specs.declared.Identity.{Identity}
 use Rattle.shard_map.specs.Model.{placeOf}
 use Rattle.store.specs.declared.Part.{Part}
@@ -57,6 +58,10 @@ module _ (r : Request) (s : Settings) (at : Nanos) (id : Identity) (cost : ℕ) 
     pub refused-is-left : {told : ℕ} → told ≡ refusalTo r s at id ws → (told ≡ 0 → ⊥) → outcome (Left Refused) ws ≡ attempted r s at id cost ws
     unfolding attemptedBy
     refused-is-left is some = by-limit is-limit (rw (ne-eqb _ _ (λ (none : refusalTo r s at id ws ≡ 0). some (is ∙ none))))
+
+    -- So is one that is refused for its other arguments, whatever the settings and the memory are.
+    pub further-is-left : {told : ℕ} → told ≡ furtherTo r at → (told ≡ 0 → ⊥) → outcome (Left Refused) ws ≡ attempted r s at id cost ws
+    further-is-left is some = refused-is-left refl (λ none. some (is ∙ neither-refuses _ _ none .1))
 
     -- One that is not refused is answered if it asks for more than a full bucket, or for nothing.
     module _ (none : refusalTo r s at id ws ≡ 0) where

@@ -72,7 +72,8 @@ pub fn attempt_try(
     }
 }
 
-// A try on a limiter that has a rate. By which number it is refused is not looked at, so that the common case is compiled to comparisons alone.
+// A try on a limiter that has a rate. By which number it is refused is not looked at, so that the common case is compiled to comparisons alone. So the moment
+// may be looked at before the memory, and a hot key's try takes fewer instructions (docs/DECISIONS.md).
 fn try_open(
     settings: Settings,
     rate: Rate,
@@ -87,7 +88,11 @@ fn try_open(
     if settings.refusal() != 0 {
         return Attempt::Left(Why::Refused);
     }
-    match lending::lend(settings.shape(), ws, id.hash, refusals::moment_refusal(at)) {
+    let late = refusals::moment_refusal(at);
+    if late != 0 {
+        return Attempt::Left(Why::Refused);
+    }
+    match lending::lend(settings.shape(), ws, id.hash, late) {
         Lending::Refused(_) => Attempt::Left(Why::Refused),
         Lending::Lent(part) => decide(settings, rate, ws, part, at, id, cost),
     }

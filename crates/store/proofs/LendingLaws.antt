@@ -34,10 +34,10 @@ use Rattle.shard.proofs.ShardLaws.{remove-same-room}
 use Rattle.store.specs.declared.Part.{Part}
 use Rattle.store.specs.declared.lending.Lending.{Lending}
 use Rattle.store.specs.declared.lending.Lending.the-variants.{Refused, Lent}
-use Rattle.store.specs.Memory.{withSegment, totalAt, totalOf, totalAfter, Placed, Counted, partIn, partOf, shardIn, shardAt, inPart, placesIn}
+use Rattle.store.specs.Memory.{withSegment, totalAt, totalOf, totalAfter, Placed, Counted, partIn, partOf, shardIn, shardAt, inPart, roomIn}
 use Rattle.store.specs.Refusals.{memoryRefusal, shapeRefusal, countRefusal, countsRefusal, keyedRefusal}
 use Rattle.store.specs.Lending.{lentUnless}
-use Rattle.store.proofs.MemoryLaws.{part-placed, places-few}
+use Rattle.store.proofs.MemoryLaws.{part-placed, room-small}
 use Rattle.store.proofs.RefusalLaws.{Accepted, length-is-accepted}
 use Rattle.shard_map.specs.Layout.{shardWords}
 use Rattle.store.specs.Memory.{wordsIn}
@@ -151,8 +151,8 @@ module _ {shape : Shape} (hash : ℕ) (ws : List ℕ) (shaped : ShapeOfAccepted 
   part-is-placed = rw (is, shaped .is) (part-placed (shaped .settings) hash ws (rw (shaped .is) at size))
 
   -- What the counts of the shard, the total and a further refusal come to is then the refusal.
-  pub counts-refuse : (further : ℕ) {places counted told : ℕ} → places ≡ placesIn shape
-      → counted ≡ countRefusal (part′ .cap) places (totalOf ws) (Layout.shard (part′ .cap) (lentWords part-is-placed))
+  pub counts-refuse : (further : ℕ) {room counted told : ℕ} → room ≡ roomIn shape
+      → counted ≡ countRefusal (part′ .cap) room (totalOf ws) (Layout.shard (part′ .cap) (lentWords part-is-placed))
       → told ≡ firstRefusal counted further
       → told ≡ firstRefusal (shapeRefusal shape hash ws) further
   counts-refuse further {counted = counted} room counts gave =
@@ -208,7 +208,7 @@ accepted-part s hash ws call is = rw is (part-placed s hash ws (call .set-up .si
 -- The total counts its slots, and is small.
 pub accepted-count : (s : Settings) (hash : ℕ) (ws : List ℕ) {p : Part} → Accepted s hash ws → p ≡ partOf s hash → Counted p ws
 accepted-count s hash ws call is =
-    let few = places-few s (accepted-parts s (call .set-up .settings) .1) in
+    let few = room-small s (accepted-parts s (call .set-up .settings) .1) in
     rw is (record { covers = call .covers; small = omega (arith, call .within, few) })
 
 refund-from-keeps-count : (c : BucketConfig) (id : Identity) (cost : ℕ) (s : Shard.Shard) (place : Place)

@@ -23,7 +23,7 @@ use Rattle.shard_map.specs.Layout.{shardWords}
 use Rattle.shard_map.proofs.LayoutLaws.{cap-is}
 use Rattle.shard_map.proofs.ReadBack.{Sized, Empty, words-length, shard-of-words, debt-cap-is, shard-sized, zeros-empty, zeros-complete}
 use Rattle.shard.proofs.ShardLaws.{SameRoom}
-use Rattle.store.specs.Memory.{withSegment, totalAt, totalOf, totalAfter, shardsAt, shardStart, shardEnd, placesIn, classesAt, wordsIn, memoryWords}
+use Rattle.store.specs.Memory.{withSegment, totalAt, totalOf, totalAfter, shardsAt, shardStart, shardEnd, roomIn, classesAt, wordsIn, memoryWords}
 use Rattle.store.specs.Memory.{partStart, partOf, Placed, shardAt, inShard}
 
 -- A shard ends before one of a higher number begins.
@@ -48,11 +48,11 @@ pub accepted-shards-end-early : {shape : Shape} → ShapeOfAccepted shape → cl
 accepted-shards-end-early shaped = rw (shaped .is) (shards-end-early (shaped .settings) (shaped .accepted))
 
 -- There is room for few slots.
-pub places-few : (s : Settings) → sizeRefusal s ≡ 0 → placesIn (shapeOf s) ≤ mostShards * mostKeysInShard
-places-few s accepted = mul-le-mul (shards-most s) (cap-most s accepted)
+pub room-small : (s : Settings) → sizeRefusal s ≡ 0 → roomIn (shapeOf s) ≤ mostShards * mostKeysInShard
+room-small s accepted = mul-le-mul (shards-most s) (cap-most s accepted)
 
-pub accepted-places-few : {shape : Shape} → ShapeOfAccepted shape → placesIn shape ≤ mostShards * mostKeysInShard
-accepted-places-few shaped = rw (shaped .is) (places-few (shaped .settings) (shaped .accepted))
+pub accepted-room-small : {shape : Shape} → ShapeOfAccepted shape → roomIn shape ≤ mostShards * mostKeysInShard
+accepted-room-small shaped = rw (shaped .is) (room-small (shaped .settings) (shaped .accepted))
 
 pub accepted-words-fit : {shape : Shape} → ShapeOfAccepted shape → wordsIn shape < 2 ^ 64
 accepted-words-fit shaped = omega (arith, accepted-shards-end-early shaped, accepted-classes-few shaped)

@@ -12,7 +12,7 @@ use Rattle.settings.specs.declared.Settings.{Settings}
 use Rattle.settings.specs.Settings.{firstRefusal, settingsRefusal, capOf, shapeOf}
 use Rattle.settings.proofs.SettingsLaws.{first-refusal-stands, no-refusal-hands-on, neither-refuses}
 use Rattle.shard_map.specs.Model as Shard
-use Rattle.store.specs.Memory.{totalOf, shardAt, placesIn}
+use Rattle.store.specs.Memory.{totalOf, shardAt, roomIn}
 use Rattle.store.specs.Refusals.{latestMoment, longestMaxWait, memoryRefusal, setUpRefusal, countRefusal, countsRefusal, keyedRefusal}
 use Rattle.store.specs.Refusals.{momentRefusal, waitRefusal, totalRefusal, lenRefusal}
 use Rattle.store.proofs.MemoryLaws.{shard-at-cap, shard-at-debt-cap, sound-shard}
@@ -25,6 +25,13 @@ within-bound bound number refusal rest none =
     by-le number bound
     (λ within. (within, rw (le-ltb bound number within) at none))
     (λ over. absurd (omega (arith, rw (lt-ltb bound number over) at none)))
+
+-- Where the rest of the checks refuse as 5, a check before them that refuses as 5 changes nothing.
+refused-anyway : (bound number : ℕ) {rest : ℕ} → rest ≡ 5 → cond (ltb bound number) 5 rest ≡ 5
+refused-anyway bound number told =
+    by-le number bound
+    (λ within. rw (le-ltb bound number within) told)
+    (λ over. rw (lt-ltb bound number over))
 
 -- A check refuses nothing just where what it looks at is right; here for each check, both ways. First the length of the memory.
 module _ (words : ℕ) (ws : List ℕ) where
@@ -41,56 +48,61 @@ module _ (words : ℕ) (ws : List ℕ) where
   other-length-is-refused other = rw (ne-eqb _ _ other)
 
 -- The total.
-module _ (places total : ℕ) where
-  pub total-not-refused : totalRefusal places total ≡ 0 → total ≤ places
+module _ (room total : ℕ) where
+  pub total-not-refused : totalRefusal room total ≡ 0 → total ≤ room
   unfolding totalRefusal
-  total-not-refused none = within-bound places total 4 0 none .0
+  total-not-refused none = within-bound _ total 4 0 none .0
 
-  pub total-is-accepted : total ≤ places → totalRefusal places total ≡ 0
+  pub total-is-accepted : total ≤ room → totalRefusal room total ≡ 0
   unfolding totalRefusal
   total-is-accepted within = rw (le-ltb _ _ within)
 
-  pub total-over-is-refused : places < total → totalRefusal places total ≡ 5
+  pub total-over-is-refused : room < total → totalRefusal room total ≡ 5
   unfolding totalRefusal
   total-over-is-refused over = rw (lt-ltb _ _ over)
 
 -- The two counts of a shard, and the total.
-pub record CountsFit (cap places total : ℕ) (sh : Shard.Shard) : Type 0 where
+pub record CountsFit (cap room total : ℕ) (sh : Shard.Shard) : Type 0 where
   pub slots : sh .slots .count ≤ cap
   pub debts : sh .ledger .debts .count ≤ cap
   pub covers : sh .slots .count ≤ total
-  pub within : total ≤ places
+  pub within : total ≤ room
 
-module _ (cap places total : ℕ) (sh : Shard.Shard) where
-  pub counts-not-refused : countRefusal cap places total sh ≡ 0 → CountsFit cap places total sh
+module _ (cap room total : ℕ) (sh : Shard.Shard) where
+  pub counts-not-refused : countRefusal cap room total sh ≡ 0 → CountsFit cap room total sh
   unfolding countRefusal
   counts-not-refused none =
       let slots = within-bound cap (sh .slots .count) 4 _ none in
       let debts = within-bound cap (sh .ledger .debts .count) 4 _ (slots .1) in
       let covers = within-bound total (sh .slots .count) 4 _ (debts .1) in
-      record { slots = slots .0; debts = debts .0; covers = covers .0; within = total-not-refused places total (covers .1) }
+      record { slots = slots .0; debts = debts .0; covers = covers .0; within = total-not-refused room total (covers .1) }
 
-  pub counts-are-accepted : CountsFit cap places total sh → countRefusal cap places total sh ≡ 0
+  pub counts-are-accepted : CountsFit cap room total sh → countRefusal cap room total sh ≡ 0
   unfolding countRefusal
   counts-are-accepted fit =
-      rw (le-ltb _ _ (fit .slots), le-ltb _ _ (fit .debts), le-ltb _ _ (fit .covers)) (total-is-accepted places total (fit .within))
+      rw (le-ltb _ _ (fit .slots), le-ltb _ _ (fit .debts), le-ltb _ _ (fit .covers)) (total-is-accepted room total (fit .within))
 
-  pub slots-over-are-refused : cap < sh .slots .count → countRefusal cap places total sh ≡ 5
+  -- Any one of them that is wrong is refused, whatever the others are. So the code may look at them in any order.
+  pub slots-over-are-refused : cap < sh .slots .count → countRefusal cap room total sh ≡ 5
   unfolding countRefusal
   slots-over-are-refused over = rw (lt-ltb _ _ over)
 
-  pub debts-over-are-refused : sh .slots .count ≤ cap → cap < sh .ledger .debts .count → countRefusal cap places total sh ≡ 5
+  pub debts-over-are-refused : cap < sh .ledger .debts .count → countRefusal cap room total sh ≡ 5
   unfolding countRefusal
-  debts-over-are-refused slots over = rw (le-ltb _ _ slots, lt-ltb _ _ over)
+  debts-over-are-refused over = refused-anyway cap (sh .slots .count) (rw (lt-ltb cap (sh .ledger .debts .count) over))
 
-  pub total-under-is-refused : sh .slots .count ≤ cap → sh .ledger .debts .count ≤ cap → total < sh .slots .count → countRefusal cap places total sh ≡ 5
+  pub total-under-is-refused : total < sh .slots .count → countRefusal cap room total sh ≡ 5
   unfolding countRefusal
-  total-under-is-refused slots debts under = rw (le-ltb _ _ slots, le-ltb _ _ debts, lt-ltb _ _ under)
+  total-under-is-refused under =
+      refused-anyway cap (sh .slots .count) (refused-anyway cap (sh .ledger .debts .count) (rw (lt-ltb total (sh .slots .count) under)))
 
-  pub total-decides : sh .slots .count ≤ cap → sh .ledger .debts .count ≤ cap → sh .slots .count ≤ total
-      → countRefusal cap places total sh ≡ totalRefusal places total
+  pub total-over-the-room-is-refused : (totalRefusal room total ≡ 0 → ⊥) → countRefusal cap room total sh ≡ 5
   unfolding countRefusal
-  total-decides slots debts covers = rw (le-ltb _ _ slots, le-ltb _ _ debts, le-ltb _ _ covers)
+  total-over-the-room-is-refused some =
+      by-le total room
+      (λ within. absurd (some (total-is-accepted room total within)))
+      (λ over. refused-anyway cap (sh .slots .count)
+      (refused-anyway cap (sh .ledger .debts .count) (refused-anyway total (sh .slots .count) (total-over-is-refused room total over))))
 
 -- A moment, and the longest wait of a reservation.
 module _ (t : Nanos) where
@@ -135,27 +147,27 @@ module _ (s : Settings) (ws : List ℕ) where
       no-refusal-hands-on (settingsRefusal s) (memoryRefusal (memoryWords s) ws) (a .settings) ∙ length-is-accepted (memoryWords s) ws (a .size)
 
 -- A look at the length that is not refused: the total is no more than there is room for.
-pub len-not-refused : (s : Settings) (ws : List ℕ) → lenRefusal s ws ≡ 0 → SetUp s ws × (totalOf ws ≤ placesIn (shapeOf s))
+pub len-not-refused : (s : Settings) (ws : List ℕ) → lenRefusal s ws ≡ 0 → SetUp s ws × (totalOf ws ≤ roomIn (shapeOf s))
 len-not-refused s ws none =
-    let parts = neither-refuses (setUpRefusal s ws) (totalRefusal (placesIn (shapeOf s)) (totalOf ws)) none in
-    (set-up-not-refused s ws (parts .0), total-not-refused (placesIn (shapeOf s)) (totalOf ws) (parts .1))
+    let parts = neither-refuses (setUpRefusal s ws) (totalRefusal (roomIn (shapeOf s)) (totalOf ws)) none in
+    (set-up-not-refused s ws (parts .0), total-not-refused (roomIn (shapeOf s)) (totalOf ws) (parts .1))
 
 -- What a call with a key may count on: a sound shard for the key, too, and a total that counts its slots and is no more than there is room for.
 pub record Accepted (s : Settings) (hash : ℕ) (ws : List ℕ) : Type 0 where
   pub set-up : SetUp s ws
   pub sound : Shard.Sound (shardAt s hash ws)
   pub covers : shardAt s hash ws .slots .count ≤ totalOf ws
-  pub within : totalOf ws ≤ placesIn (shapeOf s)
+  pub within : totalOf ws ≤ roomIn (shapeOf s)
 
 module _ (s : Settings) (hash : ℕ) (ws : List ℕ) where
   abbrev Fit : Type 0
-  Fit = CountsFit (capOf s) (placesIn (shapeOf s)) (totalOf ws) (shardAt s hash ws)
+  Fit = CountsFit (capOf s) (roomIn (shapeOf s)) (totalOf ws) (shardAt s hash ws)
 
   -- A call with a key is not refused just where that holds.
   pub keyed-not-refused : keyedRefusal s hash ws ≡ 0 → Accepted s hash ws
   keyed-not-refused none =
       let parts = neither-refuses (setUpRefusal s ws) (countsRefusal (shapeOf s) hash ws) none in
-      let fit : Fit = counts-not-refused (capOf s) (placesIn (shapeOf s)) (totalOf ws) (shardAt s hash ws) (parts .1) in
+      let fit : Fit = counts-not-refused (capOf s) (roomIn (shapeOf s)) (totalOf ws) (shardAt s hash ws) (parts .1) in
       record {
         set-up = set-up-not-refused s ws (parts .0);
         sound = sound-shard s hash ws (fit .slots, fit .debts);
@@ -166,7 +178,7 @@ module _ (s : Settings) (hash : ℕ) (ws : List ℕ) where
   pub keyed-is-accepted : Accepted s hash ws → keyedRefusal s hash ws ≡ 0
   keyed-is-accepted a =
       no-refusal-hands-on (setUpRefusal s ws) (countsRefusal (shapeOf s) hash ws) (set-up-is-accepted s ws (a .set-up))
-      ∙ counts-are-accepted (capOf s) (placesIn (shapeOf s)) (totalOf ws) (shardAt s hash ws) (record {
+      ∙ counts-are-accepted (capOf s) (roomIn (shapeOf s)) (totalOf ws) (shardAt s hash ws) (record {
         slots = rw (shard-at-cap s hash ws) at (a .sound .count-fits);
         debts = rw (shard-at-debt-cap s hash ws) at (a .sound .ledger .count-fits);
         covers = a .covers;

@@ -40,8 +40,8 @@ abbrev pub classesAt : Shape → ℕ
 classesAt shape = shardStart (shape .cap) (shape .shards)
 
 -- How many slots all shards have room for.
-abbrev pub placesIn : Shape → ℕ
-placesIn shape = shape .shards * shape .cap
+abbrev pub roomIn : Shape → ℕ
+roomIn shape = shape .shards * shape .cap
 
 abbrev pub classWords : Shape → ℕ
 classWords shape = bucketWidth * shape .classes

@@ -9,7 +9,7 @@ use Rattle.settings.specs.declared.Settings.{Settings}
 use Rattle.settings.specs.declared.Shape.{Shape}
 use Rattle.settings.specs.Settings.{firstRefusal, settingsRefusal, shapeOf}
 use Rattle.shard_map.specs.Model.{Shard}
-use Rattle.store.specs.Memory.{totalOf, partIn, shardIn, placesIn, wordsIn}
+use Rattle.store.specs.Memory.{totalOf, partIn, shardIn, roomIn, wordsIn}
 
 -- The latest moment, and the longest wait that a reservation may ask for, in nanoseconds.
 abbrev pub latestMoment : ℕ
@@ -31,18 +31,18 @@ setUpRefusal s ws = setUpRefusalIn (shapeOf s) s ws
 
 -- 5 where the total is over the slots that there is room for.
 unfoldable pub totalRefusal : ℕ → ℕ → ℕ
-totalRefusal places total = cond (ltb places total) 5 0
+totalRefusal room total = cond (ltb room total) 5 0
 
 -- 5 where a count of a shard is over the cap, or the total is under its slot count or over the slots that there is room for in all shards.
 unfoldable pub countRefusal : ℕ → ℕ → ℕ → Shard → ℕ
-countRefusal cap places total s =
+countRefusal cap room total s =
     cond (ltb cap (s .slots .count)) 5
     (cond (ltb cap (s .ledger .debts .count)) 5
-    (cond (ltb total (s .slots .count)) 5 (totalRefusal places total)))
+    (cond (ltb total (s .slots .count)) 5 (totalRefusal room total)))
 
 -- The counts in memory of a shape: those of the shard of a hash, and the total.
 abbrev pub countsRefusal : Shape → ℕ → List ℕ → ℕ
-countsRefusal shape hash ws = countRefusal (shape .cap) (placesIn shape) (totalOf ws) (shardIn (partIn shape hash) ws)
+countsRefusal shape hash ws = countRefusal (shape .cap) (roomIn shape) (totalOf ws) (shardIn (partIn shape hash) ws)
 
 -- The memory alone: its length, then these counts.
 abbrev pub shapeRefusal : Shape → ℕ → List ℕ → ℕ
@@ -64,7 +64,7 @@ waitRefusal longest = cond (ltb longestMaxWait (longest .0)) 7 0
 
 -- Length: the settings, then the size by the classes of its settings, then 5 for the total. No shard is looked at.
 abbrev pub lenRefusalIn : Shape → Settings → List ℕ → ℕ
-lenRefusalIn shape s ws = firstRefusal (setUpRefusalIn shape s ws) (totalRefusal (placesIn shape) (totalOf ws))
+lenRefusalIn shape s ws = firstRefusal (setUpRefusalIn shape s ws) (totalRefusal (roomIn shape) (totalOf ws))
 
 abbrev pub lenRefusal : Settings → List ℕ → ℕ
 lenRefusal s ws = lenRefusalIn (shapeOf s) s ws

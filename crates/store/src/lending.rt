@@ -33,7 +33,7 @@ pub fn lend(shape: Shape, ws: &[u64], hash: u64, further: u32) -> Lending
         refusals::count_refusal(
             &ws[start..end],
             part.cap,
-            words::places_in(shape),
+            words::room_in(shape),
             ws[words::TOTAL_AT],
         ),
         further,

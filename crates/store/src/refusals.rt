@@ -32,28 +32,32 @@ pub(crate) fn memory_refusal(words: usize, ws: &[u64]) -> u32
 }
 
 // 5 where the total is over the slots that there is room for.
-fn total_refusal(places: usize, total: u64) -> u32
-    ensures { λ r. ⌜ r ≡ totalRefusal places total ⌝ }
+fn total_refusal(room: usize, total: u64) -> u32
+    ensures { λ r. ⌜ r ≡ totalRefusal room total ⌝ }
 {
-    if (places as u64) < total { 5 } else { 0 }
+    if (room as u64) < total { 5 } else { 0 }
 }
 
-// 5 where a count of a shard is over the cap, or the total is under its slot count or over the slots that all shards have room for.
-pub(crate) fn count_refusal(ws: &[u64], cap: usize, places: usize, total: u64) -> u32
+// 5 where a count of a shard is over the cap, or the total is under its slot count or over the slots that all shards have room for. The order of the tests
+// does not matter for the number. This one keeps the total and the room in registers, which nothing after the tests needs (docs/DECISIONS.md).
+pub(crate) fn count_refusal(ws: &[u64], cap: usize, room: usize, total: u64) -> u32
     requires { ⌜ length (now ws) ≡ shardWords cap ⌝ }
-    ensures { λ r. ⌜ r ≡ countRefusal cap places total (shard cap (now (ws .entry))) ⌝ }
+    ensures { λ r. ⌜ r ≡ countRefusal cap room total (shard cap (now (ws .entry))) ⌝ }
 {
     let slots = shard_map::len(ws, cap);
+    if total < slots as u64 {
+        return 5;
+    }
     if cap < slots {
+        return 5;
+    }
+    if total_refusal(room, total) != 0 {
         return 5;
     }
     if cap < debts::len(ws, cap) {
         return 5;
     }
-    if total < slots as u64 {
-        return 5;
-    }
-    total_refusal(places, total)
+    0
 }
 
 // 6 for a moment that is too late.
@@ -92,5 +96,5 @@ pub fn len_refusal(settings: Settings, ws: &[u64]) -> u32
         return refusal;
     }
     let shape = settings.shape();
-    total_refusal(words::places_in(shape), ws[words::TOTAL_AT])
+    total_refusal(words::room_in(shape), ws[words::TOTAL_AT])
 }

@@ -2,7 +2,7 @@
 ghost use mathlib.Core.Path.{_≡_};
 ghost use Prim.Native.Nat.{_<_, _^_};
 ghost use Rattle.settings.specs.Settings.{ShapeOfAccepted, sizeRefusal};
-ghost use Rattle.store.specs.Memory.{shardStart, shardEnd, placesIn, wordsIn, memoryWords};
+ghost use Rattle.store.specs.Memory.{shardStart, shardEnd, roomIn, wordsIn, memoryWords};
 use settings::Settings;
 use settings::Shape;
 use shard_map::words;
@@ -10,7 +10,7 @@ use shard_map::words;
 // The word of the total, and the word at which the first shard begins.
 pub const TOTAL_AT: usize = 0;
 
-const SHARDS_AT: usize = 1;
+const SHARDS_AT: usize = TOTAL_AT + 1;
 
 // The words that a store of these settings is lent.
 pub fn memory_words(settings: Settings) -> usize
@@ -29,9 +29,9 @@ pub(crate) fn words_in(shape: Shape) -> usize
 }
 
 // How many slots all shards have room for.
-pub(crate) fn places_in(shape: Shape) -> usize
+pub(crate) fn room_in(shape: Shape) -> usize
     requires { ⌜ ShapeOfAccepted shape ⌝ }
-    ensures { λ r. ⌜ r ≡ placesIn shape ⌝ }
+    ensures { λ r. ⌜ r ≡ roomIn shape ⌝ }
 {
     shape.shards * shape.cap
 }

@@ -6,7 +6,7 @@ use Rattle.store.specs.Memory.{partOf}
 use Rattle.store.proofs.LendingLaws.{accepted-shape, lent-part, refused-number}
 use Rattle.settings.specs.Settings.{settingsRefusal}
 use Rattle.requests.specs.code.Attempts.{refusalTo}
-use Rattle.requests.proofs.AttemptLaws.{request-lending, settings-refuse-request, refused-is-left}
+use Rattle.requests.proofs.AttemptLaws.{request-lending, settings-refuse-request, refused-is-left, further-is-left}
 use native.Mathlib.Omega.{arith}
 use borrow.Author.Needs.{needs}
 use Rattle.requests.proofs.try_open.Statement.{statement}
@@ -16,17 +16,22 @@ use Rattle.requests.proofs.try_open.Tie as tie
 accepted : (e : tie.Else1) → settingsRefusal (e .before .before .before .args .settings) ≡ 0
 accepted e = sym (e .before .refusal .ensures) ∙ e .if1 .left
 
+-- The moment was looked at once the settings were accepted, and the shape was worked out after that.
+abbrev in-time : tie.After-lend → tie.Else2
+in-time l = l .before .before .before
+
+abbrev checked : tie.After-lend → tie.Else1
+checked l = in-time l .before .before
+
 abbrev start : tie.After-lend → tie.Start
-start l = l .before .before .before .before .before .before .before
+start l = checked l .before .before .before
 
 lending : (l : tie.After-lend) → let a = start l .args in
     l .lend .result ≡ lentUnless (refusalTo Acquire (a .settings) (a .at) (a .id) (a .ws .now)) (partOf (a .settings) (a .id .hash))
 lending l =
     let a = start l .args in
-    let e = l .before .before .before .before in
-    request-lending Acquire (a .settings) (a .at) (a .id) (a .ws .now) (accepted e) (l .before .before .before .shape .ensures)
-    (l .before .moment-refusal .ensures)
-    (l .lend .ensures)
+    let late = in-time l .before .moment-refusal .ensures in
+    request-lending Acquire (a .settings) (a .at) (a .id) (a .ws .now) (accepted (checked l)) (l .before .before .shape .ensures) late (l .lend .ensures)
 
 refusal-requires : tie.Need-refusal-requires
 refusal-requires c κs = search needs
@@ -38,17 +43,23 @@ returns c =
     let told = settings-refuse-request Acquire (a .settings) (a .at) (a .id) (a .ws .now) (c .before .refusal .ensures) (c .if1 .taken) in
     refused-is-left Acquire (a .settings) (a .at) (a .id) (a .cost) (a .ws .now) (s .pre) told (c .if1 .taken)
 
-shape-requires : tie.Need-shape-requires
-shape-requires c κs = search needs
-
 moment-refusal-requires : tie.Need-moment-refusal-requires
 moment-refusal-requires c κs = search needs
 
+returns-2 : tie.Need-returns-2
+returns-2 c =
+    let s = c .before .before .before .before .before in
+    let a = s .args in
+    further-is-left Acquire (a .settings) (a .at) (a .id) (a .cost) (a .ws .now) (s .pre) (c .before .moment-refusal .ensures) (c .if2 .taken)
+
+shape-requires : tie.Need-shape-requires
+shape-requires c κs = search needs
+
 lend-requires : tie.Need-lend-requires
 lend-requires c κs =
-    let e = c .before .before .before in
+    let e = c .before .before .before .before in
     let s = e .before .before .before in
-    accepted-shape (s .args .settings) (accepted e) (omega (arith, s .good)) (c .before .before .shape .ensures)
+    accepted-shape (s .args .settings) (accepted e) (omega (arith, s .good)) (c .before .shape .ensures)
 
 enum-told : tie.Need-enum-told
 enum-told c = search needs
@@ -65,8 +76,8 @@ decide-requires c κs =
 same-length : tie.Need-same-length
 same-length c = search needs
 
-returns-2 : tie.Need-returns-2
-returns-2 c =
+returns-3 : tie.Need-returns-3
+returns-3 c =
     let l = c .before .before in
     let a = start l .args in
     let number = refused-number _ _ (lending l) (c .enum-told .given .1) in
@@ -75,8 +86,8 @@ returns-2 c =
 same-length-2 : tie.Need-same-length-2
 same-length-2 c = search needs
 
-returns-3 : tie.Need-returns-3
-returns-3 c = c .before .before .decide .ensures
+returns-4 : tie.Need-returns-4
+returns-4 c = c .before .before .decide .ensures
 
 pub try-open-spec : {M : Type 1} → statement M
 try-open-spec =
@@ -84,13 +95,14 @@ try-open-spec =
     (tie.spec
     refusal-requires
     returns
-    shape-requires
     moment-refusal-requires
+    returns-2
+    shape-requires
     lend-requires
     enum-told
     enum-known-part
     decide-requires
     same-length
-    returns-2
+    returns-3
     same-length-2
-    returns-3)
+    returns-4)

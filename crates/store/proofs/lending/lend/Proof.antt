@@ -34,7 +34,7 @@ refused f =
     let p = lent f in
     let a = start p .args in
     let counted = f .before .count-refusal .ensures in
-    let room = f .before .before .before .places-in .ensures in
+    let room = f .before .before .before .room-in .ensures in
     counts-refuse (a .hash) (a .ws .now) (start p .pre) (sized p) (p .part-of .ensures) (a .further) room counted (f .first-refusal .ensures)
 
 words-in-requires : tie.Need-words-in-requires
@@ -64,8 +64,8 @@ part-count-refusal-start c = lent-starts (placed c)
 part-count-refusal-end : tie.Need-part-count-refusal-end
 part-count-refusal-end c = placed c .within
 
-places-in-requires : tie.Need-places-in-requires
-places-in-requires c κs = start (c .before) .pre
+room-in-requires : tie.Need-room-in-requires
+room-in-requires c κs = start (c .before) .pre
 
 shared-slice-read-count-refusal : tie.Need-shared-slice-read-count-refusal
 shared-slice-read-count-refusal c = let p = c .before .before .before in omega (arith, placed p .within, placed p .begins, lent-starts (placed p))
@@ -94,7 +94,7 @@ lend-spec =
     sub-count-refusal
     part-count-refusal-start
     part-count-refusal-end
-    places-in-requires
+    room-in-requires
     shared-slice-read-count-refusal
     count-refusal-requires
     first-refusal-requires

@@ -29,8 +29,8 @@ returns c = first-is-told _ (c .before .set-up-refusal .ensures) (c .if1 .taken)
 shape-requires : tie.Need-shape-requires
 shape-requires c κs = search needs
 
-places-in-requires : tie.Need-places-in-requires
-places-in-requires c κs = accepted-shape (start c .args .settings) (accepted c .settings) (search needs) (c .shape .ensures)
+room-in-requires : tie.Need-room-in-requires
+room-in-requires c κs = accepted-shape (start c .args .settings) (accepted c .settings) (search needs) (c .shape .ensures)
 
 shared-slice-read-total-refusal : tie.Need-shared-slice-read-total-refusal
 shared-slice-read-total-refusal c = omega (arith, accepted (c .before .before) .size)
@@ -42,7 +42,7 @@ returns-2 : tie.Need-returns-2
 returns-2 c =
     let p = c .before .before in
     let e = p .before .before in
-    let told = rw (p .places-in .ensures, p .before .shape .ensures) at (c .total-refusal .ensures) in
+    let told = rw (p .room-in .ensures, p .before .shape .ensures) at (c .total-refusal .ensures) in
     second-is-told (e .before .set-up-refusal .ensures) (e .if1 .left) told
 
 pub len-refusal-spec : {M : Type 1} → statement M
@@ -53,7 +53,7 @@ len-refusal-spec =
     set-up-refusal-requires
     returns
     shape-requires
-    places-in-requires
+    room-in-requires
     shared-slice-read-total-refusal
     total-refusal-requires
     returns-2)
