@@ -17,7 +17,7 @@ use Rattle.store.specs.Memory.{totalAt, withSegment}
 use Rattle.rules.specs.declared.Reply.the-variants.{Done}
 use Rattle.rules.proofs.RefusedLaws.{unless-refused-accepts}
 use Rattle.converter_shards.specs.Layout01.{shardWords01, shard01}
-use Rattle.converter_shards.specs.Checks.{Counted}
+use Rattle.converter_shards.specs.code.RowChecks.{Counted}
 use Rattle.converter_shards.proofs.Layout01Laws.{words01-length, words01-of-back}
 use Rattle.converter_shards.proofs.CarryLaws.{filled-next, put-length}
 use Rattle.converter_shards.proofs.ForthLaws.{present-sized01}
@@ -25,7 +25,8 @@ use Rattle.converter_shards.proofs.ConvertedLaws.{forth-words-are-a-shards}
 use Rattle.converter.specs.declared.Layout.{Layout}
 use Rattle.converter.specs.declared.Layout.the-variants.{Old, Present}
 use Rattle.converter.specs.Layouts.{other, firstWord, shardSize, startOf, endOf, shardOf, part, shardAt, moved, damaged, slotsOf}
-use Rattle.converter.specs.Conversion.{refusalOf, movedUpTo, withMoved, withTotal, movedWords, converted, InShards, Undamaged}
+use Rattle.converter.specs.Conversion.{refusalOf, movedUpTo, movedWords, converted}
+use Rattle.converter.specs.code.Moving.{withMoved, withTotal, InShards, Undamaged}
 use Rattle.converter.proofs.ShardLaws.{part-ends, part-long, lent-shard, none-damaged, counts-fit}
 use Rattle.converter.proofs.RefusalLaws.{Accepted, accepted-is-not-refused}
 

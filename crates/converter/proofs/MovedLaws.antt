@@ -11,7 +11,8 @@ use Rattle.rows.proofs.SegmentLaws.{segment-length}
 use Rattle.converter.specs.declared.Layout.{Layout}
 use Rattle.converter.specs.declared.Layout.the-variants.{Old, Present}
 use Rattle.converter.specs.Layouts.{other, shardSize, startOf, part, shardAt, moved, slotsOf}
-use Rattle.converter.specs.Conversion.{movedUpTo, movedWords, Undamaged}
+use Rattle.converter.specs.Conversion.{movedUpTo, movedWords}
+use Rattle.converter.specs.code.Moving.{Undamaged}
 use Rattle.converter.proofs.ShardLaws.{rows-within, part-ends, part-long, none-damaged}
 use Rattle.converter.proofs.MoveLaws.{moved-long}
 

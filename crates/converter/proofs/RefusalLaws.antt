@@ -17,8 +17,9 @@ use Rattle.store.proofs.RefusalLaws.{length-not-refused, length-is-accepted, ot
 use Rattle.converter.specs.declared.Layout.{Layout}
 use Rattle.converter.specs.declared.Layout.the-variants.{Old, Present}
 use Rattle.converter.specs.Layouts.{other, slotsOf, totalWrong}
-use Rattle.converter.specs.Conversion.{anyRefusedBy, sourceRefusal, mostKeysMoved, keysRefusal, oldWords, wordsFor, lengthsRefusal, refusalOf, InShards}
-use Rattle.converter.specs.Conversion.{Undamaged}
+use Rattle.converter.specs.Conversion.{anyRefusedBy, sourceRefusal, mostKeysMoved, keysRefusal, oldWords, wordsFor, lengthsRefusal, refusalOf}
+use Rattle.converter.specs.code.Moving.{InShards}
+use Rattle.converter.specs.code.Moving.{Undamaged}
 
 -- Too many keys.
 module _ (s : Settings) where

@@ -19,13 +19,15 @@ use Rattle.shard_map.specs.Layout.{shardWords, shard, Intact}
 use Rattle.shard_map.proofs.LayoutLaws.{cap-is}
 use Rattle.shard_map.proofs.ReadBack.{debt-cap-is}
 use Rattle.converter_shards.specs.Layout01.{shardWords01, shard01}
-use Rattle.converter_shards.specs.Checks.{shardTwins, countOver, indexesExact, Counted}
+use Rattle.converter_shards.specs.Checks.{shardTwins, countOver, indexesExact}
+use Rattle.converter_shards.specs.code.RowChecks.{Counted}
 use Rattle.converter_shards.proofs.CheckLaws.{both-ways, none-passes}
 use Rattle.converter_shards.proofs.ShardLaws.{slots-fit-cap, debts-fit-cap}
 use Rattle.converter.specs.declared.Layout.{Layout}
 use Rattle.converter.specs.declared.Layout.the-variants.{Old, Present}
 use Rattle.converter.specs.Layouts.{shardSize, startOf, endOf, shardOf, part, shardAt, damaged, pastUsed, slotsOf}
-use Rattle.converter.specs.Conversion.{refusedBy, anyRefusedBy, wordsFor, InShards, Undamaged}
+use Rattle.converter.specs.Conversion.{refusedBy, anyRefusedBy, wordsFor}
+use Rattle.converter.specs.code.Moving.{InShards, Undamaged}
 
 -- A shard below the number of shards ends within the words.
 pub rows-within : (size shards i : ℕ) → i < shards → i * size + size ≤ shards * size

@@ -25,7 +25,8 @@ use Rattle.rules.specs.declared.Reply.{Reply}
 use Rattle.rules.specs.declared.Reply.the-variants.{Done, Refused}
 use Rattle.rules.proofs.RefusedLaws.{unless-refused-accepts, unless-refused-refuses}
 use Rattle.converter_shards.specs.Layout01.{shardWords01, shard01, words01}
-use Rattle.converter_shards.specs.Checks.{shardTwins, shardUsedPast, shardUsedPast01, countOver, Counted, indexesExact}
+use Rattle.converter_shards.specs.Checks.{shardTwins, shardUsedPast, shardUsedPast01, countOver, indexesExact}
+use Rattle.converter_shards.specs.code.RowChecks.{Counted}
 use Rattle.converter_shards.specs.Forth as Shards
 use Rattle.converter_shards.proofs.CheckLaws.{none-passes, none-of}
 use Rattle.converter_shards.proofs.Layout01Laws.{shard01-of-words, words01-of-back}
@@ -38,7 +39,8 @@ use Rattle.converter_shards.proofs.ConvertedLaws.{found-has-no-twins, found-is-
 use Rattle.converter.specs.declared.Layout.{Layout}
 use Rattle.converter.specs.declared.Layout.the-variants.{Old, Present}
 use Rattle.converter.specs.Layouts.{other, shardSize, startOf, part, shardOf, shardAt, moved, damaged, pastUsed, slotsOf, totalWrong}
-use Rattle.converter.specs.Conversion.{refusedBy, keysRefusal, wordsFor, refusalOf, movedUpTo, movedWords, converted, forth, back, Undamaged}
+use Rattle.converter.specs.Conversion.{refusedBy, keysRefusal, wordsFor, refusalOf, movedUpTo, movedWords, converted, forth, back}
+use Rattle.converter.specs.code.Moving.{Undamaged}
 use Rattle.converter.proofs.ShardLaws.{part-ends, part-long, refused-by-5, refused-by-18, refused-by-19, none-damaged}
 use Rattle.converter.proofs.RefusalLaws.{Sound, Accepted, not-refused-is-accepted, accepted-is-not-refused, source-undamaged}
 use Rattle.converter.proofs.MovedLaws.{moved-words-long, part-of-moved}

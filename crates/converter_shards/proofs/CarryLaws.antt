@@ -12,7 +12,7 @@ use Rattle.rows.specs.Segments.{segment}
 use Rattle.rows.specs.Rows.{rows, unrow}
 use Rattle.rows.proofs.SegmentLaws.{segment-length}
 use Rattle.shard_map.specs.Layout.{slotsAt}
-use Rattle.converter_shards.specs.Forth.{carried, carriedRows, carriedShard}
+use Rattle.converter_shards.specs.code.Carried.{carried, carriedRows, carriedShard}
 
 -- Words carried over: a word of them, their number, and what they are where the source is shorter.
 pub carried-length : (n : ℕ) (ws : List ℕ) → length (carried n ws) ≡ n

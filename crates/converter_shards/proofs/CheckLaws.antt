@@ -18,7 +18,8 @@ use Rattle.held.proofs.SingleLaws.{Single}
 use Rattle.slot.specs.declared.Slot.{Slot}
 use Rattle.ledger.specs.declared.Debt.{Debt}
 use Rattle.converter_shards.specs.declared.Rows.{Rows}
-use Rattle.converter_shards.specs.Checks.{anyBelow, bothSame, twinned, alikeIn, hasTwins, isUsed, anyUsed, rowWord, alikeRows, RowsFit}
+use Rattle.converter_shards.specs.Checks.{anyBelow, bothSame, twinned, alikeIn, hasTwins, isUsed, anyUsed}
+use Rattle.converter_shards.specs.code.RowChecks.{rowWord, alikeRows, RowsFit}
 
 copies-none : (w : ℕ) → copies w [] ≡ 0
 unfolding copies

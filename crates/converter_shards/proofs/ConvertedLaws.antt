@@ -26,7 +26,8 @@ use Rattle.shard_map.proofs.ReadBack.{Sized, shard-of-words, words-length}
 use Rattle.shard_map.proofs.RoomLaws.{FindsEach, identityOf}
 use Rattle.converter_shards.specs.Layout01.{slotsAt01, slotWidth01, slotOf01, slotWords01, shard01, ledger01, words01}
 use Rattle.converter_shards.specs.Checks.{hasTwins, slotKey, debtKey, shardTwins, isUsed, anyUsed, usedPast, usedPastBy, shardUsedPast01, shardUsedPast}
-use Rattle.converter_shards.specs.Checks.{countOver, Counted, exactly, indexesExact}
+use Rattle.converter_shards.specs.Checks.{countOver, exactly, indexesExact}
+use Rattle.converter_shards.specs.code.RowChecks.{Counted}
 use Rattle.converter_shards.specs.Forth.{addedUpTo, builtIndex, withIndex, forth, back}
 use Rattle.converter_shards.proofs.Layout01Laws.{cap01-is, debt-cap01-is, in-place-order01, words-shard01}
 use Rattle.converter_shards.proofs.CheckLaws.{both-ways, no-twins-single, single-no-twins}

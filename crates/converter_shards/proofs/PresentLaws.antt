@@ -23,10 +23,12 @@ use Rattle.shard_map.specs.Model.{Shard, slotItems}
 use Rattle.shard_map.specs.Layout.{slotsAt, slotWidth, slotOf, slotWords, ledgerStart, shardWords, slotIndex, shard, Intact}
 use Rattle.shard_map.proofs.LayoutLaws.{cap-is, rest-length, finding-read}
 use Rattle.shard_map.proofs.ReadBack.{debt-cap-is}
-use Rattle.converter_shards.specs.Checks.{anyBelow, twinned, alikeIn, hasTwins, slotKey, debtKey, shardTwins, exactly, indexesExact, strays, anyUsed}
-use Rattle.converter_shards.specs.Checks.{usedPast, rowsPast}
+use Rattle.converter_shards.specs.Checks.{anyBelow, twinned, alikeIn, hasTwins, slotKey, debtKey, shardTwins, exactly, indexesExact, anyUsed}
+use Rattle.converter_shards.specs.code.RowChecks.{strays}
+use Rattle.converter_shards.specs.Checks.{usedPast}
+use Rattle.converter_shards.specs.code.RowChecks.{rowsPast}
 use Rattle.converter_shards.specs.Layout01.{debtWords01}
-use Rattle.converter_shards.specs.Forth.{debtIndexInShard}
+use Rattle.converter_shards.specs.code.Carried.{debtIndexInShard}
 use Rattle.converter_shards.proofs.CheckLaws.{both-ways, twinned-same}
 use Rattle.converter_shards.proofs.ExactTestLaws.{exactly-agrees, exactly-is-exact}
 use Rattle.converter_shards.proofs.ShardLaws.{item-field, table-past, rest-past}

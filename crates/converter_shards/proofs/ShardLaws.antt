@@ -26,9 +26,10 @@ use Rattle.converter_shards.specs.Layout01.{slotWords01}
 use Rattle.converter_shards.specs.Layout01.{debtOf01, debtWords01}
 use Rattle.converter_shards.specs.Layout01.{ledger01, shard01}
 use Rattle.converter_shards.specs.declared.Rows.{Rows}
-use Rattle.converter_shards.specs.Checks.{anyBelow, twinned, alikeIn, hasTwins, slotKey, debtKey, shardTwins, anyUsed, usedPast, usedPastBy, rowsPast}
+use Rattle.converter_shards.specs.Checks.{anyBelow, twinned, alikeIn, hasTwins, slotKey, debtKey, shardTwins, anyUsed, usedPast, usedPastBy}
+use Rattle.converter_shards.specs.code.RowChecks.{rowsPast}
 use Rattle.converter_shards.specs.Checks.{countOver}
-use Rattle.converter_shards.specs.Checks.{Counted, rowWord, slotRows01, debtRows01, alikeRows, RowsFit}
+use Rattle.converter_shards.specs.code.RowChecks.{Counted, rowWord, slotRows01, debtRows01, alikeRows, RowsFit}
 use Rattle.converter_shards.proofs.CheckLaws.{both-ways, twinned-same}
 
 -- A field of an item that is a word of its row.

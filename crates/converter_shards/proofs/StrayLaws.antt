@@ -14,7 +14,8 @@ use Rattle.index.specs.Exact.{Exact}
 use Rattle.index.specs.declared.Index.{Index}
 use Rattle.index.specs.Layout.{placesOf, hashOf, keyOf, keyed}
 use Rattle.index.proofs.FindLaws.{find-sound, find-nowhere}
-use Rattle.converter_shards.specs.Checks.{anyBelow, bothSame, twinned, strayed, strays}
+use Rattle.converter_shards.specs.Checks.{anyBelow, bothSame, twinned}
+use Rattle.converter_shards.specs.code.RowChecks.{strayed, strays}
 use Rattle.converter_shards.proofs.CheckLaws.{both-ways, any-passes, none-of, by-some, none-twinned, same-both, same-hashes, same-keys}
 
 by-place : {Q : Type 0} (p : Place) → ((i : ℕ) → p ≡ At i → Q) → (p ≡ Nowhere → Q) → Q
