@@ -1,13 +1,11 @@
 -- The refusals as the code comes to them, and what holds where nothing is refused.
 use Prim.Native.Nat.{ℕ, _≤_, _<_}
 use native.Mathlib.Omega.{arith}
-use mathlib.Core.Path.{_≡_, refl, ap, sym, _∙_}
+use mathlib.Core.Path.{_≡_, refl, sym, _∙_}
 use mathlib.Core.Bool.{Bool, true, false, cond, not}
 use mathlib.Core.List.{List}
-use lib.Dec.{eqb, ltb}
 use lib.ListN.{length}
 use borrow.Author.Tests.{eq-eqb, ne-eqb, lt-ltb, le-ltb}
-use Rattle.arith.proofs.Cases.{by-test, by-le}
 use Rattle.settings.specs.declared.Settings.{Settings}
 use Rattle.settings.specs.Settings.{firstRefusal, settingsRefusal, sizeRefusal, shardCount, capOf}
 use Rattle.settings.proofs.SettingsLaws.{neither-refuses, no-refusal-hands-on, first-refusal-stands, accepted-parts, cap-least}
