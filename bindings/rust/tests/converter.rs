@@ -1,9 +1,14 @@
-//! The conversions, against an account of them that is written here from the request and not from the library's definitions.
+//! The conversions, against the second account of them (oracle/compare/src/rules/converter.rs), which is written from the request and not from the library's
+//! definitions.
 
 #![cfg(feature = "alloc")]
 
 use core::time::Duration;
 
+#[path = "../../../oracle/compare/src/rules/converter.rs"]
+mod account;
+
+use account::{Shape, at};
 use limiter::{Key, OwnedStore, Rate, Refusal, Settings, convert_back, convert_forth};
 
 /// Numbers that look random; the same in each run.
@@ -18,196 +23,21 @@ impl Numbers {
     }
 }
 
-/// A small number, as a place.
-fn at(word: u64) -> usize {
-    usize::try_from(word).expect("a place")
-}
-
-/// A store's shards and the keys of each.
-#[derive(Clone, Copy)]
-struct Shape {
-    shards: usize,
-    cap: usize,
-}
-
-impl Shape {
-    const fn old_words(self) -> usize {
-        self.shards * (5 + 8 * self.cap)
+/// The refusal of a number.
+fn refusal(number: u64) -> Refusal {
+    match number {
+        account::MEMORY => Refusal::Memory,
+        account::TWINS => Refusal::Twins,
+        account::USED_PAST => Refusal::UsedPast,
+        code => Refusal::Unknown { code },
     }
-
-    const fn new_words(self) -> usize {
-        1 + self.shards * (5 + 13 * self.cap)
-    }
-
-    /// The words of one shard.
-    fn old_part(self, words: &[u64], shard: usize) -> &[u64] {
-        let size = 5 + 8 * self.cap;
-        &words[shard * size..][..size]
-    }
-
-    fn present_part(self, words: &[u64], shard: usize) -> &[u64] {
-        let size = 5 + 13 * self.cap;
-        &words[1 + shard * size..][..size]
-    }
-}
-
-/// One shard, read from words with so many words a slot.
-struct Shard {
-    head: [u64; 3],
-    slots: Vec<Vec<u64>>,
-    debts_head: [u64; 2],
-    debts: Vec<[u64; 2]>,
-}
-
-fn shard(words: &[u64], cap: usize, width: usize) -> Shard {
-    let ledger = 3 + width * cap;
-    Shard {
-        head: [words[0], words[1], words[2]],
-        slots: words[3..ledger]
-            .chunks(width)
-            .map(<[u64]>::to_vec)
-            .collect(),
-        debts_head: [words[ledger], words[ledger + 1]],
-        debts: (0..cap)
-            .map(|i| [words[ledger + 2 + 2 * i], words[ledger + 3 + 2 * i]])
-            .collect(),
-    }
-}
-
-impl Shard {
-    fn counts(&self) -> (usize, usize) {
-        (at(self.head[0]), at(self.debts_head[0]))
-    }
-
-    const fn count_over(&self, cap: usize) -> bool {
-        self.head[0] > cap as u64 || self.debts_head[0] > cap as u64
-    }
-
-    fn twins(&self) -> bool {
-        let (slots, debts) = self.counts();
-        let slot = |i: usize| (self.slots[i][0], self.slots[i][1]);
-        let debt = |i: usize| self.debts[i][0];
-        (0..slots).any(|i| (0..i).any(|j| slot(i) == slot(j)))
-            || (0..debts).any(|i| (0..i).any(|j| debt(i) == debt(j)))
-    }
-
-    fn used_past(&self) -> bool {
-        let (slots, debts) = self.counts();
-        self.slots[slots..].iter().flatten().any(|&word| word != 0)
-            || self.debts[debts..].iter().flatten().any(|&word| word != 0)
-    }
-
-    /// The places of an index of some hashes, added in order.
-    fn index(hashes: &[u64], cap: usize) -> Vec<u64> {
-        let places = 2 * cap;
-        let mut index = vec![0; places];
-        for (item, hash) in hashes.iter().enumerate() {
-            let mut place = at(hash % places as u64);
-            while index[place] != 0 {
-                place = (place + 1) % places;
-            }
-            index[place] = item as u64 + 1;
-        }
-        index
-    }
-
-    fn hashes(&self) -> (Vec<u64>, Vec<u64>) {
-        let (slots, debts) = self.counts();
-        (
-            self.slots[..slots].iter().map(|slot| slot[0]).collect(),
-            self.debts[..debts].iter().map(|debt| debt[0]).collect(),
-        )
-    }
-}
-
-/// Is an index as a grown store has it: each item stands in it once, with no empty place between its home and its own, and nothing else does?
-fn exact(index: &[u64], hashes: &[u64]) -> bool {
-    let places = index.len();
-    let used = index.iter().filter(|&&word| word != 0).count();
-    used == hashes.len()
-        && hashes.iter().enumerate().all(|(item, hash)| {
-            let mut place = at(hash % places as u64);
-            for _ in 0..places {
-                if index[place] == item as u64 + 1 {
-                    return true;
-                }
-                if index[place] == 0 {
-                    return false;
-                }
-                place = (place + 1) % places;
-            }
-            false
-        })
-}
-
-/// The first refusal of some shards.
-fn refusal(shards: &[Shard], damaged: bool) -> Result<(), Refusal> {
-    if damaged {
-        return Err(Refusal::Memory);
-    }
-    if shards.iter().any(Shard::twins) {
-        return Err(Refusal::Twins);
-    }
-    if shards.iter().any(Shard::used_past) {
-        return Err(Refusal::UsedPast);
-    }
-    Ok(())
-}
-
-fn expected_forth(shape: Shape, source: &[u64]) -> Result<Vec<u64>, Refusal> {
-    let shards: Vec<_> = (0..shape.shards)
-        .map(|i| shard(shape.old_part(source, i), shape.cap, 6))
-        .collect();
-    refusal(&shards, shards.iter().any(|s| s.count_over(shape.cap)))?;
-    let mut words = vec![shards.iter().map(|s| s.head[0]).sum()];
-    for s in &shards {
-        words.extend(s.head);
-        for slot in &s.slots {
-            words.extend(slot);
-            words.push(0);
-        }
-        words.extend(s.debts_head);
-        words.extend(s.debts.iter().flatten());
-        let (slots, debts) = s.hashes();
-        words.extend(Shard::index(&slots, shape.cap));
-        words.extend(Shard::index(&debts, shape.cap));
-    }
-    Ok(words)
-}
-
-fn expected_back(shape: Shape, source: &[u64]) -> Result<Vec<u64>, Refusal> {
-    let parts: Vec<_> = (0..shape.shards)
-        .map(|i| shape.present_part(source, i))
-        .collect();
-    let shards: Vec<_> = parts.iter().map(|part| shard(part, shape.cap, 7)).collect();
-    let over = shards.iter().any(|s| s.count_over(shape.cap));
-    let inexact = || {
-        parts.iter().zip(&shards).any(|(part, s)| {
-            let (slots, debts) = s.hashes();
-            let (first, second) = part[5 + 9 * shape.cap..].split_at(2 * shape.cap);
-            !exact(first, &slots) || !exact(second, &debts)
-        })
-    };
-    let total =
-        || shards.iter().map(|s| u128::from(s.head[0])).sum::<u128>() != u128::from(source[0]);
-    refusal(&shards, over || inexact() || total())?;
-    let mut words = Vec::new();
-    for s in &shards {
-        words.extend(s.head);
-        for slot in &s.slots {
-            words.extend(&slot[..6]);
-        }
-        words.extend(s.debts_head);
-        words.extend(s.debts.iter().flatten());
-    }
-    Ok(words)
 }
 
 /// Both ways are as expected, and a refusal leaves the target as it was.
 fn check_forth(settings: Settings, shape: Shape, source: &[u64]) -> Result<Vec<u64>, Refusal> {
     let mut target = vec![u64::MAX; shape.new_words()];
     let told = convert_forth(settings, source, &mut target);
-    let expected = expected_forth(shape, source);
+    let expected = account::forth(shape, source).map_err(refusal);
     assert_eq!(told.err(), expected.as_ref().err().copied());
     match expected {
         Ok(words) => {
@@ -224,7 +54,7 @@ fn check_forth(settings: Settings, shape: Shape, source: &[u64]) -> Result<Vec<u
 fn check_back(settings: Settings, shape: Shape, source: &[u64]) -> Result<Vec<u64>, Refusal> {
     let mut target = vec![u64::MAX; shape.old_words()];
     let told = convert_back(settings, source, &mut target);
-    let expected = expected_back(shape, source);
+    let expected = account::back(shape, source).map_err(refusal);
     assert_eq!(told.err(), expected.as_ref().err().copied());
     match expected {
         Ok(words) => {

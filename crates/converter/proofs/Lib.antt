@@ -3,3 +3,4 @@ pub mod RefusalLaws
 pub mod MoveLaws
 pub mod MovedLaws
 pub mod Theorem
+pub mod Worked

@@ -1,23 +1,20 @@
 -- The loop that moves the shards: the first words of the target are those before the first shard, and the words of the shards that are done.
-use Prim.Native.Nat.{ℕ, zero, suc, _+_, _-_, _*_, _≤_, _<_}
+use Prim.Native.Nat.{ℕ, suc, _+_, _-_, _≤_, _<_}
 use native.Mathlib.Omega.{arith}
 use native.Mathlib.Nat.{add-sub-cancel-left}
 use mathlib.Core.Path.{_≡_, refl, ap, sym, _∙_}
 use mathlib.Core.Bool.{false}
 use mathlib.Core.List.{List, [], _∷_, _++_, append-nil, append-assoc}
-use lib.ListN.{length, set, take, drop, length-append, length-set}
-use lib.Seq.{take-all, length-take-le}
+use lib.ListN.{length, set, take, drop, length-set}
+use lib.Seq.{take-all}
 use borrow.Rule.Slice.PartMut.{putMid}
 use Rattle.rows.specs.Outcome.{outcome}
 use Rattle.settings.specs.declared.Settings.{Settings}
 use Rattle.settings.specs.Settings.{shardCount, capOf}
 use Rattle.settings.proofs.SettingsLaws.{cap-least}
-use Rattle.shard_map.specs.Model.{Shard}
-use Rattle.store.specs.Memory.{totalAt, withSegment}
+use Rattle.store.specs.Memory.{totalAt}
 use Rattle.rules.specs.declared.Reply.the-variants.{Done}
 use Rattle.rules.proofs.RefusedLaws.{unless-refused-accepts}
-use Rattle.converter_shards.specs.Layout01.{shardWords01, shard01}
-use Rattle.converter_shards.specs.Checks.{Counted}
 use Rattle.converter_shards.proofs.Layout01Laws.{words01-length, words01-of-back}
 use Rattle.converter_shards.proofs.CarryLaws.{filled-next, put-length}
 use Rattle.converter_shards.proofs.ForthLaws.{present-sized01}
@@ -25,8 +22,9 @@ use Rattle.converter_shards.proofs.ConvertedLaws.{forth-words-are-a-shards}
 use Rattle.converter.specs.declared.Layout.{Layout}
 use Rattle.converter.specs.declared.Layout.the-variants.{Old, Present}
 use Rattle.converter.specs.Layouts.{other, firstWord, shardSize, startOf, endOf, shardOf, part, shardAt, moved, damaged, slotsOf}
-use Rattle.converter.specs.Conversion.{refusalOf, movedUpTo, withMoved, withTotal, movedWords, converted, InShards, Undamaged}
-use Rattle.converter.proofs.ShardLaws.{part-ends, part-long, lent-shard, none-damaged, counts-fit}
+use Rattle.converter.specs.Conversion.{refusalOf, movedUpTo, movedWords, converted}
+use Rattle.converter.specs.code.Moving.{withMoved, withTotal, InShards, Undamaged}
+use Rattle.converter.proofs.ShardLaws.{part-ends, part-long, lent-shard, none-damaged}
 use Rattle.converter.proofs.RefusalLaws.{Accepted, accepted-is-not-refused}
 
 -- The words of a shard in the other layout are as many as they have to be.

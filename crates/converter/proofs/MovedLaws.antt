@@ -1,17 +1,17 @@
 -- The words that a conversion leaves: each shard of them is the shard of the source in the other layout.
-use Prim.Native.Nat.{ℕ, zero, suc, _+_, _*_, _≤_, _<_}
+use Prim.Native.Nat.{ℕ, zero, suc, _*_, _≤_, _<_}
 use native.Mathlib.Omega.{arith}
-use mathlib.Core.Path.{_≡_, refl, ap, sym, _∙_}
-use mathlib.Core.List.{List, [], _∷_, _++_}
-use lib.ListN.{length, take, drop, length-append, length-drop}
+use mathlib.Core.Path.{_≡_}
+use mathlib.Core.List.{List}
+use lib.ListN.{length, drop, length-append, length-drop}
 use lib.Seq.{drop-at, take-all, take-append-le, drop-append-le}
 use Rattle.arith.proofs.Cases.{by-eq}
 use Rattle.rows.specs.Segments.{segment}
-use Rattle.rows.proofs.SegmentLaws.{segment-length}
 use Rattle.converter.specs.declared.Layout.{Layout}
 use Rattle.converter.specs.declared.Layout.the-variants.{Old, Present}
-use Rattle.converter.specs.Layouts.{other, shardSize, startOf, part, shardAt, moved, slotsOf}
-use Rattle.converter.specs.Conversion.{movedUpTo, movedWords, Undamaged}
+use Rattle.converter.specs.Layouts.{other, shardSize, startOf, part, shardAt, moved}
+use Rattle.converter.specs.Conversion.{movedUpTo, movedWords}
+use Rattle.converter.specs.code.Moving.{Undamaged}
 use Rattle.converter.proofs.ShardLaws.{rows-within, part-ends, part-long, none-damaged}
 use Rattle.converter.proofs.MoveLaws.{moved-long}
 

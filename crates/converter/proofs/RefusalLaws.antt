@@ -1,13 +1,11 @@
 -- The refusals as the code comes to them, and what holds where nothing is refused.
 use Prim.Native.Nat.{ℕ, _≤_, _<_}
 use native.Mathlib.Omega.{arith}
-use mathlib.Core.Path.{_≡_, refl, ap, sym, _∙_}
+use mathlib.Core.Path.{_≡_, refl, sym, _∙_}
 use mathlib.Core.Bool.{Bool, true, false, cond, not}
 use mathlib.Core.List.{List}
-use lib.Dec.{eqb, ltb}
 use lib.ListN.{length}
 use borrow.Author.Tests.{eq-eqb, ne-eqb, lt-ltb, le-ltb}
-use Rattle.arith.proofs.Cases.{by-test, by-le}
 use Rattle.settings.specs.declared.Settings.{Settings}
 use Rattle.settings.specs.Settings.{firstRefusal, settingsRefusal, sizeRefusal, shardCount, capOf}
 use Rattle.settings.proofs.SettingsLaws.{neither-refuses, no-refusal-hands-on, first-refusal-stands, accepted-parts, cap-least}
@@ -17,8 +15,9 @@ use Rattle.store.proofs.RefusalLaws.{length-not-refused, length-is-accepted, ot
 use Rattle.converter.specs.declared.Layout.{Layout}
 use Rattle.converter.specs.declared.Layout.the-variants.{Old, Present}
 use Rattle.converter.specs.Layouts.{other, slotsOf, totalWrong}
-use Rattle.converter.specs.Conversion.{anyRefusedBy, sourceRefusal, mostKeysMoved, keysRefusal, oldWords, wordsFor, lengthsRefusal, refusalOf, InShards}
-use Rattle.converter.specs.Conversion.{Undamaged}
+use Rattle.converter.specs.Conversion.{anyRefusedBy, sourceRefusal, mostKeysMoved, keysRefusal, oldWords, wordsFor, lengthsRefusal, refusalOf}
+use Rattle.converter.specs.code.Moving.{InShards}
+use Rattle.converter.specs.code.Moving.{Undamaged}
 
 -- Too many keys.
 module _ (s : Settings) where

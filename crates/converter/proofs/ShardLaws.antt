@@ -1,31 +1,31 @@
 -- Where a shard lies, the shard in a lent part, and the tests of one shard as the code comes to them.
-use Prim.Native.Nat.{ℕ, zero, suc, _+_, _-_, _*_, _≤_, _<_, _^_}
+use Prim.Native.Nat.{ℕ, suc, _+_, _-_, _*_, _≤_, _<_, _^_}
 use native.Mathlib.Omega.{arith}
 use native.Mathlib.Nat.{mul-le-mul, mul-le-mul-right, mul-le-mul-left, add-sub-cancel-left}
 use mathlib.Core.Path.{_≡_, refl, ap, sym, _∙_}
-use mathlib.Core.Bool.{Bool, true, false, cond, not}
+use mathlib.Core.Bool.{Bool, true, false}
 use mathlib.Core.List.{List}
-use lib.Dec.{eqb}
 use lib.ListN.{length, take, drop}
-use borrow.Author.Tests.{eq-eqb, ne-eqb}
+use borrow.Author.Tests.{ne-eqb}
 use Rattle.arith.proofs.Cases.{by-test}
 use Rattle.rows.specs.Places.{sum}
 use Rattle.rows.proofs.SegmentLaws.{segment-length}
 use Rattle.settings.specs.declared.Settings.{Settings}
-use Rattle.settings.specs.Settings.{sizeRefusal, shardCount, capOf, mostShards, mostKeysInShard}
+use Rattle.settings.specs.Settings.{sizeRefusal, shardCount, capOf, mostKeysInShard}
 use Rattle.settings.proofs.SettingsLaws.{shards-most, cap-most}
 use Rattle.shard_map.specs.Model.{Shard}
 use Rattle.shard_map.specs.Layout.{shardWords, shard, Intact}
 use Rattle.shard_map.proofs.LayoutLaws.{cap-is}
 use Rattle.shard_map.proofs.ReadBack.{debt-cap-is}
-use Rattle.converter_shards.specs.Layout01.{shardWords01, shard01}
-use Rattle.converter_shards.specs.Checks.{shardTwins, countOver, indexesExact, Counted}
+use Rattle.converter_shards.specs.Layout01.{shardWords01}
+use Rattle.converter_shards.specs.Checks.{shardTwins, countOver, indexesExact}
 use Rattle.converter_shards.proofs.CheckLaws.{both-ways, none-passes}
 use Rattle.converter_shards.proofs.ShardLaws.{slots-fit-cap, debts-fit-cap}
 use Rattle.converter.specs.declared.Layout.{Layout}
 use Rattle.converter.specs.declared.Layout.the-variants.{Old, Present}
 use Rattle.converter.specs.Layouts.{shardSize, startOf, endOf, shardOf, part, shardAt, damaged, pastUsed, slotsOf}
-use Rattle.converter.specs.Conversion.{refusedBy, anyRefusedBy, wordsFor, InShards, Undamaged}
+use Rattle.converter.specs.Conversion.{refusedBy, anyRefusedBy}
+use Rattle.converter.specs.code.Moving.{InShards, Undamaged}
 
 -- A shard below the number of shards ends within the words.
 pub rows-within : (size shards i : ℕ) → i < shards → i * size + size ≤ shards * size

@@ -3,14 +3,12 @@
 use Prim.Native.Nat.{ℕ, zero, suc, _+_, _*_, _≤_, _<_}
 use native.Mathlib.Omega.{arith}
 use mathlib.Core.Path.{_≡_, refl, ap, sym, _∙_}
-use mathlib.Core.Bool.{Bool, true, false, cond, not}
-use mathlib.Core.List.{List, [], _∷_, _++_}
-use lib.Dec.{eqb}
+use mathlib.Core.Bool.{true, false}
+use mathlib.Core.List.{List}
 use lib.ListN.{length, take, drop}
 use lib.Seq.{take-all, take-add}
 use borrow.Author.Tests.{eq-eqb}
 use Rattle.arith.proofs.Cases.{by-eq}
-use Rattle.rows.specs.Places.{sum}
 use Rattle.rows.specs.Outcome.{Outcome, outcome}
 use Rattle.rows.proofs.SumLaws.{sum-same}
 use Rattle.settings.specs.declared.Settings.{Settings}
@@ -24,8 +22,9 @@ use Rattle.store.specs.Memory.{totalOf}
 use Rattle.rules.specs.declared.Reply.{Reply}
 use Rattle.rules.specs.declared.Reply.the-variants.{Done, Refused}
 use Rattle.rules.proofs.RefusedLaws.{unless-refused-accepts, unless-refused-refuses}
-use Rattle.converter_shards.specs.Layout01.{shardWords01, shard01, words01}
-use Rattle.converter_shards.specs.Checks.{shardTwins, shardUsedPast, shardUsedPast01, countOver, Counted, indexesExact}
+use Rattle.converter_shards.specs.Layout01.{shardWords01, words01}
+use Rattle.converter_shards.specs.Checks.{shardTwins, shardUsedPast, countOver, indexesExact}
+use Rattle.converter_shards.specs.code.RowChecks.{Counted}
 use Rattle.converter_shards.specs.Forth as Shards
 use Rattle.converter_shards.proofs.CheckLaws.{none-passes, none-of}
 use Rattle.converter_shards.proofs.Layout01Laws.{shard01-of-words, words01-of-back}
@@ -37,8 +36,9 @@ use Rattle.converter_shards.proofs.ConvertedLaws.{forth-finds-each}
 use Rattle.converter_shards.proofs.ConvertedLaws.{found-has-no-twins, found-is-not-used-past}
 use Rattle.converter.specs.declared.Layout.{Layout}
 use Rattle.converter.specs.declared.Layout.the-variants.{Old, Present}
-use Rattle.converter.specs.Layouts.{other, shardSize, startOf, part, shardOf, shardAt, moved, damaged, pastUsed, slotsOf, totalWrong}
-use Rattle.converter.specs.Conversion.{refusedBy, keysRefusal, wordsFor, refusalOf, movedUpTo, movedWords, converted, forth, back, Undamaged}
+use Rattle.converter.specs.Layouts.{startOf, part, shardOf, shardAt, damaged, pastUsed, slotsOf, totalWrong}
+use Rattle.converter.specs.Conversion.{keysRefusal, wordsFor, refusalOf, movedUpTo, movedWords, converted, forth, back}
+use Rattle.converter.specs.code.Moving.{Undamaged}
 use Rattle.converter.proofs.ShardLaws.{part-ends, part-long, refused-by-5, refused-by-18, refused-by-19, none-damaged}
 use Rattle.converter.proofs.RefusalLaws.{Sound, Accepted, not-refused-is-accepted, accepted-is-not-refused, source-undamaged}
 use Rattle.converter.proofs.MovedLaws.{moved-words-long, part-of-moved}

@@ -1,16 +1,13 @@
 -- A conversion: the refusals in their order, and the words that it leaves in the target. `forth` is from document 01's layout to the present one, `back` the
 -- other way. A class table is read as empty, whatever number of classes the settings have.
-use Prim.Native.Nat.{ℕ, zero, suc, _<_}
-use mathlib.Core.Path.{_≡_}
-use mathlib.Core.Bool.{Bool, false, cond}
+use Prim.Native.Nat.{ℕ, zero, suc}
+use mathlib.Core.Bool.{Bool, cond}
 use mathlib.Core.List.{List, [], _∷_, _++_}
 use lib.Dec.{eqb, ltb}
-use lib.ListN.{length, set}
 use Rattle.rows.specs.Outcome.{Outcome, outcome}
 use Rattle.settings.specs.declared.Settings.{Settings}
 use Rattle.settings.specs.Settings.{firstRefusal, settingsRefusal, sizeRefusal, shardCount, capOf}
 use Rattle.shard_map.specs.Model.{Shard}
-use Rattle.store.specs.Memory.{totalAt, withSegment}
 use Rattle.store.specs.Refusals.{memoryRefusal}
 use Rattle.rules.specs.declared.Reply.{Reply}
 use Rattle.rules.specs.declared.Reply.the-variants.{Done}
@@ -18,7 +15,7 @@ use Rattle.rules.specs.Rules.{unlessRefused}
 use Rattle.converter_shards.specs.Checks.{anyBelow, shardTwins}
 use Rattle.converter.specs.declared.Layout.{Layout}
 use Rattle.converter.specs.declared.Layout.the-variants.{Old, Present}
-use Rattle.converter.specs.Layouts.{other, shardSize, startOf, shardAt, moved, damaged, pastUsed, slotsOf, totalWrong}
+use Rattle.converter.specs.Layouts.{other, startOf, shardAt, moved, damaged, pastUsed, slotsOf, totalWrong}
 
 -- Is a shard refused by a number: 5 for damage, 18 for two slots of one hash and key or two debts of one hash, 19 for a word past a count that is not 0?
 unfoldable pub refusedBy : Layout → ℕ → ℕ → Shard → Bool
@@ -66,15 +63,6 @@ unfoldable pub movedUpTo : Layout → ℕ → ℕ → List ℕ → List ℕ
 movedUpTo from zero cap ws = []
 movedUpTo from (suc n) cap ws = movedUpTo from n cap ws ++ moved from cap (shardAt from cap n ws)
 
--- The target with the words of one shard in their place; and with the total, which going forth is its first word.
-abbrev pub withMoved : Layout → ℕ → ℕ → List ℕ → List ℕ → List ℕ
-withMoved from cap i source target =
-    withSegment (startOf (other from) cap i) (shardSize (other from) cap) target (moved from cap (shardAt from cap i source))
-
-abbrev pub withTotal : Layout → ℕ → List ℕ → List ℕ
-withTotal Old total ws = set ws totalAt total
-withTotal Present total ws = ws
-
 -- All words of the target: going forth the total comes first.
 abbrev pub movedWords : Layout → ℕ → ℕ → List ℕ → List ℕ
 movedWords Old shards cap ws = slotsOf Old shards cap ws ∷ movedUpTo Old shards cap ws
@@ -89,13 +77,3 @@ forth s source target = converted Old s source target
 
 abbrev pub back : Settings → List ℕ → List ℕ → Outcome Reply (List ℕ)
 back s source target = converted Present s source target
-
--- The words of all shards, each with room.
-pub record InShards (layout : Layout) (shards cap : ℕ) (ws : List ℕ) : Type 0 where
-  pub size : length ws ≡ startOf layout cap shards
-  pub room : 0 < cap
-
--- Such words without damage.
-pub record Undamaged (layout : Layout) (shards cap : ℕ) (ws : List ℕ) : Type 0 where
-  pub in-shards : InShards layout shards cap ws
-  pub whole : anyRefusedBy layout 5 shards cap ws ≡ false

@@ -1,11 +1,9 @@
 -- The two layouts of a store without classes: document 01's, and the present one. What differs between them stands here, for each one: where the shards lie,
 -- which shard some words are, what is damage, and the words of a shard in the other layout.
 use Prim.Native.Nat.{ℕ, _+_, _*_}
-use mathlib.Core.Path.{_≡_}
 use mathlib.Core.Bool.{Bool, true, false, cond, not}
 use mathlib.Core.List.{List}
 use lib.Dec.{eqb}
-use lib.ListN.{length}
 use Rattle.rows.specs.Segments.{segment}
 use Rattle.rows.specs.Places.{sum}
 use Rattle.shard_map.specs.Model.{Shard}

@@ -14,7 +14,9 @@ ghost use Rattle.converter.specs.Layouts as Layouts;
 ghost use Rattle.converter.specs.Layouts.{startOf, endOf, shardSize, shardOf, shardAt};
 ghost use Rattle.converter.specs.declared.Layout.the-variants.{Old, Present};
 ghost use Rattle.converter.specs.Conversion as Conversion;
-ghost use Rattle.converter.specs.Conversion.{refusedBy, anyRefusedBy, InShards, Undamaged};
+ghost use Rattle.converter.specs.code.Moving as Moving;
+ghost use Rattle.converter.specs.Conversion.{refusedBy, anyRefusedBy};
+ghost use Rattle.converter.specs.code.Moving.{InShards, Undamaged};
 use rules::Reply;
 use settings::Settings;
 
@@ -291,7 +293,7 @@ fn move_shard(source: &[u64], target: &mut [u64], from: Layout, cap: usize)
 fn move_numbered(source: &[u64], target: &mut [u64], from: Layout, cap: usize, i: usize)
     requires { ⌜ (endOf from cap i ≤ length (now source)) × (endOf (Layouts.other from) cap i ≤ length (now target)) × (0 < cap)
         × (Layouts.damaged from cap (shardAt from cap i (now source)) ≡ false) ⌝ }
-    ensures { λ _. ⌜ now (target .exit) ≡ Conversion.withMoved from cap i (now (source .entry)) (now (target .entry)) ⌝ }
+    ensures { λ _. ⌜ now (target .exit) ≡ Moving.withMoved from cap i (now (source .entry)) (now (target .entry)) ⌝ }
 {
     let to = other(from);
     let start = start_of(from, cap, i);
@@ -317,7 +319,7 @@ fn move_all(source: &[u64], target: &mut [u64], from: Layout, shards: usize, cap
 // Going forth the total is stored. Document 01's layout has none.
 fn store_total(source: &[u64], target: &mut [u64], from: Layout, shards: usize, cap: usize)
     requires { ⌜ Undamaged from shards cap (now source) × InShards (Layouts.other from) shards cap (now target) ⌝ }
-    ensures { λ _. ⌜ now (target .exit) ≡ Conversion.withTotal from (Layouts.slotsOf from shards cap (now (source .entry))) (now (target .entry)) ⌝ }
+    ensures { λ _. ⌜ now (target .exit) ≡ Moving.withTotal from (Layouts.slotsOf from shards cap (now (source .entry))) (now (target .entry)) ⌝ }
 {
     match from {
         Layout::Old => {

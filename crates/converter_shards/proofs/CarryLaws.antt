@@ -4,7 +4,7 @@ use native.Mathlib.Omega.{arith}
 use native.Mathlib.Nat.{mul-zero, mul-suc, mul-le-mul-left, add-sub-cancel-left}
 use mathlib.Core.Path.{_≡_, refl, ap, sym, _∙_}
 use mathlib.Core.List.{List, [], _∷_, _++_, map, append-nil, append-assoc}
-use lib.ListN.{length, getD, set, take, drop, replicate, length-append, length-replicate, length-set, length-drop}
+use lib.ListN.{length, getD, set, take, drop, replicate, length-append, length-set, length-drop}
 use lib.Seq.{ext-getD, getD-set-same, getD-set-other, take-at, take-all, drop-drop, length-take-le}
 use borrow.Rule.Slice.PartMut.{putMid}
 use Rattle.arith.proofs.Cases.{by-eq}
@@ -12,7 +12,7 @@ use Rattle.rows.specs.Segments.{segment}
 use Rattle.rows.specs.Rows.{rows, unrow}
 use Rattle.rows.proofs.SegmentLaws.{segment-length}
 use Rattle.shard_map.specs.Layout.{slotsAt}
-use Rattle.converter_shards.specs.Forth.{carried, carriedRows, carriedShard}
+use Rattle.converter_shards.specs.code.Carried.{carried, carriedRows, carriedShard}
 
 -- Words carried over: a word of them, their number, and what they are where the source is shorter.
 pub carried-length : (n : ℕ) (ws : List ℕ) → length (carried n ws) ≡ n

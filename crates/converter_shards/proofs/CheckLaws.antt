@@ -1,10 +1,10 @@
 -- What the tests of the converter mean: any number that passes, two items alike, a word that is not 0.
-use Prim.Native.Nat.{ℕ, zero, suc, _+_, _-_, _*_, _≤_, _<_}
+use Prim.Native.Nat.{ℕ, zero, suc, _+_, _*_, _≤_, _<_}
 use native.Mathlib.Omega.{arith}
 use native.Mathlib.Nat.{mul-le-mul-left, zero-add}
-use mathlib.Core.Path.{_≡_, refl, ap, sym, _∙_}
+use mathlib.Core.Path.{_≡_, refl, sym, _∙_}
 use mathlib.Core.Bool.{Bool, true, false, cond}
-use mathlib.Core.List.{List, [], _∷_, map}
+use mathlib.Core.List.{List, []}
 use lib.Dec.{eqb}
 use lib.ListN.{length, getD, drop, drop-of-length-le}
 use lib.Seq.{drop-cons}
@@ -13,12 +13,11 @@ use Rattle.index.specs.Walk.{at}
 use Rattle.index.specs.Exact.{copies}
 use borrow.Author.Tests.{eqb-true, eq-eqb, ne-eqb}
 use Rattle.arith.proofs.Cases.{by-test, by-eq, by-le}
-use Rattle.held.specs.Held.{Held, Items, itemAt, hashAt}
+use Rattle.held.specs.Held.{Held, Items, itemAt}
 use Rattle.held.proofs.SingleLaws.{Single}
-use Rattle.slot.specs.declared.Slot.{Slot}
-use Rattle.ledger.specs.declared.Debt.{Debt}
 use Rattle.converter_shards.specs.declared.Rows.{Rows}
-use Rattle.converter_shards.specs.Checks.{anyBelow, bothSame, twinned, alikeIn, hasTwins, isUsed, anyUsed, rowWord, alikeRows, RowsFit}
+use Rattle.converter_shards.specs.Checks.{anyBelow, bothSame, twinned, alikeIn, hasTwins, isUsed, anyUsed}
+use Rattle.converter_shards.specs.code.RowChecks.{rowWord, alikeRows, RowsFit}
 
 copies-none : (w : ℕ) → copies w [] ≡ 0
 unfolding copies

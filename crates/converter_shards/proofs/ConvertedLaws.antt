@@ -2,10 +2,10 @@
 -- debt where no two are alike, it passes the checks of the way back, and back it is the first words again.
 use Prim.Native.Nat.{ℕ, zero, suc, _+_, _*_, _≤_, _<_}
 use native.Mathlib.Omega.{arith}
-use mathlib.Core.Path.{_≡_, refl, ap, sym, _∙_}
-use mathlib.Core.Bool.{Bool, true, false, cond}
+use mathlib.Core.Path.{_≡_, refl, ap, _∙_}
+use mathlib.Core.Bool.{true, false}
 use mathlib.Core.List.{List, [], _∷_, _++_, map}
-use lib.ListN.{length, getD, drop, replicate, length-replicate}
+use lib.ListN.{length, drop, replicate, length-replicate}
 use Rattle.rows.specs.Segments.{segment}
 use Rattle.rows.specs.Rows.{rows, unrow}
 use Rattle.arith.proofs.Cases.{by-test}
@@ -17,7 +17,6 @@ use Rattle.held.specs.Layout.{tableIn}
 use Rattle.held.proofs.SingleLaws as Singles
 use Rattle.slot.specs.declared.Slot.{Slot}
 use Rattle.slot.specs.Slot as Slot
-use Rattle.ledger.specs.declared.Debt.{Debt}
 use Rattle.ledger.specs.Model.{debtItems}
 use Rattle.ledger.proofs.StepLaws as LedgerOrder
 use Rattle.shard_map.specs.Model.{Shard, slotItems, inPlaceOrder}
@@ -25,9 +24,10 @@ use Rattle.shard_map.specs.Layout.{slotWords, shardWords, shard, wordsOf}
 use Rattle.shard_map.proofs.ReadBack.{Sized, shard-of-words, words-length}
 use Rattle.shard_map.proofs.RoomLaws.{FindsEach, identityOf}
 use Rattle.converter_shards.specs.Layout01.{slotsAt01, slotWidth01, slotOf01, slotWords01, shard01, ledger01, words01}
-use Rattle.converter_shards.specs.Checks.{hasTwins, slotKey, debtKey, shardTwins, isUsed, anyUsed, usedPast, usedPastBy, shardUsedPast01, shardUsedPast}
-use Rattle.converter_shards.specs.Checks.{countOver, Counted, exactly, indexesExact}
-use Rattle.converter_shards.specs.Forth.{addedUpTo, builtIndex, withIndex, forth, back}
+use Rattle.converter_shards.specs.Checks.{hasTwins, slotKey, debtKey, shardTwins, anyUsed, usedPast, usedPastBy, shardUsedPast01, shardUsedPast}
+use Rattle.converter_shards.specs.Checks.{countOver, indexesExact}
+use Rattle.converter_shards.specs.code.RowChecks.{Counted}
+use Rattle.converter_shards.specs.Forth.{builtIndex, withIndex, forth, back}
 use Rattle.converter_shards.proofs.Layout01Laws.{cap01-is, debt-cap01-is, in-place-order01, words-shard01}
 use Rattle.converter_shards.proofs.CheckLaws.{both-ways, no-twins-single, single-no-twins}
 use Rattle.converter_shards.proofs.PastLaws.{used-next, past-slots-are-free, past-debts-are-free, free-shard-is-unused}

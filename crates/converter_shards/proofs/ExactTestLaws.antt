@@ -7,12 +7,12 @@ use mathlib.Core.List.{List, [], _∷_}
 use mathlib.Core.Bool.{Bool, true, false, cond}
 use lib.Dec.{eqb, ltb}
 use lib.ListN.{length, set, length-set}
-use borrow.Author.Tests.{eqb-true, eqb-false, eq-eqb, ne-eqb, lt-ltb, le-ltb}
+use borrow.Author.Tests.{eq-eqb, ne-eqb, lt-ltb, le-ltb}
 use Rattle.arith.proofs.Cases.{by-test, by-eq, by-le}
-use Rattle.index.specs.Walk.{at, walk, seek}
+use Rattle.index.specs.Walk.{at, seek}
 use Rattle.index.specs.Exact.{copies, Before, OnWalk, Exact}
 use Rattle.index.proofs.CopyLaws.{Stands, copies-set, copies-at, copies-stands, absent, only-copy, one, one-same, one-not}
-use Rattle.index.proofs.WalkLaws.{StopsAt, walk-stops, passing-stops, passed-used}
+use Rattle.index.proofs.WalkLaws.{walk-stops, passing-stops, passed-used}
 use Rattle.index.proofs.StepLaws.{at-past}
 use Rattle.index.proofs.ExactLaws.{used-below, item-stands, place-found}
 use Rattle.converter_shards.specs.Checks.{anyBelow, unplaced, exactly}

@@ -1,7 +1,6 @@
 -- Forth and back for one shard: the words that the copy and the additions leave, and that the indexes built are exact.
 use Prim.Native.Nat.{ℕ, zero, suc, _+_, _-_, _*_, _≤_, _<_}
 use native.Mathlib.Omega.{arith}
-use native.Mathlib.Nat.{add-sub-cancel-left}
 use mathlib.Core.Path.{_≡_, refl, ap, sym, _∙_}
 use mathlib.Core.List.{List, [], _∷_, _++_, map, append-nil, append-assoc}
 use lib.Dec.{lit<}
@@ -31,8 +30,9 @@ use Rattle.shard_map.proofs.LayoutLaws.{cap-is, rest-length}
 use Rattle.shard_map.proofs.ReadBack.{Sized, debt-cap-is, words-length, shard-of-words}
 use Rattle.converter_shards.specs.Layout01.{slotWidth01, ledgerStart01, ledgerWords01, shardWords01, slotOf01, slotWords01}
 use Rattle.converter_shards.specs.Layout01.{shard01, ledger01, words01, ledgerWordsOf01}
-use Rattle.converter_shards.specs.Checks.{Counted}
-use Rattle.converter_shards.specs.Forth.{addedUpTo, builtIndex, forth, back, debtIndexInShard, carried, carriedRows, carriedShard}
+use Rattle.converter_shards.specs.code.RowChecks.{Counted}
+use Rattle.converter_shards.specs.Forth.{addedUpTo, builtIndex, forth, back}
+use Rattle.converter_shards.specs.code.Carried.{debtIndexInShard, carried, carriedShard}
 use Rattle.converter_shards.proofs.Layout01Laws.{cap01-is, debt-cap01-is, words-ledger01, Sized01, ledger-words01-length, words01-of-back}
 use Rattle.converter_shards.proofs.ShardLaws.{slots-within, debts-within}
 use Rattle.converter_shards.proofs.CarryLaws.{carried-longer, carried-shorter, carried-rows-are-items}

@@ -1,27 +1,25 @@
 -- Document 01's layout: the words of the shard in some words are those words, and the shard in a shard's words is that shard, in place order and without counts
 -- of tries turned away.
-use Prim.Native.Nat.{ℕ, _+_, _*_, _≤_, _<_}
+use Prim.Native.Nat.{ℕ, _+_, _*_}
 use native.Mathlib.Omega.{arith}
 use mathlib.Core.Path.{_≡_, refl, ap, sym, _∙_}
-use mathlib.Core.List.{List, [], _∷_, _++_, map, append-nil}
-use lib.ListN.{length, getD, take, drop, length-drop, drop-of-length-le}
+use mathlib.Core.List.{List, [], _∷_, _++_, map}
+use lib.ListN.{length, getD, drop, length-drop, drop-of-length-le}
 use lib.Seq.{take-at, drop-at, drop-drop}
 use Rattle.rows.specs.Segments.{segment}
 use Rattle.rows.specs.Rows.{rows, unrow}
 use Rattle.rows.proofs.RowLaws.{by-listed, written-length}
-use Rattle.held.specs.Held.{inOrder}
 use Rattle.held.specs.Layout.{Table, tableIn}
 use Rattle.held.proofs.LayoutLaws.{table-length, table-words}
 use Rattle.held.proofs.ReadBack.{between-length, table-of-words}
 use Rattle.slot.specs.declared.Slot.{Slot}
 use Rattle.slot.specs.Slot as Slot
-use Rattle.ledger.specs.declared.Debt.{Debt}
 use Rattle.ledger.specs.Model as Debts
 use Rattle.shard_map.specs.Model.{Shard, capOf, inPlaceOrder, uncounted}
 use Rattle.converter_shards.specs.Layout01.{slotsAt01, slotWidth01, debtsAt01, debtWidth01, ledgerStart01, ledgerWords01, shardWords01, slotOf01}
 use Rattle.converter_shards.specs.Layout01.{slotWords01}
 use Rattle.converter_shards.specs.Layout01.{debtOf01, debtWords01}
-use Rattle.converter_shards.specs.Layout01.{heldOf01, ledgerOf01, ledger01, shardWith01, shard01, ledgerWordsOf01, words01}
+use Rattle.converter_shards.specs.Layout01.{ledgerOf01, ledger01, shardWith01, shard01, ledgerWordsOf01, words01}
 
 -- Whatever the words, there is room for cap slots and for cap debts.
 pub cap01-is : (cap : ℕ) (ws : List ℕ) → capOf (shard01 cap ws) ≡ cap

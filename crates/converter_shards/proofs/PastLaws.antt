@@ -1,14 +1,14 @@
 -- The words past the counts are all 0 just where past the items every place is free.
-use Prim.Native.Nat.{ℕ, zero, suc, _+_, _-_, _≤_, _<_}
+use Prim.Native.Nat.{ℕ, zero, suc, _+_, _-_}
 use native.Mathlib.Omega.{arith}
-use mathlib.Core.Path.{_≡_, refl, ap, sym, _∙_}
-use mathlib.Core.Bool.{Bool, true, false, cond}
+use mathlib.Core.Path.{_≡_, refl, sym, _∙_}
+use mathlib.Core.Bool.{true, false, cond}
 use mathlib.Core.List.{List, [], _∷_, _++_, map}
 use lib.ListN.{length, getD, drop}
 use lib.Seq.{getD-drop}
 use Rattle.arith.proofs.Cases.{by-test, by-eq}
 use Rattle.rows.specs.Rows.{unrow}
-use Rattle.held.specs.Held.{Held, Items, itemAt}
+use Rattle.held.specs.Held.{Held, Items}
 use Rattle.held.proofs.SingleLaws.{FreePast}
 use Rattle.slot.specs.declared.Slot.{Slot}
 use Rattle.ledger.specs.declared.Debt.{Debt}

@@ -1,18 +1,16 @@
 -- What the checks of a present shard's words say of the shard in them.
-use Prim.Native.Nat.{ℕ, _+_, _-_, _*_, _≤_, _<_}
+use Prim.Native.Nat.{ℕ, _+_, _*_, _≤_, _<_}
 use native.Mathlib.Omega.{arith}
 use mathlib.Core.Path.{_≡_, refl, ap, sym, _∙_}
-use mathlib.Core.Bool.{Bool, true, false, cond}
+use mathlib.Core.Bool.{Bool, true, false}
 use mathlib.Core.List.{List}
 use lib.Dec.{lit<}
-use lib.ListN.{length, getD, take, drop, length-drop}
+use lib.ListN.{getD, take, drop, length-drop}
 use lib.Seq.{getD-drop, drop-drop}
 use Rattle.arith.proofs.Cases.{by-test}
 use Rattle.rows.proofs.RowLaws.{by-listed}
-use Rattle.index.specs.Exact.{Exact}
 use Rattle.index.specs.Layout.{Fits, placesFor, placesOf, itemWord, hashOf, keyOf}
-use Rattle.index.proofs.ExactLaws.{exact-hash}
-use Rattle.held.specs.Held.{Held, Items, itemAt, hashAt}
+use Rattle.held.specs.Held.{itemAt, hashAt}
 use Rattle.held.specs.Layout.{tableIn, indexWords}
 use Rattle.slot.specs.declared.Slot.{Slot}
 use Rattle.ledger.specs.declared.Debt.{Debt}
@@ -20,13 +18,15 @@ use Rattle.ledger.specs.Model.{debtItems}
 use Rattle.ledger.specs.Layout as Ledger
 use Rattle.ledger.proofs.LayoutLaws as LedgerLaws
 use Rattle.shard_map.specs.Model.{Shard, slotItems}
-use Rattle.shard_map.specs.Layout.{slotsAt, slotWidth, slotOf, slotWords, ledgerStart, shardWords, slotIndex, shard, Intact}
+use Rattle.shard_map.specs.Layout.{slotsAt, slotWidth, slotOf, slotWords, ledgerStart, slotIndex, shard, Intact}
 use Rattle.shard_map.proofs.LayoutLaws.{cap-is, rest-length, finding-read}
 use Rattle.shard_map.proofs.ReadBack.{debt-cap-is}
-use Rattle.converter_shards.specs.Checks.{anyBelow, twinned, alikeIn, hasTwins, slotKey, debtKey, shardTwins, exactly, indexesExact, strays, anyUsed}
-use Rattle.converter_shards.specs.Checks.{usedPast, rowsPast}
+use Rattle.converter_shards.specs.Checks.{anyBelow, alikeIn, hasTwins, slotKey, debtKey, exactly, indexesExact, anyUsed}
+use Rattle.converter_shards.specs.code.RowChecks.{strays}
+use Rattle.converter_shards.specs.Checks.{usedPast}
+use Rattle.converter_shards.specs.code.RowChecks.{rowsPast}
 use Rattle.converter_shards.specs.Layout01.{debtWords01}
-use Rattle.converter_shards.specs.Forth.{debtIndexInShard}
+use Rattle.converter_shards.specs.code.Carried.{debtIndexInShard}
 use Rattle.converter_shards.proofs.CheckLaws.{both-ways, twinned-same}
 use Rattle.converter_shards.proofs.ExactTestLaws.{exactly-agrees, exactly-is-exact}
 use Rattle.converter_shards.proofs.ShardLaws.{item-field, table-past, rest-past}

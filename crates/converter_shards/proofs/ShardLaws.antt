@@ -3,32 +3,32 @@ use Prim.Native.Nat.{ℕ, zero, suc, _+_, _-_, _*_, _≤_, _<_}
 use native.Mathlib.Omega.{arith}
 use native.Mathlib.Nat.{add-zero, add-comm, mul-zero, mul-suc, mul-le-mul-left}
 use mathlib.Core.Path.{_≡_, refl, ap, sym, _∙_}
-use mathlib.Core.Bool.{Bool, true, false, cond}
-use mathlib.Core.List.{List, [], _∷_, _++_, map}
-use lib.Dec.{lit<, ltb}
+use mathlib.Core.Bool.{Bool, true, false}
+use mathlib.Core.List.{List, [], _∷_, map}
+use lib.Dec.{lit<}
 use lib.ListN.{length, getD, take, drop, length-drop}
-use lib.Seq.{getD-drop, drop-drop, length-take-le, take-nil}
-use borrow.Author.Tests.{lt-ltb, le-ltb, ltb-false}
-use Rattle.arith.proofs.Cases.{by-test, by-le}
+use lib.Seq.{getD-drop, drop-drop, take-nil}
+use borrow.Author.Tests.{lt-ltb, le-ltb}
+use Rattle.arith.proofs.Cases.{by-le}
 use Rattle.rows.specs.Segments.{segment}
 use Rattle.rows.specs.Rows.{rows, unrow}
 use Rattle.rows.proofs.RowLaws.{segment-word, by-listed, rows-round, unrow-rows}
 use Rattle.rows.proofs.SegmentLaws.{segment-length}
-use Rattle.held.specs.Held.{Held, Items, itemAt, hashAt}
+use Rattle.held.specs.Held.{itemAt}
 use Rattle.held.specs.Layout.{tableIn}
 use Rattle.held.proofs.LayoutLaws.{table-item, table-word}
 use Rattle.slot.specs.declared.Slot.{Slot}
 use Rattle.ledger.specs.declared.Debt.{Debt}
-use Rattle.ledger.specs.Model.{debtItems, debtAt}
-use Rattle.shard_map.specs.Model.{Shard, slotItems, slotAt}
-use Rattle.converter_shards.specs.Layout01.{slotsAt01, slotWidth01, debtsAt01, debtWidth01, ledgerStart01, ledgerWords01, shardWords01, slotOf01}
+use Rattle.ledger.specs.Model.{debtItems}
+use Rattle.shard_map.specs.Model.{Shard, slotItems}
+use Rattle.converter_shards.specs.Layout01.{slotsAt01, slotWidth01, debtsAt01, debtWidth01, ledgerStart01, slotOf01}
 use Rattle.converter_shards.specs.Layout01.{slotWords01}
 use Rattle.converter_shards.specs.Layout01.{debtOf01, debtWords01}
 use Rattle.converter_shards.specs.Layout01.{ledger01, shard01}
-use Rattle.converter_shards.specs.declared.Rows.{Rows}
-use Rattle.converter_shards.specs.Checks.{anyBelow, twinned, alikeIn, hasTwins, slotKey, debtKey, shardTwins, anyUsed, usedPast, usedPastBy, rowsPast}
+use Rattle.converter_shards.specs.Checks.{twinned, alikeIn, hasTwins, slotKey, debtKey, shardTwins, anyUsed, usedPast, usedPastBy}
+use Rattle.converter_shards.specs.code.RowChecks.{rowsPast}
 use Rattle.converter_shards.specs.Checks.{countOver}
-use Rattle.converter_shards.specs.Checks.{Counted, rowWord, slotRows01, debtRows01, alikeRows, RowsFit}
+use Rattle.converter_shards.specs.code.RowChecks.{Counted, rowWord, slotRows01, debtRows01, alikeRows}
 use Rattle.converter_shards.proofs.CheckLaws.{both-ways, twinned-same}
 
 -- A field of an item that is a word of its row.

@@ -1,11 +1,10 @@
 -- With an exact index some item strays just where two items are alike.
 use Prim.Native.Nat.{ℕ, _<_}
 use native.Mathlib.Omega.{arith}
-use mathlib.Core.Path.{_≡_, refl, ap, sym, _∙_}
-use mathlib.Core.Bool.{Bool, true, false, cond}
+use mathlib.Core.Path.{_≡_, refl, sym, _∙_}
+use mathlib.Core.Bool.{Bool, true, false}
 use mathlib.Core.List.{List}
-use lib.Dec.{eqb}
-use borrow.Author.Tests.{eqb-true, eq-eqb, ne-eqb}
+use borrow.Author.Tests.{eq-eqb, ne-eqb}
 use Rattle.arith.proofs.Cases.{by-test, by-eq, by-le}
 use Rattle.rows.specs.declared.Place.{Place}
 use Rattle.rows.specs.declared.Place.the-variants.{At, Nowhere}
@@ -14,7 +13,8 @@ use Rattle.index.specs.Exact.{Exact}
 use Rattle.index.specs.declared.Index.{Index}
 use Rattle.index.specs.Layout.{placesOf, hashOf, keyOf, keyed}
 use Rattle.index.proofs.FindLaws.{find-sound, find-nowhere}
-use Rattle.converter_shards.specs.Checks.{anyBelow, bothSame, twinned, strayed, strays}
+use Rattle.converter_shards.specs.Checks.{anyBelow, bothSame, twinned}
+use Rattle.converter_shards.specs.code.RowChecks.{strayed, strays}
 use Rattle.converter_shards.proofs.CheckLaws.{both-ways, any-passes, none-of, by-some, none-twinned, same-both, same-hashes, same-keys}
 
 by-place : {Q : Type 0} (p : Place) → ((i : ℕ) → p ≡ At i → Q) → (p ≡ Nowhere → Q) → Q

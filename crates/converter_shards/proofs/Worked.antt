@@ -1,9 +1,9 @@
 -- Document 01's layout and request 14's sentences, each worked on a small shard.
 use Prim.Native.Nat.{ℕ}
 use mathlib.Core.Path.{_≡_, refl}
-use mathlib.Core.List.{List, [], _∷_, map}
+use mathlib.Core.List.{List, [], _∷_}
 use mathlib.Core.Bool.{true, false}
-use lib.ListN.{getD, replicate}
+use lib.ListN.{getD}
 use Rattle.rows.specs.Rows.{rows, unrow}
 use Rattle.index.specs.Walk.{onward, walkFrom, walk, seek, add}
 use Rattle.index.specs.Exact.{copies}

@@ -1,15 +1,12 @@
 -- What the converter looks at before it writes: two items of one hash and key (18), a word past a count that is not 0 (19), an index that is not exact (5,
 -- going back). Each is a test that comes out true or false; what it means is said by the laws of proofs/CheckLaws and proofs/ExactTestLaws.
-use Prim.Native.Nat.{ℕ, zero, suc, _+_, _-_, _*_, _≤_, _<_}
-use mathlib.Core.Path.{_≡_}
+use Prim.Native.Nat.{ℕ, zero, suc, _+_, _-_}
 use mathlib.Core.Bool.{Bool, true, false, cond}
 use mathlib.Core.List.{List, map}
 use lib.Dec.{eqb, ltb}
-use lib.ListN.{length, getD, take, drop}
+use lib.ListN.{length, getD, drop}
 use Rattle.rows.specs.Rows.{unrow}
-use Rattle.rows.specs.declared.Place.{Place}
-use Rattle.rows.specs.declared.Place.the-variants.{At, Nowhere}
-use Rattle.index.specs.Walk.{at, seek, find}
+use Rattle.index.specs.Walk.{at, seek}
 use Rattle.index.specs.Exact.{copies}
 use Rattle.held.specs.Held.{Held, Items, itemAt, hashAt}
 use Rattle.held.specs.Layout.{indexWords}
@@ -18,9 +15,7 @@ use Rattle.ledger.specs.declared.Debt.{Debt}
 use Rattle.ledger.specs.Model.{debtItems}
 use Rattle.shard_map.specs.Model.{Shard, slotItems}
 use Rattle.shard_map.specs.Layout.{slotWords}
-use Rattle.converter_shards.specs.declared.Rows.{Rows}
-use Rattle.converter_shards.specs.Layout01.{slotsAt01, slotWidth01, debtsAt01, debtWidth01, ledgerStart01, shardWords01, slotWords01, debtWords01}
-use Rattle.converter_shards.specs.Layout01.{shard01}
+use Rattle.converter_shards.specs.Layout01.{slotWords01, debtWords01}
 
 -- Does any number below n pass a test?
 unfoldable pub anyBelow : ℕ → (ℕ → Bool) → Bool
@@ -74,36 +69,9 @@ shardUsedPast01 s = usedPastBy slotWords01 s
 abbrev pub shardUsedPast : Shard → Bool
 shardUsedPast s = usedPastBy slotWords s
 
--- The words past the first n of cap rows, where the rows begin at a word.
-abbrev pub rowsPast : (first width cap n : ℕ) → List ℕ → List ℕ
-rowsPast first width cap n ws = take (first + width * cap - (first + width * n)) (drop (first + width * n) ws)
-
 -- Is a count of a shard over the cap?
 unfoldable pub countOver : ℕ → Shard → Bool
 countOver cap s = cond (ltb cap (s .slots .count)) true (ltb cap (s .ledger .debts .count))
-
--- The words of a shard of which no count is over the cap.
-pub record Counted (cap : ℕ) (ws : List ℕ) : Type 0 where
-  pub size : length ws ≡ shardWords01 cap
-  pub fits : countOver cap (shard01 cap ws) ≡ false
-
--- Word f of row i, where rows lie in words; and what has to hold so that n rows are in the words.
-unfoldable pub rowWord : Rows → ℕ → List ℕ → ℕ → ℕ
-rowWord rows f ws i = getD ws (rows .first + rows .width * i + f) 0
-
--- Where the slots and the debts lie in document 01's words.
-abbrev pub slotRows01 : Rows
-slotRows01 = record { first = slotsAt01; width = slotWidth01; key = 1 }
-
-abbrev pub debtRows01 : ℕ → Rows
-debtRows01 cap = record { first = ledgerStart01 cap + debtsAt01; width = debtWidth01; key = 0 }
-
-unfoldable pub alikeRows : Rows → List ℕ → ℕ → ℕ → Bool
-alikeRows rows ws i j = bothSame (rowWord rows 0 ws i) (rowWord rows (rows .key) ws i) (rowWord rows 0 ws j) (rowWord rows (rows .key) ws j)
-
-pub record RowsFit (rows : Rows) (n : ℕ) (ws : List ℕ) : Type 0 where
-  pub inside : rows .first + rows .width * n ≤ length ws
-  pub within : rows .key < rows .width
 
 -- Does the walk of item i miss the item's number?
 unfoldable pub unplaced : (ℕ → ℕ) → List ℕ → ℕ → Bool
@@ -120,12 +88,3 @@ indexesExact s =
     cond (exactly (hashAt slotItems (s .slots)) (s .slots .count) (indexWords (s .slots .finding)))
     (exactly (hashAt debtItems (s .ledger .debts)) (s .ledger .debts .count) (indexWords (s .ledger .debts .finding)))
     false
-
--- Does the lookup of an item's own hash and key give another place than the item's, or none?
-abbrev pub strayed : ℕ → Place → Bool
-strayed i (At j) = cond (eqb j i) false true
-strayed i Nowhere = true
-
--- With an exact index an item strays where another one is like it (`strays-are-twins`), so that no pairs need be compared.
-unfoldable pub strays : (ℕ → ℕ) → (ℕ → ℕ) → ℕ → List ℕ → ℕ → Bool
-strays hash key n ix i = strayed i (find n (λ j. bothSame (hash j) (key j) (hash i) (key i)) ix (hash i))

@@ -9,8 +9,10 @@ ghost use Rattle.index.specs.Layout.{Fits, placesOf, withPlaces, hashOf, keyOf}
 ghost use Rattle.shard_map.specs.Layout.{slotsAt, shard, shardWords, wordsOf, Intact};
 ghost use Rattle.converter_shards.specs.Layout01.{shard01, shardWords01, words01};
 ghost use Rattle.converter_shards.specs.Checks as Checks;
-ghost use Rattle.converter_shards.specs.Checks.{RowsFit, Counted};
+ghost use Rattle.converter_shards.specs.code.RowChecks.{RowsFit, Counted};
 ghost use Rattle.converter_shards.specs.Forth as Forth;
+ghost use Rattle.converter_shards.specs.code.RowChecks as RowChecks;
+ghost use Rattle.converter_shards.specs.code.Carried as Carried;
 use index::Index;
 use rows::Place;
 
@@ -29,7 +31,7 @@ const HASH: usize = 0;
 // Word `f` of an item's row.
 fn row_word(ws: &[u64], rows: Rows, n: usize, i: usize, f: usize) -> u64
     requires { ⌜ RowsFit rows n (now ws) × (i < n) × (f < rows .width) ⌝ }
-    ensures { λ r. ⌜ r ≡ Checks.rowWord rows f (now (ws .entry)) i ⌝ }
+    ensures { λ r. ⌜ r ≡ RowChecks.rowWord rows f (now (ws .entry)) i ⌝ }
 {
     let k = rows.first + rows.width * i + f;
     ws[k]
@@ -38,7 +40,7 @@ fn row_word(ws: &[u64], rows: Rows, n: usize, i: usize, f: usize) -> u64
 // Have two items one hash and key?
 fn alike(ws: &[u64], rows: Rows, n: usize, i: usize, j: usize) -> bool
     requires { ⌜ RowsFit rows n (now ws) × (i < n) × (j < n) ⌝ }
-    ensures { λ r. ⌜ r ≡ Checks.alikeRows rows (now (ws .entry)) i j ⌝ }
+    ensures { λ r. ⌜ r ≡ RowChecks.alikeRows rows (now (ws .entry)) i j ⌝ }
 {
     if row_word(ws, rows, n, i, HASH) == row_word(ws, rows, n, j, HASH) {
         return row_word(ws, rows, n, i, rows.key) == row_word(ws, rows, n, j, rows.key);
@@ -49,7 +51,7 @@ fn alike(ws: &[u64], rows: Rows, n: usize, i: usize, j: usize) -> bool
 // Is an item before item i like it?
 fn has_twin(ws: &[u64], rows: Rows, n: usize, i: usize) -> bool
     requires { ⌜ RowsFit rows n (now ws) × (i < n) ⌝ }
-    ensures { λ r. ⌜ r ≡ Checks.anyBelow i (Checks.alikeRows rows (now (ws .entry)) i) ⌝ }
+    ensures { λ r. ⌜ r ≡ Checks.anyBelow i (RowChecks.alikeRows rows (now (ws .entry)) i) ⌝ }
 {
     let mut j: usize = 0;
     while j < i {
@@ -64,7 +66,7 @@ fn has_twin(ws: &[u64], rows: Rows, n: usize, i: usize) -> bool
 // Are two of the first n items alike? Each is compared with those before it.
 pub fn has_twins(ws: &[u64], rows: Rows, n: usize) -> bool
     requires { ⌜ RowsFit rows n (now ws) ⌝ }
-    ensures { λ r. ⌜ r ≡ Checks.twinned (Checks.alikeRows rows (now (ws .entry))) n ⌝ }
+    ensures { λ r. ⌜ r ≡ Checks.twinned (RowChecks.alikeRows rows (now (ws .entry))) n ⌝ }
 {
     let mut i: usize = 0;
     while i < n {
@@ -93,7 +95,7 @@ pub fn any_used(ws: &[u64]) -> bool
 // Is any word past the first n of cap rows not 0?
 fn rows_past_used(ws: &[u64], first: usize, width: usize, cap: usize, n: usize) -> bool
     requires { ⌜ (first + width * cap ≤ length (now ws)) × (n ≤ cap) ⌝ }
-    ensures { λ r. ⌜ r ≡ Checks.anyUsed (Checks.rowsPast first width cap n (now (ws .entry))) ⌝ }
+    ensures { λ r. ⌜ r ≡ Checks.anyUsed (RowChecks.rowsPast first width cap n (now (ws .entry))) ⌝ }
 {
     let from = first + width * n;
     let to = first + width * cap;
@@ -171,7 +173,7 @@ pub fn is_exact(ws: &[u64], index: Index, n: usize) -> bool
 // Does the lookup of an item's own hash and key give another place than the item's, or none?
 fn strays(ws: &[u64], index: Index, n: usize, i: usize) -> bool
     requires { ⌜ Fits index n (now ws) × (i < n) ⌝ }
-    ensures { λ r. ⌜ r ≡ Checks.strays (hashOf index (now (ws .entry))) (keyOf index (now (ws .entry))) n (placesOf index (now (ws .entry))) i ⌝ }
+    ensures { λ r. ⌜ r ≡ RowChecks.strays (hashOf index (now (ws .entry))) (keyOf index (now (ws .entry))) n (placesOf index (now (ws .entry))) i ⌝ }
 {
     let hash = index::item_word(ws, index, n, i, HASH);
     let key = index::item_word(ws, index, n, i, index.key);
@@ -190,7 +192,7 @@ fn strays(ws: &[u64], index: Index, n: usize, i: usize) -> bool
 fn any_strays(ws: &[u64], index: Index, n: usize) -> bool
     requires { ⌜ Fits index n (now ws) ⌝ }
     ensures { λ r. ⌜ r
-        ≡ Checks.anyBelow n (Checks.strays (hashOf index (now (ws .entry))) (keyOf index (now (ws .entry))) n (placesOf index (now (ws .entry)))) ⌝ }
+        ≡ Checks.anyBelow n (RowChecks.strays (hashOf index (now (ws .entry))) (keyOf index (now (ws .entry))) n (placesOf index (now (ws .entry)))) ⌝ }
 {
     let mut i: usize = 0;
     while i < n {
@@ -214,7 +216,7 @@ fn word_or_zero(ws: &[u64], k: usize) -> u64
 
 // The words of the target become the first ones of the source, and zeros where the source has none.
 fn carry(source: &[u64], target: &mut [u64])
-    ensures { λ _. ⌜ now (target .exit) ≡ Forth.carried (length (now (target .entry))) (now (source .entry)) ⌝ }
+    ensures { λ _. ⌜ now (target .exit) ≡ Carried.carried (length (now (target .entry))) (now (source .entry)) ⌝ }
 {
     let mut k: usize = 0;
     while k < target.len() {
@@ -226,7 +228,7 @@ fn carry(source: &[u64], target: &mut [u64])
 // The first n rows of a width become rows of another width: words are cut off, or zeros added.
 fn carry_rows(source: &[u64], target: &mut [u64], from: usize, to: usize, n: usize)
     requires { ⌜ (length (now source) ≡ from * n) × (length (now target) ≡ to * n) ⌝ }
-    ensures { λ _. ⌜ now (target .exit) ≡ Forth.carriedRows from to n (now (source .entry)) ⌝ }
+    ensures { λ _. ⌜ now (target .exit) ≡ Carried.carriedRows from to n (now (source .entry)) ⌝ }
 {
     let mut i: usize = 0;
     while i < n {
@@ -242,7 +244,7 @@ fn carry_rows(source: &[u64], target: &mut [u64], from: usize, to: usize, n: usi
 // The words of a shard with slots of `from` words become words with slots of `to` words.
 fn carry_shard(source: &[u64], target: &mut [u64], cap: usize, from: usize, to: usize)
     requires { ⌜ (slotsAt + from * cap ≤ length (now source)) × (slotsAt + to * cap ≤ length (now target)) ⌝ }
-    ensures { λ _. ⌜ now (target .exit) ≡ Forth.carriedShard from to cap (length (now (target .entry))) (now (source .entry)) ⌝ }
+    ensures { λ _. ⌜ now (target .exit) ≡ Carried.carriedShard from to cap (length (now (target .entry))) (now (source .entry)) ⌝ }
 {
     let slots = words::SLOTS;
     let at = slots + from * cap;

@@ -4,8 +4,8 @@ ghost use Prim.Native.Nat.{_^_, _<_};
 ghost use lib.ListN.{length};
 ghost use Rattle.shard_map.specs.Layout.{shardWords};
 ghost use Rattle.converter_shards.specs.Layout01.{shard01, shardWords01};
-ghost use Rattle.converter_shards.specs.Checks.{slotRows01, debtRows01};
-ghost use Rattle.converter_shards.specs.Forth.{debtIndexInShard};
+ghost use Rattle.converter_shards.specs.code.RowChecks.{slotRows01, debtRows01};
+ghost use Rattle.converter_shards.specs.code.Carried.{debtIndexInShard};
 use crate::Rows;
 use index::Index;
 

@@ -1,24 +1,30 @@
 -- On two stores in place order that are equal but for the counts of tries turned away, every list of calls and clears answers alike but for the look at a
 -- count.
-use Prim.Native.Nat.{ℕ}
-use mathlib.Core.Path.{_≡_, refl, sym, ap, _∙_}
-use mathlib.Core.Bool.{true, false, cond}
+use Prim.Native.Nat.{ℕ, _<_}
+use mathlib.Core.Path.{_≡_, refl, ap, _∙_}
+use mathlib.Core.Bool.{false}
 use mathlib.Core.List.{List, [], _∷_}
+use lib.ListN.{length}
 use borrow.Author.Tests.{eq-eqb, ne-eqb}
 use Rattle.arith.proofs.Cases.{by-eq}
-use Rattle.rows.specs.Outcome.{Outcome, outcome}
+use Rattle.rows.specs.Outcome.{Outcome}
 use Rattle.rows.proofs.SumLaws.{sum-same}
 use Rattle.bucket.specs.declared.BucketCore.{BucketCore}
 use Rattle.settings.specs.declared.Settings.{Settings}
-use Rattle.settings.specs.Settings.{shardCount, shardOf}
+use Rattle.settings.specs.Settings.{firstRefusal, shapeOf, shardCount, shardOf}
+use Rattle.settings.proofs.SettingsLaws.{neither-refuses}
+use Rattle.ledger.specs.Model.{Ledger}
 use Rattle.classes.specs.Classes.{tableRefusal}
 use Rattle.classes.specs.Layout.{classesIn}
 use Rattle.shard_map.specs.Model.{Shard, uncounted}
 use Rattle.shard.specs.declared.Identity.{Identity}
+use Rattle.store.specs.Refusals.{momentRefusal}
 use Rattle.rules.specs.declared.Reply.{Reply}
 use Rattle.rules.specs.declared.Reply.the-variants.{Count}
 use Rattle.rules.specs.Asks.{Ask, inForce, inItsShard, bucketsAfter}
-use Rattle.rules.specs.Calls.{Call, keyed, whole, len, Terms, settingsOf}
+use Rattle.rules.specs.Debts.{listed, shardRefusal, recordsRefusal}
+use Rattle.rules.specs.Calls.{Call, keyed, whole, len, debts, Terms, settingsOf}
+use Rattle.rules.proofs.DebtLaws.{of-such-a-shard, shard-not-refused}
 use Rattle.demands.specs.Demands.{Table, tableWords}
 use Rattle.demands.specs.PlaceOrder.{Shards, askedOnShards, refusedAs, takenOnShards, onShards, clearedOnShards, Turn, calls, clears, stepWithoutIndexes, run}
 use Rattle.demands.specs.PlaceOrder.{OfStore, AllOf}
@@ -57,23 +63,46 @@ module _ (s : Settings) (id : Identity) (ask : Ask) (a b : Shards) (like : Equal
         };
       }
 
+-- The ledgers are the same, shard by shard: no count of tries turned away stands in a ledger.
+ledgers-alike : (s : Settings) (a b : Shards) → EqualButForCounts s a b → (i : ℕ) → i < shardCount s → a .numbered i .ledger ≡ b .numbered i .ledger
+ledgers-alike s a b like =
+    of-every-shard s (λ i. a .numbered i .ledger ≡ b .numbered i .ledger) (λ hash. ap (λ (t : Shard). t .ledger) (like .shards hash))
+
 module _ {S N : Type 0} (terms : Terms S N) where
-  taken-alike : (c : Call S N) (a b : Shards) → EqualButForCounts (settingsOf terms c) a b
+  -- A call that is not refused.
+  taken-alike : (c : Call S N) (a b : Shards) → EqualButForCounts (settingsOf terms c) a b → refusedAs terms (a .numbered) c ≡ 0
       → AnsweredAlike (settingsOf terms c) (takenOnShards terms c a) (takenOnShards terms c b) (callReadsTurnAways c ≡ false)
-  taken-alike (keyed s n ask) a b like = asked-alike (inForce ask (terms .settings s)) (terms .identity n) ask a b like
-  taken-alike (whole s len) a b like =
+  taken-alike (keyed s n ask) a b like none = asked-alike (inForce ask (terms .settings s)) (terms .identity n) ask a b like
+  taken-alike (whole s len) a b like none =
       let settings = terms .settings s in
       let counts = of-every-shard settings (λ i. a .numbered i .slots .count ≡ b .numbered i .slots .count)
       (λ hash. ap (λ (t : Shard). t .slots .count) (like .shards hash)) in
       record { answer = λ blind. ap Count (sum-same (shardCount settings) _ _ counts); after = like }
+  taken-alike (whole s (debts at i room)) a b like none =
+      let settings = terms .settings s in
+      let further = neither-refuses (momentRefusal at) _ none .1 in
+      let below = shard-not-refused (shapeOf settings) i (neither-refuses (shardRefusal (shapeOf settings) i) _ further .0) in
+      record { answer = λ blind. ap (λ (l : Ledger). Count (length (listed at l))) (ledgers-alike settings a b like i below); after = like }
+
+  -- Both stores refuse a call by the same number.
+  refused-alike : (c : Call S N) (a b : Shards) → EqualButForCounts (settingsOf terms c) a b
+      → refusedAs terms (a .numbered) c ≡ refusedAs terms (b .numbered) c
+  refused-alike (keyed s n ask) a b like = refl
+  refused-alike (whole s len) a b like = refl
+  refused-alike (whole s (debts at i room)) a b like =
+      let settings = terms .settings s in
+      ap (firstRefusal (momentRefusal at))
+      (of-such-a-shard (shapeOf settings) i _ _
+      (λ below. ap (λ (l : Ledger). recordsRefusal room (length (listed at l))) (ledgers-alike settings a b like i below)))
 
   call-alike : (c : Call S N) (a b : Shards) → EqualButForCounts (settingsOf terms c) a b
       → AnsweredAlike (settingsOf terms c) (onShards terms c a) (onShards terms c b) (callReadsTurnAways c ≡ false)
   unfolding onShards
   call-alike c a b like =
-      by-eq (refusedAs terms c) 0
-      (λ none. rw (eq-eqb _ _ none) (taken-alike c a b like))
-      (λ some. rw (ne-eqb _ _ some) (record { answer = λ blind. refl; after = like }))
+      let same = refused-alike c a b like in
+      by-eq (refusedAs terms (b .numbered) c) 0
+      (λ none. rw (eq-eqb _ _ none, eq-eqb _ _ (same ∙ none)) (taken-alike c a b like (same ∙ none)))
+      (λ some. rw (ne-eqb _ _ some, same) (rw (ne-eqb _ _ some) (record { answer = λ blind. refl; after = like })))
 
   module _ (s : Settings) where
     clear-alike : (table : Table) (a b : Shards) → EqualButForCounts s a b

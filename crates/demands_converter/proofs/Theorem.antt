@@ -1,23 +1,21 @@
 -- Lists of calls before and after a conversion: the claims of specs/OldStore.antt.
-use Prim.Native.Nat.{ℕ, _+_, _*_, _≤_, _<_}
+use Prim.Native.Nat.{ℕ, _+_, _≤_, _<_}
 use native.Mathlib.Omega.{arith}
-use mathlib.Core.Path.{_≡_, refl, sym, ap, subst, _∙_}
-use mathlib.Core.Bool.{Bool, true, false, cond}
+use mathlib.Core.Path.{_≡_, refl, sym, ap, _∙_}
+use mathlib.Core.Bool.{true}
 use mathlib.Core.List.{List, [], _∷_, _++_}
-use lib.Dec.{eqb}
 use lib.ListN.{length}
 use borrow.Author.Tests.{eq-eqb}
 use Rattle.rows.specs.Rows.{rows}
-use Rattle.rows.specs.Outcome.{Outcome, outcome}
+use Rattle.rows.specs.Outcome.{Outcome}
 use Rattle.units.specs.declared.Nanos.{Nanos}
-use Rattle.bucket.specs.declared.BucketCore.{BucketCore}
 use Rattle.bucket.specs.declared.Request.{Request}
 use Rattle.settings.specs.declared.Limit.the-variants.{Open}
 use Rattle.settings.specs.declared.Settings.{Settings}
 use Rattle.settings.specs.declared.eviction.WhenFull.the-variants.{RefuseNew}
 use Rattle.settings.specs.declared.rate.Rate.{Rate}
 use Rattle.settings.specs.Rate.{burstOf, configOf}
-use Rattle.settings.specs.Settings.{shapeOf, settingsRefusal, shardCount, capOf, shardOf}
+use Rattle.settings.specs.Settings.{shapeOf, shardCount, capOf, shardOf}
 use Rattle.settings.proofs.SettingsLaws.{refused-with-any-classes, shard-below}
 use Rattle.classes.specs.Layout.{classCount, bucketsIn}
 use Rattle.shard_map.specs.Model.{Shard, Sound, inPlaceOrder, uncounted}
@@ -25,7 +23,7 @@ use Rattle.shard_map.proofs.TurnAwayLaws.{equal-but-for-turn-aways, uncounted-a
 use Rattle.shard_map.proofs.RoomLaws.{found-is-sound}
 use Rattle.shard.specs.declared.Identity.{Identity}
 use Rattle.shard.specs.Model.{ownDecision, holds}
-use Rattle.store.specs.Memory.{totalOf, memoryWords, shardAt, bucketsAt}
+use Rattle.store.specs.Memory.{shardAt, bucketsAt}
 use Rattle.rules.specs.declared.Reply.{Reply}
 use Rattle.rules.specs.declared.Reply.the-variants.{Done}
 use Rattle.rules.specs.Asks.{requests, mannerOf, replyTo, askedIn}
@@ -40,10 +38,9 @@ use Rattle.converter.proofs.RefusalLaws.{Accepted}
 use Rattle.converter.proofs.Theorem.{done-is-accepted, accepted-is-done, forth-is-in-place-order, forth-finds-all, forth-total, forth-long}
 use Rattle.converter.proofs.Theorem.{Found, found-goes-back, back-is-alike}
 use Rattle.demands.specs.Demands.{WithinWindow}
-use Rattle.demands.specs.Grown.{Grown, slotsOf}
-use Rattle.demands.specs.PlaceOrder.{shardNumbered, Shards, freshShards, IndexesExact, refusedAs, onShards, Turn, calls, byRules, stepWithoutIndexes, run}
+use Rattle.demands.specs.Grown.{Grown}
+use Rattle.demands.specs.PlaceOrder.{shardNumbered, Shards, freshShards, refusedAs, onShards, Turn, calls, byRules, stepWithoutIndexes, run}
 use Rattle.demands.specs.PlaceOrder.{AllOf}
-use Rattle.demands.specs.PlaceOrder.{SameWithoutIndexes}
 use Rattle.demands.specs.TurnAways.{SameReplies}
 use Rattle.demands.proofs.GrownLaws.{SoundMemory, of-every-shard, grown-memory-is-sound, sound-indexes-are-exact-by-number, sound-kept-by-calls}
 use Rattle.demands.proofs.PlaceOrderTheorem.{SamePlaces, SameOutcome, run-same, call-same, turn-same, turn-keeps-sound, grown-store-is-as-without-indexes}
@@ -190,7 +187,7 @@ module _ (s : Settings) (source target : List ℕ) (done : forth s source target
       }
 
   pub forth-decides-by-the-old-debt : {S N : Type 0} (terms : Terms S N) (written : S) (n : N) (r : Request) (at : Nanos) (cost : ℕ) (rate : Rate)
-      → terms .settings written ≡ classless s → refusedAs terms (keyed written n (requests r at cost)) ≡ 0 → s .limit ≡ Open rate
+      → terms .settings written ≡ classless s → refusedAs terms (oldStore s source .numbered) (keyed written n (requests r at cost)) ≡ 0 → s .limit ≡ Open rate
       → 1 ≤ cost → cost ≤ burstOf rate → holds (terms .identity n) (shard-of (terms .identity n)) ≡ true
       → rules terms (keyed written n (requests r at cost)) (forth s source target .after) .answer
       ≡ replyTo (mannerOf r) (ownDecision (configOf rate) (terms .identity n) r cost at (shard-of (terms .identity n)))

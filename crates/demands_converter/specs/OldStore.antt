@@ -9,14 +9,13 @@
 --   would have grown.
 -- * `forth-decides-by-the-old-debt`: a key that holds a slot or a debt on the old store is decided by it on the new one.
 -- * `converted-store-stays-within-the-window`: the window, over a list that begins on the one store and goes on, converted, on the other.
-use Prim.Native.Nat.{ℕ, suc, _<_}
+use Prim.Native.Nat.{ℕ}
 use mathlib.Core.Path.{_≡_}
 use mathlib.Core.Bool.{false}
 use mathlib.Core.List.{List, [], _∷_}
-use Rattle.bucket.specs.declared.BucketCore.{BucketCore}
 use Rattle.settings.specs.declared.Settings.{Settings}
-use Rattle.settings.specs.Settings.{shardCount, capOf, shardOf, withClasses}
-use Rattle.shard_map.specs.Model.{Shard, uncounted}
+use Rattle.settings.specs.Settings.{capOf, shardOf, withClasses}
+use Rattle.shard_map.specs.Model.{uncounted}
 use Rattle.converter.specs.declared.Layout.the-variants.{Old}
 use Rattle.converter.specs.Layouts.{shardAt}
 use Rattle.rules.specs.Calls.{Call, Terms, rules, settingsOf}

@@ -1,6 +1,6 @@
 -- `any_strays` goes through the items; the loop holds that none so far strays.
 use Rattle.converter_shards.proofs.CheckLaws.{NoneBelow, none-start, none-next, none-found, none-over}
-use Rattle.converter_shards.specs.Checks.{strays}
+use Rattle.converter_shards.specs.code.RowChecks.{strays}
 use Rattle.index.specs.Layout.{hashOf, keyOf, placesOf}
 use Prim.Native.Nat.{_-_}
 use borrow.Author.Needs.{needs}

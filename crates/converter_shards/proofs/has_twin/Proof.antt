@@ -1,6 +1,6 @@
 -- `has_twin` compares an item with those before it; the loop holds that none so far is like it.
 use Rattle.converter_shards.proofs.CheckLaws.{NoneBelow, none-start, none-next, none-found, none-over}
-use Rattle.converter_shards.specs.Checks.{alikeRows}
+use Rattle.converter_shards.specs.code.RowChecks.{alikeRows}
 use native.Mathlib.Omega.{arith}
 use Prim.Native.Nat.{_-_}
 use borrow.Author.Needs.{needs}

@@ -1,6 +1,7 @@
 -- `has_twins` goes through the items; the loop holds that none so far has a twin before it.
 use Rattle.converter_shards.proofs.CheckLaws.{NoneBelow, none-start, none-next, none-found, none-over}
-use Rattle.converter_shards.specs.Checks.{alikeRows, anyBelow}
+use Rattle.converter_shards.specs.Checks.{anyBelow}
+use Rattle.converter_shards.specs.code.RowChecks.{alikeRows}
 use Prim.Native.Nat.{_-_}
 use borrow.Author.Needs.{needs}
 use Rattle.converter_shards.proofs.has_twins.Statement.{statement}

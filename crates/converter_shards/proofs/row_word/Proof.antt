@@ -2,7 +2,7 @@
 use native.Mathlib.Omega.{arith}
 use Prim.Native.Nat.{_+_, _*_, _<_}
 use lib.ListN.{length}
-use Rattle.converter_shards.specs.Checks.{rowWord}
+use Rattle.converter_shards.specs.code.RowChecks.{rowWord}
 use Rattle.converter_shards.proofs.CheckLaws.{row-inside}
 use borrow.Author.Needs.{needs}
 use Rattle.converter_shards.proofs.row_word.Statement.{statement}

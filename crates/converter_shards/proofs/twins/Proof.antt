@@ -1,6 +1,6 @@
 -- `twins` looks at the slots, then at the debts.
 use Rattle.converter_shards.proofs.ShardLaws.{slots-within, debts-within, slots-twinned, debts-twinned, twins-slots, twins-debts}
-use Rattle.converter_shards.specs.Checks.{Counted}
+use Rattle.converter_shards.specs.code.RowChecks.{Counted}
 use lib.Dec.{lit<}
 use mathlib.Core.Path.{_∙_}
 use native.Mathlib.Omega.{arith}

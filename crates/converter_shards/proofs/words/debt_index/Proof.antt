@@ -2,7 +2,7 @@
 use Prim.Native.Nat.{ℕ, _+_, _*_}
 use native.Mathlib.Omega.{arith}
 use mathlib.Core.Path.{_≡_}
-use Rattle.converter_shards.specs.Forth.{debtIndexInShard}
+use Rattle.converter_shards.specs.code.Carried.{debtIndexInShard}
 use Rattle.index.specs.declared.Index.{Index}
 use Rattle.index.specs.Layout.{placesFor}
 use borrow.Author.Needs.{needs}
