@@ -9,6 +9,7 @@ use Rattle.rules.specs.declared.codes.Told.{Told}
 use Rattle.desk_answers.specs.declared.Stage.{Stage}
 use Rattle.desk_answers.specs.declared.Stage.the-variants.{First, Open, Ended}
 use Rattle.desk_answers.specs.Desk.{served}
+pub use Rattle.desk_answers.specs.Desk.{hasEnded}
 pub use Rattle.desk_cutting.specs.Cutting.{Cut, onFirst, lastLine, keptOf}
 unfoldable pub use Rattle.desk_cutting.specs.Cutting.{cut, linesOf, joined}
 pub use Rattle.desk_cutting.specs.Answering.{Machine, andThen}
@@ -25,12 +26,6 @@ abbrev pub isFirst : Stage → Bool
 isFirst First = true
 isFirst (Open s) = false
 isFirst (Ended code) = false
-
--- Whether the run has ended, so that no further line is answered.
-abbrev pub hasEnded : Stage → Bool
-hasEnded First = false
-hasEnded (Open s) = false
-hasEnded (Ended code) = true
 
 abbrev pub printedFor : ℕ → Told → List ℕ
 printedFor number told = printed number (told .code) (told .number)

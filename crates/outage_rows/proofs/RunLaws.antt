@@ -8,7 +8,7 @@ use lib.ListN.{length, set, length-set}
 use lib.Dec.{ltb, eqb}
 use borrow.Author.Tests.{ltb-true, eqb-true, ne-eqb}
 use Rattle.arith.proofs.Cases.{by-test}
-use Rattle.rows.specs.Outcome.{Outcome}
+use Rattle.rows.specs.Outcome.{Outcome, outcome}
 use Rattle.rows.specs.declared.Place.{Place}
 use Rattle.rows.specs.declared.Place.the-variants.{At, Nowhere}
 use Rattle.settings.specs.declared.Settings.{Settings}
@@ -16,6 +16,7 @@ use Rattle.rules.specs.declared.codes.Told.{Told}
 use Rattle.desk_answers.specs.Desk.{tried}
 use Rattle.outage_rows.specs.declared.Row.{Row}
 use Rattle.outage_rows.specs.Model.{State, mostTries, rowAt, isLive, next, requestOf, again, made, waiting, ended, afterTry, triedAt, ran, outage}
+use Rattle.outage_rows.specs.Model.{rowsRun}
 use Rattle.outage_rows.proofs.NextLaws.{First, by-place, next-found, next-nowhere}
 
 -- The tries that a row has left; and those of all rows. A live row that has made too many has one.
@@ -170,3 +171,23 @@ module _ (s : Settings) where
 
   pub runs-out : (v w : State) → next (v .rows) ≡ Nowhere → RunsTo v w → v ≡ w
   runs-out v w is same = sym (ran-still (triesLeft (v .rows)) v is) ∙ same (triesLeft (v .rows)) (omega arith)
+
+  -- The words past the last row do not matter to the run.
+  abbrev beside : List ℕ → State → State
+  beside others v = record { rows = v .rows; others = others; store = v .store }
+
+  ran-beside : (n : ℕ) (others : List ℕ) (v : State) → ran s n (beside others v) ≡ beside others (ran s n v)
+  unfolding ran triedAt
+  ran-beside zero others v = refl
+  ran-beside (suc n) others v =
+      by-place (next (v .rows))
+      (λ p is. rw (ran-next n v p is, ran-next n (beside others v) p is) (ran-beside n others (triedAt s v p)))
+      (λ is. rw (ran-still (suc n) v is, ran-still (suc n) (beside others v) is))
+
+  pub outage-on-values : (rows : List Row) (others ws : List ℕ) {v : State} → v ≡ outage s (record { rows = rows; others = others; store = ws })
+      → outcome (v .rows) (v .store) ≡ rowsRun s rows ws
+  outage-on-values rows others ws gave =
+      ap (λ (w : State). outcome (w .rows) (w .store)) (gave ∙ ran-beside (mostTries * length rows) others (record { rows = rows; others = []; store = ws }))
+
+  pub run-keeps-count : (rows : List Row) (ws : List ℕ) → length (rowsRun s rows ws .answer) ≡ length rows
+  run-keeps-count rows ws = ran-rows (mostTries * length rows) (record { rows = rows; others = []; store = ws })

@@ -1,10 +1,10 @@
 -- The run of a village that comes up: rows of tries, which row is tried next, what becomes of it, and the run to its end.
 use Prim.Native.Nat.{ℕ, zero, suc, _+_, _*_, _-_, _^_, _<_, min}
 use mathlib.Core.Bool.{Bool, false, cond}
-use mathlib.Core.List.{List}
+use mathlib.Core.List.{List, []}
 use lib.Dec.{ltb, eqb}
 use lib.ListN.{length, getD, set}
-use Rattle.rows.specs.Outcome.{Outcome}
+use Rattle.rows.specs.Outcome.{Outcome, outcome}
 use Rattle.rows.specs.declared.Place.{Place}
 use Rattle.rows.specs.declared.Place.the-variants.{At, Nowhere}
 use Rattle.settings.specs.declared.Settings.{Settings}
@@ -114,3 +114,7 @@ ran s (suc n) v = ran s n (step s v)
 -- The whole run: as many steps as all rows have tries.
 abbrev pub outage : Settings → State → State
 outage s v = ran s (mostTries * length (v .rows)) v
+
+-- The run on values: rows as they end, and the words of the store after it. There are no words past the last row.
+abbrev pub rowsRun : Settings → List Row → List ℕ → Outcome (List Row) (List ℕ)
+rowsRun s rows ws = let v = outage s (record { rows = rows; others = []; store = ws }) in outcome (v .rows) (v .store)

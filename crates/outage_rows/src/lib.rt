@@ -1,6 +1,7 @@
 // The run of a village that comes up: every row is a line's try, made at its moment and made again at the moment that a denial tells, until it ends.
 ghost use mathlib.Core.Path.{_≡_};
-ghost use Prim.Native.Nat.{_*_, _<_, _≤_};
+ghost use mathlib.Core.List.{_++_, _∷_, []};
+ghost use Prim.Native.Nat.{_+_, _*_, _<_, _≤_};
 ghost use lib.ListN.{length};
 ghost use Rattle.outage_rows.specs.Model as Model;
 ghost use Rattle.outage_rows.specs.Layout.{rowWidth, rowsIn, stateIn, stateOf};
@@ -25,6 +26,9 @@ pub struct Row {
     pub live: u64,
 }
 
+// The words of a row.
+pub const ROW_WIDTH: usize = 6;
+
 // A line is tried at most this many times.
 pub const MOST_TRIES: u64 = 1000;
 
@@ -37,6 +41,14 @@ pub fn run(settings: Settings, rs: &mut [u64], ws: &mut [u64])
 {
     let n = words::count(rs);
     run_rows(settings, rs, n, ws);
+}
+
+// Keeps a row behind the first n rows. The words past it stay.
+pub fn keep(rs: &mut [u64], n: usize, row: Row)
+    requires { ⌜ rowWidth * (n + 1) ≤ length (now rs) ⌝ }
+    ensures { λ _. ⌜ rowsIn (n + 1) (now (rs .exit)) ≡ rowsIn n (now (rs .entry)) ++ (row ∷ []) ⌝ }
+{
+    words::put(rs, n + 1, n, row);
 }
 
 // Runs the first n rows.
