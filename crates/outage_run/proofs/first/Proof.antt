@@ -21,8 +21,10 @@ same-length-2 : tie.Need-same-length-2
 same-length-2 c = search needs
 
 returns : tie.Need-returns
-returns c = first-took (c .before .before .before .before .before .before .before .before .before .before .before .before .before .args .feed) (c .before .before .before .before .before .before .before .before .before .before .before .before .before .args .number) (lineOf (c .before .before .before .before .before .before .before .before .before .before .before .before .before .args .line .now)) (c .before .before .before .before .before .before .before .before .before .before .before .before .before .args .memory .now) (c .before .before .before .before .before .before .before .before .before .before .before .before .before .args .output .now) (c .before .before .before .before .before .before .before .before .before .before .before .before .before .pre)
-    (rw (c .before .before .before .before .before .before .before .before .before .read .ensures) at
+returns c =
+    let start = c .before .before .before .before .before .before .before .before .before .before .before .before .before in
+    first-took (start .args .feed) (start .args .number) (lineOf (start .args .line .now)) (start .args .memory .now) (start .args .output .now)
+    (start .pre) (rw (c .before .before .before .before .before .before .before .before .before .read .ensures) at
     (c .before .before .before .before .before .before .before .«open» .ensures)) (c .before .before .line .ensures)
 
 pub first-spec : {M : Type 1} → statement M

@@ -22,7 +22,10 @@ same-length-3 c = search needs
 returns : tie.Need-returns
 returns c =
     let start′ = c .before .before .before .before .before .before .before .before .before .before .before .before .before .before .before .before in
-    took-as (furtherTaken (start′ .args .settings) (start′ .args .number) (lineOf (start′ .args .line .now))) (past-is-further (start′ .args .settings) (start′ .args .number) (lineOf (start′ .args .line .now)) _ (c .before .before .before .before .before .before .before .before .before .before .if1 .taken)) (c .before .before .before .before .before .before .past .ensures)
+    took-as (furtherTaken (start′ .args .settings) (start′ .args .number) (lineOf (start′ .args .line .now)))
+    (past-is-further (start′ .args .settings) (start′ .args .number) (lineOf (start′ .args .line .now)) _
+    (c .before .before .before .before .before .before .before .before .before .before .if1 .taken))
+    (c .before .before .before .before .before .before .past .ensures)
 
 read-requires : tie.Need-read-requires
 read-requires c κs = search needs
@@ -46,7 +49,12 @@ returns-2 : tie.Need-returns-2
 returns-2 c =
     let start′ = c .before .before .before .before .before .before .before .before .before .before .before .before .before .before in
     let if1′ = c .before .before .before .before .before .before .before .before .if1 in
-    took-as (furtherTaken (start′ .args .settings) (start′ .args .number) (lineOf (start′ .args .line .now))) (row-is-further (start′ .args .settings) (start′ .args .number) (lineOf (start′ .args .line .now)) _ (λ none. omega (arith, none, if1′ .left))) (row-took (start′ .args .feed) (start′ .args .number) (lineOf (start′ .args .line .now)) (start′ .args .rs .now) (start′ .args .memory .now) (start′ .args .output .now) (λ none. omega (arith, none, if1′ .left)) (rw (c .before .before .before .before .before .before .read .ensures) at (c .before .before .before .before .before .row-of .ensures)) (c .before .before .before .before .keep .ensures))
+    took-as (furtherTaken (start′ .args .settings) (start′ .args .number) (lineOf (start′ .args .line .now)))
+    (row-is-further (start′ .args .settings) (start′ .args .number) (lineOf (start′ .args .line .now)) _ (λ none. omega (arith, none, if1′ .left)))
+    (row-took (start′ .args .feed) (start′ .args .number) (lineOf (start′ .args .line .now)) (start′ .args .rs .now) (start′ .args .memory .now)
+    (start′ .args .output .now) (λ none. omega (arith, none, if1′ .left))
+    (rw (c .before .before .before .before .before .before .read .ensures) at (c .before .before .before .before .before .row-of .ensures))
+    (c .before .before .before .before .keep .ensures))
 
 pub further-spec : {M : Type 1} → statement M
 further-spec =

@@ -28,7 +28,15 @@ same-length-3 c = search needs
 returns : tie.Need-returns
 returns c =
     let start′ = c .before .before .before .before .before .before .before .before .before .before .before .before .before .before .before .before in
-    let a = start′ .args in let none = no-last-line village (a .pending) (a .input .now) (villageOf (a .feed) (a .rs .now) (a .memory .now)) (omega (arith, c .before .before .before .before .before .before .before .before .before .before .if1 .taken)) in let ran = rw (c .before .before .before .before .before .before .before .before .before .before .before .unprinted .ensures) at (c .before .before .before .before .before .before .finish .ensures) in record { answers = last-then-run none ran; fits = omega (arith, ran .fits, start′ .pre .2) }
+    let a = start′ .args in
+    let none = no-last-line village (a .pending) (a .input .now) (villageOf (a .feed) (a .rs .now) (a .memory .now))
+    (omega (arith, c .before .before .before .before .before .before .before .before .before .before .if1 .taken)) in
+    let ran = rw (c .before .before .before .before .before .before .before .before .before .before .before .unprinted .ensures) at
+    (c .before .before .before .before .before .before .finish .ensures) in
+    record {
+      answers = last-then-run none ran;
+      fits = omega (arith, ran .fits, start′ .pre .2);
+    }
 
 sub-take-line : tie.Need-sub-take-line
 sub-take-line c = search needs
@@ -47,7 +55,8 @@ take-line-requires c κs =
 finish-requires-2 : tie.Need-finish-requires-2
 finish-requires-2 c κs =
     let start′ = c .before .before .before .before .before .before .before .before .before .before .before .before .before .before .before .before .before .before .before .before in
-    let took = rw (c .before .before .before .before .before .before .before .before .before .before .before .before .before .before .before .unprinted .ensures) at (c .before .before .before .before .before .before .before .before .before .take-line .ensures) in (omega (arith, took .rows, start′ .pre .1), omega (arith, took .fits, start′ .pre .2))
+    let took = rw (c .before .before .before .before .before .before .before .before .before .before .before .before .before .before .before .unprinted .ensures) at (c .before .before .before .before .before .before .before .before .before .take-line .ensures) in
+    (omega (arith, took .rows, start′ .pre .1), omega (arith, took .fits, start′ .pre .2))
 
 same-length-4 : tie.Need-same-length-4
 same-length-4 c = search needs
@@ -61,7 +70,15 @@ same-length-6 c = search needs
 returns-2 : tie.Need-returns-2
 returns-2 c =
     let finish2′ = c .before .before .before .before .before .before .finish2 in
-    let s = c .before .before .before .before .before .before .before .before .before .before .before .before .before .before .before .before .before .before .before .before .before .before .before .before .before .before .before in let a = s .args in let took = rw (c .before .before .before .before .before .before .before .before .before .before .before .before .before .before .before .before .before .before .before .before .before .before .unprinted .ensures) at (c .before .before .before .before .before .before .before .before .before .before .before .before .before .before .before .before .take-line .ensures) in let last = last-is-answered village (a .pending) (a .input .now) (villageOf (a .feed) (a .rs .now) (a .memory .now)) (λ none. omega (arith, none, c .before .before .before .before .before .before .before .before .before .before .before .before .before .before .before .before .before .before .before .before .before .if1 .left)) (s .pre .0) (s .pre .3) (took .answers) in record { answers = last-then-run last (finish2′ .ensures); fits = omega (arith, took .fits, finish2′ .ensures .fits, s .pre .2) }
+    let s = c .before .before .before .before .before .before .before .before .before .before .before .before .before .before .before .before .before .before .before .before .before .before .before .before .before .before .before in
+    let a = s .args in
+    let took = rw (c .before .before .before .before .before .before .before .before .before .before .before .before .before .before .before .before .before .before .before .before .before .before .unprinted .ensures) at (c .before .before .before .before .before .before .before .before .before .before .before .before .before .before .before .before .take-line .ensures) in
+    let last = last-is-answered village (a .pending) (a .input .now) (villageOf (a .feed) (a .rs .now) (a .memory .now))
+    (λ none. omega (arith, none, c .before .before .before .before .before .before .before .before .before .before .before .before .before .before .before .before .before .before .before .before .before .if1 .left)) (s .pre .0) (s .pre .3) (took .answers) in
+    record {
+      answers = last-then-run last (finish2′ .ensures);
+      fits = omega (arith, took .fits, finish2′ .ensures .fits, s .pre .2);
+    }
 
 pub last-line-spec : {M : Type 1} → statement M
 last-line-spec =

@@ -34,7 +34,9 @@ returns c =
     let start′ =
     c .before .before .before .before .before .before .before .before .before .before .before .before .before .before .before .before .before .before in
     let run-and-print′ = c .before .before .before .before .before .before .before .before .before .before .before .run-and-print in
-    past-took (start′ .args .settings) (start′ .args .feed) (start′ .args .rs .now) (start′ .args .memory .now) (start′ .args .output .now) (run-and-print′ .ensures) (start′ .pre .1) (run-and-print′ .kept .1 .0) (start′ .args .number) (rw (c .before .before .before .malformed .ensures) at (c .before .before .row .ensures))
+    past-took (start′ .args .settings) (start′ .args .feed) (start′ .args .rs .now) (start′ .args .memory .now) (start′ .args .output .now)
+    (run-and-print′ .ensures) (start′ .pre .1) (run-and-print′ .kept .1 .0) (start′ .args .number)
+    (rw (c .before .before .before .malformed .ensures) at (c .before .before .row .ensures))
 
 pub past-spec : {M : Type 1} → statement M
 past-spec =

@@ -32,7 +32,10 @@ same-length-2 c = search needs
 returns : tie.Need-returns
 returns c =
     let start′ = c .before .before .before .before .before .before .before .before .before .before .before .before .before .before in
-    took-as (lineTaken (start′ .args .line .now)) (first-is-line (start′ .args .line .now) _ (c .before .before .before .before .before .before .before .before .before .wrapping-add-u64 .ensures) (c .before .before .before .before .before .before .before .enum-told .given .1)) (c .before .before .before .before .first .ensures (start′ .args .rs .now))
+    took-as (lineTaken (start′ .args .line .now)) (first-is-line (start′ .args .line .now) _
+    (c .before .before .before .before .before .before .before .before .before .wrapping-add-u64 .ensures)
+    (c .before .before .before .before .before .before .before .enum-told .given .1)) (c .before .before .before .before .first .ensures
+    (start′ .args .rs .now))
 
 same-length-3 : tie.Need-same-length-3
 same-length-3 c = search needs
@@ -47,7 +50,10 @@ returns-2 : tie.Need-returns-2
 returns-2 c =
     let start′ =
     c .before .before .before .before .before .before .before .before .before .before .before .before .before .before .before .before .before .before in
-    took-as (lineTaken (start′ .args .line .now)) (further-is-line (start′ .args .line .now) _ (c .before .before .before .before .before .before .before .before .before .before .before .before .before .wrapping-add-u64 .ensures) _ (c .before .before .before .before .before .before .before .before .before .before .before .stage .given .1)) (c .before .before .before .before .before .before .further .ensures)
+    took-as (lineTaken (start′ .args .line .now)) (further-is-line (start′ .args .line .now) _
+    (c .before .before .before .before .before .before .before .before .before .before .before .before .before .wrapping-add-u64 .ensures) _
+    (c .before .before .before .before .before .before .before .before .before .before .before .stage .given .1))
+    (c .before .before .before .before .before .before .further .ensures)
 
 returns-3 : tie.Need-returns-3
 returns-3 c =

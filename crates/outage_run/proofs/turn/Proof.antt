@@ -44,7 +44,22 @@ returns : tie.Need-returns
 returns c =
     let whole-lines′ = c .before .before .before .before .before .before .before .before .before .before .before .whole-lines in
     let unprinted′ = c .before .before .before .before .before .before .before .before .before .before .before .before .unprinted in
-    let s = c .before .before .before .before .before .before .before .before .before .before .before .before .before .before .before .before .before .before .before .before .before .before in let a = s .args in let answered = whole-lines′ .ensures in let at = whole-lines′ .result .at in let kept = c .before .before .before .keep-rest .ensures in let inside : at ≤ a .end = omega (arith, answered .within, length-take (a .end - 0) (a .input .now)) in record { answers = turn-answers (a .end) (a .input .now) (a .feed) (a .rs .now) (a .memory .now) (a .output .now) (rw (unprinted′ .ensures) at (answered .answers)); keeps = λ goes-on. turn-keeps (a .end) (a .input .now) at inside (s .pre .0) (kept .0) (kept .1) (answered .leaves goes-on); few = omega (arith, kept .0); rows = rw (unprinted′ .ensures) at (answered .rows); fits = answered .fits; beyond-printed = answered .beyond; beyond-pending = turn-leaves-beyond (a .end) (a .input .now) at inside (s .pre .0) (kept .0) (kept .1) }
+    let s = c .before .before .before .before .before .before .before .before .before .before .before .before .before .before .before .before .before .before .before .before .before .before in
+    let a = s .args in
+    let answered = whole-lines′ .ensures in
+    let at = whole-lines′ .result .at in
+    let kept = c .before .before .before .keep-rest .ensures in
+    let inside : at ≤ a .end = omega (arith, answered .within, length-take (a .end - 0) (a .input .now)) in
+    record {
+      answers =
+          turn-answers (a .end) (a .input .now) (a .feed) (a .rs .now) (a .memory .now) (a .output .now) (rw (unprinted′ .ensures) at (answered .answers));
+      keeps = λ goes-on. turn-keeps (a .end) (a .input .now) at inside (s .pre .0) (kept .0) (kept .1) (answered .leaves goes-on);
+      few = omega (arith, kept .0);
+      rows = rw (unprinted′ .ensures) at (answered .rows);
+      fits = answered .fits;
+      beyond-printed = answered .beyond;
+      beyond-pending = turn-leaves-beyond (a .end) (a .input .now) at inside (s .pre .0) (kept .0) (kept .1);
+    }
 
 pub turn-spec : {M : Type 1} → statement M
 turn-spec =

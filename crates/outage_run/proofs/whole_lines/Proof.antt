@@ -39,8 +39,17 @@ part-take-line-end c = search needs
 
 take-line-requires : tie.Need-take-line-requires Inv-loop μ-loop
 take-line-requires c κs =
-    let loop′ = c .before .before .before .before .before .before .before .loop in
-    (omega (arith, loop′ .inv .rows, loop′ .inv .same-rs, c .before .before .before .before .before .before .before .before .before .before .before .before .pre .0), omega (arith, loop′ .inv .fits, loop′ .inv .same-output, c .before .before .before .before .if1 .left, c .before .before .before .before .before .find .ensures .1))
+    let start = c .before .before .before .before .before .before .before .before .before .before .before .before in
+    let loop′ = c .before .before .before .before .before .before .before .loop in (
+      omega (arith, loop′ .inv .rows, loop′ .inv .same-rs, start .pre .0),
+      omega (
+        arith,
+        loop′ .inv .fits,
+        loop′ .inv .same-output,
+        c .before .before .before .before .if1 .left,
+        c .before .before .before .before .before .find .ensures .1,
+      ),
+    )
 
 add-at : tie.Need-add-at Inv-loop μ-loop
 add-at c = search needs
@@ -53,9 +62,26 @@ loop-less c = search needs
 
 loop-again : tie.Need-loop-again Inv-loop μ-loop
 loop-again c =
+    let start = c .before .before .before .before .before .before .before .before .before .before .before .before .before .before .before .before .before .before .before .before .before in
     let loop′ = c .before .before .before .before .before .before .before .before .before .before .before .before .before .before .before .before .loop in
     let find′ = c .before .before .before .before .before .before .before .before .before .before .before .before .before .before .find in
-    let inv = loop′ .inv in let bytes = c .before .before .before .before .before .before .before .before .before .before .before .before .before .before .before .before .before .before .before .before .before .args .bytes .now in let took = c .before .before .before .before .before .before .before .before .take-line .ensures in let stops : find′ .result ≡ loop′ .at + indexOf lineFeed (drop (loop′ .at) bytes) = found-from lineFeed _ _ (find′ .ensures .0) in let inside : find′ .result < length bytes = omega (arith, c .before .before .before .before .before .before .before .before .before .before .before .before .before .if1 .left, find′ .ensures .1) in record { same-output = search needs; same-rs = search needs; same-memory = search needs; inside = omega arith; rows = omega (arith, took .rows, inv .rows); fits = omega (arith, took .fits, inv .fits, find′ .ensures); goes-on = sym (c .before .has-ended .ensures) ∙ c .if2 .left; far = line-follows (inv .far) (inv .goes-on) stops inside (took .answers); beyond = same-further _ _ _ _ _ (inv .beyond) (took .after) (took .beyond) }
+    let inv = loop′ .inv in
+    let bytes = start .args .bytes .now in
+    let took = c .before .before .before .before .before .before .before .before .take-line .ensures in
+    let stops : find′ .result ≡ loop′ .at + indexOf lineFeed (drop (loop′ .at) bytes) = found-from lineFeed _ _ (find′ .ensures .0) in
+    let inside : find′ .result < length bytes = omega
+    (arith, c .before .before .before .before .before .before .before .before .before .before .before .before .before .if1 .left, find′ .ensures .1) in
+    record {
+      same-output = search needs;
+      same-rs = search needs;
+      same-memory = search needs;
+      inside = omega arith;
+      rows = omega (arith, took .rows, inv .rows);
+      fits = omega (arith, took .fits, inv .fits, find′ .ensures);
+      goes-on = sym (c .before .has-ended .ensures) ∙ c .if2 .left;
+      far = line-follows (inv .far) (inv .goes-on) stops inside (took .answers);
+      beyond = same-further _ _ _ _ _ (inv .beyond) (took .after) (took .beyond);
+    }
 
 same-length : tie.Need-same-length Inv-loop μ-loop
 same-length c = search needs
@@ -88,10 +114,21 @@ same-length-6 c = search needs
 
 returns-2 : tie.Need-returns-2 Inv-loop μ-loop
 returns-2 c =
+    let start = c .before .before .before .before .before .before .before .before in
     let loop′ = c .before .before .before .loop in
     let find′ = c .before .find in
     let if1′ = c .if1 in
-    let inv = loop′ .inv in let bytes = c .before .before .before .before .before .before .before .before .args .bytes .now in let stops : find′ .result ≡ loop′ .at + indexOf lineFeed (drop (loop′ .at) bytes) = found-from lineFeed _ _ (find′ .ensures .0) in record { answers = none-left (inv .far) (omega (arith, stops, if1′ .taken)); leaves = λ goes-on. rest-left (inv .far) (omega (arith, stops, if1′ .taken)); within = inv .inside; rows = inv .rows; fits = omega (arith, inv .fits, inv .same-output); beyond = inv .beyond }
+    let inv = loop′ .inv in
+    let bytes = start .args .bytes .now in
+    let stops : find′ .result ≡ loop′ .at + indexOf lineFeed (drop (loop′ .at) bytes) = found-from lineFeed _ _ (find′ .ensures .0) in
+    record {
+      answers = none-left (inv .far) (omega (arith, stops, if1′ .taken));
+      leaves = λ goes-on. rest-left (inv .far) (omega (arith, stops, if1′ .taken));
+      within = inv .inside;
+      rows = inv .rows;
+      fits = omega (arith, inv .fits, inv .same-output);
+      beyond = inv .beyond;
+    }
 
 same-length-7 : tie.Need-same-length-7 Inv-loop μ-loop
 same-length-7 c = search needs
@@ -104,9 +141,25 @@ same-length-9 c = search needs
 
 returns-3 : tie.Need-returns-3 Inv-loop μ-loop
 returns-3 c =
+    let start = c .before .before .before .before .before .before .before .before .before .before .before .before .before .before .before .before .before .before .before .before .before in
     let loop′ = c .before .before .before .before .before .before .before .before .before .before .before .before .before .before .before .before .loop in
     let find′ = c .before .before .before .before .before .before .before .before .before .before .before .before .before .before .find in
-    let inv = loop′ .inv in let bytes = c .before .before .before .before .before .before .before .before .before .before .before .before .before .before .before .before .before .before .before .before .before .args .bytes .now in let took = c .before .before .before .before .before .before .before .before .take-line .ensures in let stops : find′ .result ≡ loop′ .at + indexOf lineFeed (drop (loop′ .at) bytes) = found-from lineFeed _ _ (find′ .ensures .0) in let inside : find′ .result < length bytes = omega (arith, c .before .before .before .before .before .before .before .before .before .before .before .before .before .if1 .left, find′ .ensures .1) in let told = c .before .has-ended .ensures in let ended = c .if2 .taken in record { answers = none-follow (inv .far) (inv .goes-on) stops inside (took .answers) (sym told ∙ ended); leaves = ended-is-over told ended; within = omega (arith, inside); rows = omega (arith, took .rows, inv .rows); fits = omega (arith, took .fits, inv .fits, inside, inv .same-output); beyond = same-further _ _ _ _ _ (inv .beyond) (took .after) (took .beyond) }
+    let inv = loop′ .inv in
+    let bytes = start .args .bytes .now in
+    let took = c .before .before .before .before .before .before .before .before .take-line .ensures in
+    let stops : find′ .result ≡ loop′ .at + indexOf lineFeed (drop (loop′ .at) bytes) = found-from lineFeed _ _ (find′ .ensures .0) in
+    let inside : find′ .result < length bytes = omega
+    (arith, c .before .before .before .before .before .before .before .before .before .before .before .before .before .if1 .left, find′ .ensures .1) in
+    let told = c .before .has-ended .ensures in
+    let ended = c .if2 .taken in
+    record {
+      answers = none-follow (inv .far) (inv .goes-on) stops inside (took .answers) (sym told ∙ ended);
+      leaves = ended-is-over told ended;
+      within = omega (arith, inside);
+      rows = omega (arith, took .rows, inv .rows);
+      fits = omega (arith, took .fits, inv .fits, inside, inv .same-output);
+      beyond = same-further _ _ _ _ _ (inv .beyond) (took .after) (took .beyond);
+    }
 
 pub whole-lines-spec : {M : Type 1} → statement M
 whole-lines-spec =
