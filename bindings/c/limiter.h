@@ -8,7 +8,7 @@
  * the call ends, touches nothing but the memory that it is lent, and either does what it says or refuses by number and changes nothing.
  * `words` and `len` have to be 64-bit words that the call may read and, unless they are const, write; while a call writes them no other
  * call may use them. Calls on const words may run side by side. NULL with length 0 is safe too: no store has 0 words, so such a
- * call is refused as LIMITER_BAD_MEMORY, unless its settings are refused first.
+ * call is refused as LIMITER_BAD_MEMORY, unless its settings are refused first. The list of debts that limiter_debts fills is lent likewise.
  *
  * Give all calls on the same words the same settings; only then do the words mean what they should. The words do not remember their
  * settings, so nothing refuses others.
@@ -23,11 +23,11 @@
 
 /* The version of this interface. A change that a caller has to know of raises the minor number while the major one is 0. */
 #define LIMITER_VERSION_MAJOR 0
-#define LIMITER_VERSION_MINOR 8
+#define LIMITER_VERSION_MINOR 9
 #define LIMITER_VERSION_PATCH 0
-#define LIMITER_VERSION "0.8.0"
+#define LIMITER_VERSION "0.9.0"
 /* The same as one number: 65,536 times the major number, 256 times the minor one, and the patch. */
-#define LIMITER_VERSION_NUMBER 0x000800
+#define LIMITER_VERSION_NUMBER 0x000900
 
 #ifdef __cplusplus
 extern "C" {
@@ -35,23 +35,23 @@ extern "C" {
 
 /* The version of the library that is linked, as LIMITER_VERSION_NUMBER has it. The name has the major and the minor number in it: a library of
  * another minor version does not define it. Every object that is compiled with this header refers to it, so header and library of two
- * versions do not link ("undefined reference to limiter_version_0_8"). The patch may differ. */
-uint32_t limiter_version_0_8(void);
+ * versions do not link ("undefined reference to limiter_version_0_9"). The patch may differ. */
+uint32_t limiter_version_0_9(void);
 #if defined(__has_attribute)
 #if __has_attribute(retain)
-static uint32_t (*const limiter_version_needed)(void) __attribute__((used, retain)) = limiter_version_0_8;
+static uint32_t (*const limiter_version_needed)(void) __attribute__((used, retain)) = limiter_version_0_9;
 #define LIMITER_VERSION_IS_NEEDED
 #endif
 #endif
 #if defined(__GNUC__) && !defined(LIMITER_VERSION_IS_NEEDED)
-static uint32_t (*const limiter_version_needed)(void) __attribute__((used)) = limiter_version_0_8;
+static uint32_t (*const limiter_version_needed)(void) __attribute__((used)) = limiter_version_0_9;
 #endif
 #undef LIMITER_VERSION_IS_NEEDED
 
 /* The version of the library that is linked, for a log. */
 static inline uint32_t limiter_version(void)
 {
-    return limiter_version_0_8();
+    return limiter_version_0_9();
 }
 
 /* What a store is set up with. Times are in nanoseconds. A flag is set if it is not 0. A value whose flag is not set is not read: write settings
@@ -183,7 +183,7 @@ static inline limiter_class limiter_class_with_parent(limiter_class c, uint64_t 
 /* An answer. */
 typedef struct limiter_reply {
     uint64_t code;   /* one of the codes below */
-    uint64_t number; /* a wait in ns, tokens, or a count of tries or of keys, as the call says; else 0 */
+    uint64_t number; /* a wait in ns, tokens, or a count of tries, of keys or of debts, as the call says; else 0 */
     uint64_t moment; /* of a grant and of a retry: now + the wait, when the tokens may be used, or when to try again. Of all
                         other answers 0. It can be after 2^62, the last moment at which a call is taken, and is held to 2^64 - 1 */
 } limiter_reply;
@@ -194,6 +194,12 @@ typedef struct limiter_identity {
     uint64_t hash; /* the hash of the address; 0 where it is refused */
     uint64_t key;  /* its key; 0 where it is refused */
 } limiter_identity;
+
+/* A debt: what the store keeps of a key that it forgot before its bucket was full. It keeps the hash and not the key. */
+typedef struct limiter_debt {
+    uint64_t hash;       /* the hash of the key */
+    uint64_t settles_at; /* the moment at which the debt settles: the bucket would be full. It can be after 2^62 */
+} limiter_debt;
 
 /* The layout that the library has. */
 #if defined(__cplusplus) && __cplusplus >= 201103L
@@ -234,6 +240,9 @@ LIMITER_ASSERT(identity, sizeof(limiter_identity) == 24);
 LIMITER_OFFSET(identity, code, 0);
 LIMITER_OFFSET(identity, hash, 8);
 LIMITER_OFFSET(identity, key, 16);
+LIMITER_ASSERT(debt, sizeof(limiter_debt) == 16);
+LIMITER_OFFSET(debt, hash, 0);
+LIMITER_OFFSET(debt, settles_at, 8);
 #undef LIMITER_OFFSET
 #undef LIMITER_ASSERT
 
@@ -241,7 +250,7 @@ LIMITER_OFFSET(identity, key, 16);
  *
  * A call is refused for the first thing that is wrong, in the order 1 to 7 for most calls. A call by address is refused for its address (11, 12) before
  * that. A call with a table of classes looks at the table after that, so that 1 to 3 come again, for the rates of the classes: limiter_class_set_up has the
- * order. */
+ * order. limiter_debts looks at the shard after 6: 16 for its number, 5 again for its count of debts, then 17. */
 enum {
     LIMITER_DONE = 0,           /* granted, from moment on; or accepted, known, counted */
     LIMITER_RETRY = 1,          /* not now; number is the wait in ns, and moment when it is over */
@@ -256,14 +265,16 @@ enum {
                                    limiter_set_up and limiter_clear that with s.classes 0; for a call with a table that of its classes. Or the count of
                                    slots or of debts of the key's shard is more than the shard can hold; or the total of slots is less than the count of
                                    slots of the key's shard, or more than all shards can hold. limiter_length looks at the total alone, for the last of these.
-                                   Set-up and clear look at none of them */
+                                   limiter_debts looks at the count of debts of its shard alone. Set-up and clear look at none of them */
     LIMITER_BAD_MOMENT = 16,    /* refused as 6: now is after 2^62 ns */
     LIMITER_BAD_MAX_WAIT = 17,  /* refused as 7: max_wait is over 2^46 ns */
     LIMITER_BAD_ADDRESS = 21,   /* refused as 11: the address is not six bytes */
     LIMITER_GROUP_ADDRESS = 22, /* refused as 12: the address is that of a group: the lowest bit of its first byte is set */
     LIMITER_BAD_BUFFER = 23,    /* refused as 13: the buffer is shorter than the line */
     LIMITER_BAD_CLASS = 24,     /* refused as 14: more than 64 classes; or a parent, or the class of a try, that is not in the table */
-    LIMITER_BAD_CHAIN = 25      /* refused as 15: a chain of parents that does not end within 8 classes, the first included; a loop is one */
+    LIMITER_BAD_CHAIN = 25,     /* refused as 15: a chain of parents that does not end within 8 classes, the first included; a loop is one */
+    LIMITER_BAD_SHARD = 26,     /* refused as 16: the store has no shard of this number */
+    LIMITER_BAD_RECORDS = 27    /* refused as 17: fewer records are lent than there are debts to write */
 };
 
 enum {
@@ -298,6 +309,8 @@ static inline const char *limiter_code_text(uint64_t code)
     case LIMITER_BAD_BUFFER: return "the buffer is shorter than the line";
     case LIMITER_BAD_CLASS: return "more than 64 classes, or a class that is not in the table";
     case LIMITER_BAD_CHAIN: return "a chain of parents that does not end within 8 classes";
+    case LIMITER_BAD_SHARD: return "the store has no shard of this number";
+    case LIMITER_BAD_RECORDS: return "fewer records than there are debts to write";
     default: return "a code that this header does not know";
     }
 }
@@ -376,6 +389,23 @@ limiter_reply limiter_clear(limiter_settings s, uint64_t *words, size_t len);
  * and compare both before you use the words: bindings/c/save.c does. Save the table of classes too, if there is one. Words that an earlier version
  * saved are fewer, and are refused as 5. The store is then set up anew, and all keys and debts are forgotten. */
 limiter_reply limiter_length(limiter_settings s, const uint64_t *words, size_t len);
+
+/* Who is still in debt? Lists the debts of one shard that settle after `now`, strictly: a debt that settles at `now` has settled. They are written over the
+ * first records of a lent list, in the order of the shard's ledger, which is neither that of the moments nor that of the hashes. 0 with `number` records
+ * written. The records past them stay, and no word of the store changes. The debts of a closed limiter are listed too. With a rate, a key of a
+ * listed hash that comes back at `now` does not find its bucket full.
+ *
+ * `records` and `count` are the list: an array of `count` records that the call may write, aligned to 8 bytes. It must not lie in `words`, and no one else may
+ * use it during the call. Records of any content are safe. NULL with count 0 is safe too. A shard has room for as many debts as keys: max_keys divided by the
+ * shards in use, rounded up, and at least 1. A list of so many records is always enough. A refusal as 17 does not say how many are missing.
+ *
+ * `shard` counts from 0. The shards in use are those asked for, raised and rounded up as limiter_settings says. To list a whole store begin at 0 and go on
+ * until LIMITER_BAD_SHARD; nobody may write the words in between.
+ *
+ * Refused, in this order: as 1 to 4; 5 for the number of words; 6; 16 if `shard` is not below the shards in use; 5 if the shard's count of debts is more than
+ * the shard can hold; 17 if the list has fewer records than are to be written. Counts of slots and the total are not looked at. A refused call writes no
+ * record. */
+limiter_reply limiter_debts(limiter_settings s, const uint64_t *words, size_t len, uint64_t now, uint64_t shard, limiter_debt *records, size_t count);
 
 /* Limits above the keys: a node, and the hub above it. In the calls below `classes` and `count` are the table: an array of `count` classes, which is only read
  * and must not lie in `words`. NULL with count 0 is safe: a store without classes. The table belongs to the settings: give all calls on the same words the

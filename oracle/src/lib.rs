@@ -12,7 +12,7 @@
 //! limiter.words();                                               // 32 words
 //! ```
 //!
-//! - [`Limiter`]: the operations, with refusals, answers and words, and the count of 02, request 8, which the published Rust lacks.
+//! - [`Limiter`]: the operations, with refusals, answers and words, and the count of 02, request 8, and the list of request 12, which the published Rust lacks.
 //! - [`OneShard`]: one shard, with the published parts called by themselves.
 //! - [`refusals`]: the numbered refusals over any words at all.
 //! - [`Shape`]: how settings divide a memory; [`layout`]: where its words stand.

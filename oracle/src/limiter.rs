@@ -20,7 +20,7 @@ use crate::tally::Tally;
 pub struct Answer {
     /// 0 granted, accepted or known; 1 retry; 2 impossible; 3 none or unknown; 10 + n refused as n.
     pub code: u8,
-    /// The wait in ns of a retry or a reservation, the tokens available, the tries turned away, the length; else 0.
+    /// The wait in ns of a retry or a reservation, the tokens available, the tries turned away, the length, the debts listed; else 0.
     pub number: u64,
 }
 
@@ -225,6 +225,29 @@ impl Limiter {
         match refusals::length(&self.settings, self) {
             Some(number) => Answer::refused(number),
             None => Answer::done(self.published().len() as u64),
+        }
+    }
+
+    /// How many debts of a shard settle after `now`, and their hashes and settling moments, if so many records are lent for them. The published limiter has
+    /// no such call: these are the debts of its ledger, filtered.
+    #[must_use]
+    pub fn debts(&self, now: u64, shard: u64, lent: usize) -> (Answer, Vec<(u64, u64)>) {
+        let refused = |number| (Answer::refused(number), Vec::new());
+        if let Some(number) = refusals::debts(&self.settings, self, now, shard) {
+            return refused(number);
+        }
+        let shard = self
+            .shard(shard as usize)
+            .expect("calls after a refused set-up are refused");
+        let mut debts = Vec::new();
+        shard.each_debt(|hash, settles_at| {
+            if settles_at > now {
+                debts.push((hash, settles_at));
+            }
+        });
+        match refusals::records(lent, debts.len()) {
+            Some(number) => refused(number),
+            None => (Answer::done(debts.len() as u64), debts),
         }
     }
 

@@ -124,6 +124,28 @@ pub fn length<M: Memory + ?Sized>(settings: &Settings, memory: &M) -> Option<u8>
     set_up(settings, memory).or_else(|| refuse(5, memory.total() > Shape::of(settings).places()))
 }
 
+/// The list of a shard's debts (02, request 12): 1 to 5 as set-up, 6, 16 for the shard's number, then 5 for its debt count. No slot count is looked at, nor the
+/// total. [`records`] comes last.
+pub fn debts<M: Memory + ?Sized>(
+    settings: &Settings,
+    memory: &M,
+    now: u64,
+    shard: u64,
+) -> Option<u8> {
+    set_up(settings, memory)
+        .or_else(|| moment(now))
+        .or_else(|| {
+            let shape = Shape::of(settings);
+            refuse(16, shard >= shape.shards)
+                .or_else(|| refuse(5, memory.debt_count(shape, shard) > shape.cap))
+        })
+}
+
+/// 17: so many records are lent for so many that are to be written (02, request 12).
+pub fn records(lent: usize, to_write: usize) -> Option<u8> {
+    refuse(17, lent < to_write)
+}
+
 /// `number` if the call is to be refused with it.
 fn refuse(number: u8, refused: bool) -> Option<u8> {
     refused.then_some(number)

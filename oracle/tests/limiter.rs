@@ -249,3 +249,39 @@ fn parts_can_be_called_alone() {
     assert_eq!(words[14..], [0, 1, 0, 0]);
     assert_eq!(shard.remove_at(0), Some(key(9)));
 }
+
+/// 02, request 12: the debts of the Rust's ledger, filtered. Key 7 owes until 1 s, and key 8 has the slot.
+#[test]
+fn debts_of_a_shard() {
+    const SECOND: u64 = 1_000_000_000;
+    let (limiter, _) = Limiter::set_up(settings(1, 1), 19);
+    let got = answers![limiter.try_(0, key(7), 2), limiter.try_(0, key(8), 1)];
+    assert_eq!(got, [(0, 0), (0, 0)]);
+    let list = |now, shard, lent| {
+        let (answer, debts) = limiter.debts(now, shard, lent);
+        ((answer.code, answer.number), debts)
+    };
+    assert_eq!(list(0, 0, 1), ((0, 1), vec![(7, SECOND)]));
+    assert_eq!(list(SECOND - 1, 0, 9), ((0, 1), vec![(7, SECOND)]));
+    assert_eq!(list(SECOND, 0, 0), ((0, 0), vec![]));
+    assert_eq!(list(0, 0, 0), ((27, 0), vec![]));
+    assert_eq!(list(0, 1, 0), ((26, 0), vec![]));
+    assert_eq!(list((1 << 62) + 1, u64::MAX, 0), ((16, 0), vec![]));
+    let (refused, _) = Limiter::set_up(settings(1, 1), 18);
+    assert_eq!(refused.debts(u64::MAX, 1, 0).0.code, 15);
+}
+
+/// The debt count is refused as 5 after the shard's number and before the records. No slot count is looked at, nor the total.
+#[test]
+fn refusals_of_a_list() {
+    let settings = settings(1, 2);
+    let shape = Shape::of(&settings);
+    let mut words = vec![u64::MAX; shape.words()];
+    let list = |words: &[u64], shard| refusals::debts(&settings, words, 0, shard);
+    assert_eq!([list(&words, 0), list(&words, 2)], [Some(5), Some(16)]);
+    let ledger = oracle::layout::debts(shape.room()).count;
+    words[shape.shard(1).start + ledger] = 1;
+    assert_eq!([list(&words, 0), list(&words, 1)], [Some(5), None]);
+    assert_eq!(refusals::records(1, 1), None);
+    assert_eq!(refusals::records(1, 2), Some(17));
+}

@@ -21,6 +21,7 @@ use throttle::{decision, error, eviction, perkey, store};
 
 use decision::Decision;
 use perkey::PerKey;
+use store::one_shard::OneShard;
 
 pub use eviction::{Eviction, WhenFull};
 pub use key::Key;
@@ -102,6 +103,18 @@ impl Limiter {
     #[inline]
     pub fn remove(&self, key: Key) -> Answer {
         known(self.published.remove(&key))
+    }
+
+    /// The debts of the first shard that settle after `now`, and how many they are. The published limiter has no such call: its ledger is filtered.
+    #[inline]
+    pub fn debts(&self, now: u64, debts: &mut Vec<(u64, u64)>) -> Answer {
+        debts.clear();
+        OneShard::new(self.published.store(), 0, None).each_debt(|hash, settles_at| {
+            if settles_at > now {
+                debts.push((hash, settles_at));
+            }
+        });
+        (0, debts.len() as u64)
     }
 
     /// The number of keys that have a slot.

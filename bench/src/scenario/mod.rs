@@ -1,6 +1,7 @@
 //! The scenarios: settings, calls that bring a store into its state, and the calls that are timed.
 
 mod classes;
+mod debts;
 mod hash;
 pub mod hot;
 pub mod known;
@@ -11,6 +12,7 @@ mod whole;
 use published::Key;
 
 pub use classes::Classes;
+pub use debts::Listed;
 pub use hash::Hash;
 
 /// The settings of both sides. The period is a second. The Rust has no classes.
@@ -45,6 +47,8 @@ pub enum Op {
     Refund,
     Remove,
     Length,
+    /// The debts of the first shard; of the Rust, which has no such call, its ledger filtered.
+    Debts,
 }
 
 /// A call. All the calls of a scenario are made up before any is timed.

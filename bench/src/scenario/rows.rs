@@ -1,11 +1,12 @@
 //! The rows of the table.
 
 use super::classes::through;
+use super::debts::debts;
 use super::hot::{hot, hot_denied};
 use super::known::{known, removals};
 use super::new_keys::{all_owe, recovered};
 use super::whole::whole;
-use super::{Classes, Hash, Op, Scenario, Setup};
+use super::{Classes, Hash, Listed, Op, Scenario, Setup};
 
 /// What a row is of.
 #[derive(Clone, Copy)]
@@ -18,6 +19,7 @@ pub enum Kind {
     AllOwe,
     Recovered,
     Whole(Op),
+    Debts(Listed),
 }
 
 /// A row, before its calls are made up.
@@ -32,7 +34,7 @@ pub struct Row {
 }
 
 use Hash::Mixed;
-use Kind::{AllOwe, Hot, HotDenied, HotThrough, Known, Recovered, Removals, Whole};
+use Kind::{AllOwe, Debts, Hot, HotDenied, HotThrough, Known, Recovered, Removals, Whole};
 
 /// Known keys: how many, over how many shards.
 pub const SIZES: [(usize, usize); 6] = [MANY, MANY_IN_ONE, MOST, MOST_IN_ONE, ALL, ALL_IN_FOUR];
@@ -46,7 +48,7 @@ const FEW_IN_ONE: (usize, usize) = (64, 1);
 const SOME_IN_ONE: (usize, usize) = (512, 1);
 
 /// Every row, in the order of the table.
-pub const ROWS: [Row; 51] = [
+pub const ROWS: [Row; 53] = [
     row(Hot(Op::Try), MANY),
     row(Hot(Op::Try), MANY).idle(),
     row(HotDenied, MANY),
@@ -98,6 +100,8 @@ pub const ROWS: [Row; 51] = [
     row(Whole(Op::SetUp), MANY),
     row(Whole(Op::SetUp), MOST),
     row(Whole(Op::SetUp), ALL),
+    row(Debts(Listed::All), MANY_IN_ONE),
+    row(Debts(Listed::None), MANY_IN_ONE),
 ];
 
 /// So many chains of a length.
@@ -173,6 +177,8 @@ impl Row {
             AllOwe => format!("new keys, all owe, {rule}, {sizes}"),
             Recovered => format!("new keys, recovered, {sizes}"),
             Whole(op) => format!("{}, {sizes}", done(op)),
+            Debts(Listed::All) => format!("debts of a full ledger, all listed, {sizes}"),
+            Debts(Listed::None) => format!("debts of a full ledger, none listed, {sizes}"),
         };
         name += if self.idle { ", idle time" } else { "" };
         name += if self.hash == Mixed {
@@ -194,6 +200,7 @@ impl Row {
             AllOwe => all_owe(calls, self),
             Recovered => recovered(calls, self),
             Whole(op) => whole(op, calls, self.sizes),
+            Debts(listed) => debts(calls, self, listed),
         };
         Scenario {
             name: self.name(),
@@ -212,5 +219,6 @@ const fn done(op: Op) -> &'static str {
         Op::Remove => "removed",
         Op::Length => "length",
         Op::SetUp => "set-up",
+        Op::Debts => "listed",
     }
 }

@@ -1,17 +1,21 @@
 //! Our library over its C interface, as limiter-sys declares it.
 
+use limiter_sys::debts::{self, LimiterDebt};
 use limiter_sys::{LimiterClass, LimiterReply, LimiterSettings, classes, limiter_words, slices};
 use published::{Answer, Key};
 
 use super::Store;
 use crate::scenario::{Classes, MAX_WAIT, Setup};
 
-/// Settings, the words of the table of classes, the class that is named, and the words lent to the library.
+/// Settings, the words of the table of classes, the class that is named, and the words lent to the library; the room of a shard, and records, which are made
+/// when they are first asked for.
 pub struct CCall {
     settings: LimiterSettings,
     table: Vec<u64>,
     named: u64,
     words: Vec<u64>,
+    room: usize,
+    records: Vec<LimiterDebt>,
 }
 
 /// The words of the table.
@@ -48,6 +52,8 @@ impl Store for CCall {
             table: table(setup.classes),
             named: setup.classes.named(),
             words: vec![0; limiter_words(settings) as usize],
+            room: setup.cap(),
+            records: Vec::new(),
         };
         let accepted = if side.table.is_empty() {
             side.set_up()
@@ -108,6 +114,13 @@ impl Store for CCall {
     #[inline]
     fn length(&mut self) -> Answer {
         answer(slices::length(self.settings, &self.words))
+    }
+
+    #[inline]
+    fn debts(&mut self, now: u64) -> Answer {
+        self.records.resize(self.room, LimiterDebt::default());
+        let (settings, records) = (self.settings, &mut self.records);
+        answer(debts::list(settings, &self.words, now, 0, records))
     }
 }
 

@@ -32,6 +32,8 @@ pub trait Store {
     fn refund(&mut self, key: Key, cost: u32) -> Answer;
     fn remove(&mut self, key: Key) -> Answer;
     fn length(&mut self) -> Answer;
+    /// How many debts of the first shard are listed, into records that the store keeps.
+    fn debts(&mut self, now: u64) -> Answer;
 }
 
 impl<S: Store> Side for S {
@@ -50,6 +52,7 @@ impl<S: Store> Side for S {
             Op::Refund => self.refund(call.key, call.cost),
             Op::Remove => self.remove(call.key),
             Op::Length => self.length(),
+            Op::Debts => self.debts(call.now),
         }
     }
 }

@@ -11,6 +11,7 @@ use crate::scenario::{MAX_WAIT, Setup};
 pub struct Rust {
     setup: Setup,
     pub limiter: Limiter,
+    debts: Vec<(u64, u64)>,
 }
 
 /// A limiter with these settings.
@@ -38,6 +39,7 @@ impl Store for Rust {
         Self {
             setup: *setup,
             limiter: limiter(setup),
+            debts: Vec::new(),
         }
     }
 
@@ -82,5 +84,11 @@ impl Store for Rust {
     #[inline]
     fn length(&mut self) -> Answer {
         self.limiter.length()
+    }
+
+    /// Its ledger, filtered.
+    #[inline]
+    fn debts(&mut self, now: u64) -> Answer {
+        self.limiter.debts(now, &mut self.debts)
     }
 }

@@ -3,18 +3,21 @@
 use core::time::Duration;
 
 use limiter::{
-    Class, ClassNumber, ClassTable, Decision, OwnedStore, Rate, Refusal, Settings, WhenFull,
+    Class, ClassNumber, ClassTable, Debt, Decision, OwnedStore, Rate, Refusal, Settings, WhenFull,
 };
 use published::{Answer, Key};
 
 use super::Store;
 use crate::scenario::{Classes, MAX_WAIT, Setup};
 
-/// A store that owns its words; and one that has classes too, for tries through the one that is named.
+/// A store that owns its words; and one that has classes too, for tries through the one that is named; the room of a shard, and records, which are made when
+/// they are first asked for.
 pub struct ThroughCrate {
     store: OwnedStore,
     classed: limiter::Store<Box<[u64]>, ClassTable>,
     named: ClassNumber,
+    room: usize,
+    records: Vec<Debt>,
 }
 
 /// The table of the classes.
@@ -41,6 +44,8 @@ impl Store for ThroughCrate {
             store: OwnedStore::new(settings).expect("the library accepts the settings"),
             classed: classed.expect("the library accepts the classes"),
             named: ClassNumber::new(setup.classes.named()),
+            room: setup.cap(),
+            records: Vec::new(),
         }
     }
 
@@ -95,6 +100,13 @@ impl Store for ThroughCrate {
     #[inline]
     fn length(&mut self) -> Answer {
         counted(self.store.len())
+    }
+
+    #[inline]
+    fn debts(&mut self, now: u64) -> Answer {
+        self.records.resize(self.room, Debt::default());
+        let listed = self.store.debts(nanos(now), 0, &mut self.records);
+        counted(listed.map(|listed| listed as u64))
     }
 }
 

@@ -6,8 +6,9 @@ use core::time::Duration;
 use limiter_sys::{
     LIMITER_BAD_ADDRESS, LIMITER_BAD_AMOUNT, LIMITER_BAD_BUFFER, LIMITER_BAD_BURST,
     LIMITER_BAD_CHAIN, LIMITER_BAD_CLASS, LIMITER_BAD_MAX_WAIT, LIMITER_BAD_MEMORY,
-    LIMITER_BAD_MOMENT, LIMITER_BAD_PERIOD, LIMITER_BAD_SIZES, LIMITER_DONE, LIMITER_GROUP_ADDRESS,
-    LIMITER_IMPOSSIBLE, LIMITER_NONE, LIMITER_RETRY, LimiterIdentity, LimiterReply,
+    LIMITER_BAD_MOMENT, LIMITER_BAD_PERIOD, LIMITER_BAD_RECORDS, LIMITER_BAD_SHARD,
+    LIMITER_BAD_SIZES, LIMITER_DONE, LIMITER_GROUP_ADDRESS, LIMITER_IMPOSSIBLE, LIMITER_NONE,
+    LIMITER_RETRY, LimiterIdentity, LimiterReply,
 };
 
 use crate::Key;
@@ -107,6 +108,10 @@ pub enum Refusal {
     Class,
     /// A chain of parents does not end within 8 classes, the first included.
     Chain,
+    /// The store has no shard of this number.
+    Shard,
+    /// Fewer records are lent than there are debts to write.
+    Records,
     /// The library answered as this crate does not know: the two are of different versions. Here the call may have done something.
     Unknown {
         /// The code that the library gave.
@@ -116,7 +121,7 @@ pub enum Refusal {
 
 impl Refusal {
     /// Those that have a number.
-    const NUMBERED: [Self; 12] = [
+    const NUMBERED: [Self; 14] = [
         Self::Amount,
         Self::Period,
         Self::Burst,
@@ -129,6 +134,8 @@ impl Refusal {
         Self::Buffer,
         Self::Class,
         Self::Chain,
+        Self::Shard,
+        Self::Records,
     ];
 
     /// The code that the library answered with: 10 and the number of the refusal.
@@ -147,6 +154,8 @@ impl Refusal {
             Self::Buffer => LIMITER_BAD_BUFFER,
             Self::Class => LIMITER_BAD_CLASS,
             Self::Chain => LIMITER_BAD_CHAIN,
+            Self::Shard => LIMITER_BAD_SHARD,
+            Self::Records => LIMITER_BAD_RECORDS,
             Self::Unknown { code } => code,
         }
     }
@@ -176,6 +185,8 @@ impl fmt::Display for Refusal {
             Self::Buffer => "the buffer is shorter than the line",
             Self::Class => "more than 64 classes, or a class that is not in the table",
             Self::Chain => "a chain of parents that does not end within 8 classes",
+            Self::Shard => "the store has no shard of this number",
+            Self::Records => "fewer records than there are debts to write",
             Self::Unknown { code } => {
                 return write!(f, "the library answered with the unknown code {code}");
             }
@@ -229,10 +240,10 @@ pub(crate) fn count(reply: LimiterReply) -> Result<u64, Refusal> {
     }
 }
 
-/// The bytes of a line.
+/// The bytes of a line, or the records of a list.
 pub(crate) fn size(reply: LimiterReply) -> Result<usize, Refusal> {
-    let bytes = count(reply)?;
-    usize::try_from(bytes).map_err(|_| Refusal::of(reply.code))
+    let size = count(reply)?;
+    usize::try_from(size).map_err(|_| Refusal::of(reply.code))
 }
 
 /// The key of a modem.
@@ -302,7 +313,7 @@ mod tests {
 
     #[test]
     fn a_refusal_has_the_code_that_it_was_told_by() {
-        for (code, refusal) in (11..=17).chain(21..=25).zip(Refusal::NUMBERED) {
+        for (code, refusal) in (11..=17).chain(21..=27).zip(Refusal::NUMBERED) {
             assert_eq!(refusal.code(), code);
             assert_eq!(known(reply(code)), Err(refusal));
         }

@@ -45,6 +45,11 @@
 //! store that is set up with one ([`OwnedStore::with_classes`], [`Store::set_up_with`]) carries it. A modem asks through its node by
 //! [`try_acquire_through`](Store::try_acquire_through): it is granted if its own bucket, the node's and the hub's grant.
 //!
+//! # Who is still in debt
+//!
+//! A store that has no slot for a new key forgets another one, and keeps its debt where its bucket was not full. [`Store::debts`] lists the debts of one shard
+//! that have not settled into records that are lent to it, and [`Store::all_debts`], with the feature `alloc`, those of all shards.
+//!
 //! # Whose words
 //!
 //! A [`Store`] works on words that it owns ([`OwnedStore`]), on words that are lent to it ([`LentStore`]), or, for looks alone, on words that are
@@ -75,7 +80,7 @@
 //!
 //! # Features
 //!
-//! `alloc`, on by default, has [`OwnedStore`]. Without it the crate needs no allocator; it never needs `std`.
+//! `alloc`, on by default, has [`OwnedStore`] and [`Store::all_debts`]. Without it the crate needs no allocator; it never needs `std`.
 
 #![no_std]
 
@@ -85,6 +90,7 @@ extern crate alloc;
 mod address;
 mod answer;
 mod classes;
+mod debts;
 mod desk_line;
 mod key;
 mod settings;
@@ -93,6 +99,7 @@ mod store;
 pub use address::{AddressError, HardwareAddress};
 pub use answer::{Decision, Refusal, Reservation};
 pub use classes::{Class, ClassNumber, ClassTable};
+pub use debts::Debt;
 pub use desk_line::DeskLine;
 pub use key::Key;
 pub use settings::{Rate, Settings, WhenFull};

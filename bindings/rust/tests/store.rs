@@ -385,6 +385,8 @@ fn refusals_read_as_in_the_header() {
         Refusal::Buffer,
         Refusal::Class,
         Refusal::Chain,
+        Refusal::Shard,
+        Refusal::Records,
     ];
     for refusal in refusals {
         let line = format!("return \"{refusal}\";");

@@ -34,7 +34,7 @@ use Rattle.rules.specs.declared.Reply.the-variants.{Tried}
 use Rattle.rules.specs.Asks.{Ask, requests, looks, undoes, passes, Undo, refunds, removes, clockAfterAsk, mannerOf, tooMuch, atOnce, replyTo, policyOf}
 use Rattle.rules.specs.Asks.{knownReply}
 use Rattle.rules.specs.Asks.{Look, clockAfterLook, lookedIn, inForce, furtherOf, askedIn, undoneIn, chainOf, throughChain, passedIn, inItsShard}
-use Rattle.rules.specs.Calls.{Call, keyed, whole, Terms, rules, Answered, settingsOf, clockAfter, ofKey, ofUndone, accepted}
+use Rattle.rules.specs.Calls.{Call, keyed, whole, clockAfterWhole, Terms, rules, Answered, settingsOf, clockAfter, ofKey, ofUndone, accepted}
 use Rattle.demands.specs.Demands.{clock}
 use Rattle.demands.proofs.LineBound.{LineBound, BoundOf}
 use Rattle.demands.proofs.RequestLaws.{invariant-keeps, own-request, other-request, other-refund, other-removal}
@@ -247,7 +247,8 @@ module _ (s : Settings) (rate : Rate) (k : Identity) (B : BoundOf (configOf rate
           rw (not-refused-is-ruled terms (keyed s′ name ask) ws none, fair .settings)
           (stored-stands s rate k B (clockAfterAsk ask n) ask reply _
           (ask-stands rated id n ws g v (fair .alone) (rw (fair .settings) at (asked .0)) ask (asked .1) (fair .later) (fair .undone)))
-      accepted-stands (whole s′ what) none fair = rw (looks-change-nothing terms (whole s′ what) ws looks-at-all) v
+      accepted-stands (whole s′ what) none fair =
+          rw (looks-change-nothing terms (whole s′ what) ws looks-at-all) (standing-later s rate k B n (clockAfterWhole what n) ws (fair .later) v)
 
       -- Every call: accepted ones as above; refused ones change nothing.
       pub call-stands : (c : Call S N) → (accepted terms (ruled terms c ws) ≡ true → Fair n c)

@@ -31,7 +31,7 @@ use Rattle.rules.specs.declared.Reply.the-variants.{Tried, Reserved, Nothing, D
 use Rattle.rules.specs.Replies.{ofGrant}
 use Rattle.rules.specs.Asks as Asks
 use Rattle.rules.specs.Asks.{Ask, requests, looks, undoes, passes, inForce, inItsShard, passedIn, grantsSome, clockAfterAsk}
-use Rattle.rules.specs.Calls.{Call, keyed, whole, len, Terms, rules, settingsOf, Answered, replies, accepted, clockAfter}
+use Rattle.rules.specs.Calls.{Call, keyed, whole, len, debts, clockAfterWhole, Terms, rules, settingsOf, Answered, replies, accepted, clockAfter}
 use Rattle.rules.proofs.KeyedLaws.{ask-not-refused, pass-in-time}
 use Rattle.rules.proofs.PassLaws.{granted-pass}
 use Rattle.rules.proofs.CallLaws.{refusalOf, ruleOf, not-refused-is-ruled, keyed-not-refused, looks-at-all, looks-change-nothing}
@@ -72,12 +72,15 @@ in-order-from n m (p ∷ ps) earlier order = (le-trans earlier (order .0), order
 
 module _ {S N : Type 0} (terms : Terms S N) (s : Settings) (cs : List Class) where
   -- An accepted call of the settings found memory of the right length.
+  set-up-size : (s′ : S) (ws : List ℕ) → terms .settings s′ ≡ s → setUpRefusal (terms .settings s′) ws ≡ 0 → length ws ≡ memoryWords s
+  set-up-size s′ ws same none = set-up-not-refused (terms .settings s′) ws none .size ∙ ap memoryWords same
+
   accepted-size : (c : Call S N) (ws : List ℕ) → settingsOf terms c ≡ s → refusalOf terms c ws ≡ 0 → length ws ≡ memoryWords s
   accepted-size (keyed s′ n ask) ws same none =
       let settings = inForce ask (terms .settings s′) in
       ask-not-refused settings (terms .identity n) ask ws (keyed-not-refused terms s′ n ask ws none .1) .0 .set-up .size ∙ ap memoryWords same
-  accepted-size (whole s′ len) ws same none =
-      set-up-not-refused (terms .settings s′) ws (neither-refuses (setUpRefusal (terms .settings s′) ws) _ none .0) .size ∙ ap memoryWords same
+  accepted-size (whole s′ len) ws same none = set-up-size s′ ws same (neither-refuses (setUpRefusal (terms .settings s′) ws) _ none .0)
+  accepted-size (whole s′ (debts at i room)) ws same none = set-up-size s′ ws same (neither-refuses (setUpRefusal (terms .settings s′) ws) _ none .0)
 
   -- A call that is refused by number passes nothing.
   refused-passes-nothing : (d t u : ℕ) (c : Call S N) (n : ℕ) → tokensThroughOf terms cs d t u c (Refused n) ≡ 0
@@ -110,7 +113,7 @@ module _ {S N : Type 0} (terms : Terms S N) (s : Settings) (cs : List Class) whe
   call-in-order (keyed s′ name (looks l)) reply n rest later order = in-order-from n (Asks.clockAfterLook l n) rest later order
   call-in-order (keyed s′ name (undoes u)) reply n rest later order = order
   call-in-order (keyed s′ name (passes table class at cost)) reply n rest later order = (later, order)
-  call-in-order (whole s′ what) reply n rest later order = order
+  call-in-order (whole s′ what) reply n rest later order = in-order-from n (clockAfterWhole what n) rest later order
 
   passings-in-order : (calls : List (Call S N)) (ws : List ℕ) (n : ℕ) → TimesNeverFall terms n (replies terms (rules terms) calls ws ws)
       → InOrder n (passingsOf calls ws)

@@ -1,22 +1,29 @@
 -- Code that is as the contracts of its operations tell meets demand 2, and so demand 3: in lists that mix calls by key, calls by address, tries through a
--- class and looks at the length; and so in lists of calls by key alone.
+-- class, looks at the length and lists of debts; and so in lists of calls by key alone.
 use Prim.Native.Nat.{ℕ}
 use mathlib.Core.Path.{_≡_, refl, sym, _∙_}
 use mathlib.Core.Bool.{true, false≢true}
 use mathlib.Core.List.{List}
+use lib.ListN.{length, length-replicate}
 use contract.Lifetimes.{Lfts}
 use Rattle.bucket.specs.declared.Request.the-variants.{Acquire, Reserve, Through}
+use Rattle.units.specs.declared.Nanos.{Nanos}
 use Rattle.settings.specs.declared.Settings.{Settings}
+use Rattle.settings.specs.Settings.{shapeOf}
+use Rattle.ledger.specs.declared.Debt.{Debt}
+use Rattle.ledger.specs.Model.{noDebt}
 use Rattle.shard.specs.declared.Identity.{Identity}
 use Rattle.rules.specs.Asks.{Ask, requests, looks, undoes, passes, inForce, peeks, tokens, turnedAway, refunds, removes}
 use Rattle.rules.specs.Rules.{keyedRule}
-use Rattle.rules.specs.Widths.{settingsFit, lendable}
-use Rattle.rules.specs.Calls.{Call, keyed, whole, len, byKey, rules, fits}
+use Rattle.rules.specs.Widths.{settingsFit, lendable, recordsFit}
+use Rattle.rules.specs.Calls.{Call, keyed, whole, len, debts, listDebts, byKey, rules, fits}
 use Rattle.rules.proofs.CallLaws.{by-key-is-the-rule}
+use Rattle.rules.proofs.DebtLaws.{listing-is-the-call}
 use Rattle.modems.specs.Names.{Name, key, address, byName}
-use Rattle.demands.specs.Demands.{Table, untabled, tabled, tableFits, Limiter, setUpBy, answering, Demand2, Demand3}
+use Rattle.demands.specs.Demands.{Table, untabled, tabled, tableFits, Limiter, setUpBy, recordsBy, answering, Demand2, Demand3}
 use Rattle.demands.specs.Contracts.{KeyContracts, Contracts}
 use Rattle.demands.specs.Moments.{TellsMoments}
+use Rattle.demands.proofs.DebtCalls.{blank, blank-fits, records-as-told, room-as-told}
 use Rattle.demands.proofs.WidthLaws.{ask-is-offered, no-call-through-others, keys-fit}
 use Rattle.demands.proofs.NameLaws.{names-fit, key-is-the-rule}
 use Rattle.demands.proofs.Theorem.{demand2-gives-demand3}
@@ -56,6 +63,7 @@ module _ (κs : Lfts 1) (κs₂ : Lfts 2) (ptr otherPtr : ℕ × ℕ) (name othe
       clears = λ s table ws _ _ _ _. refl;
       tries = λ s table class at id cost ws _ _ _. named s id (passes table class at cost) ws;
     };
+    of-debts = record { lists = λ s at i records ws _ _ _. sym (listing-is-the-call (shapeOf s) s at i ws records) };
   }
 
   module _ (l : Limiter Settings Name) (all : Contracts κs κs₂ ptr otherPtr name otherName l) where
@@ -86,27 +94,41 @@ module _ (κs : Lfts 1) (κs₂ : Lfts 2) (ptr otherPtr : ℕ × ℕ) (name othe
     clear-as-told untabled s ws few fit lent = c .clears s ws fit lent tt
     clear-as-told (tabled words) s ws few fit lent = all .by-class .clears s words ws fit few lent tt
 
+    -- A list of debts: its records, and its answer.
+    records-as-the-rules : (s : Settings) (at : Nanos) (i : ℕ) (records : List Debt) (ws : List ℕ) → fits byName (listDebts s at i (length records)) ≡ true
+        → recordsFit records ≡ true → lendable ws ≡ true → l .lists s at i records ws ≡ recordsBy byName s at i records ws
+    records-as-the-rules s at i records ws fit small lent =
+        records-as-told (λ r. r) s at i ws (λ room. l .answers (listDebts s at i room) ws) (λ rs. l .lists s at i rs ws) records
+        (all .of-debts .lists s at i records ws fit small lent)
+
+    debts-as-the-rules : (s : Settings) (at : Nanos) (i room : ℕ) (ws : List ℕ) → fits byName (listDebts s at i room) ≡ true → lendable ws ≡ true
+        → l .answers (listDebts s at i room) ws ≡ rules byName (listDebts s at i room) ws
+    debts-as-the-rules s at i room ws fit lent =
+        room-as-told (λ r. r) s at i ws (λ n. l .answers (listDebts s at i n) ws) (λ rs. l .lists s at i rs ws) room
+        (all .of-debts .lists s at i (blank room) ws (rw (length-replicate {A = Debt} room noDebt) fit) (blank-fits room) lent)
+
     -- The same limiter where every call names a key.
     abbrev asNamed : Call Settings Identity → Call Settings Name
     asNamed (keyed s id ask) = keyed s (key id) ask
     asNamed (whole s what) = whole s what
 
     abbrev pub onKeys : Limiter Settings Identity
-    onKeys = record { sets-up = l .sets-up; clears = l .clears; answers = λ call ws. l .answers (asNamed call) ws }
+    onKeys = record { sets-up = l .sets-up; clears = l .clears; answers = λ call ws. l .answers (asNamed call) ws; lists = l .lists }
 
     pub key-contracts-meet-demand2 : Demand2 byKey onKeys
-    key-contracts-meet-demand2 = record { sets-up = set-up-as-told; clears = clear-as-told; answers = ruled }
+    key-contracts-meet-demand2 = record { sets-up = set-up-as-told; clears = clear-as-told; answers = ruled; lists = records-as-the-rules }
       where
         ruled : (call : Call Settings Identity) (ws : List ℕ) → fits byKey call ≡ true → lendable ws ≡ true → l .answers (asNamed call) ws ≡ rules byKey call ws
         ruled (keyed s id ask) ws = λ fit lent. asked-by-key s id ask ws fit lent ∙ sym (by-key-is-the-rule s id ask ws)
         ruled (whole s len) ws = λ fit lent. c .tells-length s ws fit lent tt
+        ruled (whole s (debts at i room)) ws = λ fit lent. debts-as-the-rules s at i room ws fit lent
 
     pub key-contracts-meet-demand3 : Demand3 byKey onKeys
     key-contracts-meet-demand3 = demand2-gives-demand3 byKey keys-fit onKeys key-contracts-meet-demand2
 
   module _ (l : Limiter Settings Name) (c : Contracts κs κs₂ ptr otherPtr name otherName l) where
     pub contracts-meet-demand2 : Demand2 byName l
-    contracts-meet-demand2 = record { sets-up = set-up-as-told l c; clears = clear-as-told l c; answers = ruled }
+    contracts-meet-demand2 = record { sets-up = set-up-as-told l c; clears = clear-as-told l c; answers = ruled; lists = records-as-the-rules l c }
       where
         ruled : (call : Call Settings Name) (ws : List ℕ) → fits byName call ≡ true → lendable ws ≡ true → l .answers call ws ≡ rules byName call ws
         ruled (keyed s (key id) ask) ws = λ fit lent. asked-by-key l c s id ask ws fit lent ∙ sym (named s id ask ws)
@@ -124,6 +146,7 @@ module _ (κs : Lfts 1) (κs₂ : Lfts 2) (ptr otherPtr : ℕ × ℕ) (name othe
         ruled (keyed s (address bytes) (passes table class at cost)) ws = λ fit lent.
             absurd (false≢true (ask-is-offered byName s (address bytes) (passes table class at cost) fit))
         ruled (whole s len) ws = λ fit lent. c .by-key .tells-length s ws fit lent tt
+        ruled (whole s (debts at i room)) ws = λ fit lent. debts-as-the-rules l c s at i room ws fit lent
 
     pub contracts-meet-demand3 : Demand3 byName l
     contracts-meet-demand3 = demand2-gives-demand3 byName (names-fit (λ s. s) settingsFit) l contracts-meet-demand2

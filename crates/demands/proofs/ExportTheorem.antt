@@ -7,7 +7,7 @@ use mathlib.Core.List.{List}
 use contract.Lifetimes.{Lfts}
 use borrow.Author.Tests.{ne-eqb}
 use lib.Dec.{eqb}
-use lib.ListN.{replicate}
+use lib.ListN.{length, replicate, length-replicate}
 use Rattle.arith.proofs.Cases.{by-eq}
 use Rattle.rows.specs.Outcome.{Outcome, outcome}
 use Rattle.units.specs.declared.Nanos.{Nanos}
@@ -17,6 +17,8 @@ use Rattle.settings.specs.declared.Settings.{Settings}
 use Rattle.settings.specs.Before as Before
 use Rattle.settings.specs.Settings.{shapeOf}
 use Rattle.store.specs.Memory.{memoryWords}
+use Rattle.ledger.specs.declared.Debt.{Debt}
+use Rattle.ledger.specs.Model.{noDebt}
 use Rattle.shard.specs.declared.Identity.{Identity}
 use Rattle.rules.specs.declared.Reply.{Reply}
 use Rattle.rules.specs.declared.codes.Told.{Told}
@@ -25,9 +27,10 @@ use Rattle.rules.specs.Replies.{toldOf, told, Kind, decides, reserves, counts, 
 use Rattle.rules.specs.Asks.{Ask, requests, looks, undoes, passes, inForce, peeks, tokens, turnedAway, refunds, removes}
 use Rattle.rules.specs.Rules as Rules
 use Rattle.rules.specs.Rules.{tableSetUpRefusalIn, setUpIn, setUpFor, setUp, clear, classSetUp, classClear, keyedRule}
-use Rattle.rules.specs.Widths.{lendable}
-use Rattle.rules.specs.Calls.{Call, keyed, whole, len, Terms, kindOf, settingsOf, rules, rulesIn, fits, Every}
+use Rattle.rules.specs.Widths.{lendable, recordsFit}
+use Rattle.rules.specs.Calls.{Call, keyed, whole, len, debts, listDebts, Terms, kindOf, settingsOf, rules, rulesIn, fits, Every}
 use Rattle.rules.proofs.RefusedLaws.{unless-refused-accepts, unless-refused-refuses}
+use Rattle.rules.proofs.DebtLaws.{listing-is-the-call}
 use Rattle.rules.proofs.KindLaws.{OfKind, acquired, retried, impossible, reserved, not-reserved, counted, known, unknown}
 use Rattle.rules.proofs.CallLaws.{refusalOf, ruleOf, not-refused-is-ruled, refused-is-told, rule-answers-in-kind}
 use Rattle.modems.specs.Address as Address
@@ -35,12 +38,13 @@ use Rattle.modems.specs.Names.{Name, key, address}
 use Rattle.limiter.specs.declared.LimiterSettings.{LimiterSettings}
 use Rattle.limiter.specs.Exported as Exported
 use Rattle.limiter.specs.Exported.{identityOf}
-use Rattle.demands.specs.Demands.{Table, untabled, tabled, tableWords, tableFits, Limiter, setUpBy, settingsBy, Demand2, Demand3}
+use Rattle.demands.specs.Demands.{Table, untabled, tabled, tableWords, tableFits, Limiter, setUpBy, settingsBy, recordsBy, Demand2, Demand3}
 use Rattle.demands.specs.Moments.{TellsMoments}
 use Rattle.demands.specs.PlaceOrder.{Turn, AllOf, run, SameWithoutIndexes}
 use Rattle.demands.specs.TurnAways.{EqualButForTurnAways, ListDecidedAlike}
 use Rattle.demands.specs.Exports.{Exports, numbersFit, exported, through, setUpThrough, clearThrough, ExportDemand2, reading, readAs, called}
 use Rattle.demands.specs.Exports.{ExportContracts}
+use Rattle.demands.proofs.DebtCalls.{blank, blank-fits, records-as-told, room-as-told}
 use Rattle.demands.proofs.WidthLaws.{ask-is-offered, no-call-through-others, NamesFit}
 use Rattle.demands.proofs.NameLaws.{names-fit, key-is-the-rule}
 use Rattle.demands.proofs.Theorem.{demand2-gives-demand3}
@@ -119,6 +123,8 @@ toldRules = record {
   class-clear = λ n table ws. told (classClear (Exported.settingsOf n) table ws);
   class-try = λ n table at hash key class cost ws.
       told (Rules.classTry (Exported.settingsOf n) table (nanosOf at) (identityOf hash key) class cost ws);
+  debts = λ n at shard room ws. told (rules exported (whole n (debts (nanosOf at) shard room)) ws);
+  records = λ n at shard records ws. recordsBy exported n (nanosOf at) shard records ws;
 }
 
 module _ (κs : Lfts 1) (κs₂ : Lfts 2) (ptr otherPtr : ℕ × ℕ) (name otherName : ℕ) where
@@ -148,12 +154,17 @@ module _ (κs : Lfts 1) (κs₂ : Lfts 2) (ptr otherPtr : ℕ × ℕ) (name othe
       clears = λ n table ws _ _ _ _. refl;
       tries = λ n table class at id cost ws _ _ _. refl;
     };
+    of-debts = record {
+      lists = λ n at i records ws _ _ _.
+          let s = Exported.settingsOf n in
+          sym (ap told (listing-is-the-call (shapeOf s) s at i ws records));
+    };
   }
 
   module _ (e : Exports) (c : ExportContracts κs κs₂ ptr otherPtr name otherName e) where
     -- No export asks anything of its caller: `tt` shows all that is asked.
     pub exports-meet-demand2 : ExportDemand2 e
-    exports-meet-demand2 = record { sets-up = set-up-ruled; clears = clear-ruled; answers = ruled }
+    exports-meet-demand2 = record { sets-up = set-up-ruled; clears = clear-ruled; answers = ruled; lists = records-ruled }
       where
         set-up-ruled : (table : Table) (n : LimiterSettings) (ws : List ℕ) → tableFits table ≡ true → numbersFit n ≡ true → lendable ws ≡ true
             → setUpThrough e table n ws ≡ told (setUpBy exported table n ws)
@@ -164,6 +175,20 @@ module _ (κs : Lfts 1) (κs₂ : Lfts 2) (ptr otherPtr : ℕ × ℕ) (name othe
             → clearThrough e table n ws ≡ told (setUpBy exported table n ws)
         clear-ruled untabled n ws few small lent = c .by-key .clears n ws small lent tt
         clear-ruled (tabled table) n ws few small lent = c .by-class .clears n table ws small few lent tt
+
+        -- A list of debts: its records, and what it gives.
+        records-ruled : (n : LimiterSettings) (at : Nanos) (i : ℕ) (records : List Debt) (ws : List ℕ)
+            → fits exported (listDebts n at i (length records)) ≡ true → recordsFit records ≡ true → lendable ws ≡ true
+            → e .records n (at .0) i records ws ≡ recordsBy exported n at i records ws
+        records-ruled n at i records ws fit small lent =
+            records-as-told toldOf (Exported.settingsOf n) at i ws (λ room. e .debts n (at .0) i room ws) (λ rs. e .records n (at .0) i rs ws) records
+            (c .of-debts .lists n at i records ws fit small lent)
+
+        debts-ruled : (n : LimiterSettings) (at : Nanos) (i room : ℕ) (ws : List ℕ) → fits exported (listDebts n at i room) ≡ true → lendable ws ≡ true
+            → e .debts n (at .0) i room ws ≡ told (rules exported (listDebts n at i room) ws)
+        debts-ruled n at i room ws fit lent =
+            room-as-told toldOf (Exported.settingsOf n) at i ws (λ m. e .debts n (at .0) i m ws) (λ rs. e .records n (at .0) i rs ws) room
+            (c .of-debts .lists n at i (blank room) ws (rw (length-replicate {A = Debt} room noDebt) fit) (blank-fits room) lent)
 
         -- A call that names a key follows the rule of what it asks.
         keyed-rule : (n : LimiterSettings) (id : Identity) (ask : Ask) (ws : List ℕ) {o : Outcome Told (List ℕ)}
@@ -202,6 +227,7 @@ module _ (κs : Lfts 1) (κs₂ : Lfts 2) (ptr otherPtr : ℕ × ℕ) (name othe
         ruled (keyed n (address bytes) (passes table class at cost)) ws = λ fit lent.
             absurd (false≢true (ask-is-offered exported n (address bytes) (passes table class at cost) fit))
         ruled (whole n len) ws = λ fit lent. c .by-key .tells-length n ws fit lent tt
+        ruled (whole n (debts at i room)) ws = λ fit lent. debts-ruled n at i room ws fit lent
 
     -- So a caller has a limiter that meets demand 2, in whatever numbers each call writes its settings.
     pub callers-have-demand2 : Demand2 exported (called e)
@@ -211,6 +237,7 @@ module _ (κs : Lfts 1) (κs₂ : Lfts 2) (ptr otherPtr : ℕ × ℕ) (name othe
       clears = λ table n ws few fit lent.
           ap (readAs knows) (exports-meet-demand2 .clears table n ws few fit lent) ∙ set-up-comes-back (settingsBy exported table n) (tableWords table) ws;
       answers = λ call ws fit lent. ap (readAs (kindOf call)) (exports-meet-demand2 .answers call ws fit lent) ∙ reply-comes-back exported call ws;
+      lists = exports-meet-demand2 .lists;
     }
 
     names : NamesFit exported

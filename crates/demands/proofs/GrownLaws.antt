@@ -25,16 +25,18 @@ use Rattle.shard_map.specs.Model.{Shard, slotItems}
 use Rattle.shard_map.proofs.PlaceOrderLaws.{FindsEach, found-is-sound, found-is-complete, empty-finds-each}
 use Rattle.shard.specs.declared.Identity.{Identity}
 use Rattle.store.specs.Memory.{totalOf, memoryWords, roomIn, shardAt, bucketsAt, slotCount}
-use Rattle.store.specs.Refusals.{setUpRefusal, keyedRefusal, totalRefusal}
-use Rattle.store.proofs.MemoryLaws.{shard-at-cap, shard-at-sized, fresh-sound, fresh-shards-are-complete, fresh-shards-are-empty}
+use Rattle.store.specs.Refusals.{setUpRefusal, keyedRefusal, totalRefusal, momentRefusal}
+use Rattle.store.proofs.MemoryLaws.{shard-at-cap, shard-at-debt-cap, shard-at-sized, fresh-sound, fresh-shards-are-complete, fresh-shards-are-empty}
 use Rattle.store.proofs.RefusalLaws.{set-up-is-accepted, keyed-is-accepted, total-is-accepted}
 use Rattle.rules.specs.declared.Reply.{Reply}
 use Rattle.rules.specs.declared.Reply.the-variants.{Done, Count, Refused}
 use Rattle.rules.specs.Asks.{Ask, inForce, furtherOf, inItsShard}
 use Rattle.rules.specs.Rules.{setUpFor}
-use Rattle.rules.specs.Calls.{Call, keyed, whole, len, Terms, rules, settingsOf}
+use Rattle.rules.specs.Debts.{listed, recordsRefusal, ledgerRefusal}
+use Rattle.rules.specs.Calls.{Call, keyed, whole, len, debts, Terms, rules, settingsOf}
 use Rattle.rules.proofs.RefusedLaws.{table-refusal-is-told, table-set-up-zeroes}
 use Rattle.rules.proofs.KeyedLaws.{ask-not-refused}
+use Rattle.rules.proofs.DebtLaws.{of-such-a-shard, debt-count-is-accepted}
 use Rattle.rules.proofs.CallLaws.{refusalOf, not-refused-is-ruled, keyed-not-refused, taken-not-refused, looks-at-all, looks-change-nothing}
 use Rattle.demands.specs.Grown.{slotsOf, Grown, set-up, cleared, called, KeptByCalls}
 use Rattle.demands.specs.PlaceOrder.{refusedAs, shardNumbered, IndexesExact}
@@ -172,6 +174,12 @@ module _ (s : Settings) (ws : List ℕ) (memory : SoundMemory s ws) where
       of-every-shard s (λ j. slotCount (capOf s) j ws ≤ capOf s)
       (λ hash. rw (shard-at-cap s hash ws) at (found-is-sound (memory .finds-each hash) .count-fits))
 
+  -- Nor more debts.
+  debts-are-within-the-cap : (i : ℕ) → i < shardCount s → shardNumbered s i ws .ledger .debts .count ≤ capOf s
+  debts-are-within-the-cap =
+      of-every-shard s (λ j. shardNumbered s j ws .ledger .debts .count ≤ capOf s)
+      (λ hash. rw (shard-at-debt-cap s hash ws) at (found-is-sound (memory .finds-each hash) .ledger .count-fits))
+
   total-is-within : totalOf ws ≤ roomIn (shapeOf s)
   total-is-within = rw (memory .total) (sum-within (shardCount s) (capOf s) _ slots-are-within-the-cap)
 
@@ -198,7 +206,8 @@ module _ (s : Settings) (ws : List ℕ) (memory : SoundMemory s ws) where
   clear-is-refused table unsound = sym (table-refusal-is-told s table ws settings-and-length-are-not-refused refl unsound)
 
 module _ {S N : Type 0} (terms : Terms S N) where
-  refusal-is-the-calls-own : (c : Call S N) (ws : List ℕ) → SoundMemory (settingsOf terms c) ws → refusalOf terms c ws ≡ refusedAs terms c
+  refusal-is-the-calls-own : (c : Call S N) (ws : List ℕ) → SoundMemory (settingsOf terms c) ws
+      → refusalOf terms c ws ≡ refusedAs terms (λ i. shardNumbered (settingsOf terms c) i ws) c
   refusal-is-the-calls-own (keyed s n ask) ws memory =
       let settings = inForce ask (terms .settings s) in
       ap (firstRefusal (terms .refusal n)) (no-refusal-hands-on _ (furtherOf ask) (key-is-not-refused settings ws memory (terms .identity n .hash)))
@@ -206,14 +215,22 @@ module _ {S N : Type 0} (terms : Terms S N) where
       let settings = terms .settings s in
       no-refusal-hands-on _ (totalRefusal (roomIn (shapeOf settings)) (totalOf ws)) (settings-and-length-are-not-refused settings ws memory)
       ∙ total-is-accepted (roomIn (shapeOf settings)) (totalOf ws) (total-is-within settings ws memory)
+  refusal-is-the-calls-own (whole s (debts at i room)) ws memory =
+      let settings = terms .settings s in
+      let l = shardNumbered settings i ws .ledger in
+      no-refusal-hands-on _ _ (settings-and-length-are-not-refused settings ws memory)
+      ∙ ap (firstRefusal (momentRefusal at))
+      (of-such-a-shard (shapeOf settings) i (ledgerRefusal (capOf settings) at room l) (recordsRefusal room (length (listed at l)))
+      (λ below. no-refusal-hands-on _ _ (debt-count-is-accepted (capOf settings) l (debts-are-within-the-cap settings ws memory i below))))
 
   pub sound-refusal-is-the-calls-own : {s : Settings} {ws : List ℕ} → SoundMemory s ws → (c : Call S N) → settingsOf terms c ≡ s
-      → refusalOf terms c ws ≡ refusedAs terms c
-  sound-refusal-is-the-calls-own {ws = ws} memory c same = refusal-is-the-calls-own c ws (rw same memory)
+      → refusalOf terms c ws ≡ refusedAs terms (λ i. shardNumbered s i ws) c
+  sound-refusal-is-the-calls-own {ws = ws} memory c same = rw same at (refusal-is-the-calls-own c ws (rw same memory))
 
-  -- So it is with a grown store: whether a call of its settings is refused, and by which number, follows from the call alone; and a clear is accepted.
+  -- So it is with a grown store: whether a call of its settings is refused, and by which number, follows from the call (for a list of debts also from how
+  -- many debts are listed); and a clear is accepted.
   pub grown-refusal-is-the-calls-own : {s : Settings} {ws : List ℕ} → Grown terms s ws → (c : Call S N) → settingsOf terms c ≡ s
-      → refusalOf terms c ws ≡ refusedAs terms c
+      → refusalOf terms c ws ≡ refusedAs terms (λ i. shardNumbered s i ws) c
   grown-refusal-is-the-calls-own grown c same = sound-refusal-is-the-calls-own (grown-memory-is-sound terms grown) c same
 
   pub grown-clear-is-accepted : {s : Settings} {ws : List ℕ} → Grown terms s ws → (table : List ℕ) → tableRefusal (classesIn table) ≡ 0

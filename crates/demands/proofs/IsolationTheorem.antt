@@ -16,8 +16,9 @@ use Rattle.store.specs.Refusals.{memoryRefusal, countRefusal}
 use Rattle.rules.specs.declared.Reply.{Reply}
 use Rattle.rules.specs.Asks.{Ask, furtherOf, inItsShard, bucketsAfter}
 use Rattle.rules.specs.Rules.{askRefusal}
-use Rattle.rules.specs.Calls.{Call, keyed, Terms, rules}
+use Rattle.rules.specs.Calls.{Call, keyed, Terms, rules, listDebts}
 use Rattle.rules.proofs.KeyedLaws.{ask-not-refused}
+use Rattle.rules.proofs.DebtLaws.{debts-look-at-one-shard}
 use Rattle.rules.proofs.CallLaws.{refusalOf, ruleOf, not-refused-is-ruled, refused-is-told, keyed-not-refused}
 use Rattle.demands.specs.Demands.{Limiter, Demand2}
 use Rattle.demands.specs.Grown.{Grown}
@@ -99,6 +100,9 @@ module _ {S N : Type 0} (terms : Terms S N) where
         (worked-alike settings id ask ws vs like (works s n ask ws (same ∙ none)) (works s n ask vs none)))
         (λ some. rw (refused-is-told terms c ws (λ none. some (sym same ∙ none)), refused-is-told terms c vs some, same)
         (record { answer = refl; after = like }));
+    lists = λ s at i room ws vs _ _ size same.
+        let settings = terms .settings s in
+        debts-look-at-one-shard (shapeOf settings) settings at i ws vs size same room;
   }
 
   -- So is every limiter that meets demand 2.
@@ -110,4 +114,7 @@ module _ {S N : Type 0} (terms : Terms S N) where
     when-grown = λ s n ask ws vs made made-too grown grown-too like.
         rw (equal .answers (keyed s n ask) ws (made .0) (made .1), equal .answers (keyed s n ask) vs (made-too .0) (made-too .1))
         (rules-are-isolated .when-grown s n ask ws vs tt tt grown grown-too like);
+    lists = λ s at i room ws vs made made-too size same.
+        rw (equal .answers (listDebts s at i room) ws (made .0) (made .1), equal .answers (listDebts s at i room) vs (made-too .0) (made-too .1))
+        (rules-are-isolated .lists s at i room ws vs tt tt size same);
   }

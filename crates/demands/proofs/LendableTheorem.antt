@@ -41,7 +41,7 @@ use Rattle.rules.specs.Asks.{Ask, requests, looks, undoes, passes, Undo, refund
 use Rattle.rules.specs.Asks.{knownReply, askedIn, undoneIn, chainOf, throughChain, passedIn, inItsShard, grantsSome, bucketsAfter}
 use Rattle.rules.specs.Rules.{keyedOutcome, setUpFor}
 use Rattle.rules.specs.Widths.{fits64, keyFits, lendable}
-use Rattle.rules.specs.Calls.{Call, keyed, whole, len, Terms, rules, fits, Every}
+use Rattle.rules.specs.Calls.{Call, keyed, whole, len, debts, Terms, rules, fits, Every}
 use Rattle.rules.proofs.RefusedLaws.{settings-refusal-is-told, table-refusal-is-told, table-set-up-zeroes}
 use Rattle.rules.proofs.KeyedLaws.{ask-not-refused, request-in-time, pass-in-time, in-shard-unchanged}
 use Rattle.rules.proofs.PassLaws.{granted-pass}
@@ -212,6 +212,7 @@ module _ {S N : Type 0} (terms : Terms S N) (names : NamesFit terms) where
       let asked = ask-not-refused settings id ask ws (free .1) in
       stored-leaves-lendable settings id ws lent (asked .0) ask (asked .1) (names n (name-of-call-fits terms s n ask fit) (free .0))
   rule-leaves-words-lendable (whole s len) ws none fit lent = lent
+  rule-leaves-words-lendable (whole s (debts at i room)) ws none fit lent = lent
 
   pub rules-leave-words-lendable : (c : Call S N) (ws : List ℕ) → fits terms c ≡ true → lendable ws ≡ true → lendable (rules terms c ws .after) ≡ true
   rules-leave-words-lendable c ws fit lent =

@@ -36,9 +36,11 @@ pub mod SizeTheorem
 pub mod MomentLaws
 pub mod OneShardLaws
 pub mod GrownLaws
+pub mod MorningTheorem
 pub mod PlaceOrderTheorem
 pub mod TurnAwayTheorem
 pub mod IsolationTheorem
+pub mod DebtCalls
 pub mod CodeTheorem
 pub mod ExportTheorem
 pub mod RefundCode

@@ -31,7 +31,7 @@ use Rattle.rules.specs.Asks.{peeks, tokens, turnedAway, Undo, Ask, requests, lo
 use Rattle.rules.specs.Asks.{replyTo}
 use Rattle.rules.specs.Asks.{askedIn}
 use Rattle.rules.specs.Asks.{inForce, inItsShard}
-use Rattle.rules.specs.Calls.{Call, keyed, whole, len, Terms, rules, Answered, replies, Every}
+use Rattle.rules.specs.Calls.{Call, keyed, whole, len, debts, Terms, rules, Answered, replies, Every}
 use Rattle.rules.proofs.KeyedLaws.{ask-not-refused, request-in-time, pass-in-time}
 use Rattle.rules.proofs.KindLaws.{OfKind, acquired, retried, impossible, known, unknown, asks-are-answered-in-kind}
 use Rattle.rules.proofs.CallLaws.{refusalOf, ruleOf, not-refused-is-ruled, refused-is-told, keyed-not-refused}
@@ -101,6 +101,7 @@ module _ {S N : Type 0} (terms : Terms S N) where
       let asked = ask-not-refused settings id ask ws (keyed-not-refused terms s n ask ws none .1) in
       ask-tells settings id ask (bucketsAt (shapeOf settings) ws) (shardAt settings (id .hash) ws) (asked .1)
   rule-tells (whole s len) ws none = refl
+  rule-tells (whole s (debts at i room)) ws none = refl
 
   refusal-tells : (c : Call S N) (n : ℕ) → tellsItsMoment c (Refused n)
   refusal-tells (keyed s name ask) n = ask-refused-tells ask n

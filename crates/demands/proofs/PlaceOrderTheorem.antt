@@ -4,13 +4,15 @@ use Prim.Native.Nat.{ℕ, _<_}
 use mathlib.Core.Path.{_≡_, refl, sym, ap, subst, _∙_}
 use mathlib.Core.Bool.{true}
 use mathlib.Core.List.{List, [], _∷_, _++_}
+use lib.ListN.{length}
 use borrow.Author.Tests.{eq-eqb, ne-eqb}
 use Rattle.arith.proofs.Cases.{by-test, by-eq}
 use Rattle.rows.specs.Outcome.{Outcome, outcome}
 use Rattle.rows.proofs.SumLaws.{sum-same}
+use Rattle.units.specs.declared.Nanos.{Nanos}
 use Rattle.bucket.specs.declared.BucketCore.{BucketCore}
 use Rattle.settings.specs.declared.Settings.{Settings}
-use Rattle.settings.specs.Settings.{shapeOf, shardCount, shardOf, withClasses}
+use Rattle.settings.specs.Settings.{firstRefusal, shapeOf, shardCount, shardOf, withClasses}
 use Rattle.classes.specs.Classes.{tableRefusal}
 use Rattle.classes.specs.Layout.{classCount, classesIn}
 use Rattle.shard_map.specs.Model.{Shard, inPlaceOrder}
@@ -18,6 +20,7 @@ use Rattle.shard_map.proofs.ReadBack.{Empty}
 use Rattle.shard.specs.declared.Identity.{Identity}
 use Rattle.shard.proofs.PlaceOrderLaws.{SameAsPlaceOrder}
 use Rattle.store.specs.Memory.{shardAt, bucketsAt}
+use Rattle.store.specs.Refusals.{momentRefusal}
 use Rattle.store.proofs.MemoryLaws.{fresh-shards-are-empty}
 use Rattle.rules.specs.declared.Reply.{Reply}
 use Rattle.rules.specs.declared.Reply.the-variants.{Done, Count}
@@ -25,8 +28,10 @@ use Rattle.rules.specs.Replies.{numbered}
 use Rattle.rules.specs.Asks.{Ask, inForce, inItsShard, bucketsAfter}
 use Rattle.rules.specs.Rules.{setUpFor}
 use Rattle.rules.specs.Widths.{lendable}
-use Rattle.rules.specs.Calls.{Call, keyed, whole, len, Terms, rules, settingsOf, fits, Every}
+use Rattle.rules.specs.Debts.{listed, recordsRefusal}
+use Rattle.rules.specs.Calls.{Call, keyed, whole, len, debts, Terms, rules, settingsOf, fits, Every}
 use Rattle.rules.proofs.KeyedLaws.{ask-not-refused}
+use Rattle.rules.proofs.DebtLaws.{listed-in-place-order, of-such-a-shard, debts-not-refused}
 use Rattle.rules.proofs.CallLaws.{refusalOf, ruleOf, not-refused-is-ruled, refused-is-told, refused-changes-nothing, keyed-not-refused}
 use Rattle.demands.specs.Grown.{Grown, set-up, cleared, called}
 use Rattle.demands.specs.Demands.{Table, tabled, tableWords, tableFits, Limiter, setUpBy, settingsBy, Demand2}
@@ -49,6 +54,12 @@ pub record SamePlaces (s : Settings) (ws : List ℕ) (store : Shards) : Type 0 w
 same-by-number : (s : Settings) (ws : List ℕ) (store : Shards) → SamePlaces s ws store → (i : ℕ) → i < shardCount s
     → inPlaceOrder (shardNumbered s i ws) ≡ store .numbered i
 same-by-number s ws store places = of-every-shard s (λ j. inPlaceOrder (shardNumbered s j ws) ≡ store .numbered j) (places .shards)
+
+-- So the same debts are listed.
+same-debts : (s : Settings) (ws : List ℕ) (store : Shards) → SamePlaces s ws store → (at : Nanos) (i : ℕ) → i < shardCount s
+    → listed at (shardNumbered s i ws .ledger) ≡ listed at (store .numbered i .ledger)
+same-debts s ws store places at i below =
+    sym (listed-in-place-order at (shardNumbered s i ws .ledger)) ∙ ap (λ (own : Shard). listed at (own .ledger)) (same-by-number s ws store places i below)
 
 -- What a turn or a list of turns gives on words is what it gives on a store without indexes.
 pub record SameOutcome {A : Type 0} (s : Settings) (words : Outcome A (List ℕ)) (without : Outcome A Shards) : Type 0 where
@@ -106,14 +117,30 @@ module _ {S N : Type 0} (terms : Terms S N) where
             ∙ sum-same (shardCount settings) _ _ (λ i below. ap (λ t. t .slots .count) (same-by-number settings ws shards places i below)));
         places = places;
       }
+  taken-call-same (whole s (debts at i room)) ws shards memory places none =
+      let settings = terms .settings s in
+      let below = debts-not-refused settings at i room ws none .shard in
+      record { answer = ap (λ ds. Count (length ds)) (same-debts settings ws shards places at i below); places = places }
 
-  -- A call, refused or not: both stores refuse it by the same number.
+  -- Both stores refuse a call by the same number.
+  refused-same : (c : Call S N) (ws : List ℕ) (shards : Shards) → SamePlaces (settingsOf terms c) ws shards
+      → refusedAs terms (λ i. shardNumbered (settingsOf terms c) i ws) c ≡ refusedAs terms (shards .numbered) c
+  refused-same (keyed s n ask) ws shards places = refl
+  refused-same (whole s len) ws shards places = refl
+  refused-same (whole s (debts at i room)) ws shards places =
+      let settings = terms .settings s in
+      ap (firstRefusal (momentRefusal at))
+      (of-such-a-shard (shapeOf settings) i _ _
+      (λ below. ap (λ ds. recordsRefusal room (length ds)) (same-debts settings ws shards places at i below)))
+
+  -- A call, refused or not.
   call-same : (c : Call S N) (ws : List ℕ) (shards : Shards) → SoundMemory (settingsOf terms c) ws → SamePlaces (settingsOf terms c) ws shards
       → SameOutcome (settingsOf terms c) (rules terms c ws) (onShards terms c shards)
   unfolding onShards
   call-same c ws shards memory places =
-      let own = sound-refusal-is-the-calls-own terms memory c refl in
-      by-eq (refusedAs terms c) 0
+      let own : refusalOf terms c ws ≡ refusedAs terms (shards .numbered) c =
+      sound-refusal-is-the-calls-own terms memory c refl ∙ refused-same c ws shards places in
+      by-eq (refusedAs terms (shards .numbered) c) 0
       (λ none. rw (eq-eqb _ _ none, not-refused-is-ruled terms c ws (own ∙ none)) (taken-call-same c ws shards memory places (own ∙ none)))
       (λ some. rw (ne-eqb _ _ some, refused-is-told terms c ws (λ none. some (sym own ∙ none)), own) (record { answer = refl; places = places }))
 

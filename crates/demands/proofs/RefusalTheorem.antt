@@ -1,9 +1,9 @@
--- A limiter that meets demand 2 changes no word where it refuses by number: the rules do not.
+-- A limiter that meets demand 2 changes no word and no record where it refuses by number: the rules do not.
 use Prim.Native.Nat.{ℕ}
-use mathlib.Core.Path.{_≡_, sym, ap}
+use mathlib.Core.Path.{_≡_, sym, ap, _∙_}
 use mathlib.Core.Bool.{Bool, true, false, true≢false}
 use mathlib.Core.List.{List}
-use lib.ListN.{replicate}
+use lib.ListN.{length, replicate}
 use Rattle.arith.proofs.Cases.{by-eq}
 use Rattle.rows.specs.Outcome.{Outcome, outcome}
 use Rattle.settings.specs.declared.Settings.{Settings}
@@ -13,9 +13,10 @@ use Rattle.rules.specs.declared.Reply.{Reply}
 use Rattle.rules.specs.declared.Reply.the-variants.{Done}
 use Rattle.rules.specs.Replies.{numbered}
 use Rattle.rules.specs.Rules.{tableSetUpRefusalIn, setUpIn, setUpFor}
-use Rattle.rules.specs.Calls.{Terms}
+use Rattle.rules.specs.Calls.{Terms, listDebts}
 use Rattle.rules.proofs.RefusedLaws.{unless-refused-accepts, unless-refused-refuses}
-use Rattle.rules.proofs.CallLaws.{refused-changes-nothing}
+use Rattle.rules.proofs.DebtLaws.{refused-leaves-the-records}
+use Rattle.rules.proofs.CallLaws.{refused-changes-nothing, numbered-is-refused}
 use Rattle.demands.specs.Demands.{tableWords, Limiter, settingsBy, Demand2, RefusedChangesNothing}
 
 -- Set-up is refused, or answers `Done`.
@@ -38,4 +39,8 @@ module _ {S N : Type 0} (terms : Terms S N) (l : Limiter S N) (equal : Demand2 t
     clears = λ table s ws few fit lent.
         rw (equal .clears table s ws few fit lent) (refused-set-up-changes-nothing (settingsBy terms table s) (tableWords table) ws);
     answers = λ c ws fit lent. rw (equal .answers c ws fit lent) (refused-changes-nothing terms c ws);
+    lists = λ s at i records ws fit small lent told.
+        equal .lists s at i records ws fit small lent
+        ∙ refused-leaves-the-records (terms .settings s) at i ws records
+        (numbered-is-refused terms (listDebts s at i (length records)) ws (rw (equal .answers (listDebts s at i (length records)) ws fit lent) at told));
   }

@@ -12,7 +12,7 @@ use Rattle.settings.proofs.BeforeLaws.{accepted-before-is-as-before}
 use Rattle.store.specs.Memory.{wordsIn, memoryWords}
 use Rattle.rules.specs.Asks.{inForce}
 use Rattle.rules.specs.Rules.{setUpIn, setUpFor, unlessRefused, keyedRuleIn, lenIn}
-use Rattle.rules.specs.Calls.{Call, keyed, whole, len, Terms, settingsOf, rulesIn, rules, fits}
+use Rattle.rules.specs.Calls.{Call, keyed, whole, wholeRuleIn, Terms, settingsOf, rulesIn, rules, fits}
 use Rattle.rules.specs.Widths.{lendable}
 use Rattle.demands.specs.Demands.{Limiter, Demand2}
 
@@ -30,9 +30,9 @@ module _ {S N : Type 0} (terms : Terms S N) where
       let settings = inForce ask (terms .settings s) in
       ap (λ (shape : Shape). unlessRefused (terms .refusal n) ws (keyedRuleIn shape settings (terms .identity n) ask ws))
       (accepted-before-is-as-before settings accepted .shape)
-  answers-by-shape (whole s len) ws accepted =
+  answers-by-shape (whole s what) ws accepted =
       let settings = terms .settings s in
-      ap (λ (shape : Shape). lenIn shape settings ws) (accepted-before-is-as-before settings accepted .shape)
+      ap (λ (shape : Shape). wholeRuleIn shape settings what ws) (accepted-before-is-as-before settings accepted .shape)
 
   pub accepted-before-is-as-at-the-shape-of-before : (s : Settings) → Before.settingsRefusal s ≡ 0 → AsAtTheShapeOfBefore terms s
   accepted-before-is-as-at-the-shape-of-before s accepted =

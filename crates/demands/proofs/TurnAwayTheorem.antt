@@ -1,34 +1,39 @@
 -- The counts of tries turned away decide nothing: the claims of specs/TurnAways.antt, of the rules and of every limiter that meets demand 2.
-use Prim.Native.Nat.{ℕ}
+use Prim.Native.Nat.{ℕ, _<_}
 use mathlib.Core.Path.{_≡_, refl, sym, ap, _∙_}
 use mathlib.Core.Bool.{true, false, cond}
 use mathlib.Core.List.{List, [], _∷_}
 use lib.Dec.{eqb}
+use lib.ListN.{length}
 use Rattle.arith.proofs.Cases.{by-eq}
 use Rattle.rows.specs.Outcome.{Outcome}
 use Rattle.bucket.specs.declared.BucketCore.{BucketCore}
 use Rattle.settings.specs.declared.Settings.{Settings}
-use Rattle.settings.specs.Settings.{firstRefusal, settingsRefusal, shapeOf, capOf, shardOf}
+use Rattle.settings.specs.Settings.{firstRefusal, settingsRefusal, shapeOf, capOf, shardCount, shardOf}
+use Rattle.ledger.specs.Model.{Ledger}
 use Rattle.classes.specs.Classes.{tableRefusal}
 use Rattle.classes.specs.Layout.{classesIn}
 use Rattle.shard_map.specs.Model.{Shard, uncounted}
 use Rattle.shard_map.proofs.TurnAwayLaws.{equal-but-for-turn-aways}
 use Rattle.shard.specs.declared.Identity.{Identity}
 use Rattle.store.specs.Memory.{totalOf, totalAfter, memoryWords, roomIn, shardAt, bucketsAt}
-use Rattle.store.specs.Refusals.{memoryRefusal, totalRefusal, countRefusal, countsRefusal, setUpRefusal}
+use Rattle.store.specs.Refusals.{memoryRefusal, momentRefusal, totalRefusal, countRefusal, countsRefusal, setUpRefusal}
 use Rattle.rules.specs.declared.Reply.{Reply}
 use Rattle.rules.specs.declared.Reply.the-variants.{Count}
 use Rattle.rules.specs.Asks.{Ask, requests, looks, undoes, passes, inForce, furtherOf, inItsShard, bucketsAfter}
 use Rattle.rules.specs.Rules.{askRefusal, tableSetUpRefusalIn, setUpIn, setUpFor}
 use Rattle.rules.specs.Widths.{lendable}
-use Rattle.rules.specs.Calls.{Call, keyed, whole, len, Terms, rules, settingsOf, Every}
+use Rattle.rules.specs.Debts.{listed, shardNumbered, ledgerRefusal}
+use Rattle.rules.specs.Calls.{Call, keyed, whole, len, debts, Terms, rules, settingsOf, Every}
 use Rattle.rules.proofs.RefusedLaws.{unless-refused-accepts, unless-refused-refuses}
 use Rattle.rules.proofs.KeyedLaws.{ask-not-refused}
+use Rattle.rules.proofs.DebtLaws.{of-such-a-shard, debts-not-refused}
 use Rattle.rules.proofs.CallLaws.{refusalOf, ruleOf, not-refused-is-ruled, refused-is-told, keyed-not-refused}
 use Rattle.demands.specs.Demands.{Table, tableWords, Limiter, settingsBy, Demand2}
 use Rattle.demands.specs.PlaceOrder.{Turn, calls, clears, byRules, run, OfStore, AllOf}
 use Rattle.demands.specs.TurnAways.{readsTurnAways, callReadsTurnAways, turnReadsTurnAways, EqualButForTurnAways, DecidedAlike, ListDecidedAlike}
 use Rattle.demands.proofs.OneShardLaws.{WorksInOneShard, asks-work-in-one-shard, call-same-without-turn-aways}
+use Rattle.demands.proofs.GrownLaws.{of-every-shard}
 use Rattle.demands.proofs.WidthLaws.{NamesFit}
 use Rattle.demands.proofs.PlaceOrderTheorem.{byLimiter, TurnFits, runs-alike}
 
@@ -109,6 +114,13 @@ keyed-decided-alike s id ask ws vs like first second =
       };
     }
 
+-- The ledgers are the same, shard by shard: no count of tries turned away stands in a ledger.
+same-ledgers : (s : Settings) (ws vs : List ℕ) → EqualButForTurnAways s ws vs → (i : ℕ) → i < shardCount s
+    → shardNumbered (shapeOf s) i ws .ledger ≡ shardNumbered (shapeOf s) i vs .ledger
+same-ledgers s ws vs like =
+    of-every-shard s (λ i. shardNumbered (shapeOf s) i ws .ledger ≡ shardNumbered (shapeOf s) i vs .ledger)
+    (λ hash. ap (λ (own : Shard). own .ledger) (like .shards hash))
+
 module _ {S N : Type 0} (terms : Terms S N) where
   refused-alike : (c : Call S N) (ws vs : List ℕ) → EqualButForTurnAways (settingsOf terms c) ws vs → refusalOf terms c ws ≡ refusalOf terms c vs
   refused-alike (keyed s n ask) ws vs like =
@@ -116,6 +128,11 @@ module _ {S N : Type 0} (terms : Terms S N) where
   refused-alike (whole s len) ws vs like =
       let settings = terms .settings s in
       λ j. firstRefusal (set-up-refused-alike settings ws vs like j) (totalRefusal (roomIn (shapeOf settings)) (like .total j))
+  refused-alike (whole s (debts at i room)) ws vs like =
+      let settings = terms .settings s in
+      let further = ap (firstRefusal (momentRefusal at))
+      (of-such-a-shard (shapeOf settings) i _ _ (λ below. ap (ledgerRefusal (capOf settings) at room) (same-ledgers settings ws vs like i below))) in
+      λ j. firstRefusal (set-up-refused-alike settings ws vs like j) (further j)
 
   ruled-alike : (c : Call S N) (ws vs : List ℕ) → EqualButForTurnAways (settingsOf terms c) ws vs → refusalOf terms c ws ≡ 0 → refusalOf terms c vs ≡ 0
       → DecidedAlike (settingsOf terms c) (callReadsTurnAways c) (ruleOf terms c ws) (ruleOf terms c vs)
@@ -128,6 +145,10 @@ module _ {S N : Type 0} (terms : Terms S N) where
       (asks-work-in-one-shard settings id vs accepted-too ask)
   ruled-alike (whole s len) ws vs like none also =
       record { answer = λ blind. ap Count (like .total); after = like }
+  ruled-alike (whole s (debts at i room)) ws vs like none also =
+      let settings = terms .settings s in
+      let below = debts-not-refused settings at i room ws none .shard in
+      record { answer = λ blind. ap (λ (l : Ledger). Count (length (listed at l))) (same-ledgers settings ws vs like i below); after = like }
 
   -- A call, refused or not.
   pub turn-aways-decide-no-call : (c : Call S N) (ws vs : List ℕ) → EqualButForTurnAways (settingsOf terms c) ws vs

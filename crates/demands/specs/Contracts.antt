@@ -1,18 +1,24 @@
--- Code as its caller knows it: what the contracts of the ten operations of `perkey`, of the five of `modems` and of the three of `class_calls` tell. They
--- answer calls of one list, in which each call names a modem by key or by address (`byName`). `Asked` and `Learnt` are an operation's `requires` and `ensures`
--- (src/lib.rt of these crates) as the check gives them to its callers: `Asked` of the arguments, `Learnt` of the arguments at entry, the result, and the
--- arguments at exit.
+-- Code as its caller knows it: what the contracts of the ten operations of `perkey`, of the five of `modems`, of the three of `class_calls` and of the one of
+-- `debt_calls` tell. They answer calls of one list, in which each call names a modem by key or by address (`byName`). `Asked` and `Learnt` are an operation's
+-- `requires` and `ensures` (src/lib.rt of the first three crates) as the check gives them to its callers: `Asked` of the arguments, `Learnt` of the arguments
+-- at entry, the result, and the arguments at exit.
 use Prim.Native.Nat.{ℕ}
 use mathlib.Core.Path.{_≡_}
 use mathlib.Core.Bool.{true}
 use mathlib.Core.List.{List}
+use lib.ListN as ListN
 use contract.Lifetimes.{Lfts}
 use denote.Ref.{RefT}
+use Rattle.rows.specs.Outcome.{outcome}
 use Rattle.units.specs.declared.Nanos.{Nanos}
 use Rattle.settings.specs.declared.Settings.{Settings}
+use Rattle.ledger.specs.declared.Debt.{Debt}
 use Rattle.shard.specs.declared.Identity.{Identity}
-use Rattle.rules.specs.Widths.{settingsFit, lendable}
-use Rattle.rules.specs.Calls.{try, reserve, peek, available, timesTurnedAway, length, refund, remove, classTry, fits}
+use Rattle.rules.specs.declared.Reply.{Reply}
+use Rattle.rules.specs.Widths.{settingsFit, lendable, recordsFit}
+use Rattle.rules.specs.Debts as Debts
+use Rattle.rules.specs.Debts.{Lent}
+use Rattle.rules.specs.Calls.{try, reserve, peek, available, timesTurnedAway, length, refund, remove, classTry, listDebts, fits}
 use Rattle.modems.specs.Names.{Name, key, address, byName}
 use Rattle.perkey.proofs.set_up.Reads as SetUp
 use Rattle.perkey.proofs.clear.Reads as Clear
@@ -34,8 +40,8 @@ use Rattle.class_calls.proofs.class_clear.Reads as ClassClear
 use Rattle.class_calls.proofs.class_try.Reads as ClassTry
 use Rattle.demands.specs.Demands.{untabled, tabled, Limiter}
 
--- Words or bytes that are lent, at some place.
-abbrev pub lentAt : ℕ × ℕ → ℕ → List ℕ → RefT (List ℕ)
+-- Words, bytes or records that are lent, at some place.
+abbrev pub lentAt : {A : Type 0} → ℕ × ℕ → ℕ → List A → RefT (List A)
 lentAt ptr name ws = record { ptr = ptr; name = name; now = ws }
 
 -- For any lifetimes and any place of the lent words: no answer depends on them.
@@ -142,9 +148,22 @@ module _ (κs : Lfts 2) (ptr tablePtr : ℕ × ℕ) (name tableName : ℕ) where
         ClassTry.Asked κs (withTable s table ws (at, (id, (class, (cost, tt))))) →
         ClassTry.Learnt κs (withTable s table ws (at, (id, (class, (cost, tt))))) (o .answer) (withTable s table (o .after) (at, (id, (class, (cost, tt)))))
 
--- Of all three crates.
+-- The operation of `debt_calls` is lent records, too. The check makes no `Asked` and `Learnt` of such a function, so what its `ensures` tells is written out
+-- here. `list-debts-is-read` and `list-debts-asks-nothing` (proofs/DebtCalls.antt) show by computation that its contract says this and asks nothing. Whatever
+-- records are lent, the answer and the words are those that the limiter has for how many they are. The records after are those of `lists`.
+abbrev pub ListDebtsLearnt : Settings → Nanos → ℕ → Lent → Reply → Lent → Type 0
+ListDebtsLearnt s at i before r after = outcome r after ≡ Debts.listDebts s at i before
+
+pub record DebtContracts (l : Limiter Settings Name) : Type 0 where
+  pub lists : (s : Settings) (at : Nanos) (i : ℕ) (records : List Debt) (ws : List ℕ) → fits byName (listDebts s at i (ListN.length records)) ≡ true
+      → recordsFit records ≡ true → lendable ws ≡ true →
+      let o = l .answers (listDebts s at i (ListN.length records)) ws in
+      ListDebtsLearnt s at i (Debts.lent ws records) (o .answer) (Debts.lent (o .after) (l .lists s at i records ws))
+
+-- Of all four crates.
 module _ (κs : Lfts 1) (κs₂ : Lfts 2) (ptr otherPtr : ℕ × ℕ) (name otherName : ℕ) where
   pub record Contracts (l : Limiter Settings Name) : Type 0 where
     pub by-key : KeyContracts κs ptr name l
     pub by-address : AddressContracts κs₂ ptr otherPtr name otherName l
     pub by-class : ClassContracts κs₂ ptr otherPtr name otherName l
+    pub of-debts : DebtContracts l

@@ -1,12 +1,12 @@
 -- What is promised of a limiter, as claims about any limiter: of demand 1, that a call which is refused by number changes no word (`RefusedChangesNothing`);
 -- demand 2, that it does what the rules say; demand 3, the window, the own bucket and the window of a class. That no call faults, overflows or fails to end is
--- what `rt` proves of every function. No operation and no export has a `requires`: the contracts in src/ of `perkey`, `modems`, `class_calls`, `limiter`,
--- `limiter_modems` and `limiter_classes` show that.
+-- what `rt` proves of every function. No operation and no export has a `requires`: the contracts in src/ of `perkey`, `modems`, `class_calls`, `debt_calls`,
+-- `limiter`, `limiter_modems`, `limiter_classes` and `limiter_debts` show that.
 --
 -- Demand 3 in plain English. Behind each clause stands the name that states it.
 --
--- Take any list of tries, tries through a class, reservations, peeks, looks at available, at counts or at
--- length, refunds and removals,                                                                          Call
+-- Take any list of tries, tries through a class, reservations, peeks, looks at available, at counts, at
+-- length or at the debts of a shard, refunds and removals,                                               Call
 -- each with its own settings and naming a modem by key or by hardware address,                            Terms (Calls)
 -- calls that are refused by number among them, with any numbers that code can be given.                  fits, lendable
 -- Each call gets the words that the call before it left.                                                 replies
@@ -45,9 +45,9 @@
 --
 -- Theorems, in proofs/:
 -- * `rules-meet-demand3`: the rules meet it. `demand2-gives-demand3`: so does every limiter that meets demand 2.
--- * `demand2-changes-nothing-where-refused`: a limiter that meets demand 2 changes no word where it refuses.
--- * `contracts-meet-demand2`, `contracts-meet-demand3`: so does code that is as the contracts of `perkey`, `modems` and `class_calls` tell its callers, in
---   lists that mix their calls.
+-- * `demand2-changes-nothing-where-refused`: a limiter that meets demand 2 changes no word and no record where it refuses.
+-- * `contracts-meet-demand2`, `contracts-meet-demand3`: so does code that is as the contracts of `perkey`, `modems`, `class_calls` and `debt_calls` tell
+--   its callers, in lists that mix their calls.
 -- * `exports-meet-demand2`: what C and Rust call gives the rules' replies as numbers. `exports-meet-demand3`: so their callers have a limiter that meets it.
 -- * `window-adding-none-is-false-of-the-rules`: the + 1 cannot be left out.
 -- * `demand2-tells-moments`, `told-moments-count-alike`: the tokens that the window counts are those counted by the moments that grants tell (Moments).
@@ -79,6 +79,7 @@ use Rattle.classes.specs.declared.Class.{Class}
 use Rattle.classes.specs.Classes.{classAt}
 use Rattle.classes.specs.Chains.{among, leastBurst}
 use Rattle.classes.specs.Layout.{classesIn}
+use Rattle.ledger.specs.declared.Debt.{Debt}
 use Rattle.shard.specs.declared.Identity.{Identity}
 use Rattle.shard.specs.Model.{ownDecision, holds}
 use Rattle.store.specs.Memory.{shardAt, bucketsAt}
@@ -87,9 +88,11 @@ use Rattle.rules.specs.declared.Reply.the-variants.{Done}
 use Rattle.rules.specs.Replies.{ofGrant, numbered}
 use Rattle.rules.specs.Asks.{Ask, requests, looks, undoes, passes, Manner, asTry, asReservation, mannerOf, replyTo, withTable, chainOf, throughChain}
 use Rattle.rules.specs.Rules.{classSetUp}
-use Rattle.rules.specs.Widths.{lendable}
+use Rattle.rules.specs.Widths.{lendable, recordsFit}
+use Rattle.rules.specs.Debts as Debts
+use Rattle.rules.specs.Debts.{lent}
 use Rattle.rules.specs.Calls.{Call, keyed, whole, Terms, Implementation, Answered, Every, clockAfter}
-use Rattle.rules.specs.Calls.{settingsOf, rules, replies, accepted, ofKey, ofUndone, fits, allFit}
+use Rattle.rules.specs.Calls.{listDebts, settingsOf, rules, replies, accepted, ofKey, ofUndone, fits, allFit}
 
 -- Set-up and clear are called without a class table, or with one. Without one they mean the empty table.
 pub data Table : Type 0 where
@@ -103,11 +106,14 @@ tableWords (tabled words) = words
 abbrev pub tableFits : Table → Bool
 tableFits table = lendable (tableWords table)
 
--- A limiter, as its caller has it: set-up, clear, and an answer to every other call. Each gives a reply and leaves words.
+-- A limiter, as its caller has it: set-up, clear, and an answer to every other call. Each gives a reply and leaves words. A list of debts is
+-- answered for the number of lent records: by its contract the answer depends on nothing else of them. The records after it are those of `lists`, for the
+-- settings, the moment, the shard's number, the records that are lent, and the words.
 pub record Limiter (S N : Type 0) : Type 0 where
   pub sets-up : Table → S → List ℕ → Outcome Reply (List ℕ)
   pub clears : Table → S → List ℕ → Outcome Reply (List ℕ)
   pub answers : Implementation S N
+  pub lists : S → Nanos → ℕ → List Debt → List ℕ → List Debt
 
 -- The tokens of one grant, if it is the key's and they first become usable from t to u.
 unfoldable pub usable : Identity → ℕ → ℕ → Identity → ℕ → ℕ → ℕ
@@ -159,19 +165,25 @@ module _ {S N : Type 0} (terms : Terms S N) where
   abbrev pub settingsBy : Table → S → Settings
   settingsBy table s = withTable (tableWords table) (terms .settings s)
 
-  -- A limiter that is set up and cleared as the rules say, and answers calls in a way of its own. The rules are such a limiter.
-  abbrev pub answering : Implementation S N → Limiter S N
-  answering f = record { sets-up = setUpBy; clears = setUpBy; answers = f }
+  -- The records after a list of debts, by the rules.
+  abbrev pub recordsBy : S → Nanos → ℕ → List Debt → List ℕ → List Debt
+  recordsBy s at i records ws = Debts.listDebts (terms .settings s) at i (lent ws records) .after .records
 
-  -- Demand 2, for all that code can be given: every reply, and all words after it, are those of the rules.
+  -- A limiter that is set up and cleared and lists debts as the rules say, and answers calls in a way of its own. The rules are such a limiter.
+  abbrev pub answering : Implementation S N → Limiter S N
+  answering f = record { sets-up = setUpBy; clears = setUpBy; answers = f; lists = recordsBy }
+
+  -- Demand 2, for all that code can be given: every reply, and all words and records after it, are those of the rules.
   pub record Demand2 (l : Limiter S N) : Type 0 where
     pub sets-up : (table : Table) (s : S) (ws : List ℕ) → tableFits table ≡ true → terms .settingsFit s ≡ true → lendable ws ≡ true
         → l .sets-up table s ws ≡ setUpBy table s ws
     pub clears : (table : Table) (s : S) (ws : List ℕ) → tableFits table ≡ true → terms .settingsFit s ≡ true → lendable ws ≡ true
         → l .clears table s ws ≡ setUpBy table s ws
     pub answers : (c : Call S N) (ws : List ℕ) → fits terms c ≡ true → lendable ws ≡ true → l .answers c ws ≡ rules terms c ws
+    pub lists : (s : S) (at : Nanos) (i : ℕ) (records : List Debt) (ws : List ℕ) → fits terms (listDebts s at i (length records)) ≡ true
+        → recordsFit records ≡ true → lendable ws ≡ true → l .lists s at i records ws ≡ recordsBy s at i records ws
 
-  -- Of demand 1: where the reply is a refusal by number, all words are as they were.
+  -- Of demand 1: where the reply is a refusal by number, all words and all records are as they were.
   pub record RefusedChangesNothing (l : Limiter S N) : Type 0 where
     pub sets-up : (table : Table) (s : S) (ws : List ℕ) → tableFits table ≡ true → terms .settingsFit s ≡ true → lendable ws ≡ true
         → numbered (l .sets-up table s ws .answer) ≡ true → l .sets-up table s ws .after ≡ ws
@@ -179,6 +191,9 @@ module _ {S N : Type 0} (terms : Terms S N) where
         → numbered (l .clears table s ws .answer) ≡ true → l .clears table s ws .after ≡ ws
     pub answers : (c : Call S N) (ws : List ℕ) → fits terms c ≡ true → lendable ws ≡ true → numbered (l .answers c ws .answer) ≡ true
         → l .answers c ws .after ≡ ws
+    pub lists : (s : S) (at : Nanos) (i : ℕ) (records : List Debt) (ws : List ℕ) → fits terms (listDebts s at i (length records)) ≡ true
+        → recordsFit records ≡ true → lendable ws ≡ true → numbered (l .answers (listDebts s at i (length records)) ws .answer) ≡ true
+        → l .lists s at i records ws ≡ records
 
   -- The conditions of the window rule bind accepted calls only. They all have the settings of set-up;
   abbrev pub SameSettings : Settings → List (Answered S N) → Type 0

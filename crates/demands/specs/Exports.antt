@@ -1,28 +1,33 @@
 -- The limiter as C and Rust call it: the ten exports of `limiter` that are lent words, on plain numbers, the five of `limiter_modems`, on numbers and the bytes
--- of an address, and the three of `limiter_classes`, on numbers and the words of a class table; demand 2 of them; and the limiter that a caller has in them,
--- who reads replies from their numbers. Each call of a list writes its settings as numbers of its own. The other exports are lent no words, so they are no
--- calls of a list: the number of words, the hash of a key, the identity of an address, the version.
+-- of an address, the three of `limiter_classes`, on numbers and the words of a class table, and the one of `limiter_debts`, on numbers and records; demand 2 of
+-- them; and the limiter that a caller has in them, who reads replies from their numbers. Each call of a list writes its settings as numbers of its own. The
+-- other exports are lent no words, so they are no calls of a list: the number of words, the hash of a key, the identity of an address, the version.
 use Prim.Native.Nat.{ℕ, _-_}
 use mathlib.Core.Path.{_≡_}
 use mathlib.Core.Bool.{Bool, true, cond, _&&_}
 use mathlib.Core.List.{List}
 use lib.Dec.{eqb}
+use lib.ListN as ListN
 use contract.Lifetimes.{Lfts}
 use denote.Ref.{RefT}
 use Rattle.rows.specs.Outcome.{Outcome, outcome}
 use Rattle.units.specs.declared.Nanos.{Nanos}
+use Rattle.units.specs.Units.{nanosOf}
 use Rattle.bucket.specs.declared.Request.the-variants.{Acquire, Reserve, Through}
 use Rattle.bucket.specs.declared.Due.{Due}
 use Rattle.settings.specs.declared.decision.Decision.the-variants.{Acquired, Retry, Impossible}
+use Rattle.ledger.specs.declared.Debt.{Debt}
 use Rattle.shard.specs.declared.Identity.{Identity}
 use Rattle.rules.specs.declared.Reply.{Reply}
 use Rattle.rules.specs.declared.Reply.the-variants.{Tried, Reserved, Nothing, Done, Count, Refused}
 use Rattle.rules.specs.declared.codes.Told.{Told}
 use Rattle.rules.specs.Replies.{toldOf, told, Kind, decides, reserves, counts, knows}
 use Rattle.rules.specs.Asks.{requests, looks, undoes, passes, peeks, tokens, turnedAway, refunds, removes}
-use Rattle.rules.specs.Widths.{fits64, fits32, lendable}
-use Rattle.rules.specs.Calls.{Call, keyed, whole, len, Terms, try, reserve, peek, available, timesTurnedAway, length, refund, remove, classTry, kindOf, rules}
-use Rattle.rules.specs.Calls.{fits}
+use Rattle.rules.specs.Widths.{fits64, fits32, lendable, recordsFit}
+use Rattle.rules.specs.Debts as Debts
+use Rattle.rules.specs.Debts.{Lent}
+use Rattle.rules.specs.Calls.{Call, keyed, whole, len, debts, Terms, try, reserve, peek, available, timesTurnedAway, length, refund, remove, classTry, kindOf}
+use Rattle.rules.specs.Calls.{listDebts, rules, fits}
 use Rattle.modems.specs.Names.{Name, key, address, namedIn}
 use Rattle.limiter.specs.declared.LimiterSettings.{LimiterSettings}
 use Rattle.limiter.specs.Exported.{settingsOf}
@@ -44,10 +49,11 @@ use Rattle.limiter_modems.proofs.limiter_modem_remove.Reads as ModemRemove
 use Rattle.limiter_classes.proofs.limiter_table_set_up.Reads as ClassSetUp
 use Rattle.limiter_classes.proofs.limiter_table_clear.Reads as ClassClear
 use Rattle.limiter_classes.proofs.limiter_table_try.Reads as ClassTry
-use Rattle.demands.specs.Demands.{Table, untabled, tabled, tableFits, Limiter, setUpBy}
+use Rattle.demands.specs.Demands.{Table, untabled, tabled, tableFits, Limiter, setUpBy, recordsBy}
 use Rattle.demands.specs.Contracts.{lentAt}
 
--- What each export gives for its numbers, bytes and words: three numbers, and words.
+-- What each export gives for its numbers, bytes and words: three numbers, and words. A list of debts gives them for a number of lent records, and leaves
+-- records, too.
 abbrev Gives : Type 0
 Gives = List ℕ → Outcome Told (List ℕ)
 
@@ -70,6 +76,8 @@ pub record Exports : Type 0 where
   pub class-set-up : LimiterSettings → (table : List ℕ) → Gives
   pub class-clear : LimiterSettings → (table : List ℕ) → Gives
   pub class-try : LimiterSettings → (table : List ℕ) → (at hash key class cost : ℕ) → Gives
+  pub debts : LimiterSettings → (at shard room : ℕ) → Gives
+  pub records : LimiterSettings → (at shard : ℕ) → List Debt → List ℕ → List Debt
 
 -- The numbers of a settings struct fit their widths.
 abbrev pub numbersFit : LimiterSettings → Bool
@@ -107,6 +115,7 @@ through e (keyed n (address bytes) (undoes (refunds cost))) = e .modem-refund n 
 through e (keyed n (address bytes) (undoes removes)) = e .modem-remove n bytes
 through e (keyed n (address bytes) (passes table class at cost)) = noExport
 through e (whole n len) = e .length n
+through e (whole n (debts at i room)) = e .debts n (at .0) i room
 
 -- The exports by which a store is set up and cleared, without a table and with one.
 abbrev pub setUpThrough : Exports → Table → LimiterSettings → Gives
@@ -117,13 +126,16 @@ abbrev pub clearThrough : Exports → Table → LimiterSettings → Gives
 clearThrough e untabled n = e .clear n
 clearThrough e (tabled table) n = e .class-clear n table
 
--- Demand 2 of the exports: whatever numbers the settings are written in, all numbers of a reply are those of the rules' reply, and all words are theirs.
+-- Demand 2 of the exports: whatever numbers the settings are written in, all numbers of a reply are those of the rules' reply, and all words and records are
+-- those of the rules.
 pub record ExportDemand2 (e : Exports) : Type 0 where
   pub sets-up : (table : Table) (n : LimiterSettings) (ws : List ℕ) → tableFits table ≡ true → numbersFit n ≡ true → lendable ws ≡ true
       → setUpThrough e table n ws ≡ told (setUpBy exported table n ws)
   pub clears : (table : Table) (n : LimiterSettings) (ws : List ℕ) → tableFits table ≡ true → numbersFit n ≡ true → lendable ws ≡ true
       → clearThrough e table n ws ≡ told (setUpBy exported table n ws)
   pub answers : (c : Call LimiterSettings Name) (ws : List ℕ) → fits exported c ≡ true → lendable ws ≡ true → through e c ws ≡ told (rules exported c ws)
+  pub lists : (n : LimiterSettings) (at : Nanos) (i : ℕ) (records : List Debt) (ws : List ℕ) → fits exported (listDebts n at i (ListN.length records)) ≡ true
+      → recordsFit records ≡ true → lendable ws ≡ true → e .records n (at .0) i records ws ≡ recordsBy exported n at i records ws
 
 -- How a caller reads a reply, by the kind of the call. The code tells which reply of that kind it is. A number or a moment that this reply does not have is not
 -- read; `ExportDemand2` says that it is 0. Any other code is read as a refusal, by the code less 10; a code below 10 is read as `Refused 0`, which the rules
@@ -152,6 +164,7 @@ called e = record {
   sets-up = λ table n ws. readAs knows (setUpThrough e table n ws);
   clears = λ table n ws. readAs knows (clearThrough e table n ws);
   answers = λ c ws. readAs (kindOf c) (through e c ws);
+  lists = λ n at i records ws. e .records n (at .0) i records ws;
 }
 
 -- For any lifetimes and any place of the lent words: no answer depends on them.
@@ -274,9 +287,22 @@ module _ (κs : Lfts 2) (ptr tablePtr : ℕ × ℕ) (name tableName : ℕ) where
         ClassTry.Asked κs (withTable n table ws (numbersOf at id class cost)) →
         ClassTry.Learnt κs (withTable n table ws (numbersOf at id class cost)) (o .answer) (withTable n table (o .after) (numbersOf at id class cost))
 
--- Of these three objects of the archive.
+-- The export of `limiter_debts` is lent records, too. What its `ensures` tells is written out here, as for the operation (Contracts; `limiter-debts-is-read`,
+-- `limiter-debts-asks-nothing`). Whatever records are lent, the numbers and the words are those that `debts` has for how many they are. The records after are
+-- those of `records`.
+abbrev pub DebtsLearnt : LimiterSettings → ℕ → ℕ → Lent → Told → Lent → Type 0
+DebtsLearnt n at i before t after = outcome t after ≡ told (Debts.listDebts (settingsOf n) (nanosOf at) i before)
+
+pub record DebtExportContracts (e : Exports) : Type 0 where
+  pub lists : (n : LimiterSettings) (at : Nanos) (i : ℕ) (records : List Debt) (ws : List ℕ) →
+      fits exported (listDebts n at i (ListN.length records)) ≡ true → recordsFit records ≡ true → lendable ws ≡ true →
+      let o = e .debts n (at .0) i (ListN.length records) ws in
+      DebtsLearnt n (at .0) i (Debts.lent ws records) (o .answer) (Debts.lent (o .after) (e .records n (at .0) i records ws))
+
+-- Of these four objects of the archive.
 module _ (κs : Lfts 1) (κs₂ : Lfts 2) (ptr otherPtr : ℕ × ℕ) (name otherName : ℕ) where
   pub record ExportContracts (e : Exports) : Type 0 where
     pub by-key : KeyExportContracts κs ptr name e
     pub by-address : AddressExportContracts κs₂ ptr otherPtr name otherName e
     pub by-class : ClassExportContracts κs₂ ptr otherPtr name otherName e
+    pub of-debts : DebtExportContracts e

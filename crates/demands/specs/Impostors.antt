@@ -22,20 +22,22 @@ use Rattle.units.specs.declared.Nanos.{Nanos}
 use Rattle.settings.specs.declared.Settings.{Settings}
 use Rattle.rules.specs.Replies.{numberOf, numbered}
 use Rattle.rules.specs.Asks.{Ask, requests, looks, undoes, passes, asTry, mannerOf, dueNow, replyTo}
-use Rattle.rules.specs.Calls.{keyed, whole, byKey, clockAfter}
+use Rattle.rules.specs.Calls.{keyed, whole, len, debts, byKey, clockAfter}
 use Rattle.rules.specs.Calls as Calls
 use Rattle.modems.specs.Names.{Name, key, address, byName}
 use Rattle.demands.specs.ByKey.{Call, Implementation, rules}
 
--- By the kind of a call: a value for a request and for a try through a class, given how its answer is told; for a length; and for any other call.
+-- By the kind of a call: a value for a request and for a try through a class, given how its answer is told; for a length; and for any other call, a list of
+-- debts among them.
 abbrev byKind : {A : Type 0} → ((BucketDecision → Reply) → A) → A → A → Call → A
 byKind requested length other (keyed s id (requests r at cost)) = requested (replyTo (mannerOf r))
 byKind requested length other (keyed s id (looks l)) = other
 byKind requested length other (keyed s id (undoes u)) = other
 byKind requested length other (keyed s id (passes table class at cost)) = requested (replyTo asTry)
-byKind requested length other (whole s what) = length
+byKind requested length other (whole s len) = length
+byKind requested length other (whole s (debts at i room)) = other
 
--- The key that a call names. A length names none, and has the hash 0 here, whose shard is the first.
+-- The key that a call names. A length and a list of debts name none, and have the hash 0 here, whose shard is the first.
 abbrev identityOf : Call → Identity
 identityOf (keyed s id ask) = id
 identityOf (whole s what) = record { hash = 0; key = 0 }

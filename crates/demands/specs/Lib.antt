@@ -4,6 +4,7 @@ pub mod Impostors
 pub mod Grown
 pub mod Isolation
 pub mod PlaceOrder
+pub mod MorningList
 pub mod TurnAways
 pub mod Contracts
 pub mod Exports

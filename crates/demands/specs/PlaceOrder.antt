@@ -5,13 +5,12 @@ use mathlib.Core.Path.{_≡_}
 use mathlib.Core.Bool.{cond}
 use mathlib.Core.List.{List, [], _∷_}
 use lib.Dec.{eqb}
-use lib.ListN.{replicate}
+use lib.ListN.{length, replicate}
 use Rattle.rows.specs.Places.{sum}
-use Rattle.rows.specs.Segments.{segment}
 use Rattle.rows.specs.Outcome.{Outcome, outcome}
 use Rattle.bucket.specs.declared.BucketCore.{BucketCore}
 use Rattle.settings.specs.declared.Settings.{Settings}
-use Rattle.settings.specs.Settings.{firstRefusal, shapeOf, shardCount, capOf, shardOf}
+use Rattle.settings.specs.Settings.{firstRefusal, shapeOf, shardCount, shardOf}
 use Rattle.classes.specs.Classes.{tableRefusal}
 use Rattle.classes.specs.Layout.{classCount, classesIn}
 use Rattle.index.specs.Exact.{Exact}
@@ -19,19 +18,21 @@ use Rattle.held.specs.Held.{inOrder, hashAt}
 use Rattle.held.specs.Layout.{indexWords}
 use Rattle.ledger.specs.Model.{debtItems}
 use Rattle.shard_map.specs.Model.{Shard, slotItems, inPlaceOrder}
-use Rattle.shard_map.specs.Layout.{shard, shardWords}
 use Rattle.shard.specs.declared.Identity.{Identity}
-use Rattle.store.specs.Memory.{memoryWords, shardStart, bucketsAt}
+use Rattle.store.specs.Memory.{memoryWords, bucketsAt}
+use Rattle.store.specs.Refusals.{momentRefusal}
 use Rattle.rules.specs.declared.Reply.{Reply}
 use Rattle.rules.specs.declared.Reply.the-variants.{Done, Count, Refused}
 use Rattle.rules.specs.Asks.{Ask, inForce, furtherOf, inItsShard, bucketsAfter}
 use Rattle.rules.specs.Rules.{setUpFor}
-use Rattle.rules.specs.Calls.{Call, keyed, whole, len, Terms, rules, settingsOf, Every}
+use Rattle.rules.specs.Debts as Debts
+use Rattle.rules.specs.Debts.{listed, shardRefusal, recordsRefusal}
+use Rattle.rules.specs.Calls.{Call, keyed, whole, len, debts, Terms, rules, settingsOf, Every}
 use Rattle.demands.specs.Demands.{Table, tableWords}
 
 -- The shard in the words of a store, by its number.
 abbrev pub shardNumbered : Settings → ℕ → List ℕ → Shard
-shardNumbered s i ws = shard (capOf s) (segment (shardStart (capOf s) i) (shardWords (capOf s)) ws)
+shardNumbered s i ws = Debts.shardNumbered (shapeOf s) i ws
 
 -- A store without indexes: its shards by their numbers, and the class buckets. No words and no index stand in it.
 pub record Shards : Type 0 where
@@ -77,20 +78,27 @@ pub record NoIndex (own : Shard) : Type 0 where
   pub debts : own .ledger .debts .finding ≡ inOrder
 
 module _ {S N : Type 0} (terms : Terms S N) where
-  -- The number by which a call of the store's settings is refused, 0 if it is not. It follows from the call alone (`grown-refusal-is-the-calls-own`): the
-  -- settings, the length and the counts of a grown store are accepted, so only the name and what is asked can be refused.
-  abbrev pub refusedAs : Call S N → ℕ
-  refusedAs (keyed s n ask) = firstRefusal (terms .refusal n) (furtherOf ask)
-  refusedAs (whole s what) = 0
+  -- The number by which a call of the store's settings is refused, 0 if it is not, given the shards by their numbers (`grown-refusal-is-the-calls-own`). The
+  -- settings, the length and the counts of a grown store are accepted. So only the name and what is asked can be refused. What the shards hold matters to one
+  -- call alone: a list of debts may need more records than are lent.
+  abbrev pub refusedAs : (ℕ → Shard) → Call S N → ℕ
+  refusedAs shards (keyed s n ask) = firstRefusal (terms .refusal n) (furtherOf ask)
+  refusedAs shards (whole s len) = 0
+  refusedAs shards (whole s (debts at i room)) =
+      firstRefusal (momentRefusal at)
+      (firstRefusal (shardRefusal (shapeOf (terms .settings s)) i) (recordsRefusal room (length (listed at (shards i .ledger)))))
 
   -- A call that is not refused, on a store without indexes. The length is the number of slots in all shards.
   abbrev pub takenOnShards : Call S N → Shards → Outcome Reply Shards
   takenOnShards (keyed s n ask) store = askedOnShards (inForce ask (terms .settings s)) (terms .identity n) ask store
   takenOnShards (whole s len) store = outcome (Count (sum (shardCount (terms .settings s)) (λ i. store .numbered i .slots .count))) store
+  takenOnShards (whole s (debts at i room)) store = outcome (Count (length (listed at (store .numbered i .ledger)))) store
 
   -- A call on a store without indexes. One that is refused answers its number and changes no shard.
   unfoldable pub onShards : Call S N → Shards → Outcome Reply Shards
-  onShards c store = cond (eqb (refusedAs c) 0) (takenOnShards c store) (outcome (Refused (refusedAs c)) store)
+  onShards c store =
+      let refusal = refusedAs (store .numbered) c in
+      cond (eqb refusal 0) (takenOnShards c store) (outcome (Refused refusal) store)
 
   -- A clear on a store without indexes is refused for its table alone.
   unfoldable pub clearedOnShards : Settings → Table → Shards → Outcome Reply Shards

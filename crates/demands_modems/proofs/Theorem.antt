@@ -92,14 +92,14 @@ module _ {S : Type 0} (means : S → Settings) (fit : S → Bool) where
   asNamed (whole s what) = whole s what
 
   abbrev pub onAddresses : Limiter S Name → Limiter S (List ℕ)
-  onAddresses l = record { sets-up = l .sets-up; clears = l .clears; answers = λ call ws. l .answers (asNamed call) ws }
+  onAddresses l = record { sets-up = l .sets-up; clears = l .clears; answers = λ call ws. l .answers (asNamed call) ws; lists = l .lists }
 
   pub named-demand2-gives-demand2 : (l : Limiter S Name) → Demand2 (namedIn means fit) l → Demand2 terms (onAddresses l)
-  named-demand2-gives-demand2 l equal = record { sets-up = equal .sets-up; clears = equal .clears; answers = ruled }
+  named-demand2-gives-demand2 l equal = record { sets-up = equal .sets-up; clears = equal .clears; answers = ruled; lists = equal .lists }
     where
       ruled : (c : Call S (List ℕ)) (ws : List ℕ) → fits terms c ≡ true → lendable ws ≡ true → l .answers (asNamed c) ws ≡ rules terms c ws
       ruled (keyed s bytes ask) ws fits′ lent = equal .answers (keyed s (address bytes) ask) ws fits′ lent
-      ruled (whole s Calls.len) ws fits′ lent = equal .answers (whole s Calls.len) ws fits′ lent
+      ruled (whole s what) ws fits′ lent = equal .answers (whole s what) ws fits′ lent
 
   pub named-demand2-gives-address-demand3 : (l : Limiter S Name) → Demand2 (namedIn means fit) l → AddressDemand3 means fit (onAddresses l)
   named-demand2-gives-address-demand3 l equal = demand2-gives-address-demand3 (onAddresses l) (named-demand2-gives-demand2 l equal)

@@ -17,7 +17,8 @@ use units::OptionNanos;
 
 pub mod words;
 
-// A forgotten key's debt: when its bucket would be full again.
+// A forgotten key's debt: when its bucket would be full again. C has the same two words.
+#[repr(C)]
 pub struct Debt {
     pub hash: u64,
     pub settles: Nanos,

@@ -72,7 +72,7 @@ pub(crate) fn settles_at(ws: &[u64], cap: usize, i: usize) -> Nanos
 }
 
 // The debt at a place.
-pub(crate) fn load(ws: &[u64], cap: usize, i: usize) -> Debt
+pub fn load(ws: &[u64], cap: usize, i: usize) -> Debt
     requires { ⌜ (length (now ws) ≡ ledgerWords cap) × (i < cap) ⌝ }
     ensures { λ r. ⌜ r ≡ Model.debtAt (ledger cap (now (ws .entry))) i ⌝ }
 {

@@ -62,6 +62,6 @@ wordsToLend s = cond (eqb (sizeRefusal s) 0) (cond (ltb mostClasses (s .classes)
 abbrev pub hashOf : ℕ → ℕ
 hashOf key = fnv1a (lowestFirst 8 key)
 
--- The version 0.8.0 as one number: 65,536 times the major number, 256 times the minor one, and the patch.
+-- The version 0.9.0 as one number: 65,536 times the major number, 256 times the minor one, and the patch.
 abbrev pub versionNumber : ℕ
-versionNumber = 65536 * 0 + 256 * 8 + 0
+versionNumber = 65536 * 0 + 256 * 9 + 0

@@ -25,7 +25,7 @@ use units::Nanos;
 // The version of the interface: bindings/c/limiter.h and bindings/rust have the same.
 const MAJOR: u32 = 0;
 
-const MINOR: u32 = 8;
+const MINOR: u32 = 9;
 
 const PATCH: u32 = 0;
 
@@ -239,7 +239,7 @@ pub extern "C" fn limiter_key_hash(key: u64) -> u64
 // The version of this interface. The name holds the numbers that have to be equal in a caller's header and in the library: a caller's objects refer to it, so a
 // library of another version does not link.
 #[no_mangle]
-pub extern "C" fn limiter_version_0_8() -> u32
+pub extern "C" fn limiter_version_0_9() -> u32
     ensures { λ r. ⌜ r ≡ versionNumber ⌝ }
 {
     65_536 * MAJOR + 256 * MINOR + PATCH

@@ -4,6 +4,7 @@ use Prim.Native.Nat.{ℕ}
 use mathlib.Core.Path.{_≡_, refl, sym, ap, _∙_}
 use mathlib.Core.Bool.{true, false, not, true≢false}
 use mathlib.Core.List.{List}
+use lib.ListN.{length}
 use Rattle.arith.proofs.Cases.{by-eq}
 use Rattle.rows.specs.Outcome.{Outcome, outcome}
 use Rattle.units.specs.declared.Nanos.{Nanos}
@@ -18,7 +19,8 @@ use Rattle.rules.specs.declared.Reply.the-variants.{Count, Refused}
 use Rattle.rules.specs.Replies.{numbered}
 use Rattle.rules.specs.Asks.{Look, Ask, looks, inForce, lookedIn}
 use Rattle.rules.specs.Rules.{unlessRefused, askRefusal, keyedOutcome, keyedRuleIn, keyedRule, lenIn}
-use Rattle.rules.specs.Calls.{Call, keyed, whole, Whole, len, Terms, byKey, Answered, clockAfter, kindOf, rules, accepted}
+use Rattle.rules.specs.Debts.{listed, shardNumbered, debtsRefusalIn, debtsIn}
+use Rattle.rules.specs.Calls.{Call, keyed, whole, Whole, len, debts, Terms, byKey, Answered, clockAfter, kindOf, rules, accepted}
 use Rattle.rules.proofs.RefusedLaws.{unless-refused-accepts, unless-refused-refuses, first-of-two-refuses}
 use Rattle.rules.proofs.KeyedLaws.{ask-not-refused, in-shard-unchanged}
 use Rattle.rules.proofs.KindLaws.{OfKind, counted, asks-are-answered-in-kind, in-kind-not-numbered}
@@ -31,7 +33,7 @@ momentOfCall c = record { 0 = clockAfter c 0 }
 pub by-key-is-the-rule : (s : Settings) (id : Identity) (ask : Ask) (ws : List ℕ) → rules byKey (keyed s id ask) ws ≡ keyedRule (inForce ask s) id ask ws
 by-key-is-the-rule s id ask ws = unless-refused-accepts 0 ws (keyedRule (inForce ask s) id ask ws) refl
 
--- Looks change no word: a look at a key, and a look at the whole store.
+-- Looks change no word: a look at a key, and one that names no key.
 pub data Reads {S N : Type 0} : Call S N → Type 0 where
   looks-at-key : {s : S} {n : N} {l : Look} → Reads (keyed s n (looks l))
   looks-at-all : {s : S} {what : Whole} → Reads (whole s what)
@@ -41,17 +43,20 @@ module _ {S N : Type 0} (terms : Terms S N) where
   abbrev pub refusalOf : Call S N → List ℕ → ℕ
   refusalOf (keyed s n ask) ws = firstRefusal (terms .refusal n) (askRefusal (inForce ask (terms .settings s)) (terms .identity n) ask ws)
   refusalOf (whole s len) ws = lenRefusal (terms .settings s) ws
+  refusalOf (whole s (debts at i room)) ws = let settings = terms .settings s in debtsRefusalIn (shapeOf settings) settings at i room ws
 
   -- What a call gives where it is not refused.
   abbrev pub ruleOf : Call S N → List ℕ → Outcome Reply (List ℕ)
   ruleOf (keyed s n ask) ws = let settings = inForce ask (terms .settings s) in keyedOutcome (shapeOf settings) settings (terms .identity n) ask ws
   ruleOf (whole s len) ws = outcome (Count (totalOf ws)) ws
+  ruleOf (whole s (debts at i room)) ws = outcome (Count (length (listed at (shardNumbered (shapeOf (terms .settings s)) i ws .ledger)))) ws
 
   rules-are : (c : Call S N) (ws : List ℕ) → rules terms c ws ≡ unlessRefused (refusalOf c ws) ws (ruleOf c ws)
-  unfolding keyedRuleIn lenIn
+  unfolding keyedRuleIn lenIn debtsIn
   rules-are (keyed s n ask) ws =
       first-of-two-refuses (terms .refusal n) (askRefusal (inForce ask (terms .settings s)) (terms .identity n) ask ws) ws (ruleOf (keyed s n ask) ws)
   rules-are (whole s len) ws = refl
+  rules-are (whole s (debts at i room)) ws = refl
 
   pub not-refused-is-ruled : (c : Call S N) (ws : List ℕ) → refusalOf c ws ≡ 0 → rules terms c ws ≡ ruleOf c ws
   not-refused-is-ruled c ws none = rules-are c ws ∙ unless-refused-accepts (refusalOf c ws) ws (ruleOf c ws) none
@@ -70,6 +75,7 @@ module _ {S N : Type 0} (terms : Terms S N) where
       let settings = inForce ask (terms .settings s) in
       asks-are-answered-in-kind settings (terms .identity n) ask (bucketsAt (shapeOf settings) ws) (shardAt settings (terms .identity n .hash) ws)
   rule-answers-in-kind (whole s len) ws = counted _
+  rule-answers-in-kind (whole s (debts at i room)) ws = counted _
 
   rule-not-numbered : (c : Call S N) (ws : List ℕ) → numbered (ruleOf c ws .answer) ≡ false
   rule-not-numbered c ws = in-kind-not-numbered (rule-answers-in-kind c ws)
@@ -96,6 +102,7 @@ module _ {S N : Type 0} (terms : Terms S N) where
       let reply = lookedIn l (settings .limit) id (shardAt settings (id .hash) ws) in
       ap (λ (o : Outcome Reply (List ℕ)). o .after) (in-shard-unchanged settings (id .hash) ws accepted reply)
   looked-unchanged (whole s len) ws looks-at-all none = refl
+  looked-unchanged (whole s (debts at i room)) ws looks-at-all none = refl
 
   pub looks-change-nothing : (c : Call S N) (ws : List ℕ) → Reads c → rules terms c ws .after ≡ ws
   looks-change-nothing c ws reads =

@@ -2,6 +2,9 @@ pub mod RefusedLaws
 pub mod RuleLaws
 pub mod KeyedLaws
 pub mod KindLaws
+pub mod Worked
+pub mod DebtLaws
+pub mod ListedLaws
 pub mod CallLaws
 pub mod WaitLaws
 pub mod StoredLaws

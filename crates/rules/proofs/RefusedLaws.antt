@@ -25,8 +25,8 @@ use Rattle.rules.specs.declared.Reply.the-variants.{Done, Refused}
 use Rattle.rules.specs.Asks.{withTable}
 use Rattle.rules.specs.Rules.{unlessRefused, setUpIn, setUp}
 
--- A call that is not refused gives what the rules give; one that is refused answers its number and changes no word.
-module _ (refusal : ℕ) (ws : List ℕ) (accepted : Outcome Reply (List ℕ)) where
+-- A call that is not refused gives what the rules give; one that is refused answers its number and changes nothing.
+module _ (refusal : ℕ) {A : Type 0} (ws : A) (accepted : Outcome Reply A) where
   pub unless-refused-accepts : refusal ≡ 0 → unlessRefused refusal ws accepted ≡ accepted
   unfolding unlessRefused
   unless-refused-accepts none = rw (eq-eqb _ _ none)
@@ -44,7 +44,7 @@ module _ (refusal : ℕ) (ws : List ℕ) (accepted : Outcome Reply (List ℕ)) w
   unlent-is-refused part′ is gave = let number = refused-number refusal part′ is gave in number-is-told (number .0) (number .1)
 
 -- Of two numbers, as the code comes to them: the first that is not 0 is told, and where both are 0 the call is accepted.
-module _ (first second : ℕ) (ws : List ℕ) (accepted : Outcome Reply (List ℕ)) where
+module _ (first second : ℕ) {A : Type 0} (ws : A) (accepted : Outcome Reply A) where
   pub first-number-is-told : (first ≡ 0 → ⊥) → outcome (Refused first) ws ≡ unlessRefused (firstRefusal first second) ws accepted
   first-number-is-told some = rw (first-refusal-stands first second some) (sym (unless-refused-refuses first ws accepted some))
 
@@ -57,7 +57,7 @@ module _ (first second : ℕ) (ws : List ℕ) (accepted : Outcome Reply (List �
       sym (unless-refused-accepts (firstRefusal first second) ws accepted (no-refusal-hands-on first second none ∙ no-other))
 
 -- A refusal within a refusal is the first of the two.
-pub first-of-two-refuses : (first second : ℕ) (ws : List ℕ) (accepted : Outcome Reply (List ℕ))
+pub first-of-two-refuses : (first second : ℕ) {A : Type 0} (ws : A) (accepted : Outcome Reply A)
     → unlessRefused first ws (unlessRefused second ws accepted) ≡ unlessRefused (firstRefusal first second) ws accepted
 first-of-two-refuses first second ws accepted =
     by-eq first 0

@@ -16,13 +16,29 @@ use Rattle.rules.specs.declared.Reply.{Reply}
 use Rattle.rules.specs.Replies.{numbered, Kind, counts}
 use Rattle.rules.specs.Asks.{Ask, requests, looks, undoes, passes, peeks, tokens, turnedAway, refunds, removes, inForce, clockAfterAsk, kindOfAsk}
 use Rattle.rules.specs.Rules.{unlessRefused, keyedRuleIn, lenIn}
-use Rattle.rules.specs.Widths.{settingsFit, keyFits, askFits}
+use Rattle.rules.specs.Debts.{debtsIn}
+use Rattle.rules.specs.Widths.{fits64, settingsFit, keyFits, askFits}
 
--- What a call asks of the whole store: how many keys have a slot.
+-- What a call asks that names no key: how many keys have a slot, or, at a moment, the debts of a shard, given the shard's number and how many
+-- records are lent.
 pub data Whole : Type 0 where
   len : Whole
+  debts : Nanos → ℕ → ℕ → Whole
 
--- A call has its settings. It asks something of a key, which it names, or of the whole store. Set-up and clear are no calls of a list.
+abbrev pub clockAfterWhole : Whole → ℕ → ℕ
+clockAfterWhole len before = before
+clockAfterWhole (debts at i room) before = at .0
+
+abbrev pub wholeFits : Whole → Bool
+wholeFits len = true
+wholeFits (debts at i room) = fits64 (at .0) && fits64 i && fits64 room
+
+-- The rule of such a call, in memory of a shape.
+abbrev pub wholeRuleIn : Shape → Settings → Whole → List ℕ → Outcome Reply (List ℕ)
+wholeRuleIn shape s len ws = lenIn shape s ws
+wholeRuleIn shape s (debts at i room) ws = debtsIn shape s at i room ws
+
+-- A call has its settings. It asks something of a key, which it names, or something that names no key. Set-up and clear are no calls of a list.
 pub data Call (S N : Type 0) : Type 0 where
   keyed : S → N → Ask → Call S N
   whole : S → Whole → Call S N
@@ -80,6 +96,9 @@ module _ {S N : Type 0} where
   abbrev pub length : S → Call S N
   length s = whole s len
 
+  abbrev pub listDebts : S → Nanos → ℕ → ℕ → Call S N
+  listDebts s at i room = whole s (debts at i room)
+
   -- Of a call: its settings as it writes them; the clock after it, given the clock before; the kind of its reply.
   abbrev pub writtenOf : Call S N → S
   writtenOf (keyed s n ask) = s
@@ -87,11 +106,11 @@ module _ {S N : Type 0} where
 
   abbrev pub clockAfter : Call S N → ℕ → ℕ
   clockAfter (keyed s n ask) before = clockAfterAsk ask before
-  clockAfter (whole s what) before = before
+  clockAfter (whole s what) before = clockAfterWhole what before
 
   abbrev pub kindOf : Call S N → Kind
   kindOf (keyed s n ask) = kindOfAsk ask
-  kindOf (whole s len) = counts
+  kindOf (whole s what) = counts
 
 module _ {S N : Type 0} (terms : Terms S N) where
   -- The settings that a call goes by: those that it writes. A try through a class takes the number of classes from its table instead.
@@ -104,7 +123,7 @@ module _ {S N : Type 0} (terms : Terms S N) where
   rulesIn shapes (keyed s n ask) ws =
       let settings = inForce ask (terms .settings s) in
       unlessRefused (terms .refusal n) ws (keyedRuleIn (shapes settings) settings (terms .identity n) ask ws)
-  rulesIn shapes (whole s len) ws = let settings = terms .settings s in lenIn (shapes settings) settings ws
+  rulesIn shapes (whole s what) ws = let settings = terms .settings s in wholeRuleIn (shapes settings) settings what ws
 
   -- The rules are such an implementation.
   abbrev pub rules : Implementation S N
@@ -135,7 +154,7 @@ module _ {S N : Type 0} (terms : Terms S N) where
   -- A call can be made where its settings, its name and its numbers fit, and what it asks can be asked of such a name.
   abbrev pub fits : Call S N → Bool
   fits (keyed s n ask) = terms .settingsFit s && terms .nameFits n && terms .offers n ask && askFits ask
-  fits (whole s what) = terms .settingsFit s
+  fits (whole s what) = terms .settingsFit s && wholeFits what
 
   abbrev pub allFit : List (Call S N) → Bool
   allFit [] = true

@@ -1,7 +1,6 @@
 -- What an operation answers, as numbers, and what a reply says of its call: whether it refuses it, and what it grants.
 use Prim.Native.Nat.{ℕ, _+_}
 use mathlib.Core.Bool.{Bool, true, false}
-use mathlib.Core.List.{List}
 use Rattle.rows.specs.Outcome.{Outcome, outcome}
 use Rattle.settings.specs.declared.decision.Decision.the-variants.{Acquired, Retry, Impossible}
 use Rattle.rules.specs.declared.Reply.{Reply}
@@ -41,11 +40,11 @@ momentOf Done = 0
 momentOf (Count n) = 0
 momentOf (Refused n) = 0
 
--- A reply as these three numbers; the words are those that the rule leaves.
+-- A reply as these three numbers. What the rule leaves stays as it is.
 abbrev pub toldOf : Reply → Told
 toldOf r = record { code = codeOf r; number = numberOf r; moment = momentOf r }
 
-abbrev pub told : Outcome Reply (List ℕ) → Outcome Told (List ℕ)
+abbrev pub told : {A : Type 0} → Outcome Reply A → Outcome Told A
 told o = outcome (toldOf (o .answer)) (o .after)
 
 -- Whether a reply is a refusal by number.

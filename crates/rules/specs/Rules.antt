@@ -20,9 +20,9 @@ use Rattle.rules.specs.declared.Reply.the-variants.{Done, Count, Refused
 use Rattle.rules.specs.Asks.{Ask, requests, looks, undoes, passes, peeks, tokens, turnedAway, refunds, removes}
 use Rattle.rules.specs.Asks.{withTable, furtherOf, inItsShard, bucketsAfter}
 
--- A call that is refused by number changes no word.
-unfoldable pub unlessRefused : ℕ → List ℕ → Outcome Reply (List ℕ) → Outcome Reply (List ℕ)
-unlessRefused refusal ws accepted = cond (eqb refusal 0) accepted (outcome (Refused refusal) ws)
+-- A call that is refused by number changes nothing of what it is lent.
+unfoldable pub unlessRefused : {A : Type 0} → ℕ → A → Outcome Reply A → Outcome Reply A
+unlessRefused refusal before accepted = cond (eqb refusal 0) accepted (outcome (Refused refusal) before)
 
 -- A call on a key, in memory of a shape. It is refused first for the settings and the memory, then for what it asks.
 abbrev pub askRefusalIn : Shape → Settings → Identity → Ask → List ℕ → ℕ

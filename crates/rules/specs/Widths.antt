@@ -14,6 +14,7 @@ use Rattle.settings.specs.declared.Settings.{Settings}
 use Rattle.settings.specs.declared.rate.OptionTokens.{OptionTokens}
 use Rattle.settings.specs.declared.rate.OptionTokens.the-variants as burst
 use Rattle.settings.specs.declared.rate.Rate.{Rate}
+use Rattle.ledger.specs.declared.Debt.{Debt}
 use Rattle.shard.specs.declared.Identity.{Identity}
 use Rattle.rules.specs.Asks.{Look, peeks, tokens, turnedAway, Undo, refunds, removes, Ask, requests, looks, undoes, passes}
 
@@ -52,6 +53,11 @@ wordsFit (w ∷ ws) = fits64 w && wordsFit ws
 
 abbrev pub lendable : List ℕ → Bool
 lendable ws = fits64 (length ws) && wordsFit ws
+
+-- Records of debts can be lent where both numbers of each fit, and their number (`wholeFits` of Calls).
+abbrev pub recordsFit : List Debt → Bool
+recordsFit [] = true
+recordsFit (d ∷ ds) = fits64 (d .hash) && fits64 (d .settles .0) && recordsFit ds
 
 -- The numbers of a key, and of what is asked of it, fit.
 abbrev pub keyFits : Identity → Bool

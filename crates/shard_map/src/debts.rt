@@ -1,6 +1,7 @@
 // The ledger of a shard: the ledger's functions, lent the shard's words from the ledger's first one on. Among them is the index of the slots, which they leave
 // as it is.
 ghost use mathlib.Core.Path.{_≡_};
+ghost use Prim.Native.Nat.{_<_};
 ghost use lib.ListN.{length};
 ghost use Rattle.rows.specs.Outcome.{outcome};
 ghost use Rattle.bucket.specs.Bucket.{Accepted};
@@ -21,6 +22,15 @@ pub fn len(ws: &[u64], cap: usize) -> usize
 {
     let start = words::ledger_start(cap);
     ledger::len(&ws[start..], cap)
+}
+
+// The debt at a place.
+pub fn load(ws: &[u64], cap: usize, i: usize) -> Debt
+    requires { ⌜ (length (now ws) ≡ shardWords cap) × (i < cap) ⌝ }
+    ensures { λ r. ⌜ r ≡ Ledger.debtAt (shard cap (now (ws .entry)) .ledger) i ⌝ }
+{
+    let start = words::ledger_start(cap);
+    ledger::words::load(&ws[start..], cap, i)
 }
 
 // When the debt of the hash settles, if there is one.

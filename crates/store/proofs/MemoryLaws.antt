@@ -14,7 +14,7 @@ use Rattle.rows.proofs.SegmentLaws.{segment-length, segment-back, segment-set-b
 use Rattle.rows.proofs.ZeroLaws.{zeros-segment}
 use Rattle.settings.specs.declared.Settings.{Settings}
 use Rattle.settings.specs.declared.Shape.{Shape}
-use Rattle.settings.specs.Settings.{sizeRefusal, mostKeysInShard, mostShards, capOf, shapeOf, ShapeOfAccepted, shardOf, shardCount}
+use Rattle.settings.specs.Settings.{sizeRefusal, mostKeysInShard, mostShards, capOf, shapeOf, ShapeOfAccepted, shardOf, shardCount, indexIn}
 use Rattle.settings.proofs.SettingsLaws.{shards-most, shard-below, cap-least, cap-most, accepted-cap-most, accepted-classes-few}
 use Rattle.ledger.specs.Model as Ledger
 use Rattle.shard_map.specs.Model as Shard
@@ -67,16 +67,15 @@ shard-fits s hash ws size = omega (arith, size, shard-ends-before (capOf s) (sha
 pub part-placed : (s : Settings) (hash : ℕ) (ws : List ℕ) → length ws ≡ memoryWords s → Placed (partOf s hash) ws
 part-placed s hash ws size = record { begins = omega arith; ends = refl; within = shard-fits s hash ws size }
 
--- It ends at a small number if the sizes are accepted.
-shard-start-most : (s : Settings) (hash : ℕ) → sizeRefusal s ≡ 0
-    → partStart (shapeOf s) hash + shardWords (capOf s) ≤ shardsAt + mostShards * shardWords mostKeysInShard
-shard-start-most s hash accepted = le-trans (shard-ends-before (capOf s) (shardOf s hash) (shardCount s) (shard-below s hash)) (shards-end-early s accepted)
+-- A part ends at a small number if the sizes are accepted.
+pub part-ends-early : {shape : Shape} (i : ℕ) → ShapeOfAccepted shape → i < shape .shards
+    → shardEnd (shape .cap) i ≤ shardsAt + mostShards * shardWords mostKeysInShard
+part-ends-early {shape} i shaped below = le-trans (shard-ends-before (shape .cap) i (shape .shards) below) (accepted-shards-end-early shaped)
 
-pub part-ends-early : {shape : Shape} (hash : ℕ) → ShapeOfAccepted shape
-    → partStart shape hash + shardWords (shape .cap) ≤ shardsAt + mostShards * shardWords mostKeysInShard
-part-ends-early hash shaped = rw (shaped .is) (shard-start-most (shaped .settings) hash (shaped .accepted))
+pub index-below : {shape : Shape} (hash : ℕ) → ShapeOfAccepted shape → indexIn shape hash < shape .shards
+index-below hash shaped = rw (shaped .is) (shard-below (shaped .settings) hash)
 
--- So does the part of a shard by its number.
+-- The part of a shard by its number lies within the memory, too.
 pub shard-ends : (s : Settings) (i : ℕ) (ws : List ℕ) → length ws ≡ memoryWords s → i < shardCount s → shardEnd (capOf s) i ≤ length ws
 shard-ends s i ws size below = omega (arith, size, shard-ends-before (capOf s) i (shardCount s) below)
 

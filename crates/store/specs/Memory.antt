@@ -53,12 +53,16 @@ wordsIn shape = classesAt shape + classWords shape
 abbrev pub memoryWords : Settings → ℕ
 memoryWords s = wordsIn (shapeOf s)
 
--- The part of a hash's shard: where it begins, the word after it, and the places of the shard.
-abbrev pub partStart : Shape → ℕ → ℕ
-partStart shape hash = shardStart (shape .cap) (indexIn shape hash)
+-- The part of a shard, by its number: where it begins, the word after it, and the places of the shard.
+abbrev pub partAt : Shape → ℕ → Part
+partAt shape i = record { start = shardStart (shape .cap) i; end = shardEnd (shape .cap) i; cap = shape .cap }
 
+-- The part of a hash's shard, and where it begins.
 abbrev pub partIn : Shape → ℕ → Part
-partIn shape hash = record { start = partStart shape hash; end = partStart shape hash + shardWords (shape .cap); cap = shape .cap }
+partIn shape hash = partAt shape (indexIn shape hash)
+
+abbrev pub partStart : Shape → ℕ → ℕ
+partStart shape hash = partIn shape hash .start
 
 abbrev pub partOf : Settings → ℕ → Part
 partOf s hash = partIn (shapeOf s) hash

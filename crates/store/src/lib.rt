@@ -8,7 +8,7 @@ ghost use Rattle.settings.specs.Settings.{ShapeOfAccepted};
 ghost use Rattle.ledger.specs.Model as Ledger;
 ghost use Rattle.shard_map.specs.Model.{Sound, slotAt, placeOf};
 ghost use Rattle.shard.specs.Model as OneShard;
-ghost use Rattle.store.specs.Memory.{totalAt, totalOf, Placed, Counted, shardIn, partIn, inPart};
+ghost use Rattle.store.specs.Memory.{totalAt, totalOf, Placed, Counted, shardIn, partAt, partIn, inPart};
 use bucket::BucketConfig;
 use bucket::BucketCore;
 use bucket::BucketDecision;
@@ -19,6 +19,7 @@ use shard::Identity;
 use shard::Policy;
 use units::Nanos;
 
+pub mod debts;
 pub mod lending;
 pub mod refusals;
 pub mod words;
@@ -30,17 +31,25 @@ pub struct Part {
     pub cap: usize,
 }
 
-// The part of the shard of a hash.
-pub fn part_of(shape: Shape, hash: u64) -> Part
-    requires { ⌜ ShapeOfAccepted shape ⌝ }
-    ensures { λ r. ⌜ r ≡ partIn shape hash ⌝ }
+// The part of a shard, by its number.
+pub fn part_at(shape: Shape, shard: usize) -> Part
+    requires { ⌜ ShapeOfAccepted shape × (shard < shape .shards) ⌝ }
+    ensures { λ r. ⌜ r ≡ partAt shape shard ⌝ }
 {
-    let start = words::shard_start(shape.cap, shape.shard_index(hash));
+    let start = words::shard_start(shape.cap, shard);
     Part {
         start,
         end: start + shard_map::words::shard_words(shape.cap),
         cap: shape.cap,
     }
+}
+
+// The part of the shard of a hash.
+pub fn part_of(shape: Shape, hash: u64) -> Part
+    requires { ⌜ ShapeOfAccepted shape ⌝ }
+    ensures { λ r. ⌜ r ≡ partIn shape hash ⌝ }
+{
+    part_at(shape, shape.shard_index(hash))
 }
 
 // The place of a key's slot.

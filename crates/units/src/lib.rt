@@ -4,6 +4,7 @@ ghost use mathlib.Core.Path.{_≡_};
 ghost use Rattle.units.specs.Units.{millisOf};
 
 // A moment or a span in nanoseconds.
+#[repr(C)]
 pub struct Nanos(pub u64);
 
 // A moment or a span in whole milliseconds: what the idle stamps count.

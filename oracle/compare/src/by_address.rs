@@ -30,6 +30,7 @@ impl ByAddress {
             | Call::ClassSetUp
             | Call::ClassClear
             | Call::Through { .. }
+            | Call::Debts { .. }
             | Call::Available { .. }
             | Call::Clear
             | Call::Length

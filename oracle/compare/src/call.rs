@@ -49,10 +49,16 @@ pub enum Call {
         class: u64,
         cost: u32,
     },
+    /// The debts of a shard, as a list of so many records (02, request 12).
+    Debts {
+        now: u64,
+        shard: u64,
+        records: usize,
+    },
 }
 
 /// The names of the calls, in the order of [`Call::index`].
-pub const NAMES: [&str; 13] = [
+pub const NAMES: [&str; 14] = [
     "set-up",
     "try",
     "reserve",
@@ -66,6 +72,7 @@ pub const NAMES: [&str; 13] = [
     "class-set-up",
     "class-clear",
     "through",
+    "debts",
 ];
 
 impl Call {
@@ -85,13 +92,19 @@ impl Call {
             Self::ClassSetUp => 10,
             Self::ClassClear => 11,
             Self::Through { .. } => 12,
+            Self::Debts { .. } => 13,
         }
     }
 
     /// The key, if the call has one.
     pub const fn key(&self) -> Option<Key> {
         match *self {
-            Self::SetUp | Self::Clear | Self::Length | Self::ClassSetUp | Self::ClassClear => None,
+            Self::SetUp
+            | Self::Clear
+            | Self::Length
+            | Self::ClassSetUp
+            | Self::ClassClear
+            | Self::Debts { .. } => None,
             Self::Try { key, .. }
             | Self::Reserve { key, .. }
             | Self::Peek { key, .. }
@@ -124,11 +137,17 @@ impl Call {
             Self::Clear | Self::ClassClear => limiter.clear(),
             Self::Length => limiter.len(),
             Self::TurnedAway { key } => limiter.turned_away(key),
+            Self::Debts {
+                now,
+                shard,
+                records,
+            } => limiter.debts(now, shard, records).0,
         }
     }
 }
 
-/// A line of the oracle program's traces (oracle/README.md). The program knows no classes: calls with a table are comments in a trace.
+/// A line of the oracle program's traces (oracle/README.md). The program knows no classes and no lists: calls with a table, and lists of debts, are comments in
+/// a trace.
 impl fmt::Display for Call {
     fn fmt(&self, f: &mut fmt::Formatter<'_>) -> fmt::Result {
         match *self {
@@ -157,6 +176,11 @@ impl fmt::Display for Call {
             Self::TurnedAway { key } => write!(f, "turned-away {} {}", key.hash, key.key),
             Self::ClassSetUp => write!(f, "# class-set-up"),
             Self::ClassClear => write!(f, "# class-clear"),
+            Self::Debts {
+                now,
+                shard,
+                records,
+            } => write!(f, "# debts of shard {shard} at {now}, {records} records"),
             Self::Through {
                 now,
                 key,

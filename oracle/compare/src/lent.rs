@@ -20,7 +20,7 @@ const WORD: usize = size_of::<u64>();
 const GUARD: u64 = 0x6775_6172_6465_6421;
 const GUARDS: usize = 16;
 
-/// Room for lent words. It is never given back: the program makes four of these.
+/// Room for lent words. It is never given back: the program makes five of these.
 pub struct Lent {
     start: *mut u64,
     room: usize,

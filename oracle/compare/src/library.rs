@@ -1,5 +1,6 @@
 //! Our library, as limiter-sys declares it.
 
+use limiter_sys::debts::{self, LimiterDebt};
 use limiter_sys::{LimiterReply, LimiterSettings, classes, slices};
 use oracle::{Answer, Rate, Settings, WhenFull};
 
@@ -7,6 +8,7 @@ use crate::call::Call;
 use crate::given::Given;
 use crate::lent::Lent;
 use crate::random::Random;
+use crate::records;
 use crate::reply::Reply;
 
 /// The settings as the library takes them.
@@ -86,10 +88,36 @@ pub fn words(s: &RawSettings) -> u64 {
     limiter_sys::limiter_words(*s)
 }
 
-/// The library's answer to `call` on `words`. The table ends where a page begins that nobody may touch, and is only read.
-pub fn ask(given: &Given, words: &mut [u64], call: &Call, room: &mut Lent) -> Reply {
-    room.fill(&given.table);
-    let (s, table): (_, &[u64]) = (given.raw, room.words());
+/// More words than any table has that is lent here, and than any list of records.
+const MOST_TABLE_WORDS: usize = 1_000;
+const MOST_RECORD_WORDS: usize = 40_000;
+
+/// What the library is lent beside the words of the store. Each ends where a page begins that nobody may touch.
+pub struct Beside {
+    table: Lent,
+    records: Lent,
+}
+
+impl Beside {
+    pub fn new() -> Self {
+        Self {
+            table: Lent::new(MOST_TABLE_WORDS),
+            records: Lent::new(MOST_RECORD_WORDS),
+        }
+    }
+
+    /// The records as the last call has left them.
+    pub fn records(&mut self) -> &[u64] {
+        assert!(self.records.guarded(), "only records are written");
+        self.records.words()
+    }
+}
+
+/// The library's answer to `call` on `words`. The table is only read.
+pub fn ask(given: &Given, words: &mut [u64], call: &Call, beside: &mut Beside) -> Reply {
+    beside.table.fill(&given.table);
+    beside.records.fill(&records::before(call));
+    let (s, table): (_, &[u64]) = (given.raw, beside.table.words());
     let reply = told(match *call {
         Call::SetUp => slices::set_up(s, words),
         Call::Try { now, key, cost } => slices::try_acquire(s, words, now, key.hash, key.key, cost),
@@ -114,12 +142,22 @@ pub fn ask(given: &Given, words: &mut [u64], call: &Call, room: &mut Lent) -> Re
             class,
             cost,
         } => classes::try_acquire(s, table, words, now, key.hash, key.key, class, cost),
+        Call::Debts { now, shard, .. } => {
+            debts::list(s, words, now, shard, as_records(beside.records.words()))
+        }
     });
     assert!(
-        *table == *given.table && room.guarded(),
+        *table == *given.table && beside.table.guarded(),
         "the table is only read"
     );
     reply
+}
+
+/// These words, of which there is an even number, as records.
+fn as_records(words: &mut [u64]) -> &mut [LimiterDebt] {
+    let count = words.len() / (size_of::<LimiterDebt>() / size_of::<u64>());
+    // SAFETY: a record is two words, aligned as a word, and any words are one. They are borrowed as long as the words are.
+    unsafe { core::slice::from_raw_parts_mut(words.as_mut_ptr().cast(), count) }
 }
 
 /// What the library told. A code past 8 bits becomes 255, which is no code.

@@ -12,6 +12,7 @@ mod lent;
 mod library;
 mod options;
 mod random;
+mod records;
 mod reply;
 mod rules;
 mod run;

@@ -189,6 +189,7 @@ impl Run {
             if random.chance(wrong) {
                 let aside = Aside::wrong(random, &mut plan, trio.words());
                 let _left = self.aside(&aside)?;
+                self.lists(random, &mut plan, trio.words())?;
                 self.bench.hits.origin = origin;
             }
         }
@@ -217,8 +218,20 @@ impl Run {
             }
             let aside = Aside::damaged(random, &mut plan, &words);
             words = self.aside(&aside)?;
+            self.lists(random, &mut plan, &words)?;
         }
         Ok(())
+    }
+
+    /// Now and then a list of debts with every number of records, from 0 to two more than it takes.
+    fn lists(&mut self, random: &mut Random, plan: &mut Plan, words: &[u64]) -> Result<(), Failed> {
+        if !random.chance(5) {
+            return Ok(());
+        }
+        plan.lists(random, words).into_iter().try_for_each(|call| {
+            let aside = Aside::beside(random, plan, words, call);
+            self.aside(&aside).map(drop)
+        })
     }
 
     /// One call on words of any content; the words that it leaves.

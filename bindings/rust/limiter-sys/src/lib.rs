@@ -7,6 +7,7 @@
 #![no_std]
 
 pub mod classes;
+pub mod debts;
 pub mod modem;
 pub mod slices;
 
@@ -66,7 +67,7 @@ pub struct LimiterClass {
 pub struct LimiterReply {
     /// One of the codes below.
     pub code: u64,
-    /// A wait in nanoseconds, tokens, or a count of tries or of keys, as the call says; else 0.
+    /// A wait in nanoseconds, tokens, or a count of tries, of keys or of debts, as the call says; else 0.
     pub number: u64,
     /// `now` and the wait: when granted tokens may be used, or when to try again; else 0.
     pub moment: u64,
@@ -152,6 +153,10 @@ pub const LIMITER_BAD_BUFFER: u64 = 23;
 pub const LIMITER_BAD_CLASS: u64 = 24;
 /// Refused as 15: a chain of parents does not end within 8 classes.
 pub const LIMITER_BAD_CHAIN: u64 = 25;
+/// Refused as 16: the store has no shard of this number.
+pub const LIMITER_BAD_SHARD: u64 = 26;
+/// Refused as 17: fewer records are lent than there are debts to write.
+pub const LIMITER_BAD_RECORDS: u64 = 27;
 
 /// The most classes of a table.
 pub const LIMITER_MOST_CLASSES: usize = 64;
@@ -163,7 +168,7 @@ pub const LIMITER_LONGEST_LINE: usize = 76;
 
 /// Every program that has this crate in it refers to the version by its name, so a library of another minor version does not link.
 #[used]
-static VERSION_NEEDED: extern "C" fn() -> u32 = limiter_version_0_8;
+static VERSION_NEEDED: extern "C" fn() -> u32 = limiter_version_0_9;
 
 // The three functions that are lent nothing are safe with any arguments. What the others ask of a caller: those with `words` and `len`, that these are
 // words that it may read, and write unless they are `const`, for the length of the call; those with `buffer` and `len`, that these are bytes that it may
@@ -172,7 +177,7 @@ static VERSION_NEEDED: extern "C" fn() -> u32 = limiter_version_0_8;
 unsafe extern "C" {
     pub safe fn limiter_words(settings: LimiterSettings) -> u64;
     pub safe fn limiter_key_hash(key: u64) -> u64;
-    pub safe fn limiter_version_0_8() -> u32;
+    pub safe fn limiter_version_0_9() -> u32;
 
     pub fn limiter_set_up(settings: LimiterSettings, words: *mut u64, len: usize) -> LimiterReply;
     pub fn limiter_try(

@@ -1,5 +1,5 @@
-//! The calls of the library on slices: safe with any arguments and any words. All unsafe calls of it are here, in [`modem`](crate::modem) and in
-//! [`classes`](crate::classes).
+//! The calls of the library on slices: safe with any arguments and any words. All unsafe calls of it are here, in [`modem`](crate::modem),
+//! [`classes`](crate::classes) and [`debts`](crate::debts).
 
 use crate::{LimiterReply, LimiterSettings};
 

@@ -64,10 +64,11 @@ fn no_words_may_be_null() {
             classes::limiter_table_set_up(SMALL, null(), 0, null_mut(), 0),
             classes::limiter_table_clear(SMALL, null(), 0, null_mut(), 0),
             classes::limiter_table_try(SMALL, null(), 0, null_mut(), 0, 0, 7, 7, 0, 1),
+            debts::limiter_debts(SMALL, null(), 0, 0, 0, null_mut(), 0),
         ]
     };
     let refused = reply(LIMITER_BAD_MEMORY, 0, 0);
-    assert_eq!(replies, [refused; 13]);
+    assert_eq!(replies, [refused; 14]);
 }
 
 /// A table is words, six a class; words past a multiple of six are not read. The class's own words stand after the shards: shortfall and stamp.
@@ -112,6 +113,32 @@ fn a_reply_is_three_numbers() {
     let reserved = slices::reserve(SMALL, &mut words, now, 7, 7, 1, HALF);
     assert_eq!(reserved, reply(LIMITER_DONE, HALF, now + HALF));
     assert_eq!(slices::length(SMALL, &words), reply(LIMITER_DONE, 1, 0));
+}
+
+/// The words of the only ledger: its count, its cursor, and the debt, hash and settling moment. Records may be null where none is lent.
+#[test]
+fn a_list_is_records() {
+    const LEDGER: usize = 11;
+    let (mut words, now) = ([u64::MAX; ONE], 8);
+    words[LEDGER] = 1;
+    words[LEDGER + 2..LEDGER + 4].copy_from_slice(&[7, 9]);
+    let other = debts::LimiterDebt {
+        hash: 1,
+        settles_at: 2,
+    };
+    let mut records = [other; 2];
+    let listed = debts::list(SMALL, &words, now, 0, &mut records);
+    assert_eq!(listed, reply(LIMITER_DONE, 1, 0));
+    let debt = debts::LimiterDebt {
+        hash: 7,
+        settles_at: 9,
+    };
+    assert_eq!(records, [debt, other]);
+    // SAFETY: no records are lent.
+    let none =
+        |now| unsafe { debts::limiter_debts(SMALL, words.as_ptr(), ONE, now, 0, null_mut(), 0) };
+    assert_eq!(none(8), reply(LIMITER_BAD_RECORDS, 0, 0));
+    assert_eq!(none(9), reply(LIMITER_DONE, 0, 0));
 }
 
 /// Damaged words: the index of the slots, two places, has none that is empty. A new key of hash 8, whose home is the first of them, takes all
@@ -201,6 +228,8 @@ fn the_header_has_the_same_codes() {
         ("BAD_BUFFER", LIMITER_BAD_BUFFER),
         ("BAD_CLASS", LIMITER_BAD_CLASS),
         ("BAD_CHAIN", LIMITER_BAD_CHAIN),
+        ("BAD_SHARD", LIMITER_BAD_SHARD),
+        ("BAD_RECORDS", LIMITER_BAD_RECORDS),
         ("LONGEST_LINE", LIMITER_LONGEST_LINE as u64),
         ("MOST_CLASSES", LIMITER_MOST_CLASSES as u64),
         ("LONGEST_CHAIN", LIMITER_LONGEST_CHAIN as u64),
@@ -244,11 +273,13 @@ fn header_fields(name: &str) -> Vec<String> {
 #[test]
 fn the_header_has_the_same_fields() {
     let identity = modem::identity(&[]);
-    let ours: [(&str, &dyn core::fmt::Debug, usize); 4] = [
+    let debt = debts::LimiterDebt::default();
+    let ours: [(&str, &dyn core::fmt::Debug, usize); 5] = [
         ("settings", &SMALL, size_of::<LimiterSettings>()),
         ("class", &CLASS, size_of::<LimiterClass>()),
         ("reply", &reply(0, 0, 0), size_of::<LimiterReply>()),
         ("identity", &identity, size_of::<LimiterIdentity>()),
+        ("debt", &debt, size_of::<debts::LimiterDebt>()),
     ];
     for (name, record, bytes) in ours {
         assert_eq!(header_fields(&format!("limiter_{name}")), fields(record));
@@ -267,7 +298,7 @@ fn one_version() {
         .map(|number| number.parse().expect("a number"))
         .collect();
     let number = 65_536 * numbers[0] + 256 * numbers[1] + numbers[2];
-    assert_eq!(limiter_version_0_8(), number);
+    assert_eq!(limiter_version_0_9(), number);
     let lines = [
         format!("#define LIMITER_VERSION \"{version}\""),
         format!("#define LIMITER_VERSION_NUMBER {number:#08x}"),

@@ -1,6 +1,5 @@
--- `part_of` adds small numbers: the shape is that of an accepted size.
-use Rattle.store.proofs.MemoryLaws.{part-ends-early, shard-words-few}
-use native.Mathlib.Omega.{arith}
+-- `part_of` gives the part of the shard with the hash's number, which is that of a shard.
+use Rattle.store.proofs.MemoryLaws.{index-below}
 use borrow.Author.Needs.{needs}
 use Rattle.store.proofs.part_of.Statement.{statement}
 use Rattle.store.proofs.part_of.Tie as tie
@@ -8,25 +7,14 @@ use Rattle.store.proofs.part_of.Tie as tie
 shard-index-requires : tie.Need-shard-index-requires
 shard-index-requires c κs = search needs
 
-shard-start-requires : tie.Need-shard-start-requires
-shard-start-requires c κs =
+part-at-requires : tie.Need-part-at-requires
+part-at-requires c κs =
     let s = c .before in
-    rw (c .shard-index .ensures) (omega (arith, part-ends-early (s .args .hash) (s .pre)))
-
-shard-words-requires : tie.Need-shard-words-requires
-shard-words-requires c κs = shard-words-few (c .before .before .pre)
-
-add-t5 : tie.Need-add-t5
-add-t5 c =
-    let i = c .before .before in
-    let s = i .before in
-    let few = part-ends-early (s .args .hash) (s .pre) in
-    record { fits = rw (c .before .shard-start .ensures, c .shard-words .ensures, i .shard-index .ensures) (omega (arith, few)) }
+    (s .pre, rw (c .shard-index .ensures) (index-below (s .args .hash) (s .pre)))
 
 returns : tie.Need-returns
-returns c = rw (c .before .shard-start .ensures, c .shard-words .ensures, c .before .before .shard-index .ensures)
+returns c = rw (c .before .shard-index .ensures) at (c .part-at .ensures)
 
 pub part-of-spec : {M : Type 1} → statement M
 part-of-spec =
-    tie.close
-    (tie.spec shard-index-requires shard-start-requires shard-words-requires add-t5 returns)
+    tie.close (tie.spec shard-index-requires part-at-requires returns)

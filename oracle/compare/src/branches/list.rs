@@ -206,6 +206,19 @@ branches! {
         ClassPart = "a shortfall that has not",
         ClassReadCut = "a stored shortfall over the largest",
     }
+    "list of debts" {
+        ListEmpty = "no debts",
+        ListSettled = "all have settled",
+        ListSome = "some have settled",
+        ListAll = "none has settled",
+        ListNow = "... one settles at the moment, and is left out",
+        ListNoRecords = "no records, and none to be written",
+        ListJust = "as many records as are written",
+        ListMore = "more records: those past them stay",
+        ListCursor = "the cursor is past the debts",
+        ListSlots = "a slot count over the cap is not looked at",
+        ListTotal = "a total that a call with a key refuses is not looked at",
+    }
     "whole store" {
         SetUp = "set-up",
         SetUpClasses = "set-up with classes",
@@ -232,6 +245,8 @@ branches! {
         ClosedTurnedAwayNone = "turned away: no slot",
         ClosedLength = "length",
         ClosedClear = "clear",
+        ClosedList = "list of debts: some",
+        ClosedListNone = "list of debts: none",
     }
 }
 
@@ -241,7 +256,7 @@ const DEAD: [Branch; 1] = [Branch::SpacePutBack];
 /// Not to be had in stores grown from set-up under one settings record: grants leave no shortfall over the largest and no stamp after 2^62,
 /// a closed limiter gets no keys, and an index names every item once, on its walk, and nothing else, so that half of its places or more are empty.
 /// No count is over the most, and no trace is long enough for one at its most.
-const ONLY_LOADED: [Branch; 18] = [
+const ONLY_LOADED: [Branch; 21] = [
     Branch::BucketReadCut,
     Branch::BucketGrownHeld,
     Branch::ClassReadCut,
@@ -260,6 +275,9 @@ const ONLY_LOADED: [Branch; 18] = [
     Branch::GoneAgain,
     Branch::GoneNoItem,
     Branch::RenumberedNowhere,
+    Branch::ListSlots,
+    Branch::ListTotal,
+    Branch::ClosedList,
 ];
 
 /// What is said beside a branch that need not be taken.

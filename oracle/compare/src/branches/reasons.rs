@@ -8,8 +8,9 @@ use crate::given::Given;
 use crate::rules::Shards;
 use crate::rules::classes::{self, Refusal};
 
-/// The reasons. Refusal 5 has five. Those from the twelfth on are of a table, in the order in which it is refused, and of the class that a try names.
-pub const REASONS: [&str; 18] = [
+/// The reasons. Refusal 5 has five. Those from the twelfth on are of a table, in the order in which it is refused, and of the class that a try names. The last
+/// two are of a list of debts.
+pub const REASONS: [&str; 20] = [
     "1 amount",
     "2 period",
     "3 burst",
@@ -28,36 +29,45 @@ pub const REASONS: [&str; 18] = [
     "14 parent",
     "15 chain",
     "14 named",
+    "16 shard",
+    "17 few",
 ];
 
-/// The reasons before those of a table, and before that of the class that is named.
+/// The reasons before those of a table, before that of the class that is named, and before those of a list.
 const BEFORE_TABLE: usize = 11;
 const BEFORE_NAMED: usize = 17;
+const BEFORE_LIST: usize = 18;
 
-/// The length, which is the first reason for 5; a total over the room, which is the last.
+/// The length, which is the first reason for 5; a debt count over the cap; a total over the room, which is the last.
 const LENGTH: usize = 4;
+const DEBTS_OVER: usize = 6;
 const TOTAL_OVER: usize = 8;
+/// A moment that is too late.
+const LATE: usize = 9;
 
-/// The call that asks for the length, by its place in `NAMES`.
+/// The call that asks for the length, and the list of debts, by their places in `NAMES`.
 const LENGTH_CALL: usize = 8;
+const LIST_CALL: usize = 13;
 
 /// How many of the reasons before those of a table a call can be refused for, by its place in `NAMES`.
 const fn refusable(call: usize) -> usize {
     match call {
-        0 | 7 | LENGTH_CALL | 10 | 11 => LENGTH + 1,
+        0 | 7 | LENGTH_CALL | 10 | 11 | LIST_CALL => LENGTH + 1,
         5 | 6 | 9 => TOTAL_OVER + 1,
         2 => TOTAL_OVER + 3,
         _ => TOTAL_OVER + 2,
     }
 }
 
-/// Whether a call can be refused for a reason: the reasons come in order, but length looks at no shard and at the total alone. Three calls are lent a table,
-/// and the last of them names a class.
+/// Whether a call can be refused for a reason: the reasons come in order, but length looks at no shard and at the total alone, and a list of debts at the debt
+/// count alone. Three calls are lent a table, and the last of them names a class.
 pub const fn reason_applies(call: usize, reason: usize) -> bool {
-    match reason {
-        ..BEFORE_TABLE => reason < refusable(call) || call == LENGTH_CALL && reason == TOTAL_OVER,
-        BEFORE_TABLE..BEFORE_NAMED => call >= 10,
-        _ => call == 12,
+    match (call, reason) {
+        (LENGTH_CALL, TOTAL_OVER) | (LIST_CALL, DEBTS_OVER | LATE) => true,
+        (_, ..BEFORE_TABLE) => reason < refusable(call),
+        (_, BEFORE_TABLE..BEFORE_NAMED) => matches!(call, 10..=12),
+        (_, BEFORE_NAMED..BEFORE_LIST) => call == 12,
+        _ => call == LIST_CALL,
     }
 }
 
@@ -66,6 +76,8 @@ pub fn reason(given: &Given, words: &[u64], call: &Call, number: u8) -> usize {
     match number {
         1..=4 => usize::from(number) - 1,
         5 => reason_of_five(given, words, call),
+        16 => BEFORE_LIST,
+        17 => BEFORE_LIST + 1,
         _ => usize::from(number) + 3,
     }
 }
@@ -96,6 +108,9 @@ fn reason_of_five(given: &Given, words: &[u64], call: &Call) -> usize {
     if !is_long_enough(given, words, call) {
         return LENGTH;
     }
+    if matches!(call, Call::Debts { .. }) {
+        return DEBTS_OVER;
+    }
     let Some(key) = call.key() else {
         return TOTAL_OVER;
     };
@@ -104,7 +119,7 @@ fn reason_of_five(given: &Given, words: &[u64], call: &Call) -> usize {
     if slots > shape.cap {
         5
     } else if words.debt_count(shape, shard) > shape.cap {
-        6
+        DEBTS_OVER
     } else if words.total() < slots {
         7
     } else {
@@ -112,7 +127,7 @@ fn reason_of_five(given: &Given, words: &[u64], call: &Call) -> usize {
     }
 }
 
-/// How many of amount, period, burst, sizes, length, counts, moment, longest wait and table are wrong.
+/// How many of amount, period, burst, sizes, length, counts, moment, longest wait, table and list are wrong.
 pub fn wrongs(given: &Given, words: &[u64], call: &Call) -> u32 {
     let settings = &given.settings();
     let tokens = 1..=refusals::MOST_TOKENS;
@@ -136,6 +151,7 @@ pub fn wrongs(given: &Given, words: &[u64], call: &Call) -> u32 {
         Call::Try { now, .. }
         | Call::Through { now, .. }
         | Call::Peek { now, .. }
+        | Call::Debts { now, .. }
         | Call::Available { now, .. } => (now, 0),
         _ => (0, 0),
     };
@@ -146,8 +162,17 @@ pub fn wrongs(given: &Given, words: &[u64], call: &Call) -> u32 {
         now > refusals::LATEST_MOMENT,
         wait > refusals::LONGEST_WAIT,
         classes::refusal(given, call).is_some(),
+        !length && is_wrong_list(&rateless(settings), &memory, call),
     ];
     rate.into_iter().chain(rest).map(u32::from).sum()
+}
+
+/// Whether a list of debts is one of no shard, or of a shard whose debt count is over the cap.
+fn is_wrong_list(settings: &Settings, memory: &Shards, call: &Call) -> bool {
+    match *call {
+        Call::Debts { shard, .. } => refusals::debts(settings, memory, 0, shard).is_some(),
+        _ => false,
+    }
 }
 
 /// The same settings without a rate, so that only sizes and memory can be refused.

@@ -4,14 +4,15 @@ use oracle::layout::{self, slot};
 use oracle::refusals::Memory;
 use oracle::{Answer, Limiter, Shape};
 
-use super::difference::{Checked, differing};
+use super::difference::{Checked, differing, differing_records};
+use super::trio::Replies;
 use super::{Bench, Step, compare_words};
 use crate::branches::Origin;
 use crate::call::Call;
 use crate::generate::Aside;
 use crate::reply::{Reply, Said};
 use crate::rules::classes::counted;
-use crate::{library, rules};
+use crate::{library, records, rules};
 
 /// Codes over this one are refusals by number.
 const REFUSED: u8 = 10;
@@ -27,13 +28,25 @@ impl Bench {
         };
         compare_words(given, &step)?;
         let mut left = words.clone();
+        let records = rules::debts::records(given, words, call);
         let ruled = rules::answer(given, &mut left, call, &mut self.hits);
         self.scratch.fill(words);
-        let ours = library::ask(given, self.scratch.words(), call, &mut self.table);
-        let answers = vec![Said::library(ours), Said::rules(ruled)];
+        let ours = library::ask(given, self.scratch.words(), call, &mut self.beside);
+        let replies = Replies {
+            ours,
+            rust: None,
+            ruled,
+        };
+        self.compare_records(&step, replies, &records)?;
+        let answers = replies.said();
         if ruled.answer.code > REFUSED && left != *words {
             let sides = "the rules and a refused call's words";
             return Err(differing(sides, &step, answers, &left, words));
+        }
+        if ruled.answer.code > REFUSED && records != records::before(call) {
+            let sides = "the rules and a refused call's records";
+            let before = records::before(call);
+            return Err(differing_records(sides, &step, answers, &records, &before));
         }
         let lent = self.scratch.words();
         if ours != ruled || lent != left || !self.scratch.guarded() {
@@ -41,15 +54,25 @@ impl Bench {
             return Err(differing(sides, &step, answers, lent, &left));
         }
         if rules::is_the_rusts(given, words, call) {
-            compare_the_rust(aside, ruled, left.clone())?;
+            compare_the_rust(aside, ruled, left.clone(), &records)?;
         }
         Ok(left)
     }
 }
 
 /// Holds the Rust against the rules, where it can hold the words: but for the moment and the classes, which it lacks.
-fn compare_the_rust(aside: &Aside, ruled: Reply, mut words: Vec<u64>) -> Checked<()> {
-    let Some((rust, its_words)) = the_rust_on(aside) else {
+fn compare_the_rust(
+    aside: &Aside,
+    ruled: Reply,
+    mut words: Vec<u64>,
+    records: &[u64],
+) -> Checked<()> {
+    let Some(OfTheRust {
+        answer: rust,
+        words: its_words,
+        records: its_records,
+    }) = the_rust_on(aside)
+    else {
         return Ok(());
     };
     let differ = its_words.is_some_and(|its_words| {
@@ -58,7 +81,7 @@ fn compare_the_rust(aside: &Aside, ruled: Reply, mut words: Vec<u64>) -> Checked
         normalise_marks(shape, &mut words);
         its_words != words
     });
-    if rust == ruled.answer && !differ {
+    if rust == ruled.answer && !differ && its_records == records {
         return Ok(());
     }
     let step = Step {
@@ -66,30 +89,45 @@ fn compare_the_rust(aside: &Aside, ruled: Reply, mut words: Vec<u64>) -> Checked
         call: aside.call,
     };
     let answers = vec![Said::rust(rust), Said::rules(ruled)];
-    Err(differing(
-        "the Rust and the rules",
+    let sides = "the Rust and the rules";
+    Err(differing_records(
+        sides,
         &step,
         answers,
-        &[],
-        &[],
+        &its_records,
+        records,
     ))
 }
 
-/// The Rust on an aside's words: its answer, and its words if it can hold any. None if the Rust cannot hold the words. It is lent those of the shards alone.
-fn the_rust_on(aside: &Aside) -> Option<(Answer, Option<Vec<u64>>)> {
+/// What the Rust makes of a call: its answer, its words if it can hold any, and the records of a list.
+struct OfTheRust {
+    answer: Answer,
+    words: Option<Vec<u64>>,
+    records: Vec<u64>,
+}
+
+/// The Rust on an aside's words. None if the Rust cannot hold the words. It is lent those of the shards alone.
+fn the_rust_on(aside: &Aside) -> Option<OfTheRust> {
     let Aside { given, words, call } = aside;
     let classes = counted(given, call);
     let lent = rules::Shards { words, classes }.length();
     let (limiter, accepted) = Limiter::set_up(given.settings(), lent);
     if matches!(call, Call::SetUp | Call::ClassSetUp) {
-        return Some((accepted, (accepted.code == 0).then(|| limiter.words())));
+        return Some(OfTheRust {
+            answer: accepted,
+            words: (accepted.code == 0).then(|| limiter.words()),
+            records: records::before(call),
+        });
     }
-    if accepted.code != 0 {
-        return Some((call.ask(&limiter), None));
+    let held = accepted.code == 0;
+    if held {
+        limiter.load(&words[..given.shape().words()]).ok()?;
     }
-    limiter.load(&words[..given.shape().words()]).ok()?;
-    let answer = call.ask(&limiter);
-    Some((answer, Some(limiter.words())))
+    Some(OfTheRust {
+        answer: call.ask(&limiter),
+        words: held.then(|| limiter.words()),
+        records: records::of_the_rust(call, &limiter),
+    })
 }
 
 /// Makes every mark of held slots 0 or 1, as the Rust shows it.

@@ -18,6 +18,8 @@ pub struct Difference {
     pub answers: Vec<Said>,
     /// A word's place, and what it is on the two sides.
     pub words: Vec<(usize, u64, u64)>,
+    /// The same of the words of the records that are lent for a list.
+    pub records: Vec<(usize, u64, u64)>,
 }
 
 /// What comes of a comparison.
@@ -31,17 +33,36 @@ pub(super) fn differing(
     ones: &[u64],
     others: &[u64],
 ) -> Box<Difference> {
-    let pairs = ones.iter().zip(others).enumerate();
-    let words = pairs
-        .filter(|(_, (one, other))| one != other)
-        .map(|(at, (&one, &other))| (at, one, other))
-        .collect();
     Box::new(Difference {
         sides,
         step: step.clone(),
         answers,
-        words,
+        words: unequal(ones, others),
+        records: Vec::new(),
     })
+}
+
+/// A difference of these two in the records of a list.
+pub(super) fn differing_records(
+    sides: &'static str,
+    step: &Step,
+    answers: Vec<Said>,
+    ones: &[u64],
+    others: &[u64],
+) -> Box<Difference> {
+    Box::new(Difference {
+        records: unequal(ones, others),
+        ..*differing(sides, step, answers, &[], &[])
+    })
+}
+
+/// The places at which two differ, and what they have there.
+fn unequal(ones: &[u64], others: &[u64]) -> Vec<(usize, u64, u64)> {
+    let pairs = ones.iter().zip(others).enumerate();
+    pairs
+        .filter(|(_, (one, other))| one != other)
+        .map(|(at, (&one, &other))| (at, one, other))
+        .collect()
 }
 
 impl fmt::Display for Difference {
@@ -63,6 +84,10 @@ impl fmt::Display for Difference {
         }
         if self.words.len() > 40 {
             writeln!(f, "  and {} more words", self.words.len() - 40)?;
+        }
+        for &(at, one, other) in self.records.iter().take(40) {
+            let (record, name) = (at / debt::WORDS, debt::NAMES[at % debt::WORDS]);
+            writeln!(f, "  record {record} {name}: {one} and {other}")?;
         }
         Ok(())
     }

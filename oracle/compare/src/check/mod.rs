@@ -14,20 +14,18 @@ use crate::branches::{Hits, Origin};
 use crate::call::Call;
 use crate::given::Given;
 use crate::lent::Lent;
-use crate::library;
+use crate::library::{self, Beside};
 use crate::reply::{Reply, Said};
 use crate::rules;
 use crate::rules::classes::{BUCKET_WORDS, MOST_CLASSES, table};
-use difference::differing;
 pub use difference::{Checked, Difference};
+use difference::{differing, differing_records};
 pub use trace::trace_head;
 use trio::Replies;
 pub use trio::Trio;
 
 /// More words than any shape has (65,536 keys in 64 shards have 852,288), and some to lend too many.
 const MOST_WORDS: usize = 900_000;
-/// More words than any table has that is lent here.
-const MOST_TABLE_WORDS: usize = 1_000;
 
 /// A call with the settings and the table as they are given to the library.
 #[derive(Clone)]
@@ -47,7 +45,7 @@ pub struct Start {
 pub struct Bench {
     lent: Lent,
     scratch: Lent,
-    table: Lent,
+    beside: Beside,
     pub hits: Hits,
     /// How many tries through a class the Rust made too, as its plain try.
     pub passed: u64,
@@ -58,7 +56,7 @@ impl Bench {
         Self {
             lent: Lent::new(MOST_WORDS),
             scratch: Lent::new(MOST_WORDS),
-            table: Lent::new(MOST_TABLE_WORDS),
+            beside: Beside::new(),
             hits: Hits::new(),
             passed: 0,
         }
@@ -82,7 +80,7 @@ impl Bench {
         compare_words(given, &step)?;
         let (limiter, rust) = Limiter::new(given.settings());
         let ruled = rules::answer(given, &mut words, &step.call, &mut self.hits);
-        let ours = library::ask(given, self.lent.words(), &step.call, &mut self.table);
+        let ours = library::ask(given, self.lent.words(), &step.call, &mut self.beside);
         let mut trio = Trio::new(limiter, shape, classes, words);
         let rust = Some(rust);
         trio.compare(&mut self.lent, &step, Replies { ours, rust, ruled })?;
@@ -102,12 +100,28 @@ impl Bench {
             self.passed += 1;
         }
         let rust = is_the_rusts.then(|| call.ask(&trio.limiter));
+        let records = rules::debts::records(given, &trio.words, call);
         let ruled = rules::answer(given, &mut trio.words, call, &mut self.hits);
-        let ours = library::ask(given, self.lent.words(), call, &mut self.table);
+        let ours = library::ask(given, self.lent.words(), call, &mut self.beside);
+        let replies = Replies { ours, rust, ruled };
+        self.compare_records(step, replies, &records)?;
+        if is_the_rusts {
+            trio.compare_records(step, replies, &records)?;
+        }
         if !is_the_rusts {
             trio.load_the_rust();
         }
-        trio.compare(&mut self.lent, step, Replies { ours, rust, ruled })
+        trio.compare(&mut self.lent, step, replies)
+    }
+
+    /// Holds the records that the library was lent against those that the rules leave. Only a list of debts has any.
+    fn compare_records(&mut self, step: &Step, replies: Replies, records: &[u64]) -> Checked<()> {
+        let its = self.beside.records();
+        if its == records {
+            return Ok(());
+        }
+        let sides = "the library and the rules";
+        Err(differing_records(sides, step, replies.said(), its, records))
     }
 }
 

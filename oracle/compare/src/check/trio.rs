@@ -3,10 +3,11 @@
 use oracle::{Answer, Limiter, Shape, layout};
 
 use super::Step;
-use super::difference::{Checked, differing};
+use super::difference::{Checked, differing, differing_records};
 use crate::call::Call;
 use crate::given::Given;
 use crate::lent::Lent;
+use crate::records;
 use crate::reply::{Reply, Said};
 use crate::rules;
 
@@ -27,7 +28,7 @@ pub(super) struct Replies {
 }
 
 impl Replies {
-    fn said(self) -> Vec<Said> {
+    pub(super) fn said(self) -> Vec<Said> {
         let rust = self.rust.map(Said::rust);
         [Said::library(self.ours), Said::rules(self.ruled)]
             .into_iter()
@@ -123,6 +124,21 @@ impl Trio {
             return differ("the rules and the Rust", self.shards(), &its);
         }
         Ok(())
+    }
+
+    /// The debts of the Rust's ledger, filtered, against the records that the rules leave.
+    pub(super) fn compare_records(
+        &self,
+        step: &Step,
+        replies: Replies,
+        ruled: &[u64],
+    ) -> Checked<()> {
+        let its = records::of_the_rust(&step.call, &self.limiter);
+        if its == ruled {
+            return Ok(());
+        }
+        let sides = "the rules and the Rust";
+        Err(differing_records(sides, step, replies.said(), ruled, &its))
     }
 
     /// How many slots the Rust has, by its own count, against the rules' total.

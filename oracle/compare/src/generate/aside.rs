@@ -43,7 +43,7 @@ impl Aside {
             indexes::damage(random, &mut words, plan.shape);
         }
         plan.pace = 0;
-        let call = plan.any_call(random);
+        let call = plan.any_call(random, &words);
         let mut aside = Self {
             given: plan.given(random, &call),
             words,
@@ -64,6 +64,11 @@ impl Aside {
     /// A call of a trace on damaged words.
     pub fn damaged(random: &mut Random, plan: &mut Plan, words: &[u64]) -> Self {
         let call = plan.call(random, words);
+        Self::beside(random, plan, words, call)
+    }
+
+    /// A call of a trace on these words, beside the others.
+    pub fn beside(random: &mut Random, plan: &mut Plan, words: &[u64], call: Call) -> Self {
         Self {
             given: plan.given(random, &call),
             words: words.to_vec(),
@@ -73,7 +78,7 @@ impl Aside {
 
     /// A call that differs from a sound one on `words` in one or more things, most of which are refused.
     pub fn wrong(random: &mut Random, plan: &mut Plan, words: &[u64]) -> Self {
-        let call = plan.any_call(random);
+        let call = plan.any_call(random, words);
         let mut aside = Self {
             given: plan.given(random, &call),
             words: words.to_vec(),
@@ -95,7 +100,7 @@ impl Aside {
         let tokens = random.pick(&[0, 65_536, 70_000, u32::MAX]);
         let any = random.word();
         let raw = &mut self.given.raw;
-        match random.below(14) {
+        match random.below(15) {
             0 => raw.amount = tokens,
             1 => raw.period = random.pick(&[0, LONGEST_PERIOD + 1, u64::MAX, any]),
             2 => (raw.has_burst, raw.burst) = (1, tokens),
@@ -110,6 +115,7 @@ impl Aside {
             9 => raw.classes = random.pick(&[0, 1, 64, 65, u32::MAX, any as u32]),
             10 => self.given.table = self.given.table.iter().copied().skip(6).collect(),
             11 | 12 => self.miscount(random),
+            13 => self.mislist(random),
             _ => *raw = other(random, raw),
         }
     }
@@ -127,7 +133,10 @@ impl Aside {
             return;
         }
         let shape = self.given.shape();
-        let own = self.call.key().map_or(0, |key| shape.shard_of(key.hash));
+        let own = match self.call {
+            Call::Debts { shard, .. } => shard.min(shape.shards - 1),
+            call => call.key().map_or(0, |key| shape.shard_of(key.hash)),
+        };
         let shard = if random.chance(75) {
             own
         } else {
@@ -149,6 +158,24 @@ impl Aside {
         }
     }
 
+    /// A list of another shard, or with fewer records. The cursor of some shard becomes any number.
+    fn mislist(&mut self, random: &mut Random) {
+        let any = random.word();
+        if let Call::Debts { shard, records, .. } = &mut self.call {
+            if random.chance(50) {
+                *shard = random.pick(&[0, MOST_SHARDS - 1, MOST_SHARDS, 1 << 32, u64::MAX, any]);
+            } else {
+                *records = random.below(*records as u64 + 1) as usize;
+            }
+        }
+        let (raw, words) = (&self.given.raw, &mut self.words);
+        if raw.max_keys <= MOST_KEYS && words.len() >= self.given.shape().words() {
+            let shape = self.given.shape();
+            let row = &mut words[shape.shard(random.below(shape.shards))];
+            row[layout::cursor(shape.room())] = random.pick(&[0, shape.cap, u64::MAX, any]);
+        }
+    }
+
     /// A moment or a longest wait past its bound.
     fn late(&mut self, random: &mut Random) {
         let late = random.pick(&[LATEST_MOMENT + 1, u64::MAX]);
@@ -160,6 +187,7 @@ impl Aside {
             | Call::Through { now, .. }
             | Call::Reserve { now, .. }
             | Call::Peek { now, .. }
+            | Call::Debts { now, .. }
             | Call::Available { now, .. } => {
                 *now = late;
             }
@@ -185,7 +213,7 @@ impl Plan {
     }
 
     /// Any call, each kind as often as the others; a try through a class and the calls with a table more often where there is one.
-    fn any_call(&mut self, random: &mut Random) -> Call {
+    fn any_call(&mut self, random: &mut Random, words: &[u64]) -> Call {
         let (now, key, cost) = (self.now, self.key(random), self.cost(random));
         if self.classes() > 0 && random.chance(40) {
             return match random.below(6) {
@@ -194,7 +222,8 @@ impl Plan {
                 _ => self.try_(random, (now, key, cost)),
             };
         }
-        match random.below(12) {
+        match random.below(13) {
+            12 => self.list(random, now, words),
             11 => random.pick(&[Call::ClassSetUp, Call::ClassClear]),
             0 => Call::SetUp,
             1 | 2 => Call::Try { now, key, cost },

@@ -15,6 +15,10 @@ impl Plan {
         if core::mem::take(&mut self.cleared) && random.chance(40) {
             return self.clear(random);
         }
+        if random.chance(1) {
+            let now = self.moment(random);
+            return self.list(random, now, words);
+        }
         if self.layered && random.chance(90) {
             let now = self.moment(random);
             return self.layer(random, now);
@@ -28,7 +32,7 @@ impl Plan {
         } else {
             key
         };
-        self.other(random, now, key)
+        self.other(random, now, key, words)
     }
 
     /// A try or a reservation.
@@ -45,8 +49,8 @@ impl Plan {
         }
     }
 
-    /// A look, a refund, a removal, or a call on the whole store.
-    fn other(&mut self, random: &mut Random, now: u64, key: Key) -> Call {
+    /// A look, a refund, a removal, a list of debts, or a call on the whole store.
+    fn other(&mut self, random: &mut Random, now: u64, key: Key, words: &[u64]) -> Call {
         match random.below(1000) {
             0..220 => Call::Peek {
                 now,
@@ -59,7 +63,8 @@ impl Plan {
                 key,
                 cost: self.refund(random),
             },
-            740..930 => Call::Remove { key },
+            740..850 => Call::Remove { key },
+            850..930 => self.list(random, now, words),
             _ if self.large => Call::Length,
             930..985 => Call::Length,
             _ => {

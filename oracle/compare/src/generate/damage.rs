@@ -81,13 +81,14 @@ pub fn damage(random: &mut Random, words: &mut [u64], shape: Shape, now: u64) {
         let place = |random: &mut Random| random.below(shape.cap) as usize;
         let (one, other) = (place(random), place(random));
         let (slots, debts) = (layout::SLOTS, layout::debts(shape.room()));
-        match random.below(7) {
+        match random.below(8) {
             0 => row.copy_within(slots.at(one)..slots.at(one) + IDENTITY, slots.at(other)),
             1 => row[debts.at(one) + debt::HASH] = row[debts.at(other) + debt::HASH],
             2 => row[slots.at(one) + slot::MARK] = random.pick(&[2, 1 << 63, u64::MAX]),
             3 => row[slots.count] = random.within(0, shape.cap),
             4 => row[debts.count] = random.within(0, shape.cap),
             5 => row[slots.at(one) + slot::TURNED_AWAY] = any,
+            6 => row[layout::cursor(shape.room())] = random.pick(&numbers),
             _ => row[random.below(row.len() as u64) as usize] = random.pick(&numbers),
         }
     }

@@ -8,6 +8,7 @@ mod contents;
 mod damage;
 mod domain;
 mod indexes;
+mod lists;
 mod tables;
 mod time;
 

@@ -4,16 +4,17 @@
 //!
 //! Of 02 it has request 1, the moment: now + the wait of every grant and every retry (`Wait::moment`); request 3, the indexes by which slots and
 //! debts are found (`index`); request 4, calls by hardware address (`by_address`); request 5, a clock set back (`Bucket::wait`); request 8, the count of
-//! tries that a slot's bucket turned away (`turned_away`); request 9, the limits above the modem (`classes`); and request 10, the total of
-//! slots before the first shard (`perkey::answer`, `whole::answer`).
+//! tries that a slot's bucket turned away (`turned_away`); request 9, the limits above the modem (`classes`); request 10, the total of
+//! slots before the first shard (`perkey::answer`, `whole::answer`); and request 12, the list of debts (`debts`).
 //!
 //! The layers, from below: `bucket` (numbers), `index` and `rows` (items in words), `turned_away` and `entry` (a slot), `ledger` (the debts), `shard_map` and
-//! `evict_one` (a shard), `restore_debt`, `store` (what a key holds), `perkey` (the calls); beside them `classes`. `settings` and `decision` are what goes in
-//! and what comes out.
+//! `evict_one` (a shard), `restore_debt`, `store` (what a key holds), `perkey` (the calls); beside them `classes` and `debts`. `settings` and `decision` are
+//! what goes in and what comes out.
 
 mod bucket;
 pub mod by_address;
 pub mod classes;
+pub mod debts;
 mod decision;
 mod entry;
 mod evict_one;
@@ -35,6 +36,7 @@ use crate::branches::Hits;
 use crate::call::Call;
 use crate::given::Given;
 use crate::reply::Reply;
+use debts::Asked;
 
 /// What `call` answers, and what it makes of `words`: the refusals come before all else, those of a table after all others.
 pub fn answer(given: &Given, words: &mut [u64], call: &Call, hits: &mut Hits) -> Reply {
@@ -46,6 +48,14 @@ pub fn answer(given: &Given, words: &mut [u64], call: &Call, hits: &mut Hits) ->
     if let Some(refusal) = classes::refusal(given, call) {
         hits.table_refused(call, refusal);
         return decision::refused(refusal.number());
+    }
+    if let Call::Debts {
+        now,
+        shard,
+        records,
+    } = *call
+    {
+        return debts::answer(given, words, Asked { now, shard }, records, hits);
     }
     match call.key() {
         Some(key) => perkey::answer(given, words, call, key, hits),
@@ -109,5 +119,13 @@ fn refusal(given: &Given, words: &[u64], call: &Call) -> Option<u8> {
         Call::Clear | Call::ClassClear => refusals::clear(settings, memory),
         Call::Length => refusals::length(settings, memory),
         Call::TurnedAway { key } => refusals::turned_away(settings, memory, key.hash),
+        Call::Debts {
+            now,
+            shard,
+            records,
+        } => refusals::debts(settings, memory, now, shard).or_else(|| {
+            let listed = Asked { now, shard }.listed(given, words);
+            refusals::records(records, listed.count())
+        }),
     }
 }

@@ -99,6 +99,13 @@ impl<'a> OneShard<'a> {
         self.read().ledger.debts.len()
     }
 
+    /// Shows every debt, in the order of the ledger: its hash and its settling moment.
+    pub fn each_debt(&self, mut show: impl FnMut(u64, u64)) {
+        for debt in &self.read().ledger.debts {
+            show(debt.hash, nanos(debt.settles_at));
+        }
+    }
+
     /// Gives the tables of an empty shard the places of its indexes, so that they can be shown. The published code knows of none.
     pub(crate) fn give_places(&self) {
         let (mut map, places) = (self.write(), layout::places(self.cap()));

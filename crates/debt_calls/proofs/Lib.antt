@@ -1,0 +1,3 @@
+pub mod ListingLaws
+pub mod PlanLaws
+pub mod Worked
