@@ -21,7 +21,7 @@ use Rattle.classes.specs.declared.Class.{Class}
 use Rattle.classes.specs.Classes.{classAt}
 use Rattle.rules.specs.Asks.{requests, looks, undoes, passes, withTable, Manner, asTry, asReservation, mannerOf, replyTo}
 use Rattle.rules.specs.Calls as Calls
-use Rattle.rules.specs.Calls.{keyed, whole, byKey, Every}
+use Rattle.rules.specs.Calls.{keyed, whole, len, debts, byKey, Every}
 use Rattle.demands.specs.ByKey.{Call, Implementation, rules, Answered, replies, accepted, TimesNeverFall, NoSharedHash, tokensOf, tokensUsable, decidedBy}
 use Rattle.demands.specs.ByKey.{answering, Window, Demand3}
 use Rattle.demands.specs.Demands.{usable, usableFrom, tableWords}
@@ -147,7 +147,8 @@ newcomers-turned-away-cautiously (keyed s id (passes table class at cost)) ws =
       passes-no-more = λ cs d t u. omega arith;
       tells-holders = λ d _ _ _ _ _ _ holding. absurd (true≢false (sym holding ∙ h));
     }))
-newcomers-turned-away-cautiously (whole s what) ws = ruled-is-cautious (whole s what) ws
+newcomers-turned-away-cautiously (whole s len) ws = ruled-is-cautious (whole s len) ws
+newcomers-turned-away-cautiously (whole s (debts at i room)) ws = ruled-is-cautious (whole s (debts at i room)) ws
 
 pub turns-newcomers-away-meets-demand3 : Demand3 (answering turnsNewcomersAway)
 turns-newcomers-away-meets-demand3 = telling-meets-demand3 (turnedAwayUnless holds) newcomers-turned-away-cautiously
