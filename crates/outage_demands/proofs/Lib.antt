@@ -5,3 +5,5 @@ pub mod TokenLaws
 pub mod Theorem
 pub mod Worked
 pub mod StoreLaws
+pub mod LineLaws
+pub mod InputTheorem

@@ -11,15 +11,16 @@
 --   `run-leaves-what-its-calls-leave`, each try on the words that the last one left; `run-never-goes-back`, moments never fall, on any memory;
 --   `run-grants-what-its-calls-grant`, the tokens of the rows are the tokens of the calls.
 -- * `contract-stays-within-the-window`: so it is with the rows of code that is as the contract of `outage_rows::run` says.
--- * `every-village-of-lines-stays-within-the-window`: the rows that the program makes of its lines (`lines-become-rows`) meet the first condition.
---   `village-runs-fresh`: the program runs them on the words that the set-up of line 1 left.
+-- * `every-input-stays-within-the-window`: the same of the program's whole inputs (`InputWindow`). Where line 1 is accepted, what is printed is the rows of
+--   lines 2 to 201 as they end (`input-prints-its-village`), run on the words that the set-up of line 1 left (`village-runs-fresh`), and they stay within the
+--   window. None of them was granted before (`lines-not-granted`).
 -- * In `outage_rows`: `outage-ends-all`, after the run no row is live; `denied-made-all`, a row that ends with code 1 has made 1,000 tries.
 use Prim.Native.Nat.{ℕ, zero, suc, _+_, _*_, _-_, _≤_, _<_}
 use mathlib.Core.Path.{_≡_}
 use mathlib.Core.Bool.{false, cond}
-use mathlib.Core.List.{List, [], _∷_}
+use mathlib.Core.List.{List, [], _∷_, _++_, map}
 use lib.Dec.{leb, eqb}
-use lib.ListN.{length}
+use lib.ListN.{length, take, drop}
 use Rattle.rows.specs.Outcome.{Outcome}
 use Rattle.rows.specs.declared.Place.{Place}
 use Rattle.rows.specs.declared.Place.the-variants.{At, Nowhere}
@@ -34,9 +35,16 @@ use Rattle.rules.specs.declared.Reply.the-variants.{Done}
 use Rattle.rules.specs.Rules.{setUp}
 use Rattle.rules.specs.Calls.{try}
 use Rattle.demands.specs.ByKey.{Call, rules, Answered, replies}
-use Rattle.desk_answers.specs.Desk.{identityOf}
+use Rattle.desk_lines.specs.declared.Line.the-variants.{SetUp}
+use Rattle.desk_lines.specs.Lines.{lineOf}
+use Rattle.desk_lines.specs.Printed.{printed}
+use Rattle.desk_answers.specs.Desk.{identityOf, storeSize}
+use Rattle.desk_answers.specs.Desk as Desk
+use Rattle.desk_cutting.specs.Cutting.{linesOf}
 use Rattle.outage_rows.specs.declared.Row.{Row}
 use Rattle.outage_rows.specs.Model.{State, mostTries, rowAt, isLive, costOf, next, step, outage}
+use Rattle.outage_rows.specs.Printed.{printedRow, printedRows}
+use Rattle.outage_run.specs.Run.{mostRows, malformedRow, rowOfLine, nextNumber, printedFor}
 
 -- The call that the next try of a row is.
 abbrev pub callOf : Settings → Row → Call
@@ -93,3 +101,35 @@ VillageWindow =
     (rows : List Row) (others : List ℕ) → NoneGrantedYet rows → KeysApart rows →
     (key t u : ℕ) → t ≤ u →
     tokensGranted key t u (outage s (fresh s ws rows others) .rows) * rate .period .0 ≤ burstOf rate * rate .period .0 + (u - t + 1) * rate .amount
+
+-- The rows of lines, in their order.
+abbrev pub rowsOf : List (List ℕ) → List Row
+rowsOf lines = map (λ line. rowOfLine (lineOf line)) lines
+
+-- The first line that can have no row; and what is printed for the lines from there on.
+abbrev pub firstPast : ℕ
+firstPast = 202
+
+unfoldable pub printedPast : ℕ → List (List ℕ) → List ℕ
+printedPast number [] = []
+printedPast number (line ∷ lines) = printedRow number malformedRow ++ printedPast (nextNumber number) lines
+
+-- The rows of the further lines of an input, as they end: run from the words that the set-up of line 1 leaves.
+abbrev pub villageRows : Settings → List ℕ → List (List ℕ) → List Row
+villageRows s memory further =
+    outage s (fresh s (take (storeSize s (length memory)) memory) (rowsOf (take mostRows further)) []) .rows
+
+-- What is printed: line 1 is accepted, then come the rows, then the lines for which there is no row.
+abbrev pub printedVillage : Settings → List ℕ → List (List ℕ) → List ℕ
+printedVillage s memory further = printed 1 0 0 ++ (printedRows (villageRows s memory further) ++ printedPast firstPast (drop mostRows further))
+
+-- Whole inputs. Line 1 is a settings line that is answered 0; its settings have a rate and turn new keys away when full, and no class, as those of every
+-- settings line. No two of lines 2 to 201 have different keys of one hash. Then these rows are printed, and they stay within the window.
+abbrev pub InputWindow : Type 0
+InputWindow =
+    (input memory first : List ℕ) (further : List (List ℕ)) (s : Settings) (rate : Rate) → linesOf input ≡ first ∷ further → lineOf first ≡ SetUp s →
+    Desk.setUp s memory .answer .told .code ≡ 0 → s .classes ≡ 0 → s .limit ≡ Open rate → s .eviction .«when_full» ≡ RefuseNew →
+    KeysApart (rowsOf (take mostRows further)) →
+    (printedFor input memory ≡ printedVillage s memory further)
+    × ((key t u : ℕ) → t ≤ u →
+    tokensGranted key t u (villageRows s memory further) * rate .period .0 ≤ burstOf rate * rate .period .0 + (u - t + 1) * rate .amount)
