@@ -7,10 +7,6 @@ use lib.ListN.{length, take, drop, length-take, length-drop, take-append-drop}
 use Rattle.arith.proofs.Cases.{by-eq}
 use Rattle.rows.specs.Outcome.{Outcome, outcome}
 use Rattle.settings.specs.declared.Settings.{Settings}
-use Rattle.settings.specs.declared.Limit.the-variants as Limit
-use Rattle.settings.specs.declared.eviction.WhenFull.the-variants.{RefuseNew}
-use Rattle.settings.specs.declared.rate.Rate.{Rate}
-use Rattle.settings.specs.Rate.{burstOf}
 use Rattle.store.specs.Refusals.{setUpRefusal}
 use Rattle.rules.specs.declared.Reply.{Reply}
 use Rattle.rules.specs.declared.Reply.the-variants.{Done, Refused}
@@ -30,7 +26,7 @@ use Rattle.desk_cutting.proofs.AnsweringLaws.{answered-in-parts}
 use Rattle.outage_rows.specs.declared.Row.{Row}
 use Rattle.outage_rows.specs.Printed.{printedRows}
 use Rattle.outage_run.specs.Run.{Village, mostRows, nextNumber, comesUp, lineTaken, village, finished, atStart, printedFor}
-use Rattle.outage_demands.specs.Village.{rowsOf, printedPast, firstPast, villageRows, printedVillage, KeysApart, tokensGranted, InputWindow}
+use Rattle.outage_demands.specs.Village.{rowsOf, printedPast, firstPast, villageRows, printedVillage, InputWindow}
 use Rattle.outage_demands.proofs.Theorem.{village-stays-within-the-window}
 use Rattle.outage_demands.proofs.LineLaws.{lines-not-granted, taken, lines-become-rows, past-prints}
 use Rattle.outage_demands.proofs.StoreLaws.{village-runs-fresh}

@@ -1,5 +1,5 @@
 -- The rows that the program makes of its lines: none of them was granted before the run. And what it prints for lines after the last that can have a row.
-use Prim.Native.Nat.{ℕ, zero, suc, _+_, _-_, _%_, _^_, _≤_, _<_}
+use Prim.Native.Nat.{ℕ, zero, suc, _+_, _*_, _-_, _%_, _^_, _≤_, _<_}
 use native.Mathlib.Omega.{arith}
 use native.Mathlib.Nat.{add-zero, mod-eq-of-lt}
 use mathlib.Core.Path.{_≡_, refl, sym, ap, _∙_}
@@ -7,6 +7,7 @@ use mathlib.Core.Bool.{true, false, true≢false}
 use mathlib.Core.List.{List, [], _∷_, _++_, append-nil, append-assoc}
 use lib.ListN.{length}
 use borrow.Author.Tests.{eq-eqb, ne-eqb}
+use Rattle.arith.proofs.Cases.{by-test}
 use Rattle.rows.specs.Outcome.{Outcome, outcome}
 use Rattle.settings.specs.declared.Settings.{Settings}
 use Rattle.desk_lines.specs.declared.Line.{Line}
@@ -17,11 +18,13 @@ use Rattle.desk_answers.specs.declared.Stage.the-variants as Stage
 use Rattle.desk_answers.specs.Desk.{hasEnded}
 use Rattle.desk_cutting.specs.Answering.{andThen, linesAnswered}
 use Rattle.outage_rows.specs.declared.Row.{Row}
-use Rattle.outage_rows.specs.Model.{isLive, ran}
+use Rattle.outage_rows.specs.Model.{mostTries, rowAt, isLive, ran, outage}
+use Rattle.outage_rows.proofs.RunLaws.{outage-ends-all}
+use Rattle.outage_rows.proofs.EndLaws.{ended-stays, denied-made-all}
 use Rattle.outage_rows.specs.Printed.{printedRow, printedFrom}
 use Rattle.outage_run.specs.Run.{Village, malformedRow, rowOfLine, nextNumber, comesUp, lineTaken, village, finished}
 use Rattle.outage_run.proofs.StepLaws.{open-comes-up}
-use Rattle.outage_demands.specs.Village.{NoneGrantedYet, rowsOf, printedPast}
+use Rattle.outage_demands.specs.Village.{NoneGrantedYet, rowsOf, printedPast, fresh}
 
 -- The row of a line is live, or has code 9.
 line-not-granted : (line : Line) → isLive (rowOfLine line) ≡ false → rowOfLine line .code ≡ 0 → ⊥
@@ -101,3 +104,27 @@ module _ (s : Settings) where
       (append-assoc (comesUp s v .answer ++ row) (linesAnswered village lines next .answer) (finished (linesAnswered village lines next .after) .answer)
       ∙ ap (λ (l : List ℕ). (comesUp s v .answer ++ row) ++ l) (rest ∙ ap (λ (l : List ℕ). l ++ printedPast (nextNumber (next .number)) lines) quiet)
       ∙ append-assoc (comesUp s v .answer) row (printedPast (nextNumber (next .number)) lines))
+
+-- A line that is answered 1 has made all its tries: a row that does not wait at the start has code 9, and keeps it.
+line-ended-is-9 : (line : Line) → isLive (rowOfLine line) ≡ false → rowOfLine line .code ≡ 9
+line-ended-is-9 (Line.Try q) off = absurd (true≢false off)
+line-ended-is-9 (Line.SetUp s) off = refl
+line-ended-is-9 (Line.Peek q) off = refl
+line-ended-is-9 (Line.Reserve q longest) off = refl
+line-ended-is-9 (Line.Refund key cost) off = refl
+line-ended-is-9 (Line.Remove key) off = refl
+line-ended-is-9 Line.Malformed off = refl
+
+ended-is-9 : (lines : List (List ℕ)) (j : ℕ) → j < length (rowsOf lines) → isLive (rowAt (rowsOf lines) j) ≡ false → rowAt (rowsOf lines) j .code ≡ 9
+ended-is-9 [] j b off = absurd (omega arith)
+ended-is-9 (line ∷ lines) zero b off = line-ended-is-9 (lineOf line) off
+ended-is-9 (line ∷ lines) (suc j) b off = ended-is-9 lines j (omega arith) off
+
+pub denied-line-made-all : (s : Settings) (ws : List ℕ) (lines : List (List ℕ)) (j : ℕ) → j < length (rowsOf lines)
+    → let ends = outage s (fresh s ws (rowsOf lines) []) .rows in rowAt ends j .code ≡ 1 → rowAt ends j .tries ≡ mostTries
+denied-line-made-all s ws lines j b code =
+    let v = fresh s ws (rowsOf lines) [] in
+    let n : ℕ = mostTries * length (rowsOf lines) in
+    by-test (isLive (rowAt (rowsOf lines) j))
+    (λ live. denied-made-all s n v j live (outage-ends-all s v j b) code)
+    (λ off. let kept = ap (λ (row : Row). row .code) (ended-stays s n v j off) in absurd (omega (arith, kept, ended-is-9 lines j b off, code)))

@@ -4,7 +4,7 @@
 -- No row has ended with code 0 before the run,                                                           NoneGrantedYet
 -- and no two rows have different keys of one hash.                                                       KeysApart
 -- Add up the costs of the key's rows that end with code 0, their last try made from moment t to u.       tokensGranted
--- Times the period, the sum is at most burst × period + (u - t + 1) × amount.                            VillageWindow
+-- Times the period, the sum is at most burst × period + (u - t + 1) × amount.                            WithinRate 1
 --
 -- Theorems, in proofs/:
 -- * `village-stays-within-the-window`: every run does. It is the window of demand 3 for the list of tries that the run makes (`calls`):
@@ -14,8 +14,8 @@
 -- * `every-input-stays-within-the-window`: the same of the program's whole inputs (`InputWindow`). Where line 1 is accepted, what is printed is the rows of
 --   lines 2 to 201 as they end (`input-prints-its-village`), run on the words that the set-up of line 1 left (`village-runs-fresh`), and they stay within the
 --   window. None of them was granted before (`lines-not-granted`).
--- * In `outage_rows`: `outage-ends-all`, after the run no row is live; `denied-made-all`, a row that ends with code 1 has made 1,000 tries.
-use Prim.Native.Nat.{ℕ, zero, suc, _+_, _*_, _-_, _≤_, _<_}
+-- * `denied-line-made-all`: a line that is answered 1 has made 1,000 tries. In `outage_rows`: `outage-ends-all`, after the run no row is live.
+use Prim.Native.Nat.{ℕ, zero, suc, _+_, _*_, _<_}
 use mathlib.Core.Path.{_≡_}
 use mathlib.Core.Bool.{false, cond}
 use mathlib.Core.List.{List, [], _∷_, _++_, map}
@@ -28,12 +28,12 @@ use Rattle.settings.specs.declared.Limit.the-variants.{Open}
 use Rattle.settings.specs.declared.Settings.{Settings}
 use Rattle.settings.specs.declared.eviction.WhenFull.the-variants.{RefuseNew}
 use Rattle.settings.specs.declared.rate.Rate.{Rate}
-use Rattle.settings.specs.Rate.{burstOf}
 use Rattle.hash.specs.Fnv.{keyHash}
 use Rattle.rules.specs.declared.Reply.{Reply}
 use Rattle.rules.specs.declared.Reply.the-variants.{Done}
 use Rattle.rules.specs.Rules.{setUp}
 use Rattle.rules.specs.Calls.{try}
+use Rattle.demands.specs.Demands.{WithinRate}
 use Rattle.demands.specs.ByKey.{Call, rules, Answered, replies}
 use Rattle.desk_lines.specs.declared.Line.the-variants.{SetUp}
 use Rattle.desk_lines.specs.Lines.{lineOf}
@@ -99,8 +99,7 @@ abbrev pub VillageWindow : Type 0
 VillageWindow =
     (s : Settings) (rate : Rate) (ws : List ℕ) → s .classes ≡ 0 → s .limit ≡ Open rate → s .eviction .«when_full» ≡ RefuseNew → setUp s ws .answer ≡ Done →
     (rows : List Row) (others : List ℕ) → NoneGrantedYet rows → KeysApart rows →
-    (key t u : ℕ) → t ≤ u →
-    tokensGranted key t u (outage s (fresh s ws rows others) .rows) * rate .period .0 ≤ burstOf rate * rate .period .0 + (u - t + 1) * rate .amount
+    (key : ℕ) → WithinRate 1 rate (λ t u. tokensGranted key t u (outage s (fresh s ws rows others) .rows))
 
 -- The rows of lines, in their order.
 abbrev pub rowsOf : List (List ℕ) → List Row
@@ -131,5 +130,4 @@ InputWindow =
     Desk.setUp s memory .answer .told .code ≡ 0 → s .classes ≡ 0 → s .limit ≡ Open rate → s .eviction .«when_full» ≡ RefuseNew →
     KeysApart (rowsOf (take mostRows further)) →
     (printedFor input memory ≡ printedVillage s memory further)
-    × ((key t u : ℕ) → t ≤ u →
-    tokensGranted key t u (villageRows s memory further) * rate .period .0 ≤ burstOf rate * rate .period .0 + (u - t + 1) * rate .amount)
+    × ((key : ℕ) → WithinRate 1 rate (λ t u. tokensGranted key t u (villageRows s memory further)))
