@@ -40,7 +40,8 @@ module _ {S : Type 0} (m : Machine S) where
   abbrev after : List ℕ → Outcome (List ℕ) S → Outcome (List ℕ) S
   after printed o = outcome (printed ++ o .answer) (o .after)
 
-  pub answered-in-parts : (lines others : List (List ℕ)) (s : S) → linesAnswered m (lines ++ others) s ≡ andThen (linesAnswered m lines s) (linesAnswered m others)
+  pub answered-in-parts : (lines others : List (List ℕ)) (s : S)
+      → linesAnswered m (lines ++ others) s ≡ andThen (linesAnswered m lines s) (linesAnswered m others)
   unfolding linesAnswered
   answered-in-parts [] others s = refl
   answered-in-parts (line ∷ lines) others s =

@@ -7,6 +7,10 @@ use borrow.Author.Needs.{needs}
 use Rattle.outage_feed.proofs.finish.Statement.{statement}
 use Rattle.outage_feed.proofs.finish.Tie as tie
 
+-- What is known before each call, from where it has returned.
+abbrev before-flush : tie.After-flush → tie.After-last-line
+before-flush k = k .before .before .before .before .before .before .before .before
+
 -- Where the last line was answered, once the run is asked whether it has ended.
 abbrev answered : tie.After-has-ended → tie.After-last-line
 answered e = e .before .before .before .before .before .before .before .before .before .before
@@ -31,7 +35,7 @@ same-length-3 c = search needs
 returns : tie.Need-returns
 returns c = record {
   last = refl;
-  stands = last-stands (c .before .before .before .before .before .before .before .before .before .last-line .ensures);
+  stands = last-stands ((before-flush (c .before)) .last-line .ensures);
   rightly = tt;
   counted = refl;
 }

@@ -4,6 +4,13 @@ use borrow.Author.Needs.{needs}
 use Rattle.outage_feed.proofs.run.Statement.{statement}
 use Rattle.outage_feed.proofs.run.Tie as tie
 
+-- What is known before each call, from where it has returned.
+abbrev back-to-slice-known4 : tie.After-go-on → tie.After-slice-known4
+back-to-slice-known4 k = k .before .before .before .before .before
+
+abbrev before-go-on : tie.After-slice-known4 → tie.Start
+before-go-on k = k .before .before .before .before
+
 go-on-requires : tie.Need-go-on-requires
 go-on-requires c κs = search needs
 
@@ -21,7 +28,7 @@ same-length-4 c = search needs
 
 returns : tie.Need-returns
 returns c =
-    let start′ = c .before .before .before .before .before .before .before .before .before .before .before .before .before .before .before .before .before in
+    let start′ = (before-go-on (back-to-slice-known4 (c .before .before .before .before .before .before .before .before))) in
     rw (starts-at-line-1 (start′ .args .input .now) (start′ .args .rs .now) (start′ .args .memory .now)) at
     (c .before .before .before .before .before .before .before .before .go-on .ensures)
 

@@ -5,6 +5,13 @@ use borrow.Author.Needs.{needs}
 use Rattle.outage_run.proofs.come_up.Statement.{statement}
 use Rattle.outage_run.proofs.come_up.Tie as tie
 
+-- What is known before each call, from where it has returned.
+abbrev before-run-in-store : tie.After-run-in-store → tie.Start
+before-run-in-store k = k .before .before .before .before .before .before
+
+abbrev before-rows : tie.After-rows → tie.After-run-in-store
+before-rows k = k .before .before .before .before .before .before .before .before
+
 mul-end : tie.Need-mul-end
 mul-end c = search needs
 
@@ -31,7 +38,7 @@ part-rows-end c = search needs
 
 rows-requires : tie.Need-rows-requires
 rows-requires c κs =
-    let start′ = c .before .before .before .before .before .before .before .before .before .before .before .before .before in
+    let start′ = (before-run-in-store (c .before .before .before .before .before .before .before)) in
     let run-in-store′ = c .before .before .before .before .before .before .before .run-in-store in
     room-for-rows (start′ .args .count) (start′ .args .at) (start′ .args .rs .now) (run-in-store′ .last .1 .0) (start′ .pre .0) (run-in-store′ .kept .1 .0)
     (start′ .pre .1)
@@ -47,8 +54,8 @@ same-length-3 c = search needs
 
 returns : tie.Need-returns
 returns c =
-    let start′ = c .before .before .before .before .before .before .before .before .before .before .before .before .before .before .before .before in
-    let run-in-store′ = c .before .before .before .before .before .before .before .before .before .before .run-in-store in
+    let start′ = (before-run-in-store (before-rows (c .before .before))) in
+    let run-in-store′ = (before-rows (c .before .before)) .run-in-store in
     rows-came (start′ .args .settings) (start′ .args .count) (start′ .args .at) (start′ .args .rs .now) (start′ .args .memory .now) (start′ .args .output .now)
     (run-in-store′ .last .1 .0) (start′ .pre .0) (run-in-store′ .kept .1 .0) (run-in-store′ .ensures) (c .before .before .rows .ensures)
 

@@ -5,6 +5,13 @@ use borrow.Author.Needs.{needs}
 use Rattle.outage_run.proofs.first.Statement.{statement}
 use Rattle.outage_run.proofs.first.Tie as tie
 
+-- What is known before each call, from where it has returned.
+abbrev before-open : tie.After-open → tie.After-read
+before-open k = k .before .before
+
+abbrev before-read : tie.After-read → tie.Start
+before-read k = k .before .before .before .before
+
 read-requires : tie.Need-read-requires
 read-requires c κs = search needs
 
@@ -22,9 +29,9 @@ same-length-2 c = search needs
 
 returns : tie.Need-returns
 returns c =
-    let start = c .before .before .before .before .before .before .before .before .before .before .before .before .before in
+    let start = (before-read (before-open (c .before .before .before .before .before .before .before))) in
     first-took (start .args .feed) (start .args .number) (lineOf (start .args .line .now)) (start .args .memory .now) (start .args .output .now)
-    (start .pre) (rw (c .before .before .before .before .before .before .before .before .before .read .ensures) at
+    (start .pre) (rw ((before-open (c .before .before .before .before .before .before .before)) .read .ensures) at
     (c .before .before .before .before .before .before .before .«open» .ensures)) (c .before .before .line .ensures)
 
 pub first-spec : {M : Type 1} → statement M

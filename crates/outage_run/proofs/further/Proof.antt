@@ -7,6 +7,22 @@ use borrow.Author.Needs.{needs}
 use Rattle.outage_run.proofs.further.Statement.{statement}
 use Rattle.outage_run.proofs.further.Tie as tie
 
+-- What is known before each call, from where it has returned.
+abbrev back-to-struct-known : tie.After-past → tie.After-struct-known
+back-to-struct-known k = k .before .before .before .before .before
+
+abbrev before-past : tie.After-struct-known → tie.Start
+before-past k = k .before .before .before .before .before
+
+abbrev before-keep : tie.After-keep → tie.After-row-of
+before-keep k = k .before
+
+abbrev before-row-of : tie.After-row-of → tie.After-read
+before-row-of k = k .before
+
+abbrev before-read : tie.After-read → tie.Start
+before-read k = k .before .before .before .before .before .before .before .before
+
 past-requires : tie.Need-past-requires
 past-requires c κs = search needs
 
@@ -21,7 +37,7 @@ same-length-3 c = search needs
 
 returns : tie.Need-returns
 returns c =
-    let start′ = c .before .before .before .before .before .before .before .before .before .before .before .before .before .before .before .before in
+    let start′ = (before-past (back-to-struct-known (c .before .before .before .before .before .before))) in
     took-as (furtherTaken (start′ .args .settings) (start′ .args .number) (lineOf (start′ .args .line .now)))
     (past-is-further (start′ .args .settings) (start′ .args .number) (lineOf (start′ .args .line .now)) _
     (c .before .before .before .before .before .before .before .before .before .before .if1 .taken))
@@ -47,7 +63,7 @@ same-length-4 c = search needs
 
 returns-2 : tie.Need-returns-2
 returns-2 c =
-    let start′ = c .before .before .before .before .before .before .before .before .before .before .before .before .before .before in
+    let start′ = (before-read (before-row-of (before-keep (c .before .before .before .before)))) in
     let if1′ = c .before .before .before .before .before .before .before .before .if1 in
     took-as (furtherTaken (start′ .args .settings) (start′ .args .number) (lineOf (start′ .args .line .now)))
     (row-is-further (start′ .args .settings) (start′ .args .number) (lineOf (start′ .args .line .now)) _ (λ none. omega (arith, none, if1′ .left)))

@@ -5,6 +5,16 @@ use borrow.Author.Needs.{needs}
 use Rattle.outage_run.proofs.past.Statement.{statement}
 use Rattle.outage_run.proofs.past.Tie as tie
 
+-- What is known before each call, from where it has returned.
+abbrev before-malformed : tie.After-malformed → tie.After-run-and-print
+before-malformed k = k .before .before .before .before .before .before .before .before
+
+abbrev before-run-and-print : tie.After-run-and-print → tie.Start
+before-run-and-print k = k .before .before .before .before .before .before .before
+
+abbrev before-row : tie.After-row → tie.After-malformed
+before-row k = k .before
+
 run-and-print-requires : tie.Need-run-and-print-requires
 run-and-print-requires c κs =
     let start′ = c .before .before .before .before .before .before in
@@ -17,7 +27,7 @@ row-requires : tie.Need-row-requires
 row-requires c κs = omega (
   arith,
   c .before .before .before .before .before .before .before .before .run-and-print .ensures .fits,
-  c .before .before .before .before .before .before .before .before .before .before .before .before .before .before .before .pre .1,
+  (before-run-and-print (before-malformed c)) .pre .1,
 )
 
 same-length : tie.Need-same-length
@@ -32,8 +42,8 @@ same-length-3 c = search needs
 returns : tie.Need-returns
 returns c =
     let start′ =
-    c .before .before .before .before .before .before .before .before .before .before .before .before .before .before .before .before .before .before in
-    let run-and-print′ = c .before .before .before .before .before .before .before .before .before .before .before .run-and-print in
+    (before-run-and-print (before-malformed (before-row (c .before .before)))) in
+    let run-and-print′ = (before-malformed (before-row (c .before .before))) .run-and-print in
     past-took (start′ .args .settings) (start′ .args .feed) (start′ .args .rs .now) (start′ .args .memory .now) (start′ .args .output .now)
     (run-and-print′ .ensures) (start′ .pre .1) (run-and-print′ .kept .1 .0) (start′ .args .number)
     (rw (c .before .before .before .malformed .ensures) at (c .before .before .row .ensures))

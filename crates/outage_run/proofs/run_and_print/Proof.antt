@@ -4,6 +4,10 @@ use borrow.Author.Needs.{needs}
 use Rattle.outage_run.proofs.run_and_print.Statement.{statement}
 use Rattle.outage_run.proofs.run_and_print.Tie as tie
 
+-- What is known before each call, from where it has returned.
+abbrev before-come-up : tie.After-come-up → tie.Start
+before-come-up k = k .before .before .before .before .before .before .before
+
 come-up-requires : tie.Need-come-up-requires
 come-up-requires c κs = search needs
 
@@ -18,7 +22,7 @@ same-length-3 c = search needs
 
 returns : tie.Need-returns
 returns c =
-    let start′ = c .before .before .before .before .before .before .before .before .before .before .before .before .before in
+    let start′ = (before-come-up (c .before .before .before .before .before .before)) in
     came-took (start′ .args .settings) (start′ .args .feed) (start′ .args .rs .now) (start′ .args .memory .now) (start′ .args .output .now) (start′ .pre .1)
     (c .before .before .before .before .before .before .come-up .ensures) _
 

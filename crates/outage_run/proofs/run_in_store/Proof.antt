@@ -5,6 +5,13 @@ use borrow.Author.Needs.{needs}
 use Rattle.outage_run.proofs.run_in_store.Statement.{statement}
 use Rattle.outage_run.proofs.run_in_store.Tie as tie
 
+-- What is known before each call, from where it has returned.
+abbrev before-run : tie.After-run → tie.After-store-size
+before-run k = k .before .before .before
+
+abbrev before-store-size : tie.After-store-size → tie.Start
+before-store-size k = k .before .before .before
+
 store-size-requires : tie.Need-store-size-requires
 store-size-requires c κs = search needs
 
@@ -28,7 +35,7 @@ same-length-2 c = search needs
 
 returns : tie.Need-returns
 returns c =
-    let start′ = c .before .before .before .before .before .before .before .before .before .before in
+    let start′ = (before-store-size (before-run (c .before .before .before .before))) in
     let run′ = c .before .before .before .before .run in
     run-lent (start′ .args .settings) (start′ .args .rs .now) (start′ .args .memory .now) (run′ .last .1 .0) _
     (c .before .before .before .before .before .before .before .store-size .ensures) (run′ .ensures)

@@ -5,6 +5,16 @@ use borrow.Author.Needs.{needs}
 use Rattle.outage_run.proofs.take_line.Statement.{statement}
 use Rattle.outage_run.proofs.take_line.Tie as tie
 
+-- What is known before each call, from where it has returned.
+abbrev before-first : tie.After-first → tie.After-wrapping-add-u64
+before-first k = k .before .before .before .before .before
+
+abbrev before-wrapping-add-u64 : tie.After-wrapping-add-u64 → tie.Start
+before-wrapping-add-u64 k = k .before .before .before .before .before
+
+abbrev before-further : tie.After-further → tie.After-wrapping-add-u64
+before-further k = k .before .before .before .before .before .before .before
+
 wrapping-add-u64-requires : tie.Need-wrapping-add-u64-requires
 wrapping-add-u64-requires c κs = search needs
 
@@ -31,9 +41,9 @@ same-length-2 c = search needs
 
 returns : tie.Need-returns
 returns c =
-    let start′ = c .before .before .before .before .before .before .before .before .before .before .before .before .before .before in
+    let start′ = (before-wrapping-add-u64 (before-first (c .before .before .before .before))) in
     took-as (lineTaken (start′ .args .line .now)) (first-is-line (start′ .args .line .now) _
-    (c .before .before .before .before .before .before .before .before .before .wrapping-add-u64 .ensures)
+    ((before-first (c .before .before .before .before)) .wrapping-add-u64 .ensures)
     (c .before .before .before .before .before .before .before .enum-told .given .1)) (c .before .before .before .before .first .ensures
     (start′ .args .rs .now))
 
@@ -49,9 +59,9 @@ same-length-5 c = search needs
 returns-2 : tie.Need-returns-2
 returns-2 c =
     let start′ =
-    c .before .before .before .before .before .before .before .before .before .before .before .before .before .before .before .before .before .before in
+    (before-wrapping-add-u64 (before-further (c .before .before .before .before .before .before))) in
     took-as (lineTaken (start′ .args .line .now)) (further-is-line (start′ .args .line .now) _
-    (c .before .before .before .before .before .before .before .before .before .before .before .before .before .wrapping-add-u64 .ensures) _
+    ((before-further (c .before .before .before .before .before .before)) .wrapping-add-u64 .ensures) _
     (c .before .before .before .before .before .before .before .before .before .before .before .stage .given .1))
     (c .before .before .before .before .before .before .further .ensures)
 

@@ -20,6 +20,19 @@ Inv-loop bytes output₀ rs₀ memory₀ feed₀ at₀ output rs memory feed at 
 abbrev μ-loop : tie.MeasureT-loop
 μ-loop bytes output₀ rs₀ memory₀ feed₀ at₀ output rs memory feed at = length bytes - at
 
+-- What is known before each call, from where it has returned.
+abbrev before-find : tie.After-find Inv-loop μ-loop → tie.At-loop Inv-loop μ-loop
+before-find k = k .before .before
+
+abbrev before-loop : tie.At-loop Inv-loop μ-loop → tie.Start Inv-loop μ-loop
+before-loop k = k .before .before .before .before .before
+
+abbrev before-has-ended : tie.After-has-ended Inv-loop μ-loop → tie.After-take-line Inv-loop μ-loop
+before-has-ended k = k .before .before .before .before .before .before .before
+
+abbrev before-take-line : tie.After-take-line Inv-loop μ-loop → tie.After-find Inv-loop μ-loop
+before-take-line k = k .before .before .before .before .before .before
+
 loop-holds : tie.Need-loop-holds Inv-loop μ-loop
 loop-holds c =
     let start′ = c .before .before .before .before in
@@ -39,7 +52,7 @@ part-take-line-end c = search needs
 
 take-line-requires : tie.Need-take-line-requires Inv-loop μ-loop
 take-line-requires c κs =
-    let start = c .before .before .before .before .before .before .before .before .before .before .before .before in
+    let start = (before-loop (before-find (c .before .before .before .before .before))) in
     let loop′ = c .before .before .before .before .before .before .before .loop in (
       omega (arith, loop′ .inv .rows, loop′ .inv .same-rs, start .pre .0),
       omega (
@@ -62,15 +75,15 @@ loop-less c = search needs
 
 loop-again : tie.Need-loop-again Inv-loop μ-loop
 loop-again c =
-    let start = c .before .before .before .before .before .before .before .before .before .before .before .before .before .before .before .before .before .before .before .before .before in
-    let loop′ = c .before .before .before .before .before .before .before .before .before .before .before .before .before .before .before .before .loop in
-    let find′ = c .before .before .before .before .before .before .before .before .before .before .before .before .before .before .find in
+    let start = (before-loop (before-find (before-take-line (before-has-ended (c .before))))) in
+    let loop′ = (before-find (before-take-line (before-has-ended (c .before)))) .loop in
+    let find′ = (before-take-line (before-has-ended (c .before))) .find in
     let inv = loop′ .inv in
     let bytes = start .args .bytes .now in
     let took = c .before .before .before .before .before .before .before .before .take-line .ensures in
     let stops : find′ .result ≡ loop′ .at + indexOf lineFeed (drop (loop′ .at) bytes) = found-from lineFeed _ _ (find′ .ensures .0) in
     let inside : find′ .result < length bytes = omega
-    (arith, c .before .before .before .before .before .before .before .before .before .before .before .before .before .if1 .left, find′ .ensures .1) in
+    (arith, (before-has-ended (c .before)) .before .before .before .before .before .if1 .left, find′ .ensures .1) in
     record {
       same-output = search needs;
       same-rs = search needs;
@@ -141,15 +154,15 @@ same-length-9 c = search needs
 
 returns-3 : tie.Need-returns-3 Inv-loop μ-loop
 returns-3 c =
-    let start = c .before .before .before .before .before .before .before .before .before .before .before .before .before .before .before .before .before .before .before .before .before in
-    let loop′ = c .before .before .before .before .before .before .before .before .before .before .before .before .before .before .before .before .loop in
-    let find′ = c .before .before .before .before .before .before .before .before .before .before .before .before .before .before .find in
+    let start = (before-loop (before-find (before-take-line (before-has-ended (c .before))))) in
+    let loop′ = (before-find (before-take-line (before-has-ended (c .before)))) .loop in
+    let find′ = (before-take-line (before-has-ended (c .before))) .find in
     let inv = loop′ .inv in
     let bytes = start .args .bytes .now in
     let took = c .before .before .before .before .before .before .before .before .take-line .ensures in
     let stops : find′ .result ≡ loop′ .at + indexOf lineFeed (drop (loop′ .at) bytes) = found-from lineFeed _ _ (find′ .ensures .0) in
     let inside : find′ .result < length bytes = omega
-    (arith, c .before .before .before .before .before .before .before .before .before .before .before .before .before .if1 .left, find′ .ensures .1) in
+    (arith, (before-has-ended (c .before)) .before .before .before .before .before .if1 .left, find′ .ensures .1) in
     let told = c .before .has-ended .ensures in
     let ended = c .if2 .taken in
     record {
