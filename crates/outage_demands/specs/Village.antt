@@ -14,7 +14,7 @@
 -- * `every-input-stays-within-the-window`: the same of the program's whole inputs (`InputWindow`). Where line 1 is accepted, what is printed is the rows of
 --   lines 2 to 201 as they end (`input-prints-its-village`), run on the words that the set-up of line 1 left (`village-runs-fresh`), and they stay within the
 --   window. None of them was granted before (`lines-not-granted`).
--- * `denied-line-made-all`: a line that is answered 1 has made 1,000 tries. In `outage_rows`: `outage-ends-all`, after the run no row is live.
+-- * `denied-line-made-all`: a line that is answered 1 has made 1,000 tries. After the run no row is live (`outage-ends-all` of `outage_rows`).
 use Prim.Native.Nat.{ℕ, zero, suc, _+_, _*_, _<_}
 use mathlib.Core.Path.{_≡_}
 use mathlib.Core.Bool.{false, cond}

@@ -13,7 +13,9 @@ before-flush k = k .before .before .before .before .before .before .before .befo
 
 -- Where the last line was answered, once the run is asked whether it has ended.
 abbrev answered : tie.After-has-ended → tie.After-last-line
-answered e = e .before .before .before .before .before .before .before .before .before .before
+answered e =
+    let back′ = e .before .before .before .before .before .before .before .before in
+    back′ .before .before
 
 last-line-requires : tie.Need-last-line-requires
 last-line-requires c κs = search needs

@@ -35,7 +35,9 @@ abbrev known : tie.After-turn Inv-loop μ-loop → tie.After-got Inv-loop μ-loo
 known t = t .before .before .before .before .before .before
 
 abbrev turned : tie.After-flush-arg Inv-loop μ-loop → tie.After-turn Inv-loop μ-loop
-turned w = w .before .before .before .before .before .before .before .before .before .before
+turned w =
+    let back′ = w .before .before .before .before .before .before .before .before in
+    back′ .before .before
 
 -- The bytes that the read brought come after those that were pending, and lie within the input.
 grown : (g : tie.After-got Inv-loop μ-loop) → let end = g .got .given .0 .0 in let loop′ = turn-head (read g) .loop in
@@ -105,7 +107,8 @@ same-length-4 c = search needs
 returns : tie.Need-returns Inv-loop μ-loop
 returns c =
     let end = c .before .before .before .before .before .before in
-    let r = end .before .before .before .before .before .before .before .before .before in
+    let f = end .before .before .before .before in
+    let r = f .before .before .before .before .before in
     let loop′ = turn-head r .loop in
     over-at-end (loop′ .pending) (loop′ .input) (loop′ .feed) (loop′ .rs) (loop′ .memory) (loop′ .inv .far) _ (r .read-more .ensures .1) (end .finish .ensures)
 

@@ -30,7 +30,9 @@ same-length-3 : tie.Need-same-length-3
 same-length-3 c = search needs
 
 returns-2 : tie.Need-returns-2
-returns-2 c = took-as finished (open-comes-up _ _ (c .before .before .before .before .before .before .before .before .before .before .before .stage .given .1))
+returns-2 c =
+    let back′ = c .before .before .before .before .before .before .before .before in
+    took-as finished (open-comes-up _ _ (back′ .before .before .before .stage .given .1))
     (c .before .before .before .before .before .before .run-and-print .ensures)
 
 returns-3 : tie.Need-returns-3

@@ -37,10 +37,11 @@ same-length-3 c = search needs
 
 returns : tie.Need-returns
 returns c =
+    let back′ = c .before .before .before .before .before .before .before .before in
     let start′ = (before-past (back-to-struct-known (c .before .before .before .before .before .before))) in
     took-as (furtherTaken (start′ .args .settings) (start′ .args .number) (lineOf (start′ .args .line .now)))
     (past-is-further (start′ .args .settings) (start′ .args .number) (lineOf (start′ .args .line .now)) _
-    (c .before .before .before .before .before .before .before .before .before .before .if1 .taken))
+    (back′ .before .before .if1 .taken))
     (c .before .before .before .before .before .before .past .ensures)
 
 read-requires : tie.Need-read-requires

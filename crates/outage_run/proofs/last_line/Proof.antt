@@ -13,7 +13,8 @@ unprinted-requires c κs = search needs
 
 finish-requires : tie.Need-finish-requires
 finish-requires c κs =
-    let start′ = c .before .before .before .before .before .before .before .before .before in
+    let back′ = c .before .before .before .before .before .before .before .before in
+    let start′ = back′ .before in
     rw (c .before .before .before .before .unprinted .ensures) (omega (arith, start′ .pre .1), omega (arith, start′ .pre .2))
 
 same-length : tie.Need-same-length
@@ -27,11 +28,12 @@ same-length-3 c = search needs
 
 returns : tie.Need-returns
 returns c =
-    let start′ = c .before .before .before .before .before .before .before .before .before .before .before .before .before .before .before .before in
+    let back′ = c .before .before .before .before .before .before .before .before in
+    let start′ = back′ .before .before .before .before .before .before .before .before in
     let a = start′ .args in
     let none = no-last-line village (a .pending) (a .input .now) (villageOf (a .feed) (a .rs .now) (a .memory .now))
-    (omega (arith, c .before .before .before .before .before .before .before .before .before .before .if1 .taken)) in
-    let ran = rw (c .before .before .before .before .before .before .before .before .before .before .before .unprinted .ensures) at
+    (omega (arith, back′ .before .before .if1 .taken)) in
+    let ran = rw (back′ .before .before .before .unprinted .ensures) at
     (c .before .before .before .before .before .before .finish .ensures) in
     record {
       answers = last-then-run none ran;
@@ -49,13 +51,16 @@ part-take-line-end c = search needs
 
 take-line-requires : tie.Need-take-line-requires
 take-line-requires c κs =
-    let start′ = c .before .before .before .before .before .before .before .before .before .before in
+    let back′ = c .before .before .before .before .before .before .before .before in
+    let start′ = back′ .before .before in
     rw (c .before .before .before .before .before .unprinted .ensures) (start′ .pre .1, omega (arith, start′ .pre .2))
 
 finish-requires-2 : tie.Need-finish-requires-2
 finish-requires-2 c κs =
-    let start′ = c .before .before .before .before .before .before .before .before .before .before .before .before .before .before .before .before .before .before .before .before in
-    let took = rw (c .before .before .before .before .before .before .before .before .before .before .before .before .before .before .before .unprinted .ensures) at (c .before .before .before .before .before .before .before .before .before .take-line .ensures) in
+    let back′ = c .before .before .before .before .before .before .before .before in
+    let further′ = back′ .before .before .before .before .before .before .before .before in
+    let start′ = further′ .before .before .before .before in
+    let took = rw (back′ .before .before .before .before .before .before .before .unprinted .ensures) at (back′ .before .take-line .ensures) in
     (omega (arith, took .rows, start′ .pre .1), omega (arith, took .fits, start′ .pre .2))
 
 same-length-4 : tie.Need-same-length-4
@@ -69,12 +74,16 @@ same-length-6 c = search needs
 
 returns-2 : tie.Need-returns-2
 returns-2 c =
+    let back′ = c .before .before .before .before .before .before .before .before in
+    let further′ = back′ .before .before .before .before .before .before .before .before in
+    let furthest′ = further′ .before .before .before .before .before .before .before .before in
     let finish2′ = c .before .before .before .before .before .before .finish2 in
-    let s = c .before .before .before .before .before .before .before .before .before .before .before .before .before .before .before .before .before .before .before .before .before .before .before .before .before .before .before in
+    let s = furthest′ .before .before .before in
     let a = s .args in
-    let took = rw (c .before .before .before .before .before .before .before .before .before .before .before .before .before .before .before .before .before .before .before .before .before .before .unprinted .ensures) at (c .before .before .before .before .before .before .before .before .before .before .before .before .before .before .before .before .take-line .ensures) in
+    let took = rw (further′ .before .before .before .before .before .before .unprinted .ensures) at
+    (back′ .before .before .before .before .before .before .before .before .take-line .ensures) in
     let last = last-is-answered village (a .pending) (a .input .now) (villageOf (a .feed) (a .rs .now) (a .memory .now))
-    (λ none. omega (arith, none, c .before .before .before .before .before .before .before .before .before .before .before .before .before .before .before .before .before .before .before .before .before .if1 .left)) (s .pre .0) (s .pre .3) (took .answers) in
+    (λ none. omega (arith, none, further′ .before .before .before .before .before .if1 .left)) (s .pre .0) (s .pre .3) (took .answers) in
     record {
       answers = last-then-run last (finish2′ .ensures);
       fits = omega (arith, took .fits, finish2′ .ensures .fits, s .pre .2);

@@ -58,11 +58,12 @@ same-length-5 c = search needs
 
 returns-2 : tie.Need-returns-2
 returns-2 c =
+    let back′ = c .before .before .before .before .before .before .before .before in
     let start′ =
     (before-wrapping-add-u64 (before-further (c .before .before .before .before .before .before))) in
     took-as (lineTaken (start′ .args .line .now)) (further-is-line (start′ .args .line .now) _
     ((before-further (c .before .before .before .before .before .before)) .wrapping-add-u64 .ensures) _
-    (c .before .before .before .before .before .before .before .before .before .before .before .stage .given .1))
+    (back′ .before .before .before .stage .given .1))
     (c .before .before .before .before .before .before .further .ensures)
 
 returns-3 : tie.Need-returns-3

@@ -22,7 +22,9 @@ unprinted-requires : tie.Need-unprinted-requires
 unprinted-requires c κs = search needs
 
 whole-lines-requires : tie.Need-whole-lines-requires
-whole-lines-requires c κs = let s = c .before .before .before .before .before .before .before .before .before .before in
+whole-lines-requires c κs =
+    let back′ = c .before .before .before .before .before .before .before .before in
+    let s = back′ .before .before in
     rw (c .unprinted .ensures) (s .pre .1, omega (arith, s .pre .2, length-take (s .args .end - 0) (s .args .input .now)), s .pre .3)
 
 keep-rest-requires : tie.Need-keep-rest-requires
@@ -42,9 +44,11 @@ same-length-4 c = search needs
 
 returns : tie.Need-returns
 returns c =
-    let whole-lines′ = c .before .before .before .before .before .before .before .before .before .before .before .whole-lines in
-    let unprinted′ = c .before .before .before .before .before .before .before .before .before .before .before .before .unprinted in
-    let s = c .before .before .before .before .before .before .before .before .before .before .before .before .before .before .before .before .before .before .before .before .before .before in
+    let back′ = c .before .before .before .before .before .before .before .before in
+    let further′ = back′ .before .before .before .before .before .before .before .before in
+    let whole-lines′ = back′ .before .before .before .whole-lines in
+    let unprinted′ = back′ .before .before .before .before .unprinted in
+    let s = further′ .before .before .before .before .before .before in
     let a = s .args in
     let answered = whole-lines′ .ensures in
     let at = whole-lines′ .result .at in
