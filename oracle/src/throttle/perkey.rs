@@ -156,12 +156,7 @@ where
     K: Eq + Hash + Clone + Send + Sync + 'static,
     C: Clock,
 {
-    fn assemble(
-        config: Option<BucketConfig>,
-        eviction: Eviction,
-        shards: usize,
-        clock: C,
-    ) -> Self {
+    fn assemble(config: Option<BucketConfig>, eviction: Eviction, shards: usize, clock: C) -> Self {
         let epoch = clock.now();
         Self {
             store: Store::new(
@@ -698,4 +693,3 @@ impl<K, C> core::fmt::Debug for PerKeyBuilder<K, C> {
             .finish_non_exhaustive()
     }
 }
-
