@@ -1,6 +1,6 @@
 -- What each line of the desk is told, and what it does to the memory, by the rules of the limiter.
 use Prim.Native.Nat.{ℕ, min}
-use mathlib.Core.Bool.{cond}
+use mathlib.Core.Bool.{Bool, true, false, cond}
 use mathlib.Core.List.{List, _++_}
 use lib.Dec.{eqb}
 use lib.ListN.{length, take, drop}
@@ -21,6 +21,12 @@ use Rattle.desk_answers.specs.declared.Served.{Served}
 use Rattle.desk_answers.specs.declared.Stage.{Stage}
 use Rattle.desk_answers.specs.declared.Stage.the-variants.{First, Open, Ended}
 use Rattle.store.specs.Memory.{memoryWords}
+
+-- Whether the run has ended, so that no further line is answered.
+abbrev pub hasEnded : Stage → Bool
+hasEnded First = false
+hasEnded (Open s) = false
+hasEnded (Ended code) = true
 
 -- What a malformed line is told. Of what a line is told its code and its number are printed; no line of the desk counts, so the number is a wait.
 abbrev pub malformed : Told

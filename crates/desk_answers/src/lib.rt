@@ -40,7 +40,7 @@ pub fn serve(stage: Stage, line: Line, memory: &mut [u64]) -> Served
 }
 
 // Answers line 1: only a settings line opens the desk.
-fn open(line: Line, memory: &mut [u64]) -> Served
+pub fn open(line: Line, memory: &mut [u64]) -> Served
     ensures { λ r. ⌜ outcome r (now (memory .exit)) ≡ Desk.opened line (now (memory .entry)) ⌝ }
 {
     match line {
@@ -89,7 +89,7 @@ fn stage_after(settings: Settings, code: u64) -> Stage
 }
 
 // The words that the store is lent from a memory of so many: those it needs, or all where it needs more.
-fn store_size(settings: Settings, words: usize) -> usize
+pub fn store_size(settings: Settings, words: usize) -> usize
     ensures { λ r. ⌜ r ≡ Desk.storeSize settings words ⌝ }
 {
     if settings.size_refusal() != 0 {
@@ -122,7 +122,7 @@ fn answer(settings: Settings, line: Line, ws: &mut [u64]) -> Told
 }
 
 // A try.
-fn tried(settings: Settings, request: Request, ws: &mut [u64]) -> Told
+pub fn tried(settings: Settings, request: Request, ws: &mut [u64]) -> Told
     ensures { λ r. ⌜ outcome r (now (ws .exit)) ≡ Desk.tried settings request (now (ws .entry)) ⌝ }
 {
     let at = request.at;

@@ -3,21 +3,20 @@ use Prim.Native.Nat.{ℕ, _+_, _-_, _≤_}
 use native.Mathlib.Omega.{arith}
 use mathlib.Core.Path.{_≡_, refl, sym, ap, _∙_}
 use mathlib.Core.Bool.{true, false}
-use mathlib.Core.List.{List, [], _∷_, _++_}
-use lib.ListN.{length, take, drop, length-append, length-take, length-drop}
-use Rattle.rows.specs.Outcome.{Outcome}
+use mathlib.Core.List.{List}
+use lib.ListN.{length, take, drop, length-take, length-drop}
 use Rattle.rows.specs.Segments.{segment}
 use Rattle.rows.proofs.OutcomeLaws.{after-is}
 use Rattle.desk_lines.specs.Lines.{longestLine}
 use Rattle.desk_turns.specs.declared.Feed.{Feed}
 use Rattle.desk_turns.specs.declared.Turned.{Turned}
 use Rattle.desk_turns.specs.Feeding.{stateOf, OneTurn, LastLine}
-use Rattle.desk_turns.specs.Run.{State, Standing, hasEnded, linesAnswered, lastLine, linesOf, turned, turnedOver, joined}
-use Rattle.desk_turns.proofs.RunLaws.{none-once-ended}
-use Rattle.desk_turns.proofs.CuttingLaws.{one-turn-more, turn-is-turned, every-cutting-stands-the-same}
+use Rattle.desk_turns.specs.Run.{State, Standing, desk, hasEnded, linesAnswered, linesOf, turned, joined}
+use Rattle.desk_cutting.proofs.ReadingLaws.{one-more, ended-answers-none}
+use Rattle.desk_turns.proofs.CuttingLaws.{turn-is-turned, every-cutting-stands-the-same}
 use Rattle.desk_feed.specs.declared.Ran.{Ran}
 use Rattle.desk_feed.specs.declared.Ending.the-variants.{Input, Refused, Read, Write, LastWrite, Turns}
-use Rattle.desk_feed.specs.Ran.{standing, atStart, Short, EachWhileGoing, TurnedTo, withLast, lastAnswered, mostTurns, AtEnd, RanFrom}
+use Rattle.desk_feed.specs.Ran.{standing, atStart, TurnedTo, withLast, lastAnswered, mostTurns, AtEnd, RanFrom}
 
 -- How the loop stands at its head.
 pub record GoingOn (input₀ : List ℕ) (pending₀ : ℕ) (output₀ memory₀ : List ℕ) (f₀ : Feed) (input : List ℕ) (pending : ℕ) (output memory : List ℕ) (f : Feed)
@@ -29,36 +28,6 @@ pub record GoingOn (input₀ : List ℕ) (pending₀ : ℕ) (output₀ memory₀
   pub counted : turns ≤ mostTurns
   pub more : hasEnded (f .stage) ≡ false
   pub far : TurnedTo (standing pending₀ input₀ f₀ memory₀) (length input₀) turns (standing pending input f memory)
-
--- No read yet, and one more.
-pub none-turned : (s : Standing) (size : ℕ) → TurnedTo s size 0 s
-unfolding turnedOver EachWhileGoing
-none-turned s size = record { reads = []; short = tt; counted = refl; going = tt; is-turned = refl }
-
-short-on : (size : ℕ) (reads : List (List ℕ)) (read : List ℕ) → Short size reads → length read ≤ size → Short size (reads ++ (read ∷ []))
-short-on size [] read short fits = (fits, tt)
-short-on size (first ∷ reads) read short fits = (short .0, short-on size reads read (short .1) fits)
-
-going-on : (reads : List (List ℕ)) (read : List ℕ) (s : Standing) → EachWhileGoing reads s → hasEnded (turnedOver reads s .state .stage) ≡ false
-    → EachWhileGoing (reads ++ (read ∷ [])) s
-unfolding turnedOver EachWhileGoing
-going-on [] read s going more = (more, tt)
-going-on (first ∷ reads) read s going more = (going .0, going-on reads read (turned first s .after) (going .1) more)
-
-one-more : {from to : Standing} {size turns : ℕ} (read : List ℕ) → length read ≤ size → TurnedTo from size turns to → hasEnded (to .state .stage) ≡ false
-    → TurnedTo from size (turns + 1) (turned read to .after)
-one-more {from} {size = size} read fits far more =
-    record {
-      reads = far .reads ++ (read ∷ []);
-      short = short-on size (far .reads) read (far .short) fits;
-      counted = omega (arith, length-append (far .reads) (read ∷ []), far .counted);
-      going = going-on (far .reads) read from (far .going) (sym (ap (λ (s : Standing). hasEnded (s .state .stage)) (far .is-turned)) ∙ more);
-      is-turned = ap (λ (s : Standing). turned read s .after) (far .is-turned) ∙ sym (one-turn-more (far .reads) read from);
-    }
-
--- Nothing is left to answer once the run has ended.
-ended-answers-none : (s : Standing) → hasEnded (s .state .stage) ≡ true → lastAnswered s ≡ s .state
-ended-answers-none s ended = ap (λ (o : Outcome (List ℕ) State). o .after) (none-once-ended (lastLine (s .pending)) (s .state) ended)
 
 -- A turn after a read, which leaves the bytes that are pending.
 module _ (input₀ : List ℕ) {from : Standing} {size turns pending end : ℕ} {f : Feed} {input memory output : List ℕ} {r : Turned}
@@ -74,7 +43,7 @@ module _ (input₀ : List ℕ) {from : Standing} {size turns pending end : ℕ} 
   next = turned read (standing pending input f memory) .after
 
   next-turned : TurnedTo from size (turns + 1) next
-  next-turned = one-more read (omega (arith, fits, length-take (end - pending) (drop pending input), length-drop pending input)) (rw stays far) was-going
+  next-turned = one-more desk read (omega (arith, fits, length-take (end - pending) (drop pending input), length-drop pending input)) (rw stays far) was-going
 
   stands-next : stateOf (r .feed) memory′ ≡ next .state
   stands-next = turn-is-turned pending within one .1
@@ -91,7 +60,7 @@ module _ (input₀ : List ℕ) {from : Standing} {size turns pending end : ℕ} 
   pub over-by-line-1 : hasEnded (r .feed .stage) ≡ true → RanFrom from size (record { ending = Refused; feed = r .feed; turns = turns + 1 }) memory′
   over-by-line-1 ended =
       let ended′ : hasEnded (next .state .stage) ≡ true = sym (ap (λ (s : State). hasEnded (s .stage)) stands-next) ∙ ended in
-      record { to = next; turned-to = next-turned; stands = stands-next ∙ sym (ended-answers-none next ended′); rightly = ended }
+      record { to = next; turned-to = next-turned; stands = stands-next ∙ sym (ended-answers-none desk next ended′); rightly = ended }
 
 -- Without a turn.
 module _ (pending : ℕ) (input : List ℕ) (f : Feed) {from : Standing} {size turns : ℕ} {memory : List ℕ}

@@ -14,14 +14,16 @@ use Rattle.desk_lines.specs.declared.Line.the-variants.{Malformed}
 use Rattle.desk_lines.specs.Lines.{longestLine, lineOfLetter, lineOfFields, lineOf}
 use Rattle.desk_answers.specs.declared.Stage.{Stage}
 use Rattle.desk_answers.specs.declared.Stage.the-variants.{First, Open, Ended}
+use Rattle.desk_cutting.specs.Answering as Answering
+use Rattle.desk_cutting.specs.Reading.{EachWhileGoing}
 use Rattle.desk_turns.specs.declared.Feed.{Feed}
-use Rattle.desk_turns.specs.Run.{State, Standing, hasEnded, lineAnswered, linesAnswered, onFirst, cut, lastLine, keptOf, turnedOver, joined}
+use Rattle.desk_turns.specs.Run.{State, Standing, desk, hasEnded, lineAnswered, linesAnswered, onFirst, cut, lastLine, keptOf, turnedOver, joined}
 use Rattle.desk_turns.proofs.RunLaws.{none-once-ended}
 use Rattle.desk_turns.proofs.CuttingLaws.{stands-from}
 use Rattle.desk_feed.specs.declared.Ran.{Ran}
 use Rattle.desk_feed.specs.declared.Ending.{Ending}
 use Rattle.desk_feed.specs.declared.Ending.the-variants.{Input, Turns}
-use Rattle.desk_feed.specs.Ran.{withLast, lastAnswered, overAt, EachWhileGoing, TurnedTo, RanFrom}
+use Rattle.desk_feed.specs.Ran.{withLast, lastAnswered, overAt, TurnedTo, RanFrom}
 
 -- Before line 1, of which the byte `x` (120) is pending.
 abbrev beforeLine1 : List ℕ → State
@@ -31,11 +33,11 @@ abbrev xPending : List ℕ → Standing
 xPending memory = record { pending = 120 ∷ []; state = beforeLine1 memory }
 
 nothing-read : {from to : Standing} (reads : List (List ℕ)) → length reads ≡ 0 → to ≡ turnedOver reads from → to ≡ from
-unfolding turnedOver
+unfolding Answering.turnedOver
 nothing-read [] none is = is
 nothing-read (read ∷ reads) none is = absurd (omega (arith, none))
 
-first-read-while-going : (s : Standing) (turns : ℕ) (reads : List (List ℕ)) → length reads ≡ turns + 1 → EachWhileGoing reads s
+first-read-while-going : (s : Standing) (turns : ℕ) (reads : List (List ℕ)) → length reads ≡ turns + 1 → EachWhileGoing desk reads s
     → hasEnded (s .state .stage) ≡ false
 unfolding EachWhileGoing
 first-read-while-going s turns [] counted going = absurd (omega (arith, counted))
@@ -44,7 +46,7 @@ first-read-while-going s turns (read ∷ reads) counted going = going .0
 -- The input ends without a read. A run that stands then where it stood has not answered the line that was pending.
 pub last-line-has-to-be-answered : (memory memory′ : List ℕ) (size put : ℕ)
     → RanFrom (xPending memory) size (record { ending = Input; feed = record { stage = First; number = 0; put = put }; turns = 0 }) memory′ → ⊥
-unfolding linesAnswered lineAnswered lineOf lineOfLetter Fields.fields
+unfolding Answering.linesAnswered lineAnswered lineOf lineOfLetter Fields.fields
 last-line-has-to-be-answered memory memory′ size put ran =
     let far = ran .turned-to in
     let here : ran .to ≡ xPending memory = nothing-read (far .reads) (far .counted) (far .is-turned) in
@@ -74,7 +76,7 @@ x-is-malformed line = by-test (leb (length (120 ∷ line)) longestLine) (λ shor
 
 x-ends-the-run : (line : List ℕ) (lines : List (List ℕ)) (memory : List ℕ)
     → linesAnswered ((120 ∷ line) ∷ lines) (beforeLine1 memory) .after ≡ record { stage = Ended 9; number = 1; memory = memory }
-unfolding linesAnswered lineAnswered
+unfolding Answering.linesAnswered lineAnswered
 x-ends-the-run line lines memory =
     rw (x-is-malformed line) (ap (λ (o : Outcome (List ℕ) State). o .after) (none-once-ended lines (record {
       stage = Ended 9;
@@ -101,7 +103,7 @@ shut-after-x : (ending : Ending) (lines : List (List ℕ)) (rest memory : List �
       state = linesAnswered (onFirst 120 lines rest .lines)
           (beforeLine1 memory) .after;
     }) .stage) ≡ false
-unfolding linesAnswered
+unfolding Answering.linesAnswered
 shut-after-x ending [] rest memory = by-test (withLast ending) (λ last. rw last (ap (λ (s : State). isOpen (s .stage)) (x-ends-the-run
     (take 100 rest) [] memory))) (λ none. rw none)
 shut-after-x ending (line ∷ lines) rest memory = shut-once-ended ending (keptOf rest) memory (x-ends-the-run line lines memory)

@@ -1,15 +1,16 @@
 -- How a run has gone, from wherever it stood: some reads exist, and a turn for each of them leads from that standing to the last one. Which bytes standard
 -- input had, and that all answers were written in order, no contract says. What is handed to a write are answers (`Answering`).
-use Prim.Native.Nat.{ℕ, _-_, _^_, _≤_, _<_}
+use Prim.Native.Nat.{ℕ, _-_, _^_, _<_}
 use mathlib.Core.Path.{_≡_}
 use mathlib.Core.Bool.{Bool, true, false, cond}
-use mathlib.Core.List.{List, [], _∷_}
-use lib.ListN.{length, take}
+use mathlib.Core.List.{List, []}
+use lib.ListN.{take}
 use Rattle.desk_answers.specs.declared.Stage.{Stage}
 use Rattle.desk_answers.specs.declared.Stage.the-variants.{First}
 use Rattle.desk_turns.specs.declared.Feed.{Feed}
 use Rattle.desk_turns.specs.Feeding.{stateOf, fed}
-use Rattle.desk_turns.specs.Run.{State, Standing, hasEnded, linesAnswered, lastLine, turned, turnedOver}
+use Rattle.desk_cutting.specs.Reading as Reading
+use Rattle.desk_turns.specs.Run.{State, Standing, desk, hasEnded, linesAnswered}
 use Rattle.desk_feed.specs.declared.Ran.{Ran}
 use Rattle.desk_feed.specs.declared.Ending.{Ending}
 use Rattle.desk_feed.specs.declared.Ending.the-variants.{Input, Refused, Read, Write, LastWrite, Turns}
@@ -33,23 +34,9 @@ pub record Answering (f : Feed) (output : List ℕ) : Type 0 where
   pub memory : List ℕ
   pub answers : fed f memory output ≡ linesAnswered lines from
 
--- No read brought more bytes than the input buffer holds.
-abbrev pub Short : ℕ → List (List ℕ) → Type 0
-Short size [] = Unit {0}
-Short size (read ∷ reads) = (length read ≤ size) × Short size reads
-
--- No read was made once the run had ended.
-unfoldable pub EachWhileGoing : List (List ℕ) → Standing → Type 0
-EachWhileGoing [] s = Unit {0}
-EachWhileGoing (read ∷ reads) s = (hasEnded (s .state .stage) ≡ false) × EachWhileGoing reads (turned read s .after)
-
--- The run has come from one standing to another in so many turns, over some reads.
-pub record TurnedTo (from : Standing) (size turns : ℕ) (to : Standing) : Type 0 where
-  pub reads : List (List ℕ)
-  pub short : Short size reads
-  pub counted : length reads ≡ turns
-  pub going : EachWhileGoing reads from
-  pub is-turned : to ≡ turnedOver reads from
+-- The run has come from one standing to another in a number of turns, over some reads.
+abbrev pub TurnedTo : Standing → ℕ → ℕ → Standing → Type 0
+TurnedTo from size turns to = Reading.TurnedTo desk from size turns to
 
 -- Whether the last line is answered: at the end of the input. Once the run has ended no line is left, so that answering the last
 -- line changes nothing (`none-once-ended` of `desk_turns`).
@@ -62,7 +49,7 @@ withLast Write = false
 withLast Turns = false
 
 abbrev pub lastAnswered : Standing → State
-lastAnswered s = linesAnswered (lastLine (s .pending)) (s .state) .after
+lastAnswered s = Reading.lastAnswered desk s
 
 abbrev pub overAt : Ending → Standing → State
 overAt ending s = cond (withLast ending) (lastAnswered s) (s .state)

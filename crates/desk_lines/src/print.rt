@@ -6,7 +6,7 @@ ghost use Rattle.rows.specs.Outcome.{outcome};
 ghost use Rattle.desk_lines.specs.Printed.{printedField, longestPrinted, printed, writtenOver};
 
 // Writes a number and the byte after it from a place on. Tells the place after them.
-fn field(out: &mut [u8], at: usize, n: u64, after: u8) -> usize
+pub fn field(out: &mut [u8], at: usize, n: u64, after: u8) -> usize
     requires { ⌜ at + 21 ≤ length (now out) ⌝ }
     ensures { λ r. ⌜ outcome r (now (out .exit)) ≡ writtenOver (printedField n after) at (now (out .entry)) ⌝ }
 {

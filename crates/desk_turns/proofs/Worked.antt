@@ -6,6 +6,7 @@ use Rattle.decimal.specs.Decimal.{digitsFrom}
 use Rattle.desk_lines.specs.Fields.{fields}
 use Rattle.desk_lines.specs.Lines.{lineOfLetter, lineOf}
 use Rattle.desk_answers.specs.declared.Stage.the-variants.{First, Ended}
+use Rattle.desk_cutting.specs.Answering as Answering
 use Rattle.desk_turns.specs.Run.{State, lineAnswered, linesAnswered, cut, linesOf, printedAll, turned, turnedOver}
 
 -- A NUL ends no line, and 138, an LF with 128 added, ends none.
@@ -15,7 +16,7 @@ two-lines = refl
 
 -- A NUL is a line of its own. As line 1 it is malformed, and no further line is answered.
 pub nul-is-line-1 : (memory : List ℕ) → printedAll First 0 (linesOf (0 ∷ 10 ∷ 200 ∷ [])) memory ≡ (49 ∷ 32 ∷ 57 ∷ 32 ∷ 48 ∷ 10 ∷ [])
-unfolding linesOf cut linesAnswered lineAnswered lineOf lineOfLetter fields digitsFrom
+unfolding linesOf cut Answering.linesAnswered lineAnswered lineOf lineOfLetter fields digitsFrom
 nul-is-line-1 memory = refl
 
 -- The same in two reads, the first of them the NUL: the run has ended with code 9, and the memory is as it was.
@@ -28,5 +29,5 @@ pub nul-in-two-reads : (memory : List ℕ) → turnedOver ((0 ∷ []) ∷ (10 �
   };
 })
     ≡ record { pending = 200 ∷ []; state = record { stage = Ended 9; number = 1; memory = memory } }
-unfolding turnedOver turned cut linesAnswered lineAnswered lineOf lineOfLetter fields
+unfolding Answering.turnedOver Answering.turned cut Answering.linesAnswered lineAnswered lineOf lineOfLetter fields
 nul-in-two-reads memory = refl

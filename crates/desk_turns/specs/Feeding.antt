@@ -1,13 +1,13 @@
 -- What the buffers of the program hold: lines to answer in the input, answers to write in the output.
-use Prim.Native.Nat.{ℕ, _+_, _-_, _≤_, min}
+use Prim.Native.Nat.{ℕ, _+_, _≤_}
 use mathlib.Core.Path.{_≡_}
 use mathlib.Core.Bool.{false}
 use mathlib.Core.List.{List}
 use lib.ListN.{length, take, drop}
-use lib.Seq.{paste}
 use Rattle.rows.specs.Outcome.{Outcome, outcome}
 use Rattle.desk_lines.specs.Lines.{longestLine}
 use Rattle.desk_lines.specs.Printed.{longestPrinted}
+pub use Rattle.desk_cutting.specs.Cutting.{SameFrom}
 use Rattle.desk_turns.specs.declared.Feed.{Feed}
 use Rattle.desk_turns.specs.declared.Lines.{Lines}
 use Rattle.desk_turns.specs.declared.Turned.{Turned}
@@ -23,10 +23,6 @@ unprinted f = record { stage = f .stage; number = f .number; put = 0 }
 -- What stands printed in the output, and how the run stands.
 abbrev pub fed : Feed → List ℕ → List ℕ → Outcome (List ℕ) State
 fed f memory output = outcome (take (f .put) output) (stateOf f memory)
-
--- From a place on, past what is printed or pending, the bytes are as they were.
-abbrev pub SameFrom : ℕ → List ℕ → List ℕ → Type 0
-SameFrom place bytes bytes′ = drop place bytes′ ≡ drop place bytes
 
 -- A line was answered, after what stood printed.
 pub record OneLine (f : Feed) (line memory output : List ℕ) (r : Feed) (memory′ output′ : List ℕ) : Type 0 where
@@ -64,10 +60,3 @@ pub record LastLine (f : Feed) (pending : ℕ) (input memory output : List ℕ) 
   pub answers : fed r memory′ output′ ≡ linesAnswered (lastLine (take pending input)) (stateOf f memory)
   pub fits : r .put ≤ length output
   pub beyond : SameFrom (r .put) output output′
-
--- How many bytes are kept of those from a place on.
-abbrev pub keptFrom : ℕ → ℕ → ℕ
-keptFrom from end = min (end - from) (longestLine + 1)
-
-abbrev pub movedToStart : ℕ → ℕ → List ℕ → List ℕ
-movedToStart from n input = paste input 0 (drop from input) n

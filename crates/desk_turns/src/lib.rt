@@ -4,11 +4,10 @@ ghost use mathlib.Core.Bool.{false};
 ghost use Prim.Native.Nat.{_+_, _*_, _≤_};
 ghost use lib.ListN.{length};
 ghost use Rattle.desk_lines.specs.Printed.{longestPrinted};
-ghost use Rattle.desk_turns.specs.Feeding.{OneLine, WholeLines, OneTurn, LastLine, keptFrom, movedToStart};
+ghost use Rattle.desk_turns.specs.Feeding.{OneLine, WholeLines, OneTurn, LastLine};
 ghost use Rattle.desk_turns.specs.Feeding as Feeding;
 ghost use Rattle.desk_turns.specs.Run.{isFirst, hasEnded};
 use desk_answers::Stage;
-use desk_lines::LONGEST_LINE;
 use desk_lines::print;
 
 // How far the run has come.
@@ -45,7 +44,7 @@ pub fn turn(
         (now (output .exit)) ⌝ }
 {
     let lines = whole_lines(&input[0..end], output, memory, unprinted(feed));
-    let pending = keep_rest(input, lines.at, end);
+    let pending = desk_cutting::keep_rest(input, lines.at, end);
     let feed = lines.feed;
     Turned { feed, pending }
 }
@@ -145,19 +144,4 @@ pub fn has_ended(feed: Feed) -> bool
         Stage::Open(_) => false,
         Stage::Ended(_) => true,
     }
-}
-
-// Moves the bytes of a line that has not ended to the start of the input, and tells how many they are. One byte more than a line may have is
-// enough of a longer one: it is malformed by that.
-fn keep_rest(input: &mut [u8], from: usize, end: usize) -> usize
-    requires { ⌜ (from ≤ end) × (end ≤ length (now input)) ⌝ }
-    ensures { λ r. ⌜ (r ≡ keptFrom from end) × (now (input .exit) ≡ movedToStart from r (now (input .entry))) ⌝ }
-{
-    let kept = arith::fewer(end - from, LONGEST_LINE + 1);
-    let mut i: usize = 0;
-    while i < kept {
-        input[i] = input[from + i];
-        i += 1;
-    }
-    kept
 }

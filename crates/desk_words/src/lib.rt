@@ -6,7 +6,7 @@ use desk_feed::Ran;
 use libc::STDERR_FILENO;
 
 // Writes words. A write that fails here has nobody to be told.
-fn say(words: &[u8]) {
+pub fn say(words: &[u8]) {
     io::write_all(STDERR_FILENO, words);
 }
 
@@ -16,7 +16,7 @@ fn say_number(n: usize) {
 }
 
 // The line that sets the store up.
-fn settings_line() {
+pub fn settings_line() {
     say(b"s amount period burst initial modems shards idle when-full");
 }
 
@@ -53,14 +53,15 @@ fn refused(stage: Stage) {
             say(b"\n");
         }
         if code == 15 {
+            say(b"desk: ");
             room();
         }
     }
 }
 
-// How many modems the program has room for.
-fn room() {
-    say(b"desk: room for ");
+// How many modems the program's memory has room for.
+pub fn room() {
+    say(b"room for ");
     say_number(desk_room::room_for(MEMORY_WORDS, 1));
     say(b" modems in one shard, ");
     say_number(desk_room::room_for(MEMORY_WORDS, 64));
@@ -68,7 +69,7 @@ fn room() {
 }
 
 // What a code tells.
-fn meaning(code: u64) {
+pub fn meaning(code: u64) {
     match code {
         0 => say(b"granted; of s accepted, of f and d known\n"),
         1 => say(b"not now: ask again after the wait\n"),
@@ -132,7 +133,8 @@ fn codes() {
     refusals();
 }
 
-fn refusals() {
+// The codes of refusals.
+pub fn refusals() {
     say(b"  11  ");
     meaning(11);
     say(b"  12  ");

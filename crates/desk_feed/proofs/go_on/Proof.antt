@@ -1,6 +1,8 @@
 -- `go_on` keeps the lengths of its buffers, holds no more than a line's beginning, and has come from where it stood over one read more with each turn; it ends
 -- since it counts its turns.
-use Rattle.desk_feed.proofs.RanLaws.{GoingOn, none-turned, goes-on, over-by-write, over-by-line-1, over-by-read, over-by-turns, over-at-end}
+use Rattle.desk_cutting.proofs.ReadingLaws.{none-turned}
+use Rattle.desk_turns.specs.Run.{desk}
+use Rattle.desk_feed.proofs.RanLaws.{GoingOn, goes-on, over-by-write, over-by-line-1, over-by-read, over-by-turns, over-at-end}
 use Rattle.desk_feed.specs.Ran.{mostTurns}
 use mathlib.Core.Path.{_≡_, refl, sym, _∙_}
 use native.Mathlib.Omega.{arith}
@@ -49,7 +51,7 @@ loop-holds c =
       few = start′ .pre .2;
       counted = omega arith;
       more = start′ .pre .3;
-      far = none-turned _ _;
+      far = none-turned desk _ _;
     }
 
 read-more-requires : tie.Need-read-more-requires Inv-loop μ-loop

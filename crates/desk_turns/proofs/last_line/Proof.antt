@@ -1,7 +1,9 @@
 -- `last_line` answers nothing where nothing is pending, else the bytes that are pending.
 use native.Mathlib.Omega.{arith}
 use mathlib.Core.Path.{refl}
-use Rattle.desk_turns.proofs.FeedingLaws.{no-last-line, last-is-answered}
+use Rattle.desk_cutting.proofs.UnderwayLaws.{no-last-line, last-is-answered}
+use Rattle.desk_turns.specs.Run.{desk}
+use Rattle.desk_turns.specs.Feeding.{stateOf}
 use borrow.Author.Needs.{needs}
 use Rattle.desk_turns.proofs.last_line.Statement.{statement}
 use Rattle.desk_turns.proofs.last_line.Tie as tie
@@ -17,7 +19,7 @@ returns : tie.Need-returns
 returns c =
     let u = c .before in
     let a = start u .args in
-    let none = no-last-line (a .feed) (a .pending) (a .input .now) (a .memory .now) (a .output .now) (omega (arith, c .if1 .taken)) in
+    let none = no-last-line desk (a .pending) (a .input .now) (stateOf (a .feed) (a .memory .now)) (omega (arith, c .if1 .taken)) in
     record {
       answers = rw (u .unprinted .ensures) none;
       fits = rw (u .unprinted .ensures) (search needs);
@@ -53,7 +55,7 @@ returns-2 c =
     let a = s .args in
     let answered = l .answer-line .ensures in
     let is-answered = rw (u .unprinted .ensures) at (answered .answers) in
-    let last = last-is-answered (a .feed) (a .pending) (a .input .now) (a .memory .now) (a .output .now) in
+    let last = last-is-answered desk (a .pending) (a .input .now) (stateOf (a .feed) (a .memory .now)) in
     record {
       answers = last (λ none. omega (arith, none, some .if1 .left)) (s .pre .0) (s .pre .2) is-answered;
       fits = omega (arith, rw (u .unprinted .ensures) at (answered .fits), s .pre .1);

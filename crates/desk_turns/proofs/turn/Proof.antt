@@ -2,7 +2,8 @@
 use Prim.Native.Nat.{_-_, _≤_}
 use native.Mathlib.Omega.{arith}
 use lib.ListN.{length-take}
-use Rattle.desk_turns.proofs.FeedingLaws.{turn-answers, turn-keeps, turn-leaves-beyond}
+use Rattle.desk_cutting.proofs.KeptLaws.{turn-keeps, turn-leaves-beyond}
+use Rattle.desk_turns.proofs.FeedingLaws.{turn-answers}
 use borrow.Author.Needs.{needs}
 use Rattle.desk_turns.proofs.turn.Statement.{statement}
 use Rattle.desk_turns.proofs.turn.Tie as tie

@@ -8,8 +8,9 @@ use Rattle.bytes.specs.Bytes.{indexOf}
 use Rattle.desk_lines.specs.Printed.{lineFeed, longestPrinted}
 use Rattle.desk_lines.proofs.FieldLaws.{found-from}
 use Rattle.desk_turns.specs.Run.{hasEnded}
-use Rattle.desk_turns.proofs.FeedingLaws.{Underway, none-yet, none-left, rest-left, others-follow, rest-follows, none-follow}
-use Rattle.desk_turns.proofs.FeedingLaws.{ended-is-over, same-further}
+use Rattle.desk_cutting.proofs.WrittenLaws.{same-further}
+use Rattle.desk_cutting.proofs.UnderwayLaws.{none-left, rest-left, line-follows, none-follow, ended-is-over}
+use Rattle.desk_turns.proofs.FeedingLaws.{Underway, none-yet}
 use borrow.Author.Needs.{needs}
 use Rattle.desk_turns.proofs.whole_lines.Statement.{statement}
 use Rattle.desk_turns.proofs.whole_lines.Tie as tie
@@ -83,8 +84,7 @@ loop-again c =
       omega (arith, answered .fits),
       sym (c .before .has-ended .ensures) ∙ c .if2 .left,
       record {
-        answers = others-follow (inv .5) (inv .4) (stops f) (inside l) (answered .answers);
-        leaves = rest-follows (inv .5) (inv .4) (stops f) (inside l) (answered .answers);
+        far = line-follows (inv .5 .far) (inv .4) (stops f) (inside l) (answered .answers);
         beyond = same-further _ _ _ _ _ (inv .5 .beyond) (answered .after) (answered .beyond);
       },
     )
@@ -99,8 +99,8 @@ returns : tie.Need-returns Inv-loop μ-loop
 returns c =
     let inv = c .before .loop .inv in
     record {
-      answers = none-left (inv .5) (omega arith);
-      leaves = λ goes-on. rest-left (inv .5) (omega arith);
+      answers = none-left (inv .5 .far) (omega arith);
+      leaves = λ goes-on. rest-left (inv .5 .far) (omega arith);
       within = inv .2;
       fits = omega (arith, inv .3);
       beyond = inv .5 .beyond;
@@ -117,8 +117,8 @@ returns-2 c =
     let f = c .before in
     let inv = turn f .loop .inv in
     record {
-      answers = none-left (inv .5) (omega (arith, stops f, c .if1 .taken));
-      leaves = λ goes-on. rest-left (inv .5) (omega (arith, stops f, c .if1 .taken));
+      answers = none-left (inv .5 .far) (omega (arith, stops f, c .if1 .taken));
+      leaves = λ goes-on. rest-left (inv .5 .far) (omega (arith, stops f, c .if1 .taken));
       within = inv .2;
       fits = omega (arith, inv .3);
       beyond = inv .5 .beyond;
@@ -139,7 +139,7 @@ returns-3 c =
     let told = c .before .has-ended .ensures in
     let ended = c .if2 .taken in
     record {
-      answers = none-follow (inv .5) (inv .4) (stops f) (inside l) (answered .answers) (sym told ∙ ended);
+      answers = none-follow (inv .5 .far) (inv .4) (stops f) (inside l) (answered .answers) (sym told ∙ ended);
       leaves = ended-is-over told ended;
       within = omega (arith, inside l);
       fits = omega (arith, answered .fits, inv .3, inside l, inv .0);

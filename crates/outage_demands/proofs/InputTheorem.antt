@@ -1,0 +1,107 @@
+-- Whole inputs: where line 1 is accepted, what is printed are the rows of the further lines, run on a fresh store; so the window holds of the printed rows.
+use Prim.Native.Nat.{ℕ, _+_, _*_, _-_, _≤_, _<_}
+use native.Mathlib.Omega.{arith}
+use mathlib.Core.Path.{_≡_, refl, sym, ap, _∙_}
+use mathlib.Core.List.{List, [], _∷_, _++_, append-assoc}
+use lib.ListN.{length, take, drop, length-take, length-drop, take-append-drop}
+use Rattle.arith.proofs.Cases.{by-eq}
+use Rattle.rows.specs.Outcome.{Outcome, outcome}
+use Rattle.settings.specs.declared.Settings.{Settings}
+use Rattle.store.specs.Refusals.{setUpRefusal}
+use Rattle.rules.specs.declared.Reply.{Reply}
+use Rattle.rules.specs.declared.Reply.the-variants.{Done, Refused}
+use Rattle.rules.specs.Replies.{codeOf, toldOf}
+use Rattle.rules.specs.Asks.{withTable}
+use Rattle.rules.specs.Rules.{setUp}
+use Rattle.rules.proofs.RefusedLaws.{set-up-zeroes, set-up-refusal-is-told}
+use Rattle.desk_lines.specs.declared.Line.the-variants.{SetUp}
+use Rattle.desk_lines.specs.Lines.{lineOf}
+use Rattle.desk_lines.specs.Printed.{printed}
+use Rattle.desk_answers.specs.declared.Stage.the-variants.{Open}
+use Rattle.desk_answers.specs.Desk.{storeSize, stageAfter}
+use Rattle.desk_answers.specs.Desk as Desk
+use Rattle.desk_cutting.specs.Cutting.{linesOf}
+use Rattle.desk_cutting.specs.Answering.{andThen, linesAnswered}
+use Rattle.desk_cutting.proofs.AnsweringLaws.{answered-in-parts}
+use Rattle.outage_rows.specs.declared.Row.{Row}
+use Rattle.outage_rows.specs.Printed.{printedRows}
+use Rattle.outage_run.specs.Run.{Village, mostRows, nextNumber, comesUp, lineTaken, village, finished, atStart, printedFor}
+use Rattle.outage_demands.specs.Village.{rowsOf, printedPast, firstPast, villageRows, printedVillage, InputWindow}
+use Rattle.outage_demands.proofs.Theorem.{village-stays-within-the-window}
+use Rattle.outage_demands.proofs.LineLaws.{lines-not-granted, taken, lines-become-rows, past-prints}
+use Rattle.outage_demands.proofs.StoreLaws.{village-runs-fresh}
+
+-- Line 1 is answered 0 only where set-up accepts.
+accepted-is-done : (s : Settings) (ws : List ℕ) → codeOf (setUp s ws .answer) ≡ 0 → setUp s ws .answer ≡ Done
+accepted-is-done s ws code =
+    let number : ℕ = setUpRefusal (withTable [] s) ws in
+    by-eq number 0
+    (λ none. ap (λ (o : Outcome Reply (List ℕ)). o .answer) (sym (set-up-zeroes s ws refl none)))
+    (λ some.
+    let told : codeOf (setUp s ws .answer) ≡ 10 + number =
+    ap (λ (o : Outcome Reply (List ℕ)). codeOf (o .answer)) (sym (set-up-refusal-is-told s ws refl some)) in
+    absurd (omega (arith, told, code)))
+
+module _ (s : Settings) (memory : List ℕ) (accepted : Desk.setUp s memory .answer .told .code ≡ 0) where
+  -- How the program stands after line 1.
+  abbrev opened : Village
+  opened = record { stage = Open s; number = 1; room = mostRows; rows = []; memory = Desk.setUp s memory .after }
+
+  done : setUp s (take (storeSize s (length memory)) memory) .answer ≡ Done
+  done = accepted-is-done s (take (storeSize s (length memory)) memory) accepted
+
+  line-1-taken : (first : List ℕ) → lineOf first ≡ SetUp s → lineTaken first (atStart memory) ≡ outcome (printed 1 0 0) opened
+  unfolding lineTaken stageAfter
+  line-1-taken first is = rw (is, done)
+
+  -- The further lines: the first 200 become rows, and the others are printed behind them.
+  module _ (further : List (List ℕ)) where
+    abbrev early : List (List ℕ)
+    early = take mostRows further
+
+    abbrev late : List (List ℕ)
+    late = drop mostRows further
+
+    abbrev gathered : Village
+    gathered = taken s early opened
+
+    few : length early ≤ mostRows
+    few = omega (arith, length-take mostRows further)
+
+    full-where-late : 0 < length late → length early ≡ mostRows
+    full-where-late some = omega (arith, some, length-take mostRows further, length-drop mostRows further)
+
+    late-from-202 : (lines : List (List ℕ)) → (0 < length lines → length early ≡ mostRows)
+        → printedPast (nextNumber (gathered .number)) lines ≡ printedPast firstPast lines
+    unfolding printedPast
+    late-from-202 [] full = refl
+    late-from-202 (line ∷ lines) full = rw (full (omega arith))
+
+    further-print : andThen (linesAnswered village further opened) finished .answer ≡ printedRows (villageRows s memory further) ++ printedPast firstPast late
+    further-print =
+        let parts : linesAnswered village further opened ≡ andThen (linesAnswered village early opened) (linesAnswered village late) =
+        ap (λ (lines : List (List ℕ)). linesAnswered village lines opened) (sym (take-append-drop mostRows further))
+        ∙ answered-in-parts village early late opened in
+        let rows-are = lines-become-rows s early opened refl few (omega (arith, few)) in
+        let rest = past-prints s late gathered refl (λ some. omega (arith, full-where-late some)) in
+        rw (parts, rows-are)
+        (rest ∙ rw (village-runs-fresh s memory gathered refl)
+        (ap (λ (l : List ℕ). printedRows (villageRows s memory further) ++ l) (late-from-202 late full-where-late)))
+
+-- What is printed for an input whose line 1 is accepted.
+pub input-prints-its-village : (input memory first : List ℕ) (further : List (List ℕ)) (s : Settings) → linesOf input ≡ first ∷ further → lineOf first ≡ SetUp s
+    → Desk.setUp s memory .answer .told .code ≡ 0 → printedFor input memory ≡ printedVillage s memory further
+unfolding linesAnswered
+input-prints-its-village input memory first further s lines is accepted =
+    let o = linesAnswered village further (opened s memory accepted) in
+    rw (lines, line-1-taken s memory accepted first is)
+    (append-assoc (printed 1 0 0) (o .answer) (finished (o .after) .answer)
+    ∙ ap (λ (l : List ℕ). printed 1 0 0 ++ l) (further-print s memory accepted further))
+
+-- So the window holds of the printed rows of every input.
+pub every-input-stays-within-the-window : InputWindow
+every-input-stays-within-the-window input memory first further s rate lines is accepted plain rated refuses apart = (
+  input-prints-its-village input memory first further s lines is accepted,
+  village-stays-within-the-window s rate (take (storeSize s (length memory)) memory) plain rated refuses (done s memory accepted)
+      (rowsOf (take mostRows further)) [] (lines-not-granted (take mostRows further)) apart,
+)

@@ -1,0 +1,121 @@
+-- The window holds of every run of a village: it is the window of demand 3 for the calls that the run makes.
+use Prim.Native.Nat.{ℕ, _+_, _*_, _-_, _≤_, _<_}
+use native.Mathlib.Omega.{arith}
+use mathlib.Core.Path.{_≡_, refl, sym, ap, subst, _∙_}
+use mathlib.Core.List.{List, [], _∷_}
+use lib.ListN.{length}
+use Rattle.rows.specs.Outcome.{Outcome}
+use Rattle.settings.specs.declared.Limit.the-variants.{Open}
+use Rattle.settings.specs.declared.Settings.{Settings}
+use Rattle.settings.specs.declared.eviction.WhenFull.the-variants.{RefuseNew}
+use Rattle.settings.specs.declared.rate.Rate.{Rate}
+use Rattle.settings.specs.Rate.{burstOf}
+use Rattle.settings.specs.Settings.{withClasses}
+use Rattle.shard.specs.declared.Identity.{Identity}
+use Rattle.rules.specs.declared.Reply.{Reply}
+use Rattle.rules.specs.declared.Reply.the-variants.{Done}
+use Rattle.rules.specs.Rules.{setUp, setUpFor}
+use Rattle.rules.specs.Asks.{withTable}
+use Rattle.rules.specs.Calls.{keyed, whole, byKey, ofKey, Every}
+use Rattle.demands.specs.ByKey.{Call, Answered, rules, replies, SameSettings, Agree, NoSharedHash, NeverRefundedOrRemoved, tokensUsable}
+use Rattle.desk_answers.specs.Desk.{identityOf}
+use Rattle.outage_rows.specs.declared.Row.{Row}
+use Rattle.outage_rows.specs.Model.{State, mostTries, rowAt, outage}
+use Rattle.outage_rows.specs.Layout.{allRows, stateOf}
+use Rattle.outage_rows.proofs.NextLaws.{next-found}
+use Rattle.outage_rows.proofs.RunLaws.{tried-rows}
+use Rattle.outage_rows.proofs.EndLaws.{by-again, tried-keeps}
+use Rattle.demands.specs.Demands as Demands
+use Rattle.demands.proofs.EveryLaws.{every-implies}
+use Rattle.demands.proofs.Theorem.{rules-stay-within-the-window}
+use Rattle.outage_demands.specs.Village.{calls, tokensGranted, NoneGrantedYet, KeysApart, fresh, VillageWindow}
+use Rattle.outage_demands.proofs.CallLaws.{answeredIn, by-tries, every-try}
+use Rattle.outage_demands.proofs.TimeLaws.{run-never-goes-back}
+use Rattle.outage_demands.proofs.TokenLaws.{run-grants-what-its-calls-grant, none-granted}
+
+-- Identities of which no two have one hash and different keys: so it is with calls that name them.
+module _ (Q : Identity → Type 0) (apart : (i j : Identity) → Q i → Q j → i .hash ≡ j .hash → i .key ≡ j .key) where
+  agree-with : (i : Identity) (d : Call) → Q i → ofKey byKey Q d → ofKey byKey (λ j. i .hash ≡ j .hash → i .key ≡ j .key) d
+  agree-with i (keyed s j ask) q named = apart i j q named
+  agree-with i (whole s what) q named = tt
+
+  agree : (c d : Call) → ofKey byKey Q c → ofKey byKey Q d → ofKey byKey (λ i. ofKey byKey (λ j. i .hash ≡ j .hash → i .key ≡ j .key) d) c
+  agree (keyed s i ask) d named also = agree-with i d named also
+  agree (whole s what) d named also = tt
+
+  apart-shares-none : (l : List Answered) → Every (λ a. ofKey byKey Q (a .call)) l → NoSharedHash l
+  unfolding Demands.NoSharedHash
+  apart-shares-none [] every = tt
+  apart-shares-none (a ∷ rest) every = (
+    every-implies (λ b. ofKey byKey Q (b .call)) (Agree a) (λ b named taken also. agree (a .call) (b .call) (every .0) named) rest (every .1),
+    apart-shares-none rest (every .1),
+  )
+
+-- An identity that a row has.
+record Named (rows : List Row) (id : Identity) : Type 0 where
+  place : ℕ
+  inside : place < length rows
+  is : id ≡ identityOf (rowAt rows place .key)
+
+named-apart : (rows : List Row) → KeysApart rows → (i j : Identity) → Named rows i → Named rows j → i .hash ≡ j .hash → i .key ≡ j .key
+named-apart rows apart i j a b same =
+    let hashes = sym (ap (λ (id : Identity). id .hash) (a .is)) ∙ same ∙ ap (λ (id : Identity). id .hash) (b .is) in
+    ap (λ (id : Identity). id .key) (a .is) ∙ apart (a .place) (b .place) (a .inside) (b .inside) hashes ∙ sym (ap (λ (id : Identity). id .key) (b .is))
+
+module _ (s : Settings) where
+  -- The calls of a run name its rows' keys, which no try changes.
+  calls-name-rows : (Q : Identity → Type 0) (n : ℕ) (v : State) → ((j : ℕ) → j < length (v .rows) → Q (identityOf (rowAt (v .rows) j .key)))
+      → Every (λ a. ofKey byKey Q (a .call)) (answeredIn s n v)
+  calls-name-rows Q =
+      by-tries s (λ v l w. ((j : ℕ) → j < length (v .rows) → Q (identityOf (rowAt (v .rows) j .key))) → Every (λ a. ofKey byKey Q (a .call)) l)
+      (λ v all. tt)
+      (λ v p is rest w then all. (
+        all p (next-found (v .rows) p is .below),
+        then (λ j b.
+            tried-keeps s (λ row. Q (identityOf (row .key)))
+            (λ row told live q. by-again (λ new. Q (identityOf (new .key))) row told (λ t. q) (λ t. q)) v p is j
+            (all j (rw (tried-rows s v p) at b))),
+      ))
+
+  run-shares-none : (n : ℕ) (v : State) → KeysApart (v .rows) → NoSharedHash (answeredIn s n v)
+  run-shares-none n v apart =
+      apart-shares-none (Named (v .rows)) (named-apart (v .rows) apart) (answeredIn s n v)
+      (calls-name-rows (Named (v .rows)) n v (λ j b. record { place = j; inside = b; is = refl }))
+
+  run-same-settings : (n : ℕ) (v : State) → SameSettings s (answeredIn s n v)
+  run-same-settings n v = every-try s _ (λ row reply ws taken. refl) n v
+
+  run-undoes-nothing : (k : Identity) (n : ℕ) (v : State) → NeverRefundedOrRemoved k (answeredIn s n v)
+  run-undoes-nothing k n v = every-try s _ (λ row reply ws taken. tt) n v
+
+-- The window from set-up without a class table, with settings that have no class.
+pub unclassed : (s : Settings) → s .classes ≡ 0 → withTable [] s ≡ s
+unclassed s none = ap (λ (n : ℕ). withClasses n s) (sym none)
+
+window-from-set-up : (s : Settings) (rate : Rate) (ws : List ℕ) → s .classes ≡ 0 → s .limit ≡ Open rate → s .eviction .«when_full» ≡ RefuseNew
+    → setUp s ws .answer ≡ Done → (cs : List Call)
+    → Demands.WithinWindow byKey 1 s rate (replies rules cs (setUp s ws .after) (setUp s ws .after))
+window-from-set-up s rate ws none rated refuses done′ cs =
+    let back : setUpFor s [] ws ≡ setUp s ws = ap (λ (t : Settings). setUpFor t [] ws) (sym (unclassed s none)) in
+    subst (λ (o : Outcome Reply (List ℕ)). o .answer ≡ Done → Demands.WithinWindow byKey 1 s rate (replies rules cs (o .after) (o .after))) back
+    (λ d. rules-stay-within-the-window byKey s rate [] ws rated refuses d cs) done′
+
+pub village-stays-within-the-window : VillageWindow
+village-stays-within-the-window s rate ws plain rated refuses done′ rows others none apart key t u le =
+    let v = fresh s ws rows others in
+    let n : ℕ = mostTries * length rows in
+    let window = window-from-set-up s rate ws plain rated refuses done′ (calls s v) (run-same-settings s n v)
+    (run-never-goes-back s n v 0 (λ j b live. omega arith)) (run-shares-none s n v apart) (identityOf key) (run-undoes-nothing s (identityOf key) n v) t u le in
+    let counted : tokensUsable (identityOf key) t u (answeredIn s n v) ≡ tokensGranted key t u (outage s v .rows) =
+    omega (arith, run-grants-what-its-calls-grant key t u s n v, none-granted key t u rows none) in
+    rw (← counted) window
+
+-- So it is with the rows that code leaves which is as the contract of `run` tells its callers: `gave` is that contract, on the words of an accepted set-up.
+pub contract-stays-within-the-window : (s : Settings) (rate : Rate) (ws : List ℕ)
+    → s .classes ≡ 0 → s .limit ≡ Open rate → s .eviction .«when_full» ≡ RefuseNew → setUp s ws .answer ≡ Done
+    → (rs rs′ ws′ : List ℕ) → stateOf rs′ ws′ ≡ outage s (stateOf rs (setUp s ws .after)) → NoneGrantedYet (allRows rs) → KeysApart (allRows rs)
+    → (key t u : ℕ) → t ≤ u
+    → tokensGranted key t u (allRows rs′) * rate .period .0 ≤ burstOf rate * rate .period .0 + (u - t + 1) * rate .amount
+contract-stays-within-the-window s rate ws plain rated refuses done′ rs rs′ ws′ gave none apart key t u le =
+    let rows-are = ap (λ (v : State). v .rows) gave in
+    rw rows-are (village-stays-within-the-window s rate ws plain rated refuses done′ (allRows rs) (stateOf rs ws .others) none apart key t u le)
