@@ -27,26 +27,41 @@ pub fn as_try(line: &[u8]) -> Option<Try> {
     let (now, key) = (number(now)?, number(key)?);
     Some(Try {
         now,
-        key: Key { hash: hash(key), key },
+        key: Key {
+            hash: hash(key),
+            key,
+        },
         cost: small(cost)?,
     })
 }
 
 /// The settings that an `s` line asks for.
 pub fn as_settings(line: &[u8]) -> Option<Settings> {
-    let [amount, period, burst, initial, max_keys, shards, idle, when_full] =
-        fields(line, b's')?.try_into().ok()?;
+    let [
+        amount,
+        period,
+        burst,
+        initial,
+        max_keys,
+        shards,
+        idle,
+        when_full,
+    ] = fields(line, b's')?.try_into().ok()?;
     let rate = Rate {
         amount: small(amount)?,
         period: number(period)?,
-        burst: Some(small(burst)?.into()),
-        initial: Some(small(initial)?.into()),
+        burst: Some(small(burst)?),
+        initial: Some(small(initial)?),
     };
     Some(Settings {
         rate: Some(rate),
         max_keys: number(max_keys)?,
         shards: number(shards)?,
-        idle: if idle == b"-" { None } else { Some(number(idle)?) },
+        idle: if idle == b"-" {
+            None
+        } else {
+            Some(number(idle)?)
+        },
         when_full: match number(when_full)? {
             0 => WhenFull::RefuseNew,
             1 => WhenFull::ForgetDebt,
@@ -74,7 +89,9 @@ fn small(digits: &[u8]) -> Option<u32> {
 
 /// FNV-1a over the eight bytes of a key, the lowest first.
 fn hash(key: u64) -> u64 {
-    key.to_le_bytes().iter().fold(0xcbf2_9ce4_8422_2325, |hash, &byte| {
-        (hash ^ u64::from(byte)).wrapping_mul(0x0000_0100_0000_01b3)
-    })
+    key.to_le_bytes()
+        .iter()
+        .fold(0xcbf2_9ce4_8422_2325, |hash, &byte| {
+            (hash ^ u64::from(byte)).wrapping_mul(0x0000_0100_0000_01b3)
+        })
 }

@@ -35,8 +35,12 @@ fn main() -> ExitCode {
 /// Prints what the program has to print for standard input.
 fn expect() -> Result<(), String> {
     let mut input = Vec::new();
-    io::stdin().read_to_end(&mut input).map_err(|error| error.to_string())?;
-    io::stdout().write_all(run::printed(&input).as_bytes()).map_err(|error| error.to_string())
+    io::stdin()
+        .read_to_end(&mut input)
+        .map_err(|error| error.to_string())?;
+    io::stdout()
+        .write_all(run::printed(&input).as_bytes())
+        .map_err(|error| error.to_string())
 }
 
 /// Runs the program on random villages, up to the first that differs.
@@ -57,7 +61,9 @@ fn compare(program: &str, villages: u64, seed: u64) -> Result<(), String> {
         counts.add(&wanted);
     }
     println!("{villages} villages as the Rust has them: {counts}");
-    counts.missing().map_or(Ok(()), |code| Err(format!("no line was answered with {code}")))
+    counts.missing().map_or(Ok(()), |code| {
+        Err(format!("no line was answered with {code}"))
+    })
 }
 
 /// What the program prints for an input.

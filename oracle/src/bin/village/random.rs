@@ -99,7 +99,9 @@ impl Counts {
 
     /// A code that no line got and some line should have got.
     pub fn missing(&self) -> Option<&'static str> {
-        ["0", "1", "2", "9", "16"].into_iter().find(|&code| !self.codes.contains_key(code))
+        ["0", "1", "2", "9", "16"]
+            .into_iter()
+            .find(|&code| !self.codes.contains_key(code))
     }
 }
 

@@ -39,13 +39,22 @@ pub fn printed(input: &[u8]) -> String {
     if accepted.code != 0 {
         return out;
     }
-    let mut houses: Vec<House> = further.iter().take(FURTHER).map(|line| House::of(line)).collect();
+    let mut houses: Vec<House> = further
+        .iter()
+        .take(FURTHER)
+        .map(|line| House::of(line))
+        .collect();
     come_up(&limiter, &mut houses);
     for index in 0..further.len() {
         let number = index + 2;
         // A line past the last that is tried is printed as a malformed one.
         let none = House::of(b"");
-        let House { code, moment, tries, .. } = houses.get(index).unwrap_or(&none);
+        let House {
+            code,
+            moment,
+            tries,
+            ..
+        } = houses.get(index).unwrap_or(&none);
         writeln!(out, "{number} {code} {moment} {tries}").expect("a string takes what is written");
     }
     out
