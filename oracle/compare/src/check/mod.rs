@@ -20,7 +20,6 @@ use crate::reply::{Reply, Said};
 use crate::rules;
 use crate::rules::classes::{BUCKET_WORDS, MOST_CLASSES, table};
 pub use convert::Conversions;
-use difference::differing;
 pub use difference::{Checked, Difference};
 use difference::{differing, differing_records};
 pub use trace::trace_head;
