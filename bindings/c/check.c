@@ -356,8 +356,9 @@ static void texts(void)
 {
     static const uint64_t codes[] = { LIMITER_DONE, LIMITER_RETRY, LIMITER_IMPOSSIBLE, LIMITER_NONE, LIMITER_BAD_AMOUNT, LIMITER_BAD_PERIOD,
         LIMITER_BAD_BURST, LIMITER_BAD_SIZES, LIMITER_BAD_MEMORY, LIMITER_BAD_MOMENT, LIMITER_BAD_MAX_WAIT, LIMITER_BAD_ADDRESS,
-        LIMITER_GROUP_ADDRESS, LIMITER_BAD_BUFFER, LIMITER_BAD_CLASS, LIMITER_BAD_CHAIN, LIMITER_BAD_SHARD, LIMITER_BAD_RECORDS };
-    static const uint64_t others[] = { 4, 10, 18, 20, 28, UINT64_MAX };
+        LIMITER_GROUP_ADDRESS, LIMITER_BAD_BUFFER, LIMITER_BAD_CLASS, LIMITER_BAD_CHAIN, LIMITER_BAD_SHARD, LIMITER_BAD_RECORDS, LIMITER_TWINS,
+        LIMITER_USED_PAST };
+    static const uint64_t others[] = { 4, 10, 18, 20, 30, UINT64_MAX };
     const char *unknown = limiter_code_text(9);
     size_t one, other;
     for (one = 0; one < sizeof codes / sizeof *codes; one++) {

@@ -274,7 +274,9 @@ enum {
     LIMITER_BAD_CLASS = 24,     /* refused as 14: more than 64 classes; or a parent, or the class of a try, that is not in the table */
     LIMITER_BAD_CHAIN = 25,     /* refused as 15: a chain of parents that does not end within 8 classes, the first included; a loop is one */
     LIMITER_BAD_SHARD = 26,     /* refused as 16: the store has no shard of this number */
-    LIMITER_BAD_RECORDS = 27    /* refused as 17: fewer records are lent than there are debts to write */
+    LIMITER_BAD_RECORDS = 27,   /* refused as 17: fewer records are lent than there are debts to write */
+    LIMITER_TWINS = 28,         /* refused as 18, by a conversion: a shard of the source has two slots of one hash and key, or two debts of one hash */
+    LIMITER_USED_PAST = 29      /* refused as 19, by a conversion: among the slots or the debts of the source a word past a count is not 0 */
 };
 
 enum {
@@ -311,6 +313,8 @@ static inline const char *limiter_code_text(uint64_t code)
     case LIMITER_BAD_CHAIN: return "a chain of parents that does not end within 8 classes";
     case LIMITER_BAD_SHARD: return "the store has no shard of this number";
     case LIMITER_BAD_RECORDS: return "fewer records than there are debts to write";
+    case LIMITER_TWINS: return "two slots of one hash and key, or two debts of one hash";
+    case LIMITER_USED_PAST: return "a word past a count is not 0";
     default: return "a code that this header does not know";
     }
 }
@@ -452,6 +456,24 @@ static inline limiter_reply limiter_class_try(limiter_settings s, const limiter_
 {
     return limiter_table_try(s, (const uint64_t *)classes, limiter_table_words(count), words, len, now, hash, key, named, cost);
 }
+
+/* Conversions. Boxes in the field hold the first layout of the words, without the total, the indexes and the counts of tries turned away (and without
+ * classes). These calls move a store from it to the present layout without classes, and back, from one lent memory to another. The source is only read. All
+ * words of the target are written, whatever stood in them; the two must not overlap. s.classes is not read.
+ *
+ * Slots, debts, hands, sweeps and cursors are carried over as they stand. Forth, the indexes and the total are built, and the counts of tries turned away
+ * start at 0; back, all three are dropped. Forth and then back gives the first words again.
+ *
+ * 0, or refused, in this order, with neither memory changed: as 1 to 3 unless s is closed; 4, also for more than 4,096 keys; 5 for the length of either
+ * memory, for a count of slots or of debts in the source that is more than its shard holds, and, going back, for an index or a total that is not as a grown
+ * store has it; 18; 19. Of the target only the length is looked at.
+ *
+ * The time grows with the square of the keys in one shard going forth: 6 ms for 4,096 keys in one shard, 20 ms where all of these have one hash. */
+limiter_reply limiter_convert_forth(limiter_settings s, const uint64_t *source, size_t source_len, uint64_t *target, size_t target_len);
+limiter_reply limiter_convert_back(limiter_settings s, const uint64_t *source, size_t source_len, uint64_t *target, size_t target_len);
+
+/* How many words the first layout has for these settings: at least 1, or 0 for sizes that are refused and for more than 4,096 keys. */
+uint64_t limiter_words_01(limiter_settings s);
 
 /* Modems by hardware address. In the calls below `address` and `address_len` are the bytes of an address, in the order in which it is written;
  * `address` points at `address_len` bytes, which are only read and must not lie in `words`. A call is that of the same name on the modem's key:

@@ -8,7 +8,7 @@ use limiter_sys::{
     LIMITER_BAD_CHAIN, LIMITER_BAD_CLASS, LIMITER_BAD_MAX_WAIT, LIMITER_BAD_MEMORY,
     LIMITER_BAD_MOMENT, LIMITER_BAD_PERIOD, LIMITER_BAD_RECORDS, LIMITER_BAD_SHARD,
     LIMITER_BAD_SIZES, LIMITER_DONE, LIMITER_GROUP_ADDRESS, LIMITER_IMPOSSIBLE, LIMITER_NONE,
-    LIMITER_RETRY, LimiterIdentity, LimiterReply,
+    LIMITER_RETRY, LIMITER_TWINS, LIMITER_USED_PAST, LimiterIdentity, LimiterReply,
 };
 
 use crate::Key;
@@ -112,6 +112,10 @@ pub enum Refusal {
     Shard,
     /// Fewer records are lent than there are debts to write.
     Records,
+    /// Of a conversion: the source has two slots of one hash and key, or two debts of one hash, in one shard.
+    Twins,
+    /// Of a conversion: among the slots or the debts of the source a word past a count is not 0.
+    UsedPast,
     /// The library answered as this crate does not know: the two are of different versions. Here the call may have done something.
     Unknown {
         /// The code that the library gave.
@@ -121,7 +125,7 @@ pub enum Refusal {
 
 impl Refusal {
     /// Those that have a number.
-    const NUMBERED: [Self; 14] = [
+    const NUMBERED: [Self; 16] = [
         Self::Amount,
         Self::Period,
         Self::Burst,
@@ -136,6 +140,8 @@ impl Refusal {
         Self::Chain,
         Self::Shard,
         Self::Records,
+        Self::Twins,
+        Self::UsedPast,
     ];
 
     /// The code that the library answered with: 10 and the number of the refusal.
@@ -156,6 +162,8 @@ impl Refusal {
             Self::Chain => LIMITER_BAD_CHAIN,
             Self::Shard => LIMITER_BAD_SHARD,
             Self::Records => LIMITER_BAD_RECORDS,
+            Self::Twins => LIMITER_TWINS,
+            Self::UsedPast => LIMITER_USED_PAST,
             Self::Unknown { code } => code,
         }
     }
@@ -187,6 +195,8 @@ impl fmt::Display for Refusal {
             Self::Chain => "a chain of parents that does not end within 8 classes",
             Self::Shard => "the store has no shard of this number",
             Self::Records => "fewer records than there are debts to write",
+            Self::Twins => "two slots of one hash and key, or two debts of one hash",
+            Self::UsedPast => "a word past a count is not 0",
             Self::Unknown { code } => {
                 return write!(f, "the library answered with the unknown code {code}");
             }
@@ -313,7 +323,7 @@ mod tests {
 
     #[test]
     fn a_refusal_has_the_code_that_it_was_told_by() {
-        for (code, refusal) in (11..=17).chain(21..=27).zip(Refusal::NUMBERED) {
+        for (code, refusal) in (11..=17).chain(21..=29).zip(Refusal::NUMBERED) {
             assert_eq!(refusal.code(), code);
             assert_eq!(known(reply(code)), Err(refusal));
         }

@@ -387,6 +387,8 @@ fn refusals_read_as_in_the_header() {
         Refusal::Chain,
         Refusal::Shard,
         Refusal::Records,
+        Refusal::Twins,
+        Refusal::UsedPast,
     ];
     for refusal in refusals {
         let line = format!("return \"{refusal}\";");

@@ -27,6 +27,7 @@ use Rattle.shard.specs.declared.Identity.{Identity}
 use Rattle.store.specs.Memory.{totalOf, memoryWords, roomIn, shardAt, bucketsAt, slotCount}
 use Rattle.store.specs.Refusals.{setUpRefusal, keyedRefusal, totalRefusal, momentRefusal}
 use Rattle.store.proofs.MemoryLaws.{shard-at-cap, shard-at-debt-cap, shard-at-sized, fresh-sound, fresh-shards-are-complete, fresh-shards-are-empty}
+use Rattle.store.proofs.MemoryLaws.{fresh-slots-are-free, fresh-debts-are-free}
 use Rattle.store.proofs.RefusalLaws.{set-up-is-accepted, keyed-is-accepted, total-is-accepted}
 use Rattle.rules.specs.declared.Reply.{Reply}
 use Rattle.rules.specs.declared.Reply.the-variants.{Done, Count, Refused}
@@ -107,7 +108,8 @@ module _ {S N : Type 0} (terms : Terms S N) where
 fresh-shard-finds-each : (s : Settings) (hash : ℕ) → FindsEach (shardAt s hash (replicate (memoryWords s) 0))
 fresh-shard-finds-each s hash =
     let empty = fresh-shards-are-empty s hash in
-    empty-finds-each _ (fresh-sound s hash) (fresh-shards-are-complete s hash) (empty .slots) (empty .debts)
+    empty-finds-each _ (fresh-sound s hash) (fresh-shards-are-complete s hash) (empty .slots) (empty .debts) (fresh-slots-are-free s hash)
+    (fresh-debts-are-free s hash)
 
 fresh-total-is-the-sum : (s : Settings) → totalOf (replicate (memoryWords s) 0) ≡ slotsOf s (replicate (memoryWords s) 0)
 fresh-total-is-the-sum s =

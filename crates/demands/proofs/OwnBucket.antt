@@ -37,7 +37,7 @@ unfolding askedIn
 in-range-is-asked r rate s at id cost own least most = rw (le-ltb (burstOf rate) cost most, ne-eqb cost 0 (λ none. omega arith))
 
 -- So its own bucket answers it, if its key holds a slot or a debt.
-own-bucket-answers : (s : Settings) (id : Identity) (r : Request) (at : Nanos) (cost : ℕ) (own : Shard) → Sound own → (rate : Rate) → s .limit ≡ Open rate
+pub own-bucket-answers : (s : Settings) (id : Identity) (r : Request) (at : Nanos) (cost : ℕ) (own : Shard) → Sound own → (rate : Rate) → s .limit ≡ Open rate
     → 1 ≤ cost → cost ≤ burstOf rate → holds id own ≡ true
     → askedIn r (s .limit) s at id cost own .answer ≡ replyTo (mannerOf r) (ownDecision (configOf rate) id r cost at own)
 own-bucket-answers s id r at cost own sound rate rated least most holding =

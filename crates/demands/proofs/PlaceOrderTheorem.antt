@@ -134,7 +134,7 @@ module _ {S N : Type 0} (terms : Terms S N) where
       (λ below. ap (λ ds. recordsRefusal room (length ds)) (same-debts settings ws shards places at i below)))
 
   -- A call, refused or not.
-  call-same : (c : Call S N) (ws : List ℕ) (shards : Shards) → SoundMemory (settingsOf terms c) ws → SamePlaces (settingsOf terms c) ws shards
+  pub call-same : (c : Call S N) (ws : List ℕ) (shards : Shards) → SoundMemory (settingsOf terms c) ws → SamePlaces (settingsOf terms c) ws shards
       → SameOutcome (settingsOf terms c) (rules terms c ws) (onShards terms c shards)
   unfolding onShards
   call-same c ws shards memory places =
@@ -155,12 +155,12 @@ module _ {S N : Type 0} (terms : Terms S N) where
         (λ unsound. rw (ne-eqb _ _ unsound, clear-is-refused s ws memory (tableWords table) unsound) (record { answer = refl; places = places }))
 
     -- A turn.
-    turn-same : (t : Turn S N) (ws : List ℕ) (shards : Shards) → SoundMemory s ws → SamePlaces s ws shards → OfStore terms s t
+    pub turn-same : (t : Turn S N) (ws : List ℕ) (shards : Shards) → SoundMemory s ws → SamePlaces s ws shards → OfStore terms s t
         → SameOutcome s (byRules terms s t ws) (stepWithoutIndexes terms s t shards)
     turn-same (calls c) ws shards memory places same = rw same at (call-same c ws shards (rw same memory) (rw same places))
     turn-same (clears table) ws store memory places of-store = clear-same table ws store memory places
 
-    turn-keeps-sound : (t : Turn S N) (ws : List ℕ) → SoundMemory s ws → OfStore terms s t → SoundMemory s (byRules terms s t ws .after)
+    pub turn-keeps-sound : (t : Turn S N) (ws : List ℕ) → SoundMemory s ws → OfStore terms s t → SoundMemory s (byRules terms s t ws .after)
     turn-keeps-sound (calls c) ws memory same =
         by-test (numbered (rules terms c ws .answer))
         (λ refused. rw (refused-changes-nothing terms c ws refused) memory)

@@ -39,7 +39,7 @@ use Rattle.demands.proofs.PlaceOrderTheorem.{byLimiter, TurnFits, runs-
 
 -- In one shard: the answer of a call that reads no such count, and what any call leaves.
 module _ (s : Settings) (id : Identity) (ask : Ask) (buckets : List BucketCore) (a b : Shard) (same : uncounted a ≡ uncounted b) where
-  answer-decided-alike : readsTurnAways ask ≡ false → inItsShard s id ask buckets a .answer ≡ inItsShard s id ask buckets b .answer
+  pub answer-decided-alike : readsTurnAways ask ≡ false → inItsShard s id ask buckets a .answer ≡ inItsShard s id ask buckets b .answer
   answer-decided-alike blind =
       sym (call-same-without-turn-aways a s id ask buckets blind .answer) ∙ ap (λ t. inItsShard s id ask buckets t .answer) same
       ∙ call-same-without-turn-aways b s id ask buckets blind .answer
@@ -50,7 +50,7 @@ module _ (s : Settings) (id : Identity) (ask : Ask) (buckets : List BucketCore) 
       ∙ ap (λ t. uncounted (inItsShard s id ask buckets t .after)) same
       ∙ equal-but-for-turn-aways (call-same-without-turn-aways b s id ask buckets blind .after)
 
-leaves-alike : (s : Settings) (id : Identity) (ask : Ask) (buckets : List BucketCore) (a b : Shard) → uncounted a ≡ uncounted b
+pub leaves-alike : (s : Settings) (id : Identity) (ask : Ask) (buckets : List BucketCore) (a b : Shard) → uncounted a ≡ uncounted b
     → uncounted (inItsShard s id ask buckets a .after) ≡ uncounted (inItsShard s id ask buckets b .after)
 leaves-alike s id (requests r at cost) buckets a b same = blind-leaves-alike s id (requests r at cost) buckets a b same refl
 leaves-alike s id (looks l) buckets a b same = same
@@ -58,7 +58,7 @@ leaves-alike s id (undoes u) buckets a b same = blind-leaves-alike s id (undoes 
 leaves-alike s id (passes table class at cost) buckets a b same = blind-leaves-alike s id (passes table class at cost) buckets a b same refl
 
 -- The class buckets after an ask: where they depend on the answer, the ask reads no such count.
-buckets-alike : (ask : Ask) {r q : Reply} (buckets : List BucketCore) → (readsTurnAways ask ≡ false → r ≡ q)
+pub buckets-alike : (ask : Ask) {r q : Reply} (buckets : List BucketCore) → (readsTurnAways ask ≡ false → r ≡ q)
     → bucketsAfter ask r buckets ≡ bucketsAfter ask q buckets
 buckets-alike (requests r at cost) buckets same = refl
 buckets-alike (looks l) buckets same = refl

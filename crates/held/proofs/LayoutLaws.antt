@@ -5,12 +5,12 @@ use mathlib.Core.Path.{_≡_, refl, ap, _∙_}
 use mathlib.Core.List.{List, [], _++_, map}
 use native.Mathlib.Omega.{arith}
 use lib.Dec.{eqb}
-use lib.ListN.{length, getD, set, take, drop, length-map, take-append-drop}
+use lib.ListN.{length, getD, set, take, drop, length-map, take-append-drop, List·getD-eq-default}
 use lib.Seq.{sets, getD-set-same, getD-set-other, getD-take, getD-drop, take-set-lt, take-set-le, drop-set-lt, length-take-le, take-add, drop-drop, drop-at}
 use lib.Seq.{drop-append-le}
 use borrow.Author.Tests.{lt-ltb, le-ltb, eq-eqb, ne-eqb}
 use borrow.Rule.Slice.PartMut.{putMid}
-use Rattle.arith.proofs.Cases.{by-eq}
+use Rattle.arith.proofs.Cases.{by-eq, by-le}
 use Rattle.rows.specs.Segments.{segment}
 use Rattle.rows.specs.Rows.{rows, unrow}
 use Rattle.held.specs.Held.{wrapped}
@@ -139,11 +139,19 @@ module _ {A : Type 0} (read : List ℕ → A) (w cap first : ℕ) where
           )
           (take-append-drop first ws)
 
--- A table in words that are all 0: the words before its rows are 0, and so are those past them.
+-- A table in words that are all 0: the words before its rows are 0, and so are those past them. Its items are what is read from no words, where reading takes
+-- zeros for that.
 module _ {A : Type 0} (read : List ℕ → A) (w cap first : ℕ) (ws : List ℕ) (zeros : (i : ℕ) → getD ws i 0 ≡ 0) where
   pub zeros-head : (k : ℕ) → tableIn read w cap first ws .head k ≡ 0
   unfolding tableIn
   zeros-head k = zeros-segment 0 first ws zeros k
+
+  pub zeros-item : ((row : List ℕ) → ((k : ℕ) → getD row k 0 ≡ 0) → read row ≡ read []) → (i : ℕ)
+      → getD (tableIn read w cap first ws .places) i (read []) ≡ read []
+  zeros-item blank i =
+      by-le cap i
+      (λ past. List·getD-eq-default (tableIn read w cap first ws .places) (read []) (rw (table-length read w cap first ws) past))
+      (λ inside. table-item read w cap first ws i inside ∙ blank (segment (first + w * i) w ws) (zeros-segment (first + w * i) w ws zeros))
 
   pub zeros-rest : (i : ℕ) → getD (tableIn read w cap first ws .rest) i 0 ≡ 0
   unfolding tableIn

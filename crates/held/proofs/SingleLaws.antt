@@ -1,11 +1,11 @@
 -- Items of which no two have one identity. A step that adds no identity leaves held items that come from those before: so no two have one identity, and an
 -- identity that none had none has. Such items are found where they are found in place order.
-use Prim.Native.Nat.{ℕ, _-_, _<_}
+use Prim.Native.Nat.{ℕ, _-_, _≤_, _<_}
 use mathlib.Core.Path.{_≡_, refl, sym, ap, _∙_}
 use mathlib.Core.Bool.{Bool, true, cond}
 use native.Mathlib.Omega.{arith}
 use lib.Dec.{eqb}
-use lib.ListN.{length}
+use lib.ListN.{length, length-set}
 use borrow.Author.Tests.{eq-eqb, ne-eqb}
 use Rattle.arith.proofs.Cases.{by-eq}
 use Rattle.held.specs.Held.{Held, Sound, Items, itemAt, position, appended, removed, stored, inPlaceOrder, Complete}
@@ -124,16 +124,44 @@ module _ {A I : Type 0} (items : Items A) (identity : A → I) where
       new : (k : ℕ) → k ≡ h .count → identity (itemAt items (appended items h x) k) ≡ identity x
       new k last = rw last (ap identity (item-appended items h x room))
 
--- Lookup finds each item: it misses none, and no two have one identity.
+-- In every place past the items stands what stands in a free place.
+abbrev pub FreePast : {A : Type 0} → Items A → Held A → Type 0
+FreePast items h = (i : ℕ) → h .count ≤ i → itemAt items h i ≡ items .free
+
+module _ {A : Type 0} (items : Items A) (h : Held A) (free : FreePast items h) where
+  stored-free-past : (p : ℕ) (x : A) → p < h .count → FreePast items (stored h p x)
+  stored-free-past p x below i past = item-stored-other items h p x i (λ e. omega arith) ∙ free i past
+
+  appended-free-past : (x : A) → FreePast items (appended items h x)
+  appended-free-past x i past = item-stored-other items h (h .count) x i (λ e. omega arith) ∙ free i (omega arith)
+
+  removed-free-past : Sound h → (p : ℕ) → p < h .count → FreePast items (removed items h p)
+  unfolding removed
+  removed-free-past sound p below i past =
+      let last : ℕ = h .count - 1 in
+      let moved : Held A = stored h p (itemAt items h last) in
+      by-eq i last
+      (λ at-last. rw at-last (item-stored items moved last (items .free) (simp length-set (omega (arith, sound .count-fits)))))
+      (λ other.
+      item-stored-other items moved last (items .free) i other ∙ item-stored-other items h p (itemAt items h last) i (λ e. omega (arith, other))
+      ∙ free i (omega (arith, other)))
+
+-- Lookup finds each item: it misses none, no two have one identity, and past the items every place is free.
 pub record FindsEach {A I : Type 0} (items : Items A) (identity : A → I) (h : Held A) : Type 0 where
   pub sound : Sound h
   pub complete : Complete items h
   pub single : Single items identity h
+  pub free-past : FreePast items h
 
 -- So it does where no item is held.
 module _ {A I : Type 0} (items : Items A) (identity : A → I) (h : Held A) where
-  pub none-finds-each : Sound h → Complete items h → h .count ≡ 0 → FindsEach items identity h
-  none-finds-each sound complete none = record { sound = sound; complete = complete; single = λ i j belowI belowJ same. omega arith }
+  pub none-finds-each : Sound h → Complete items h → h .count ≡ 0 → ((i : ℕ) → itemAt items h i ≡ items .free) → FindsEach items identity h
+  none-finds-each sound complete none free = record {
+    sound = sound;
+    complete = complete;
+    single = λ i j belowI belowJ same. omega arith;
+    free-past = λ i past. free i;
+  }
 
 module _ {A I : Type 0} (items : Items A) (identity : A → I) (h : Held A) (each : FindsEach items identity h) where
   -- Items are then found where they are found in place order, by a test that only items of one hash and of one identity pass.
@@ -153,6 +181,7 @@ module _ {A I : Type 0} (items : Items A) (identity : A → I) (h : Held A) (eac
         sound = stored-sound h p x (each .sound);
         complete = stored-complete items h (each .complete) p x inside hash;
         single = single-stays items identity (stored-comes-from items identity h p x inside same) (each .single);
+        free-past = stored-free-past items h (each .free-past) p x below;
       }
 
   pub appended-finds-each : (x : A) → h .count < length (h .places) → Lacks items identity (identity x) h → FindsEach items identity (appended items h x)
@@ -160,6 +189,7 @@ module _ {A I : Type 0} (items : Items A) (identity : A → I) (h : Held A) (eac
     sound = appended-sound items h x room;
     complete = appended-complete items h (each .complete) x room;
     single = appended-single items identity h x room lacks (each .single);
+    free-past = appended-free-past items h (each .free-past) x;
   }
 
   pub removed-finds-each : (p : ℕ) → p < h .count → FindsEach items identity (removed items h p)
@@ -167,6 +197,7 @@ module _ {A I : Type 0} (items : Items A) (identity : A → I) (h : Held A) (eac
     sound = removed-sound items h p (each .sound);
     complete = removed-complete items h (each .sound) (each .complete) p below;
     single = single-stays items identity (removed-comes-from items identity h p (each .sound)) (each .single);
+    free-past = removed-free-past items h (each .free-past) (each .sound) p below;
   }
 
 -- So does a sweep.

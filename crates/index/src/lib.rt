@@ -45,7 +45,7 @@ struct Pass {
 }
 
 // The word at a place.
-fn word_at(ws: &[u64], index: Index, q: usize) -> u64
+pub fn word_at(ws: &[u64], index: Index, q: usize) -> u64
     requires { ⌜ (index .base + index .size ≤ length (now ws)) × (q < index .size) ⌝ }
     ensures { λ r. ⌜ r ≡ Walk.at (placesOf index (now (ws .entry))) q ⌝ }
 {
@@ -54,7 +54,7 @@ fn word_at(ws: &[u64], index: Index, q: usize) -> u64
 }
 
 // Word `f` of an item's row.
-fn item_word(ws: &[u64], index: Index, n: usize, i: usize, f: usize) -> u64
+pub fn item_word(ws: &[u64], index: Index, n: usize, i: usize, f: usize) -> u64
     requires { ⌜ Fits index n (now ws) × (i < n) × (f < index .width) ⌝ }
     ensures { λ r. ⌜ r ≡ itemWord index f (now (ws .entry)) i ⌝ }
 {
@@ -286,7 +286,7 @@ fn vacate(ws: &mut [u64], index: Index, n: usize, z: usize)
 }
 
 // The first place on an item's walk that names it. If there is none, it is the place at which the walk stops, or the number of places.
-fn place_of(ws: &[u64], index: Index, n: usize, i: usize) -> usize
+pub fn place_of(ws: &[u64], index: Index, n: usize, i: usize) -> usize
     requires { ⌜ Fits index n (now ws) × (i < n) ⌝ }
     ensures { λ r. ⌜ r ≡ Walk.seek (placesOf index (now (ws .entry))) (hashOf index (now (ws .entry)) i) (i + 1) ⌝ }
 {

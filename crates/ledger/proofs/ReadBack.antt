@@ -13,8 +13,8 @@ use Rattle.held.specs.Held.{byIndex}
 use Rattle.held.specs.Layout.{indexWords}
 use Rattle.held.proofs.FindingLaws.{indexed, kindOf, indexed-by-words}
 use Rattle.held.proofs.ReadBack.{between-length, table-of-words}
-use Rattle.held.proofs.LayoutLaws.{zeros-head}
-use Rattle.ledger.specs.Model.{Ledger, capOf}
+use Rattle.held.proofs.LayoutLaws.{zeros-head, zeros-item}
+use Rattle.ledger.specs.Model.{Ledger, capOf, noDebt, debtAt}
 use Rattle.ledger.specs.Layout.{countAt, cursorAt, debtsAt, debtWidth, othersAt, indexAt, ledgerWords, debtOf, debtWords, ledgerOf, ledger, wordsOf}
 use Rattle.ledger.proofs.LayoutLaws.{others-read, finding-read}
 
@@ -46,6 +46,11 @@ module _ (cap : ℕ) (ws : List ℕ) (zeros : (i : ℕ) → getD ws i 0 ≡ 0) w
   pub zeros-no-debts : ledger cap ws .debts .count ≡ 0
   unfolding ledger
   zeros-no-debts = zeros-head debtOf debtWidth cap debtsAt ws zeros countAt
+
+  pub zeros-are-free-debts : (i : ℕ) → debtAt (ledger cap ws) i ≡ noDebt
+  unfolding ledger
+  zeros-are-free-debts =
+      zeros-item debtOf debtWidth cap debtsAt ws zeros (λ row blank. λ j. record { hash = blank 0 j; settles = record { 0 = blank 1 j } })
 
   pub zeros-cursor : ledger cap ws .cursor ≡ 0
   unfolding ledger

@@ -10,14 +10,14 @@ use Rattle.held.specs.Layout.{Table, tableIn}
 use Rattle.held.specs.Held.{Finding, byIndex}
 use Rattle.held.proofs.FindingLaws.{indexed, kindOf, indexed-by-words, index-length, fresh-is-complete}
 use Rattle.held.proofs.ReadBack.{between-length, table-of-words}
-use Rattle.held.proofs.LayoutLaws.{zeros-head, zeros-rest}
+use Rattle.held.proofs.LayoutLaws.{zeros-head, zeros-item, zeros-rest}
 use Rattle.slot.specs.declared.Slot.{Slot}
 use Rattle.ledger.specs.Model as Debts
 use Rattle.ledger.specs.Model.{withOthers}
 use Rattle.ledger.specs.Layout as Ledger
 use Rattle.ledger.proofs.LayoutLaws as LedgerLaws
 use Rattle.ledger.proofs.ReadBack as LedgerBack
-use Rattle.shard_map.specs.Model.{Shard, Complete, slotItems, capOf, withFinding, withLedger}
+use Rattle.shard_map.specs.Model.{Shard, Complete, slotItems, noSlot, slotAt, capOf, withFinding, withLedger}
 use Rattle.shard_map.specs.Layout.{countAt, handAt, sweepAt, slotsAt, slotWidth, slotOf, slotWords, ledgerStart, shardWords, slotIndex, shardWith}
 use Rattle.shard_map.specs.Layout.{lentLedger, shardOf, shard, wordsOf}
 use Rattle.shard_map.proofs.LayoutLaws.{cap-is, rest-length, finding-read}
@@ -101,6 +101,24 @@ zeros-empty cap ws zeros =
       debts = LedgerBack.zeros-no-debts cap _ rest;
       cursor = LedgerBack.zeros-cursor cap _ rest;
     }
+
+-- Every place of it is free.
+module _ (cap : ℕ) (ws : List ℕ) (zeros : (i : ℕ) → getD ws i 0 ≡ 0) where
+  pub zeros-are-free-slots : (i : ℕ) → slotAt (shard cap ws) i ≡ noSlot
+  unfolding shard
+  zeros-are-free-slots =
+      zeros-item slotOf slotWidth cap slotsAt ws zeros (λ row blank. λ j. record {
+        hash = blank 0 j;
+        key = blank 1 j;
+        bucket = record { shortfall = blank 2 j; stamp = record { 0 = blank 3 j } };
+        mark = blank 4 j;
+        seen = record { 0 = blank 5 j };
+        «turned_away» = blank 6 j;
+      })
+
+  pub zeros-are-free-debts : (i : ℕ) → Debts.debtAt (shard cap ws .ledger) i ≡ Debts.noDebt
+  unfolding shard
+  zeros-are-free-debts = LedgerBack.zeros-are-free-debts cap _ (zeros-rest slotOf slotWidth cap slotsAt ws zeros)
 
 -- In it lookup misses none: all places of both indexes are empty.
 pub zeros-complete : (cap : ℕ) (ws : List ℕ) → 0 < cap → length ws ≡ shardWords cap → ((i : ℕ) → getD ws i 0 ≡ 0) → Complete (shard cap ws)

@@ -16,7 +16,7 @@ use Rattle.held.proofs.SingleLaws.{stored-finds-each, appended-finds-each, remo
 use Rattle.slot.specs.declared.Slot.{Slot}
 use Rattle.ledger.specs.Model as Ledger
 use Rattle.ledger.proofs.StepLaws as LedgerSteps
-use Rattle.shard_map.specs.Model.{Shard, Sound, Complete, slotItems, capOf, slotAt, withSlot, withHand, withLedger, placeOf, removeAt, insert}
+use Rattle.shard_map.specs.Model.{Shard, Sound, Complete, slotItems, noSlot, capOf, slotAt, withSlot, withHand, withLedger, placeOf, removeAt, insert}
 use Rattle.shard_map.specs.Model.{reclaimable, roundOf, sweepIdle}
 use Rattle.shard_map.proofs.StepLaws.{nowhere-holds-none, slots-sound, sound-by-parts, change-sound, ledger-sound, sweep-idle-sound}
 
@@ -24,7 +24,7 @@ use Rattle.shard_map.proofs.StepLaws.{nowhere-holds-none, slots-sound, 
 abbrev pub identityOf : Slot → ℕ × ℕ
 identityOf slot = (slot .hash, slot .key)
 
--- Lookup finds each slot and each debt: it misses none, no two slots have one hash and key, and no two debts have one hash.
+-- Lookup finds each slot and each debt: it misses none, no two slots have one hash and key, no two debts have one hash, and all other places are free.
 pub record FindsEach (s : Shard) : Type 0 where
   pub slots : Singles.FindsEach slotItems identityOf (s .slots)
   pub ledger : LedgerSteps.FindsEach (s .ledger)
@@ -37,10 +37,11 @@ pub found-is-complete : {s : Shard} → FindsEach s → Complete s
 found-is-complete each = record { slots = each .slots .complete; ledger = each .ledger .complete }
 
 -- A fresh shard, which holds nothing, is one.
-pub empty-finds-each : (s : Shard) → Sound s → Complete s → s .slots .count ≡ 0 → s .ledger .debts .count ≡ 0 → FindsEach s
-empty-finds-each s sound complete no-slot no-debt = record {
-  slots = none-finds-each slotItems identityOf (s .slots) (slots-sound s sound) (complete .slots) no-slot;
-  ledger = none-finds-each Ledger.debtItems LedgerSteps.hashOf (s .ledger .debts) (sound .ledger) (complete .ledger) no-debt;
+pub empty-finds-each : (s : Shard) → Sound s → Complete s → s .slots .count ≡ 0 → s .ledger .debts .count ≡ 0
+    → ((i : ℕ) → slotAt s i ≡ noSlot) → ((i : ℕ) → Ledger.debtAt (s .ledger) i ≡ Ledger.noDebt) → FindsEach s
+empty-finds-each s sound complete no-slot no-debt free-slots free-debts = record {
+  slots = none-finds-each slotItems identityOf (s .slots) (slots-sound s sound) (complete .slots) no-slot free-slots;
+  ledger = none-finds-each Ledger.debtItems LedgerSteps.hashOf (s .ledger .debts) (sound .ledger) (complete .ledger) no-debt free-debts;
 }
 
 -- The slots of a shard come from those of another.

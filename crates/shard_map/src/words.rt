@@ -1,5 +1,5 @@
 // The words of a shard, read and stored. No other function of the crate knows where a word lies, except those of `debts`, which lend the ledger's segment.
-// What is `pub` here is for `evict`, which does not know where a word lies either.
+// What is `pub` here is for `evict` and `converter_shards`, which do not know where a word lies either.
 ghost use mathlib.Core.Path.{_≡_};
 ghost use Prim.Native.Nat.{_<_, _^_};
 ghost use lib.ListN.{length};
@@ -20,9 +20,9 @@ const HAND: usize = 1;
 
 const SWEEP: usize = 2;
 
-const SLOTS: usize = 3;
+pub const SLOTS: usize = 3;
 
-const SLOT_WIDTH: usize = 7;
+pub const SLOT_WIDTH: usize = 7;
 
 // Where a slot's words lie, counted from its first, which is its hash.
 const KEY: usize = 1;
@@ -62,7 +62,7 @@ pub(crate) fn ledger_start(cap: usize) -> usize
 }
 
 // Where the index of the slots lies, and the slots that it names.
-pub(crate) fn index(cap: usize) -> Index
+pub fn index(cap: usize) -> Index
     requires { ⌜ shardWords cap < 2 ^ 64 ⌝ }
     ensures { λ r. ⌜ r ≡ slotIndex cap ⌝ }
 {

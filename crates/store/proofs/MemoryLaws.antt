@@ -22,6 +22,7 @@ use Rattle.shard_map.specs.Layout as Layout
 use Rattle.shard_map.specs.Layout.{shardWords}
 use Rattle.shard_map.proofs.LayoutLaws.{cap-is}
 use Rattle.shard_map.proofs.ReadBack.{Sized, Empty, words-length, shard-of-words, debt-cap-is, shard-sized, zeros-empty, zeros-complete}
+use Rattle.shard_map.proofs.ReadBack.{zeros-are-free-slots, zeros-are-free-debts}
 use Rattle.shard.proofs.ShardLaws.{SameRoom}
 use Rattle.store.specs.Memory.{withSegment, totalAt, totalOf, totalAfter, shardsAt, shardStart, shardEnd, roomIn, classesAt, wordsIn, memoryWords}
 use Rattle.store.specs.Memory.{partStart, partOf, Placed, shardAt, inShard}
@@ -149,6 +150,12 @@ module _ (s : Settings) (hash : ℕ) where
 
   pub fresh-shards-are-empty : Empty (shardAt s hash (replicate (memoryWords s) 0))
   fresh-shards-are-empty = zeros-empty (capOf s) _ fresh-words
+
+  pub fresh-slots-are-free : (i : ℕ) → Shard.slotAt (shardAt s hash (replicate (memoryWords s) 0)) i ≡ Shard.noSlot
+  fresh-slots-are-free = zeros-are-free-slots (capOf s) _ fresh-words
+
+  pub fresh-debts-are-free : (i : ℕ) → Ledger.debtAt (shardAt s hash (replicate (memoryWords s) 0) .ledger) i ≡ Ledger.noDebt
+  fresh-debts-are-free = zeros-are-free-debts (capOf s) _ fresh-words
 
   pub fresh-shards-are-complete : Shard.Complete (shardAt s hash (replicate (memoryWords s) 0))
   fresh-shards-are-complete =

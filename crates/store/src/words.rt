@@ -10,7 +10,7 @@ use shard_map::words;
 // The word of the total, and the word at which the first shard begins.
 pub const TOTAL_AT: usize = 0;
 
-const SHARDS_AT: usize = TOTAL_AT + 1;
+pub const SHARDS_AT: usize = TOTAL_AT + 1;
 
 // The words that a store of these settings is lent.
 pub fn memory_words(settings: Settings) -> usize

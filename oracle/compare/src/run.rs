@@ -193,7 +193,9 @@ impl Run {
                 self.bench.hits.origin = origin;
             }
         }
-        trio.compare_all(steps.last().expect("a trace has calls"))
+        let last = steps.last().expect("a trace has calls");
+        trio.compare_all(last)
+            .and_then(|()| self.bench.convert(last, trio.words(), random))
             .map_err(|difference| self.failed(&start, &steps, difference))
     }
 
@@ -291,6 +293,7 @@ impl Run {
         }
         let mut missing: Vec<String> = self.bench.hits.report();
         missing.extend(self.addresses.report());
+        missing.extend(self.bench.conversions.report());
         println!(
             "{} tries through a class were held against the Rust's plain try",
             self.bench.passed

@@ -8,6 +8,7 @@
 
 pub mod classes;
 pub mod debts;
+pub mod converter;
 pub mod modem;
 pub mod slices;
 
@@ -157,6 +158,10 @@ pub const LIMITER_BAD_CHAIN: u64 = 25;
 pub const LIMITER_BAD_SHARD: u64 = 26;
 /// Refused as 17: fewer records are lent than there are debts to write.
 pub const LIMITER_BAD_RECORDS: u64 = 27;
+/// Refused as 18, by a conversion: two slots of one hash and key, or two debts of one hash.
+pub const LIMITER_TWINS: u64 = 28;
+/// Refused as 19, by a conversion: a word past a count is not 0.
+pub const LIMITER_USED_PAST: u64 = 29;
 
 /// The most classes of a table.
 pub const LIMITER_MOST_CLASSES: usize = 64;

@@ -65,10 +65,12 @@ fn no_words_may_be_null() {
             classes::limiter_table_clear(SMALL, null(), 0, null_mut(), 0),
             classes::limiter_table_try(SMALL, null(), 0, null_mut(), 0, 0, 7, 7, 0, 1),
             debts::limiter_debts(SMALL, null(), 0, 0, 0, null_mut(), 0),
+            converter::limiter_convert_forth(SMALL, null(), 0, null_mut(), 0),
+            converter::limiter_convert_back(SMALL, null(), 0, null_mut(), 0),
         ]
     };
     let refused = reply(LIMITER_BAD_MEMORY, 0, 0);
-    assert_eq!(replies, [refused; 14]);
+    assert_eq!(replies, [refused; 16]);
 }
 
 /// A table is words, six a class; words past a multiple of six are not read. The class's own words stand after the shards: shortfall and stamp.
@@ -230,6 +232,8 @@ fn the_header_has_the_same_codes() {
         ("BAD_CHAIN", LIMITER_BAD_CHAIN),
         ("BAD_SHARD", LIMITER_BAD_SHARD),
         ("BAD_RECORDS", LIMITER_BAD_RECORDS),
+        ("TWINS", LIMITER_TWINS),
+        ("USED_PAST", LIMITER_USED_PAST),
         ("LONGEST_LINE", LIMITER_LONGEST_LINE as u64),
         ("MOST_CLASSES", LIMITER_MOST_CLASSES as u64),
         ("LONGEST_CHAIN", LIMITER_LONGEST_CHAIN as u64),

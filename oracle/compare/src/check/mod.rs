@@ -2,6 +2,7 @@
 
 mod aside;
 mod by_address;
+mod convert;
 mod difference;
 mod shorten;
 mod trace;
@@ -18,6 +19,7 @@ use crate::library::{self, Beside};
 use crate::reply::{Reply, Said};
 use crate::rules;
 use crate::rules::classes::{BUCKET_WORDS, MOST_CLASSES, table};
+pub use convert::Conversions;
 pub use difference::{Checked, Difference};
 use difference::{differing, differing_records};
 pub use trace::trace_head;
@@ -49,6 +51,8 @@ pub struct Bench {
     pub hits: Hits,
     /// How many tries through a class the Rust made too, as its plain try.
     pub passed: u64,
+    /// The conversions that were compared.
+    pub conversions: Conversions,
 }
 
 impl Bench {
@@ -59,6 +63,7 @@ impl Bench {
             beside: Beside::new(),
             hits: Hits::new(),
             passed: 0,
+            conversions: Conversions::default(),
         }
     }
 

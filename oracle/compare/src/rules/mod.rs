@@ -5,7 +5,7 @@
 //! Of 02 it has request 1, the moment: now + the wait of every grant and every retry (`Wait::moment`); request 3, the indexes by which slots and
 //! debts are found (`index`); request 4, calls by hardware address (`by_address`); request 5, a clock set back (`Bucket::wait`); request 8, the count of
 //! tries that a slot's bucket turned away (`turned_away`); request 9, the limits above the modem (`classes`); request 10, the total of
-//! slots before the first shard (`perkey::answer`, `whole::answer`); and request 12, the list of debts (`debts`).
+//! slots before the first shard (`perkey::answer`, `whole::answer`); request 12, the list of debts (`debts`); and request 14, the conversions (`converter`).
 //!
 //! The layers, from below: `bucket` (numbers), `index` and `rows` (items in words), `turned_away` and `entry` (a slot), `ledger` (the debts), `shard_map` and
 //! `evict_one` (a shard), `restore_debt`, `store` (what a key holds), `perkey` (the calls); beside them `classes` and `debts`. `settings` and `decision` are
@@ -14,6 +14,7 @@
 mod bucket;
 pub mod by_address;
 pub mod classes;
+pub mod converter;
 pub mod debts;
 mod decision;
 mod entry;

@@ -1,0 +1,3 @@
+pub mod Layouts
+pub mod Conversion
+pub mod code

@@ -1,0 +1,11 @@
+pub mod Layout01Laws
+pub mod CheckLaws
+pub mod ExactTestLaws
+pub mod ShardLaws
+pub mod CarryLaws
+pub mod ForthLaws
+pub mod PastLaws
+pub mod ConvertedLaws
+pub mod StrayLaws
+pub mod PresentLaws
+pub mod Worked
