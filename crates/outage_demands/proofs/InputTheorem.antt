@@ -1,7 +1,9 @@
 -- Whole inputs: where line 1 is accepted, what is printed are the rows of the further lines, run on a fresh store; so the window holds of the printed rows.
 use Prim.Native.Nat.{ℕ, _+_, _*_, _-_, _≤_, _<_}
 use native.Mathlib.Omega.{arith}
-use mathlib.Core.Path.{_≡_, refl, sym, ap, _∙_}
+use mathlib.Core.Path.{_≡_, refl, sym, ap, subst, _∙_}
+use mathlib.Core.Bool.{Bool, true, false, cond}
+use lib.Dec.{eqb}
 use mathlib.Core.List.{List, [], _∷_, _++_, append-assoc}
 use lib.ListN.{length, take, drop, length-take, length-drop, take-append-drop}
 use Rattle.arith.proofs.Cases.{by-eq}
@@ -14,8 +16,10 @@ use Rattle.rules.specs.Replies.{codeOf, toldOf}
 use Rattle.rules.specs.Asks.{withTable}
 use Rattle.rules.specs.Rules.{setUp}
 use Rattle.rules.proofs.RefusedLaws.{set-up-zeroes, set-up-refusal-is-told}
-use Rattle.desk_lines.specs.declared.Line.the-variants.{SetUp}
-use Rattle.desk_lines.specs.Lines.{lineOf}
+use Rattle.desk_lines.specs.declared.Line.{Line}
+use Rattle.desk_lines.specs.declared.Line.the-variants.{SetUp, Try, Peek, Reserve, Refund, Remove, Malformed}
+use Rattle.desk_lines.specs.Fields.{fields}
+use Rattle.desk_lines.specs.Lines.{Reading, left, lineOfLetter, lineOfFields, lineOf}
 use Rattle.desk_lines.specs.Printed.{printed}
 use Rattle.desk_answers.specs.declared.Stage.the-variants.{Open}
 use Rattle.desk_answers.specs.Desk.{storeSize, stageAfter}
@@ -41,6 +45,40 @@ accepted-is-done s ws code =
     let told : codeOf (setUp s ws .answer) ≡ 10 + number =
     ap (λ (o : Outcome Reply (List ℕ)). codeOf (o .answer)) (sym (set-up-refusal-is-told s ws refl some)) in
     absurd (omega (arith, told, code)))
+
+-- A settings line has no class.
+abbrev Classless : Line → Type 0
+Classless (SetUp s) = s .classes ≡ 0
+Classless (Try q) = Unit {0}
+Classless (Peek q) = Unit {0}
+Classless (Reserve q longest) = Unit {0}
+Classless (Refund key cost) = Unit {0}
+Classless (Remove key) = Unit {0}
+Classless Malformed = Unit {0}
+
+of-either : (b : Bool) (x y : Line) → Classless x → Classless y → Classless (cond b x y)
+of-either true x y one other = one
+of-either false x y one other = other
+
+letter-is-classless : (letter : ℕ) (r : Reading) → Classless (lineOfLetter letter r)
+unfolding lineOfLetter
+letter-is-classless letter r =
+    of-either (eqb letter 97) _ _ (of-either _ (Try _) Malformed tt tt)
+    (of-either (eqb letter 112) _ _ (of-either _ (Peek _) Malformed tt tt)
+    (of-either (eqb letter 114) _ _ (of-either _ (Reserve _ _) Malformed tt tt)
+    (of-either (eqb letter 102) _ _ (of-either _ (Refund _ _) Malformed tt tt)
+    (of-either (eqb letter 100) _ _ (of-either _ (Remove _) Malformed tt tt)
+    (of-either (eqb letter 115) _ _ (of-either _ (SetUp _) Malformed refl tt) tt)))))
+
+fields-are-classless : (fs : List (List ℕ)) → Classless (lineOfFields fs)
+fields-are-classless [] = tt
+fields-are-classless ([] ∷ fs) = tt
+fields-are-classless ((letter ∷ []) ∷ fs) = letter-is-classless letter (left fs)
+fields-are-classless ((letter ∷ b ∷ bs) ∷ fs) = tt
+
+line-is-classless : (line : List ℕ) → Classless (lineOf line)
+unfolding lineOf
+line-is-classless line = of-either _ (lineOfFields (fields line)) Malformed (fields-are-classless (fields line)) tt
 
 module _ (s : Settings) (memory : List ℕ) (accepted : Desk.setUp s memory .answer .told .code ≡ 0) where
   -- How the program stands after line 1.
@@ -100,8 +138,9 @@ input-prints-its-village input memory first further s lines is accepted =
 
 -- So the window holds of the printed rows of every input.
 pub every-input-stays-within-the-window : InputWindow
-every-input-stays-within-the-window input memory first further s rate lines is accepted plain rated refuses apart = (
+every-input-stays-within-the-window input memory first further s rate lines is accepted rated refuses apart = (
   input-prints-its-village input memory first further s lines is accepted,
-  village-stays-within-the-window s rate (take (storeSize s (length memory)) memory) plain rated refuses (done s memory accepted)
+  village-stays-within-the-window s rate (take (storeSize s (length memory)) memory) (subst Classless is (line-is-classless first)) rated refuses
+      (done s memory accepted)
       (rowsOf (take mostRows further)) [] (lines-not-granted (take mostRows further)) apart,
 )

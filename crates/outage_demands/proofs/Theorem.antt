@@ -2,6 +2,7 @@
 use Prim.Native.Nat.{ℕ, _+_, _*_, _-_, _≤_, _<_}
 use native.Mathlib.Omega.{arith}
 use mathlib.Core.Path.{_≡_, refl, sym, ap, subst, _∙_}
+use mathlib.Core.Bool.{true}
 use mathlib.Core.List.{List, [], _∷_}
 use lib.ListN.{length}
 use Rattle.rows.specs.Outcome.{Outcome}
@@ -20,7 +21,7 @@ use Rattle.rules.specs.Calls.{keyed, whole, byKey, ofKey, Every}
 use Rattle.demands.specs.ByKey.{Call, Answered, rules, replies, SameSettings, Agree, NoSharedHash, NeverRefundedOrRemoved, tokensUsable}
 use Rattle.desk_answers.specs.Desk.{identityOf}
 use Rattle.outage_rows.specs.declared.Row.{Row}
-use Rattle.outage_rows.specs.Model.{State, mostTries, rowAt, outage}
+use Rattle.outage_rows.specs.Model.{State, mostTries, isLive, rowAt, outage}
 use Rattle.outage_rows.specs.Layout.{allRows, stateOf}
 use Rattle.outage_rows.proofs.NextLaws.{next-found}
 use Rattle.outage_rows.proofs.RunLaws.{tried-rows}
@@ -51,36 +52,40 @@ module _ (Q : Identity → Type 0) (apart : (i j : Identity) → Q i → Q j →
     apart-shares-none rest (every .1),
   )
 
--- An identity that a row has.
+-- An identity that a row has which is tried.
 record Named (rows : List Row) (id : Identity) : Type 0 where
   place : ℕ
   inside : place < length rows
+  live : isLive (rowAt rows place) ≡ true
   is : id ≡ identityOf (rowAt rows place .key)
 
 named-apart : (rows : List Row) → KeysApart rows → (i j : Identity) → Named rows i → Named rows j → i .hash ≡ j .hash → i .key ≡ j .key
 named-apart rows apart i j a b same =
     let hashes = sym (ap (λ (id : Identity). id .hash) (a .is)) ∙ same ∙ ap (λ (id : Identity). id .hash) (b .is) in
-    ap (λ (id : Identity). id .key) (a .is) ∙ apart (a .place) (b .place) (a .inside) (b .inside) hashes ∙ sym (ap (λ (id : Identity). id .key) (b .is))
+    ap (λ (id : Identity). id .key) (a .is) ∙ apart (a .place) (b .place) (a .inside) (b .inside) (a .live) (b .live) hashes ∙ sym (ap (λ (id : Identity). id .key) (b .is))
 
 module _ (s : Settings) where
-  -- The calls of a run name its rows' keys, which no try changes.
-  calls-name-rows : (Q : Identity → Type 0) (n : ℕ) (v : State) → ((j : ℕ) → j < length (v .rows) → Q (identityOf (rowAt (v .rows) j .key)))
+  -- The calls of a run name the keys of its live rows, which no try changes.
+  abbrev LiveNamed : (Identity → Type 0) → Row → Type 0
+  LiveNamed Q row = isLive row ≡ true → Q (identityOf (row .key))
+
+  calls-name-rows : (Q : Identity → Type 0) (n : ℕ) (v : State) → ((j : ℕ) → j < length (v .rows) → LiveNamed Q (rowAt (v .rows) j))
       → Every (λ a. ofKey byKey Q (a .call)) (answeredIn s n v)
   calls-name-rows Q =
-      by-tries s (λ v l w. ((j : ℕ) → j < length (v .rows) → Q (identityOf (rowAt (v .rows) j .key))) → Every (λ a. ofKey byKey Q (a .call)) l)
+      by-tries s (λ v l w. ((j : ℕ) → j < length (v .rows) → LiveNamed Q (rowAt (v .rows) j)) → Every (λ a. ofKey byKey Q (a .call)) l)
       (λ v all. tt)
       (λ v p is rest w then all. (
-        all p (next-found (v .rows) p is .below),
+        all p (next-found (v .rows) p is .below) (next-found (v .rows) p is .live),
         then (λ j b.
-            tried-keeps s (λ row. Q (identityOf (row .key)))
-            (λ row told live q. by-again (λ new. Q (identityOf (new .key))) row told (λ t. q) (λ t. q)) v p is j
+            tried-keeps s (LiveNamed Q)
+            (λ row told live q. by-again (LiveNamed Q) row told (λ t still. q live) (λ t still. q live)) v p is j
             (all j (rw (tried-rows s v p) at b))),
       ))
 
   run-shares-none : (n : ℕ) (v : State) → KeysApart (v .rows) → NoSharedHash (answeredIn s n v)
   run-shares-none n v apart =
       apart-shares-none (Named (v .rows)) (named-apart (v .rows) apart) (answeredIn s n v)
-      (calls-name-rows (Named (v .rows)) n v (λ j b. record { place = j; inside = b; is = refl }))
+      (calls-name-rows (Named (v .rows)) n v (λ j b live. record { place = j; inside = b; live = live; is = refl }))
 
   run-same-settings : (n : ℕ) (v : State) → SameSettings s (answeredIn s n v)
   run-same-settings n v = every-try s _ (λ row reply ws taken. refl) n v
