@@ -2,9 +2,9 @@
 use Prim.Native.Nat.{ℕ, _+_, _*_, _-_, _≤_, _<_}
 use native.Mathlib.Omega.{arith}
 use mathlib.Core.Path.{_≡_, refl, sym, ap, subst, _∙_}
-use mathlib.Core.Bool.{Bool, true, false, cond}
+use mathlib.Core.Bool.{Bool, true, false, cond, false≢true}
 use lib.Dec.{eqb}
-use mathlib.Core.List.{List, [], _∷_, _++_, append-assoc}
+use mathlib.Core.List.{List, [], _∷_, _++_, append-assoc, append-nil}
 use lib.ListN.{length, take, drop, length-take, length-drop, take-append-drop}
 use Rattle.arith.proofs.Cases.{by-eq}
 use Rattle.rows.specs.Outcome.{Outcome, outcome}
@@ -21,15 +21,16 @@ use Rattle.desk_lines.specs.declared.Line.the-variants.{SetUp, Try, Peek, Reser
 use Rattle.desk_lines.specs.Fields.{fields}
 use Rattle.desk_lines.specs.Lines.{Reading, left, lineOfLetter, lineOfFields, lineOf}
 use Rattle.desk_lines.specs.Printed.{printed}
-use Rattle.desk_answers.specs.declared.Stage.the-variants.{Open}
-use Rattle.desk_answers.specs.Desk.{storeSize, stageAfter}
+use Rattle.desk_answers.specs.declared.Stage.{Stage}
+use Rattle.desk_answers.specs.declared.Stage.the-variants.{First, Open, Ended}
+use Rattle.desk_answers.specs.Desk.{storeSize, stageAfter, hasEnded}
 use Rattle.desk_answers.specs.Desk as Desk
 use Rattle.desk_cutting.specs.Cutting.{linesOf}
 use Rattle.desk_cutting.specs.Answering.{andThen, linesAnswered}
 use Rattle.desk_cutting.proofs.AnsweringLaws.{answered-in-parts}
 use Rattle.outage_rows.specs.declared.Row.{Row}
 use Rattle.outage_rows.specs.Printed.{printedRows}
-use Rattle.outage_run.specs.Run.{Village, mostRows, nextNumber, comesUp, lineTaken, village, finished, atStart, printedFor}
+use Rattle.outage_run.specs.Run.{Village, mostRows, nextNumber, comesUp, lineTaken, village, finishedIn, finished, atStart, printedFor}
 use Rattle.outage_demands.specs.Village.{rowsOf, printedPast, firstPast, villageRows, printedVillage, InputWindow}
 use Rattle.outage_demands.proofs.Theorem.{village-stays-within-the-window}
 use Rattle.outage_demands.proofs.LineLaws.{lines-not-granted, taken, lines-become-rows, past-prints}
@@ -125,6 +126,32 @@ module _ (s : Settings) (memory : List ℕ) (accepted : Desk.setUp s memory .ans
         rw (parts, rows-are)
         (rest ∙ rw (village-runs-fresh s memory gathered refl)
         (ap (λ (l : List ℕ). printedRows (villageRows s memory further) ++ l) (late-from-202 late full-where-late)))
+
+-- Once the run has ended, further lines print nothing, and so does the end of the input.
+nothing-more : (lines : List (List ℕ)) (v : Village) → hasEnded (v .stage) ≡ true → linesAnswered village lines v ≡ outcome [] v
+unfolding linesAnswered
+nothing-more [] v ended = refl
+nothing-more (line ∷ lines) v ended = rw ended
+
+nothing-in : (stage : Stage) (v : Village) → hasEnded stage ≡ true → finishedIn stage v ≡ outcome [] v
+nothing-in First v ended = refl
+nothing-in (Open s) v ended = absurd (false≢true ended)
+nothing-in (Ended code) v ended = refl
+
+nothing-finished : (v : Village) → hasEnded (v .stage) ≡ true → finished v ≡ outcome [] v
+unfolding finished
+nothing-finished v ended = nothing-in (v .stage) v ended
+
+-- Where line 1 is no settings line or is refused, it is answered as by the desk, and nothing else is printed.
+pub refused-input-prints-one-line : (input memory first : List ℕ) (further : List (List ℕ)) → linesOf input ≡ first ∷ further
+    → hasEnded (Desk.opened (lineOf first) memory .answer .stage) ≡ true
+    → printedFor input memory ≡ (let told = Desk.opened (lineOf first) memory .answer .told in printed 1 (told .code) (told .number))
+unfolding linesAnswered lineTaken
+refused-input-prints-one-line input memory first further lines ended =
+    let o = Desk.opened (lineOf first) memory in
+    let v = lineTaken first (atStart memory) .after in
+    rw (lines, nothing-more further v ended, nothing-finished v ended)
+    (append-nil _ ∙ append-nil (printed 1 (o .answer .told .code) (o .answer .told .number)))
 
 -- What is printed for an input whose line 1 is accepted.
 pub input-prints-its-village : (input memory first : List ℕ) (further : List (List ℕ)) (s : Settings) → linesOf input ≡ first ∷ further → lineOf first ≡ SetUp s
