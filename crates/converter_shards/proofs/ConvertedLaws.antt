@@ -11,10 +11,10 @@ use Rattle.rows.specs.Rows.{rows, unrow}
 use Rattle.arith.proofs.Cases.{by-test}
 use Rattle.index.specs.Layout.{placesFor}
 use Rattle.index.specs.Exact.{Exact}
-use Rattle.held.specs.Held.{Held, Items, Finding, inOrder, byIndex, itemAt, hashAt, exact-is-complete}
+use Rattle.held.specs.Held.{Held, Items, inOrder, itemAt, hashAt, exact-is-complete}
 use Rattle.held.specs.Held as Held
 use Rattle.held.specs.Layout.{tableIn, indexWords}
-use Rattle.held.proofs.FindingLaws.{Kind, ordered, indexed, kindOf}
+use Rattle.held.proofs.FindingLaws.{indexed, kindOf, indexed-by-words, index-length}
 use Rattle.held.proofs.MapLaws.{item-mapped}
 use Rattle.held.proofs.SingleLaws as Singles
 use Rattle.slot.specs.declared.Slot.{Slot}
@@ -208,19 +208,11 @@ module _ {cap : ℕ} {ws : List ℕ} (counted : Counted cap ws) where
     }
 
 -- Items that are found by an index of the right size, which is exact: lookup misses none.
-abbrev sizeOf : Kind → ℕ
-sizeOf ordered = 0
-sizeOf (indexed n) = n
-
-by-its-index : (f : Finding) (n : ℕ) → kindOf f ≡ indexed n → (f ≡ byIndex (indexWords f)) × (length (indexWords f) ≡ n)
-by-its-index inOrder n kind = let z : _≡_ {A = ℕ} 0 1 = cc in absurd (omega arith)
-by-its-index (byIndex ix) n kind = (refl, ap sizeOf kind)
-
 indexed-is-complete : {A : Type 0} (items : Items A) (cap : ℕ) (h : Held A) → length (h .places) ≡ cap → kindOf (h .finding) ≡ indexed (placesFor cap)
     → exactly (hashAt items h) (h .count) (indexWords (h .finding)) ≡ true → Held.Complete items h
 indexed-is-complete items cap h full kind exact =
-    let by = by-its-index (h .finding) (placesFor cap) kind in
-    exact-is-complete (indexWords (h .finding)) (by .0) (by .1 ∙ ap placesFor (sym full)) (exactly-is-exact _ _ _ exact)
+    exact-is-complete (indexWords (h .finding)) (sym (indexed-by-words (h .finding) (placesFor cap) kind))
+    (index-length (h .finding) (placesFor cap) kind ∙ ap placesFor (sym full)) (exactly-is-exact _ _ _ exact)
 
 -- A present shard that the way back does not refuse: lookup finds each slot and each debt.
 module _ {cap : ℕ} {s : Shard} (sized : Sized cap s) (room : 0 < cap) (fits : countOver cap s ≡ false) (exact : indexesExact s ≡ true) where
