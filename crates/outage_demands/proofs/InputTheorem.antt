@@ -3,12 +3,15 @@ use Prim.Native.Nat.{ℕ, _+_, _*_, _-_, _≤_, _<_}
 use native.Mathlib.Omega.{arith}
 use mathlib.Core.Path.{_≡_, refl, sym, ap, subst, _∙_}
 use mathlib.Core.Bool.{Bool, true, false, cond, false≢true}
-use lib.Dec.{eqb}
+use lib.Dec.{leb, eqb}
 use mathlib.Core.List.{List, [], _∷_, _++_, append-assoc, append-nil}
 use lib.ListN.{length, take, drop, length-take, length-drop, take-append-drop}
 use Rattle.arith.proofs.Cases.{by-eq}
 use Rattle.rows.specs.Outcome.{Outcome, outcome}
+use Rattle.units.specs.Units.{nanosOf}
+use Rattle.settings.specs.declared.Limit.the-variants as Limit
 use Rattle.settings.specs.declared.Settings.{Settings}
+use Rattle.settings.specs.Eviction.{bounds, whenFullOf}
 use Rattle.store.specs.Refusals.{setUpRefusal}
 use Rattle.rules.specs.declared.Reply.{Reply}
 use Rattle.rules.specs.declared.Reply.the-variants.{Done, Refused}
@@ -19,7 +22,9 @@ use Rattle.rules.proofs.RefusedLaws.{set-up-zeroes, set-up-refusal-is-told}
 use Rattle.desk_lines.specs.declared.Line.{Line}
 use Rattle.desk_lines.specs.declared.Line.the-variants.{SetUp, Try, Peek, Reserve, Refund, Remove, Malformed}
 use Rattle.desk_lines.specs.Fields.{fields}
-use Rattle.desk_lines.specs.Lines.{Reading, left, lineOfLetter, lineOfFields, lineOf}
+use Rattle.desk_lines.specs.Lines as Lines
+use Rattle.desk_lines.specs.Lines.{longestLine, Reading, left, taken, takenIdle, takenRate, takenRequest, isFinished, lineOfLetter, lineOfFields, lineOf}
+use Rattle.desk_lines.specs.Lines.{most64, most32, mostRule}
 use Rattle.desk_lines.specs.Printed.{printed}
 use Rattle.desk_answers.specs.declared.Stage.{Stage}
 use Rattle.desk_answers.specs.declared.Stage.the-variants.{First, Open, Ended}
@@ -33,7 +38,8 @@ use Rattle.outage_rows.specs.Printed.{printedRows}
 use Rattle.outage_run.specs.Run.{Village, mostRows, nextNumber, comesUp, lineTaken, village, finishedIn, finished, atStart, printedFor}
 use Rattle.outage_demands.specs.Village.{rowsOf, printedPast, firstPast, villageRows, printedVillage, InputWindow}
 use Rattle.outage_demands.proofs.Theorem.{village-stays-within-the-window}
-use Rattle.outage_demands.proofs.LineLaws.{lines-not-granted, taken, lines-become-rows, past-prints}
+use Rattle.outage_demands.proofs.LineLaws.{lines-not-granted, lines-become-rows, past-prints}
+use Rattle.outage_demands.proofs.LineLaws as LineLaws
 use Rattle.outage_demands.proofs.StoreLaws.{village-runs-fresh}
 
 -- Line 1 is answered 0 only where set-up accepts.
@@ -61,15 +67,36 @@ of-either : (b : Bool) (x y : Line) → Classless x → Classless y → Classles
 of-either true x y one other = one
 of-either false x y one other = other
 
+finished-is-classless : (r : Reading) (line : Line) → Classless line → Classless (Lines.finished r line)
+finished-is-classless r line own = of-either (isFinished r) line Malformed own tt
+
+set-up-is-classless : (r : Reading) → Classless (Lines.setUp r)
+set-up-is-classless r =
+    let rate = takenRate r in
+    let keys = taken most64 (rate .rest) in
+    let shards = taken most64 (keys .rest) in
+    let idle = takenIdle (shards .rest) in
+    let rule = taken mostRule (idle .rest) in
+    let eviction = bounds (keys .value) (idle .value) (whenFullOf (rule .value)) in
+    finished-is-classless (rule .rest) (SetUp (record { limit = Limit.Open (rate .value); eviction = eviction; shards = shards .value; classes = 0 })) refl
+
 letter-is-classless : (letter : ℕ) (r : Reading) → Classless (lineOfLetter letter r)
 unfolding lineOfLetter
 letter-is-classless letter r =
-    of-either (eqb letter 97) _ _ (of-either _ (Try _) Malformed tt tt)
-    (of-either (eqb letter 112) _ _ (of-either _ (Peek _) Malformed tt tt)
-    (of-either (eqb letter 114) _ _ (of-either _ (Reserve _ _) Malformed tt tt)
-    (of-either (eqb letter 102) _ _ (of-either _ (Refund _ _) Malformed tt tt)
-    (of-either (eqb letter 100) _ _ (of-either _ (Remove _) Malformed tt tt)
-    (of-either (eqb letter 115) _ _ (of-either _ (SetUp _) Malformed refl tt) tt)))))
+    let q = takenRequest r in
+    let longest = taken most64 (q .rest) in
+    let key = taken most64 r in
+    let cost = taken most32 (key .rest) in
+    let set-up = cond (eqb letter 115) (Lines.setUp r) Malformed in
+    let remove = cond (eqb letter 100) (Lines.remove r) set-up in
+    let refund = cond (eqb letter 102) (Lines.refund r) remove in
+    let reserve = cond (eqb letter 114) (Lines.reserve r) refund in
+    of-either (eqb letter 97) (Lines.try r) (cond (eqb letter 112) (Lines.peek r) reserve) (finished-is-classless (q .rest) (Try (q .value)) tt)
+    (of-either (eqb letter 112) (Lines.peek r) reserve (finished-is-classless (q .rest) (Peek (q .value)) tt)
+    (of-either (eqb letter 114) (Lines.reserve r) refund (finished-is-classless (longest .rest) (Reserve (q .value) (nanosOf (longest .value))) tt)
+    (of-either (eqb letter 102) (Lines.refund r) remove (finished-is-classless (cost .rest) (Refund (key .value) (cost .value)) tt)
+    (of-either (eqb letter 100) (Lines.remove r) set-up (finished-is-classless (key .rest) (Remove (key .value)) tt)
+    (of-either (eqb letter 115) (Lines.setUp r) Malformed (set-up-is-classless r) tt)))))
 
 fields-are-classless : (fs : List (List ℕ)) → Classless (lineOfFields fs)
 fields-are-classless [] = tt
@@ -79,7 +106,7 @@ fields-are-classless ((letter ∷ b ∷ bs) ∷ fs) = tt
 
 line-is-classless : (line : List ℕ) → Classless (lineOf line)
 unfolding lineOf
-line-is-classless line = of-either _ (lineOfFields (fields line)) Malformed (fields-are-classless (fields line)) tt
+line-is-classless line = of-either (leb (length line) longestLine) (lineOfFields (fields line)) Malformed (fields-are-classless (fields line)) tt
 
 module _ (s : Settings) (memory : List ℕ) (accepted : Desk.setUp s memory .answer .told .code ≡ 0) where
   -- How the program stands after line 1.
@@ -102,7 +129,7 @@ module _ (s : Settings) (memory : List ℕ) (accepted : Desk.setUp s memory .ans
     late = drop mostRows further
 
     abbrev gathered : Village
-    gathered = taken s early opened
+    gathered = LineLaws.taken s early opened
 
     few : length early ≤ mostRows
     few = omega (arith, length-take mostRows further)
