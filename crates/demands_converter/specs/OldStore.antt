@@ -3,7 +3,8 @@
 -- keeps no count of tries turned away, so request 8's look is left out where two stores are compared (`SameReplies` of `demands`).
 --
 -- Theorems, in proofs/:
--- * `forth-answers-alike`: every list of calls and clears of one settings record answers alike on the old store and on the words that a conversion forth leaves.
+-- * `forth-answers-alike`: every list of calls and clears of one settings record answers alike on the old store and on the words that a conversion forth
+--   leaves.
 -- * `back-answers-alike`: so it is on the present store and on the words that a conversion back of it leaves, but for request 8's look.
 -- * `old-grown-goes-forth`: an old store of at most 4,096 keys that has grown by a list is not refused on the way forth.
 -- * `grown-goes-back`: a grown store of at most 4,096 keys is not refused on the way back. `grown-back-is-the-old-store`: its shards become those that

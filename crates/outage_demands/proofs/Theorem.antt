@@ -71,7 +71,8 @@ record Named (rows : List Row) (id : Identity) : Type 0 where
 named-apart : (rows : List Row) → KeysApart rows → (i j : Identity) → Named rows i → Named rows j → i .hash ≡ j .hash → i .key ≡ j .key
 named-apart rows apart i j a b same =
     let hashes = sym (ap (λ (id : Identity). id .hash) (a .is)) ∙ same ∙ ap (λ (id : Identity). id .hash) (b .is) in
-    ap (λ (id : Identity). id .key) (a .is) ∙ apart (a .place) (b .place) (a .inside) (b .inside) (a .asked) (b .asked) hashes ∙ sym (ap (λ (id : Identity). id .key) (b .is))
+    let keys = apart (a .place) (b .place) (a .inside) (b .inside) (a .asked) (b .asked) hashes in
+    ap (λ (id : Identity). id .key) (a .is) ∙ keys ∙ sym (ap (λ (id : Identity). id .key) (b .is))
 
 module _ (s : Settings) where
   -- A call of a run that is not refused by number is made at a moment that a call may name.
