@@ -7,8 +7,8 @@ use mathlib.Core.Bool.{true, false}
 use mathlib.Core.List.{List}
 use lib.ListN.{length, take, drop}
 use lib.Seq.{take-all, take-add}
-use borrow.Author.Tests.{eq-eqb}
-use Rattle.arith.proofs.Cases.{by-eq}
+use borrow.Author.Tests.{eq-eqb, ne-eqb}
+use Rattle.arith.proofs.Cases.{by-eq, by-test}
 use Rattle.rows.specs.Outcome.{Outcome, outcome}
 use Rattle.rows.proofs.SumLaws.{sum-same}
 use Rattle.settings.specs.declared.Settings.{Settings}
@@ -17,7 +17,7 @@ use Rattle.settings.proofs.SettingsLaws.{cap-least}
 use Rattle.shard_map.specs.Model.{Shard, inPlaceOrder}
 use Rattle.shard_map.proofs.RoomLaws.{FindsEach, found-is-sound}
 use Rattle.shard_map.proofs.LayoutLaws.{cap-is}
-use Rattle.shard_map.proofs.ReadBack.{debt-cap-is}
+use Rattle.shard_map.proofs.ReadBack.{debt-cap-is, shard-sized}
 use Rattle.store.specs.Memory.{totalOf}
 use Rattle.rules.specs.declared.Reply.{Reply}
 use Rattle.rules.specs.declared.Reply.the-variants.{Done, Refused}
@@ -26,14 +26,15 @@ use Rattle.converter_shards.specs.Layout01.{shardWords01, words01}
 use Rattle.converter_shards.specs.Checks.{shardTwins, shardUsedPast, countOver, indexesExact}
 use Rattle.converter_shards.specs.code.RowChecks.{Counted}
 use Rattle.converter_shards.specs.Forth as Shards
-use Rattle.converter_shards.proofs.CheckLaws.{none-passes, none-of}
+use Rattle.converter_shards.proofs.CheckLaws.{both-ways, none-passes, none-of}
 use Rattle.converter_shards.proofs.Layout01Laws.{shard01-of-words, words01-of-back}
 use Rattle.converter_shards.proofs.ShardLaws.{none-over-cap}
 use Rattle.converter_shards.proofs.ForthLaws.{present-sized01}
 use Rattle.converter_shards.proofs.ConvertedLaws.{forth-has-twins-alike, forth-is-used-past-alike, forth-counts-alike, forth-in-place-order-is-the-same}
 use Rattle.converter_shards.proofs.ConvertedLaws.{forth-in-place-order, forth-words-read-back, back-of-forth-is-the-first, forth-indexes-are-exact}
 use Rattle.converter_shards.proofs.ConvertedLaws.{forth-finds-each}
-use Rattle.converter_shards.proofs.ConvertedLaws.{found-has-no-twins, found-is-not-used-past}
+use Rattle.converter_shards.proofs.ConvertedLaws.{found-has-no-twins, found-is-not-used-past, not-refused-finds-each}
+use Rattle.converter_shards.proofs.ConvertedLaws.{back-has-no-twins, back-is-not-used-past, back-counts-alike}
 use Rattle.converter.specs.declared.Layout.{Layout}
 use Rattle.converter.specs.declared.Layout.the-variants.{Old, Present}
 use Rattle.converter.specs.Layouts.{startOf, part, shardOf, shardAt, damaged, pastUsed, slotsOf, totalWrong}
@@ -191,15 +192,17 @@ pub record Found (s : Settings) (ws : List ℕ) : Type 0 where
   pub total : totalOf ws ≡ slotsOf Present (shardCount s) (capOf s) ws
 
 module _ (s : Settings) (ws : List ℕ) (found : Found s ws) where
-  found-whole : (i : ℕ) → i < shardCount s → damaged Present (capOf s) (shardAt Present (capOf s) i ws) ≡ false
-  found-whole i below =
+  found-fits : (i : ℕ) → i < shardCount s → countOver (capOf s) (shardAt Present (capOf s) i ws) ≡ false
+  found-fits i below =
       let cap : ℕ = capOf s in
       let own = shardAt Present cap i ws in
       let sound = found-is-sound (found .each i below) in
-      let fits : countOver cap own ≡ false =
       sym (none-over-cap cap own refl (rw (cap-is cap (part Present cap i ws)) at (sound .count-fits)) refl
-      (rw (debt-cap-is cap (part Present cap i ws)) at (sound .ledger .count-fits))) in
-      rw (fits, found .exact i below)
+      (rw (debt-cap-is cap (part Present cap i ws)) at (sound .ledger .count-fits)))
+
+  found-whole : (i : ℕ) → i < shardCount s → damaged Present (capOf s) (shardAt Present (capOf s) i ws) ≡ false
+  found-whole i below =
+      rw (found-fits i below, found .exact i below)
 
   pub found-goes-back : (target : List ℕ) → length target ≡ wordsFor Old s → Accepted Present s ws target
   found-goes-back target long = record {
@@ -212,6 +215,20 @@ module _ (s : Settings) (ws : List ℕ) (found : Found s ws) where
         (λ i below. found-has-no-twins (found .each i below)) (λ i below. found-is-not-used-past (found .each i below));
   }
 
+  -- Forth of words of document 01 whose shards are what its shards become.
+  pub becoming-goes-forth : (old : List ℕ) → length old ≡ wordsFor Old s
+      → ((i : ℕ) → i < shardCount s → shardAt Old (capOf s) i old ≡ Shards.back (shardAt Present (capOf s) i ws))
+      → (target : List ℕ) → length target ≡ wordsFor Present s → Accepted Old s old target
+  becoming-goes-forth old long is target also = record {
+    settings = found .settings;
+    keys = found .keys;
+    source-size = long;
+    target-size = also;
+    sound = every-shard-is-sound Old (shardCount s) (capOf s) old
+        (λ i below. rw (is i below, back-counts-alike (capOf s) (shardAt Present (capOf s) i ws)) (found-fits i below)) refl
+        (λ i below. rw (is i below) (back-has-no-twins (found .each i below))) (λ i below. rw (is i below) (back-is-not-used-past (found .each i below)));
+  }
+
 -- After a conversion back each shard is the shard that it was, in place order and without counts of tries turned away.
 module _ (s : Settings) (source target : List ℕ) (a : Accepted Present s source target) where
   pub back-is-alike : (i : ℕ) → i < shardCount s
@@ -221,3 +238,25 @@ module _ (s : Settings) (source target : List ℕ) (a : Accepted Present s sourc
       let own = shardAt Present cap i source in
       ap (shardOf Old cap) (part-of-moved Present (shardCount s) cap source (source-undamaged a) i below ∙ words01-of-back own)
       ∙ shard01-of-words cap own (present-sized01 cap (part Present cap i source))
+
+  -- Before it lookup finds each slot and each debt, and the total is the sum.
+  abbrev present : ℕ → Shard
+  present i = shardAt Present (capOf s) i source
+
+  present-exact : (i : ℕ) → i < shardCount s → (countOver (capOf s) (present i) ≡ false) × (indexesExact (present i) ≡ true)
+  present-exact i below =
+      let whole = none-damaged Present (shardCount s) (capOf s) source (a .sound .whole) i below in
+      by-test (countOver (capOf s) (present i)) (λ over. both-ways (rw over) whole)
+      (λ fits. (fits, by-test (indexesExact (present i)) (λ exact. exact) (λ not-exact. both-ways (rw (fits, not-exact)) whole)))
+
+  pub accepted-finds-each : (i : ℕ) → i < shardCount s → FindsEach (present i)
+  accepted-finds-each i below =
+      let free = source-undamaged a in
+      let sized = shard-sized (capOf s) (part Present (capOf s) i source) (part-long Present (capOf s) i source (part-ends (free .in-shards) i below)) in
+      let tests = present-exact i below in
+      not-refused-finds-each sized (cap-least s) (tests .0) (tests .1) (shard-is-single (a .sound) i below) (shard-is-clean (a .sound) i below)
+
+  pub accepted-total : totalOf source ≡ slotsOf Present (shardCount s) (capOf s) source
+  accepted-total =
+      by-eq (totalOf source) (slotsOf Present (shardCount s) (capOf s) source) (λ same. same)
+      (λ other. both-ways (rw (ne-eqb _ _ other)) (a .sound .total))

@@ -2,8 +2,8 @@
 -- debt where no two are alike, it passes the checks of the way back, and back it is the first words again.
 use Prim.Native.Nat.{ℕ, zero, suc, _+_, _*_, _≤_, _<_}
 use native.Mathlib.Omega.{arith}
-use mathlib.Core.Path.{_≡_, refl, ap, _∙_}
-use mathlib.Core.Bool.{true, false}
+use mathlib.Core.Path.{_≡_, refl, sym, ap, _∙_}
+use mathlib.Core.Bool.{Bool, true, false}
 use mathlib.Core.List.{List, [], _∷_, _++_, map}
 use lib.ListN.{length, drop, replicate, length-replicate}
 use Rattle.rows.specs.Segments.{segment}
@@ -11,9 +11,11 @@ use Rattle.rows.specs.Rows.{rows, unrow}
 use Rattle.arith.proofs.Cases.{by-test}
 use Rattle.index.specs.Layout.{placesFor}
 use Rattle.index.specs.Exact.{Exact}
-use Rattle.held.specs.Held.{Held, Items, inOrder, hashAt, exact-is-complete}
+use Rattle.held.specs.Held.{Held, Items, inOrder, itemAt, hashAt, exact-is-complete}
 use Rattle.held.specs.Held as Held
-use Rattle.held.specs.Layout.{tableIn}
+use Rattle.held.specs.Layout.{tableIn, indexWords}
+use Rattle.held.proofs.FindingLaws.{indexed, kindOf, indexed-by-words, index-length}
+use Rattle.held.proofs.MapLaws.{item-mapped}
 use Rattle.held.proofs.SingleLaws as Singles
 use Rattle.slot.specs.declared.Slot.{Slot}
 use Rattle.slot.specs.Slot as Slot
@@ -25,13 +27,13 @@ use Rattle.shard_map.proofs.ReadBack.{Sized, shard-of-words, words-length}
 use Rattle.shard_map.proofs.RoomLaws.{FindsEach, identityOf}
 use Rattle.converter_shards.specs.Layout01.{slotsAt01, slotWidth01, slotOf01, slotWords01, shard01, ledger01, words01}
 use Rattle.converter_shards.specs.Checks.{hasTwins, slotKey, debtKey, shardTwins, anyUsed, usedPast, usedPastBy, shardUsedPast01, shardUsedPast}
-use Rattle.converter_shards.specs.Checks.{countOver, indexesExact}
+use Rattle.converter_shards.specs.Checks.{countOver, exactly, indexesExact}
 use Rattle.converter_shards.specs.code.RowChecks.{Counted}
 use Rattle.converter_shards.specs.Forth.{builtIndex, withIndex, forth, back}
 use Rattle.converter_shards.proofs.Layout01Laws.{cap01-is, debt-cap01-is, in-place-order01, words-shard01}
 use Rattle.converter_shards.proofs.CheckLaws.{both-ways, no-twins-single, single-no-twins}
-use Rattle.converter_shards.proofs.PastLaws.{used-next, past-slots-are-free, past-debts-are-free, free-shard-is-unused}
-use Rattle.converter_shards.proofs.ExactTestLaws.{exact-is-exactly}
+use Rattle.converter_shards.proofs.PastLaws.{used-next, past-slots-are-free, past-debts-are-free, free-shard-is-unused, free-shard-is-unused01}
+use Rattle.converter_shards.proofs.ExactTestLaws.{exact-is-exactly, exactly-is-exact}
 use Rattle.converter_shards.proofs.ShardLaws.{slots-fit-cap, debts-fit-cap}
 use Rattle.converter_shards.proofs.ForthLaws.{added-length, built-exact, indexed-sized}
 
@@ -93,6 +95,29 @@ module _ {s : Shard} (each : FindsEach s) where
 
   pub found-is-not-used-past : shardUsedPast s ≡ false
   found-is-not-used-past = free-shard-is-unused s (each .slots .free-past) (each .ledger .free-past)
+
+-- The way forth refuses no shard of document 01 that such a shard becomes on the way back.
+module _ {s : Shard} (each : FindsEach s) where
+  slot-uncounted : (i : ℕ) → itemAt slotItems (back s .slots) i ≡ Slot.uncounted (itemAt slotItems (s .slots) i)
+  slot-uncounted i = item-mapped slotItems Slot.uncounted refl (λ x. refl) (s .slots) i
+
+  back-slots-single : Singles.Single slotItems identityOf (back s .slots)
+  back-slots-single i j belowI belowJ same =
+      each .slots .single i j belowI belowJ (sym (ap identityOf (slot-uncounted i)) ∙ same ∙ ap identityOf (slot-uncounted j))
+
+  pub back-has-no-twins : shardTwins (back s) ≡ false
+  unfolding shardTwins
+  back-has-no-twins =
+      rw (single-no-twins slotItems slotKey identityOf (λ x y h k. λ j. (h j, k j)) (back s .slots) back-slots-single)
+      (single-no-twins debtItems debtKey LedgerOrder.hashOf (λ x y h k. h) (back s .ledger .debts) (each .ledger .single))
+
+  pub back-is-not-used-past : shardUsedPast01 (back s) ≡ false
+  back-is-not-used-past =
+      free-shard-is-unused01 (back s) (λ i past. slot-uncounted i ∙ ap Slot.uncounted (each .slots .free-past i past)) (each .ledger .free-past)
+
+pub back-counts-alike : (cap : ℕ) (s : Shard) → countOver cap (back s) ≡ countOver cap s
+unfolding countOver
+back-counts-alike cap s = refl
 
 -- Items with an index that was built in order: it is exact, and lookup misses none.
 module _ {A : Type 0} (items : Items A) (cap : ℕ) (h : Held A) (full : length (h .places) ≡ cap) (fits : h .count ≤ cap) (room : 0 < cap) where
@@ -181,3 +206,39 @@ module _ {cap : ℕ} {ws : List ℕ} (counted : Counted cap ws) where
         free-past = past-debts-are-free (forth cap own) clean;
       };
     }
+
+-- Items that are found by an index of the right size, which is exact: lookup misses none.
+indexed-is-complete : {A : Type 0} (items : Items A) (cap : ℕ) (h : Held A) → length (h .places) ≡ cap → kindOf (h .finding) ≡ indexed (placesFor cap)
+    → exactly (hashAt items h) (h .count) (indexWords (h .finding)) ≡ true → Held.Complete items h
+indexed-is-complete items cap h full kind exact =
+    exact-is-complete (indexWords (h .finding)) (sym (indexed-by-words (h .finding) (placesFor cap) kind))
+    (index-length (h .finding) (placesFor cap) kind ∙ ap placesFor (sym full)) (exactly-is-exact _ _ _ exact)
+
+-- A present shard that the way back does not refuse: lookup finds each slot and each debt.
+module _ {cap : ℕ} {s : Shard} (sized : Sized cap s) (room : 0 < cap) (fits : countOver cap s ≡ false) (exact : indexesExact s ≡ true) where
+  abbrev slotsExactly : Bool
+  slotsExactly = exactly (hashAt slotItems (s .slots)) (s .slots .count) (indexWords (s .slots .finding))
+
+  slots-exact : slotsExactly ≡ true
+  unfolding indexesExact
+  slots-exact = by-test slotsExactly (λ t. t) (λ t. both-ways exact (rw t))
+
+  debts-exact : exactly (hashAt debtItems (s .ledger .debts)) (s .ledger .debts .count) (indexWords (s .ledger .debts .finding)) ≡ true
+  unfolding indexesExact
+  debts-exact = rw slots-exact at exact
+
+  pub not-refused-finds-each : shardTwins s ≡ false → shardUsedPast s ≡ false → FindsEach s
+  not-refused-finds-each none clean = record {
+    slots = record {
+      sound = record { room = rw (sized .slots) room; count-fits = rw (sized .slots) (slots-fit-cap cap s fits) };
+      complete = indexed-is-complete slotItems cap (s .slots) (sized .slots) (sized .slots-kind) slots-exact;
+      single = slots-single s none;
+      free-past = past-slots-are-free s clean;
+    };
+    ledger = record {
+      sound = record { room = rw (sized .debts) room; count-fits = rw (sized .debts) (debts-fit-cap cap s fits) };
+      complete = indexed-is-complete debtItems cap (s .ledger .debts) (sized .debts) (sized .debts-kind) debts-exact;
+      single = debts-single s none;
+      free-past = past-debts-are-free s clean;
+    };
+  }

@@ -15,8 +15,8 @@ use Rattle.ledger.specs.declared.Debt.{Debt}
 use Rattle.ledger.specs.Model.{debtItems, noDebt}
 use Rattle.shard_map.specs.Model.{Shard, slotItems, noSlot}
 use Rattle.shard_map.specs.Layout.{slotWords}
-use Rattle.converter_shards.specs.Layout01.{debtWords01}
-use Rattle.converter_shards.specs.Checks.{anyBelow, isUsed, anyUsed, usedPast, usedPastBy, shardUsedPast}
+use Rattle.converter_shards.specs.Layout01.{slotWords01, debtWords01}
+use Rattle.converter_shards.specs.Checks.{anyBelow, isUsed, anyUsed, usedPast, usedPastBy, shardUsedPast, shardUsedPast01}
 use Rattle.converter_shards.proofs.CheckLaws.{both-ways, any-first, used-of}
 
 -- Words one by one.
@@ -59,6 +59,9 @@ slot-unused x rest none =
 slot-blank : (rest : List ℕ) → anyUsed (slotWords noSlot ++ rest) ≡ anyUsed rest
 slot-blank rest = simp used-next
 
+slot-blank01 : (rest : List ℕ) → anyUsed (slotWords01 noSlot ++ rest) ≡ anyUsed rest
+slot-blank01 rest = simp used-next
+
 debt-unused : (x : Debt) (rest : List ℕ) → anyUsed (debtWords01 x ++ rest) ≡ false → (x ≡ noDebt) × (anyUsed rest ≡ false)
 debt-unused x rest none =
     let a = next-unused (x .hash) _ none in
@@ -68,28 +71,29 @@ debt-unused x rest none =
 debt-blank : (rest : List ℕ) → anyUsed (debtWords01 noDebt ++ rest) ≡ anyUsed rest
 debt-blank rest = simp used-next
 
--- Items of which no word is used are free, and free items have no word that is used.
+-- Items of which no word is used are free.
 module _ {A : Type 0} (items : Items A) (write : A → List ℕ)
-    (unused : (x : A) (rest : List ℕ) → anyUsed (write x ++ rest) ≡ false → (x ≡ items .free) × (anyUsed rest ≡ false))
-    (blank : (rest : List ℕ) → anyUsed (write (items .free) ++ rest) ≡ anyUsed rest) where
+    (unused : (x : A) (rest : List ℕ) → anyUsed (write x ++ rest) ≡ false → (x ≡ items .free) × (anyUsed rest ≡ false)) where
   all-free : (l : List A) → anyUsed (unrow (map write l)) ≡ false → (i : ℕ) → getD l i (items .free) ≡ items .free
   unfolding unrow
   all-free [] none i = refl
   all-free (x ∷ l) none zero = unused x (unrow (map write l)) none .0
   all-free (x ∷ l) none (suc i) = all-free l (unused x (unrow (map write l)) none .1) i
 
+  past-is-free : (h : Held A) → usedPast write h ≡ false → FreePast items h
+  unfolding usedPast
+  past-is-free h none i past =
+      let there : h .count + (i - h .count) ≡ i = omega arith in
+      rw there at (sym (getD-drop (h .count) (h .places) (i - h .count) (items .free)) ∙ all-free (drop (h .count) (h .places)) none (i - h .count))
+
+-- And free items have no word that is used.
+module _ {A : Type 0} (items : Items A) (write : A → List ℕ) (blank : (rest : List ℕ) → anyUsed (write (items .free) ++ rest) ≡ anyUsed rest) where
   none-of-free : (l : List A) → ((i : ℕ) → getD l i (items .free) ≡ items .free) → anyUsed (unrow (map write l)) ≡ false
   unfolding unrow
   none-of-free [] free = none-used
   none-of-free (x ∷ l) free =
       let first : x ≡ items .free = free 0 in
       rw (first, blank (unrow (map write l))) (none-of-free l (λ i. free (suc i)))
-
-  past-is-free : (h : Held A) → usedPast write h ≡ false → FreePast items h
-  unfolding usedPast
-  past-is-free h none i past =
-      let there : h .count + (i - h .count) ≡ i = omega arith in
-      rw there at (sym (getD-drop (h .count) (h .places) (i - h .count) (items .free)) ∙ all-free (drop (h .count) (h .places)) none (i - h .count))
 
   free-is-unused : (h : Held A) → FreePast items h → usedPast write h ≡ false
   unfolding usedPast
@@ -101,17 +105,22 @@ module _ (s : Shard) where
   pub past-slots-are-free : shardUsedPast s ≡ false → FreePast slotItems (s .slots)
   unfolding usedPastBy
   past-slots-are-free none =
-      past-is-free slotItems slotWords slot-unused slot-blank (s .slots)
+      past-is-free slotItems slotWords slot-unused (s .slots)
       (by-test (usedPast slotWords (s .slots)) (λ t. both-ways (rw t) none) (λ t. t))
 
   pub past-debts-are-free : shardUsedPast s ≡ false → FreePast debtItems (s .ledger .debts)
   unfolding usedPastBy
   past-debts-are-free none =
-      past-is-free debtItems debtWords01 debt-unused debt-blank (s .ledger .debts)
+      past-is-free debtItems debtWords01 debt-unused (s .ledger .debts)
       (by-test (usedPast slotWords (s .slots)) (λ t. both-ways (rw t) none) (λ t. rw t at none))
 
   pub free-shard-is-unused : FreePast slotItems (s .slots) → FreePast debtItems (s .ledger .debts) → shardUsedPast s ≡ false
   unfolding usedPastBy
   free-shard-is-unused slots debts =
-      rw (free-is-unused slotItems slotWords slot-unused slot-blank (s .slots) slots)
-      (free-is-unused debtItems debtWords01 debt-unused debt-blank (s .ledger .debts) debts)
+      rw (free-is-unused slotItems slotWords slot-blank (s .slots) slots) (free-is-unused debtItems debtWords01 debt-blank (s .ledger .debts) debts)
+
+  -- So it is with the words of document 01.
+  pub free-shard-is-unused01 : FreePast slotItems (s .slots) → FreePast debtItems (s .ledger .debts) → shardUsedPast01 s ≡ false
+  unfolding usedPastBy
+  free-shard-is-unused01 slots debts =
+      rw (free-is-unused slotItems slotWords01 slot-blank01 (s .slots) slots) (free-is-unused debtItems debtWords01 debt-blank (s .ledger .debts) debts)

@@ -36,7 +36,7 @@ use Rattle.converter.specs.Layouts as Layouts
 use Rattle.converter.specs.Conversion.{keysRefusal, wordsFor, movedWords, forth, back}
 use Rattle.converter.proofs.RefusalLaws.{Accepted}
 use Rattle.converter.proofs.Theorem.{done-is-accepted, accepted-is-done, forth-is-in-place-order, forth-finds-all, forth-total, forth-long}
-use Rattle.converter.proofs.Theorem.{Found, found-goes-back, back-is-alike}
+use Rattle.converter.proofs.Theorem.{Found, found-goes-back, back-is-alike, becoming-goes-forth, accepted-finds-each, accepted-total}
 use Rattle.demands.specs.Demands.{WithinWindow}
 use Rattle.demands.specs.Grown.{Grown}
 use Rattle.demands.specs.PlaceOrder.{shardNumbered, Shards, freshShards, refusedAs, onShards, Turn, calls, byRules, stepWithoutIndexes, run}
@@ -65,7 +65,7 @@ module _ (s : Settings) (source target : List ℕ) (done : forth s source target
   pub forth-leaves : forth s source target .after ≡ left
   forth-leaves = ap (λ (o : Outcome Reply (List ℕ)). o .after) (accepted-is-done Old s source target accepted)
 
-  forth-sound : SoundMemory (classless s) left
+  pub forth-sound : SoundMemory (classless s) left
   forth-sound = record {
     settings = refused-with-any-classes 0 s ∙ accepted .settings;
     size = omega (arith, forth-long s source target accepted);
@@ -112,7 +112,48 @@ module _ (s : Settings) (ws : List ℕ) (memory : SoundMemory (classless s) ws) 
   sound-goes-back target long =
       ap (λ (o : Outcome Reply (List ℕ)). o .answer) (accepted-is-done Present s ws target (found-goes-back s ws found target long))
 
+-- Words of document 01 that hold such a store go forth.
+module _ (s : Settings) (ws : List ℕ) (memory : SoundMemory (classless s) ws) (few : keysRefusal s ≡ 0) where
+  pub sound-goes-forth : (old : List ℕ) → length old ≡ wordsFor Old s
+      → ((i : ℕ) → i < shardCount s → oldStore s old .numbered i ≡ inPlaceOrder (uncounted (shardNumbered (classless s) i ws)))
+      → (target : List ℕ) → length target ≡ wordsFor Present s → forth s old target .answer ≡ Done
+  sound-goes-forth old long held target also =
+      ap (λ (o : Outcome Reply (List ℕ)). o .answer)
+      (accepted-is-done Old s old target (becoming-goes-forth s ws (found s ws memory few) old long held target also))
+
+-- A list of calls and clears leaves a sound memory sound.
+module _ {S N : Type 0} (terms : Terms S N) (s : Settings) where
+  turns-keep-sound : (ts : List (Turn S N)) (ws : List ℕ) → SoundMemory s ws → AllOf terms s ts → SoundMemory s (run (byRules terms s) ts ws .after)
+  unfolding run
+  turns-keep-sound [] ws memory all = memory
+  turns-keep-sound (t ∷ ts) ws memory all =
+      turns-keep-sound ts (byRules terms s t ws .after) (turn-keeps-sound terms s t ws memory (all .0)) (all .1)
+
 module _ {S N : Type 0} (terms : Terms S N) where
+  -- A store that has come forth and has worked on goes back.
+  pub came-forth-goes-back : (s : Settings) (source target : List ℕ) → forth s source target .answer ≡ Done → (ts : List (Turn S N))
+      → AllOf terms (classless s) ts → (again : List ℕ) → length again ≡ wordsFor Old s
+      → back s (run (byRules terms (classless s)) ts (forth s source target .after) .after) again .answer ≡ Done
+  came-forth-goes-back s source target done ts all again long =
+      let came : SoundMemory (classless s) (forth s source target .after) = rw (forth-leaves s source target done) (forth-sound s source target done) in
+      let left-words : List ℕ = run (byRules terms (classless s)) ts (forth s source target .after) .after in
+      sound-goes-back s left-words (turns-keep-sound terms (classless s) ts (forth s source target .after) came all) (accepted s source target done .keys) again
+      long
+
+  -- What document 01's layout would have grown by a list, from a fresh store in place order, goes forth.
+  pub old-grown-goes-forth : (s : Settings) (table fresh : List ℕ) → classCount table ≡ 0 → setUpFor (classless s) table fresh .answer ≡ Done
+      → (ts : List (Turn S N)) → AllOf terms (classless s) ts → keysRefusal s ≡ 0
+      → (old : List ℕ) → length old ≡ wordsFor Old s
+      → ((i : ℕ) → i < shardCount s
+      → oldStore s old .numbered i ≡ uncounted (run (stepWithoutIndexes terms (classless s)) ts (freshShards (classless s)) .after .numbered i))
+      → (target : List ℕ) → length target ≡ wordsFor Present s → forth s old target .answer ≡ Done
+  old-grown-goes-forth s table fresh none set-up ts all few old long held target also =
+      let start : List ℕ = setUpFor (classless s) table fresh .after in
+      let ws : List ℕ = run (byRules terms (classless s)) ts start .after in
+      let same = grown-store-is-as-without-indexes terms (classless s) table fresh none set-up ts all in
+      let sound = turns-keep-sound terms (classless s) ts start (sound-kept-by-calls terms (classless s) .fresh table fresh set-up) all in
+      sound-goes-forth s ws sound few old long (λ i below. held i below ∙ sym (ap uncounted (same .shards i below))) target also
+
   pub grown-goes-back : (s : Settings) (ws target : List ℕ) → Grown terms (classless s) ws → keysRefusal s ≡ 0 → length target ≡ wordsFor Old s
       → back s ws target .answer ≡ Done
   grown-goes-back s ws target grown few long = sound-goes-back s ws (grown-memory-is-sound terms grown) few target long
@@ -130,7 +171,16 @@ module _ (s : Settings) (source target : List ℕ) (done : back s source target 
   back-shard i below =
       ap (λ (w : List ℕ). oldStore s w .numbered i) back-leaves ∙ back-is-alike s source target accepted-back i below
 
-  module _ {S N : Type 0} (terms : Terms S N) (memory : SoundMemory (classless s) source) where
+  -- What it is made of was a sound memory.
+  back-sound : SoundMemory (classless s) source
+  back-sound = record {
+    settings = refused-with-any-classes 0 s ∙ accepted-back .settings;
+    size = omega (arith, accepted-back .source-size);
+    total = accepted-total s source target accepted-back;
+    finds-each = λ hash. accepted-finds-each s source target accepted-back (shardOf s hash) (shard-below s hash);
+  }
+
+  module _ {S N : Type 0} (terms : Terms S N) where
     abbrev present : Shards
     present = record { numbered = λ i. inPlaceOrder (shardNumbered (classless s) i source); buckets = [] }
 
@@ -149,7 +199,7 @@ module _ (s : Settings) (source target : List ℕ) (done : back s source target 
         → SameReplies ts (run (byRules terms (classless s)) ts source .answer)
         (run (stepWithoutIndexes terms (classless s)) ts (oldStore s (back s source target .after)) .answer)
     back-answers-alike ts all =
-        rw (run-same terms (classless s) ts source present memory present-places all .answer)
+        rw (run-same terms (classless s) ts source present back-sound present-places all .answer)
         (run-alike terms (classless s) ts present (oldStore s (back s source target .after)) all equal-but-for-counts)
 
 -- A grown store becomes what document 01's layout would have grown by the same list, from a fresh store in place order.

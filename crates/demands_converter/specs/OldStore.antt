@@ -3,12 +3,16 @@
 -- keeps no count of tries turned away, so request 8's look is left out where two stores are compared (`SameReplies` of `demands`).
 --
 -- Theorems, in proofs/:
--- * `forth-answers-alike`: every list of calls and clears answers alike on the old store and on the words that a conversion forth leaves.
--- * `back-answers-alike`: so it is on a grown present store and on the words that a conversion back leaves, but for request 8's look.
--- * `grown-goes-back`: a grown store of at most 4,096 keys is not refused on the way back. `grown-back-is-the-old-store`: it becomes what document 01's layout
---   would have grown.
--- * `forth-decides-by-the-old-debt`: a key that holds a slot or a debt on the old store is decided by it on the new one.
--- * `converted-store-stays-within-the-window`: the window, over a list that begins on the one store and goes on, converted, on the other.
+-- * `forth-answers-alike`: every list of calls and clears of one settings record answers alike on the old store and on the words that a conversion forth
+--   leaves.
+-- * `back-answers-alike`: so it is on the present store and on the words that a conversion back of it leaves, but for request 8's look.
+-- * `old-grown-goes-forth`: an old store of at most 4,096 keys that has grown by a list is not refused on the way forth.
+-- * `grown-goes-back`: a grown store of at most 4,096 keys is not refused on the way back. `grown-back-is-the-old-store`: its shards become those that
+--   document 01's layout would have grown. `came-forth-goes-back`: nor is a store refused that has come forth and has worked on.
+-- * `forth-decides-by-the-old-debt`: a try or a reservation, of a cost from 1 to the burst, of a key that holds a slot or a debt on the old store is decided
+--   by it on the new one.
+-- * `converted-store-stays-within-the-window`: the window, over a list of calls that begins on the one store and goes on, converted forth, on the other. All
+--   calls have the settings of the store, and after the conversion none looks at a count.
 use Prim.Native.Nat.{ℕ}
 use mathlib.Core.Path.{_≡_}
 use mathlib.Core.Bool.{false}

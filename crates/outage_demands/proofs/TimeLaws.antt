@@ -31,7 +31,7 @@ Waits before rows = (j : ℕ) → j < length rows → isLive (rowAt rows j) ≡ 
 abbrev NotBefore : ℕ → Row → Type 0
 NotBefore least new = isLive new ≡ true → least ≤ new .at .0
 
-waits-later : (row : Row) (r : Reply) → TryReply (row .at) r → NotBefore (row .at .0) (afterTry row (toldOf r))
+pub waits-later : (row : Row) (r : Reply) → TryReply (row .at) r → NotBefore (row .at .0) (afterTry row (toldOf r))
 waits-later row r reply =
     by-again (NotBefore (row .at .0)) row (toldOf r)
     (λ t live. denied-later reply (again-denied (made row) (toldOf r) t .code))

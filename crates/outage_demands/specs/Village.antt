@@ -2,7 +2,7 @@
 --
 -- The settings have a rate and turn new keys away when full, set-up accepts them, and the run starts from the words that set-up leaves.
 -- No row has ended with code 0 before the run,                                                           NoneGrantedYet
--- and no two rows have different keys of one hash.                                                       KeysApart
+-- and no two rows that are tried, and not refused by number, have different keys of one hash.           KeysApart
 -- Add up the costs of the key's rows that end with code 0, their last try made from moment t to u.       tokensGranted
 -- Times the period, the sum is at most burst × period + (u - t + 1) × amount.                            WithinRate 1
 --
@@ -15,9 +15,9 @@
 --   lines 2 to 201 as they end (`input-prints-its-village`), run on the words that the set-up of line 1 left (`village-runs-fresh`), and they stay within the
 --   window. None of them was granted before (`lines-not-granted`).
 -- * `denied-line-made-all`: a line that is answered 1 has made 1,000 tries. After the run no row is live (`outage-ends-all` of `outage_rows`).
-use Prim.Native.Nat.{ℕ, zero, suc, _+_, _*_, _<_}
+use Prim.Native.Nat.{ℕ, zero, suc, _+_, _*_, _<_, _≤_}
 use mathlib.Core.Path.{_≡_}
-use mathlib.Core.Bool.{false, cond}
+use mathlib.Core.Bool.{true, false, cond}
 use mathlib.Core.List.{List, [], _∷_, _++_, map}
 use lib.Dec.{leb, eqb}
 use lib.ListN.{length, take, drop}
@@ -30,6 +30,7 @@ use Rattle.settings.specs.declared.eviction.WhenFull.the-variants.{RefuseNew}
 use Rattle.settings.specs.declared.rate.Rate.{Rate}
 use Rattle.hash.specs.Fnv.{keyHash}
 use Rattle.rules.specs.declared.Reply.{Reply}
+use Rattle.store.specs.Refusals.{latestMoment}
 use Rattle.rules.specs.declared.Reply.the-variants.{Done}
 use Rattle.rules.specs.Rules.{setUp}
 use Rattle.rules.specs.Calls.{try}
@@ -43,7 +44,7 @@ use Rattle.desk_answers.specs.Desk as Desk
 use Rattle.desk_cutting.specs.Cutting.{linesOf}
 use Rattle.outage_rows.specs.declared.Row.{Row}
 use Rattle.outage_rows.specs.Model.{State, mostTries, rowAt, isLive, costOf, next, step, outage}
-use Rattle.outage_rows.specs.Printed.{printedRow, printedRows}
+use Rattle.outage_rows.specs.Printed.{lineOfRow, printedRow, printedRows}
 use Rattle.outage_run.specs.Run.{mostRows, malformedRow, rowOfLine, nextNumber, printedFor}
 
 -- The call that the next try of a row is.
@@ -86,10 +87,16 @@ tokensGranted key t u (row ∷ rows) = granted key t u row + tokensGranted key t
 abbrev pub NoneGrantedYet : List Row → Type 0
 NoneGrantedYet rows = (j : ℕ) → j < length rows → isLive (rowAt rows j) ≡ false → rowAt rows j .code ≡ 0 → ⊥
 
--- No two rows have different keys of one hash.
+-- A row is asked of the store: it is live, and its moment is one that a call may name. The rows of malformed lines are not live, and the try of a row that is
+-- too late is refused by number.
+abbrev pub Asked : Row → Type 0
+Asked row = (isLive row ≡ true) × (row .at .0 ≤ latestMoment)
+
+-- No two such rows have different keys of one hash.
 abbrev pub KeysApart : List Row → Type 0
 KeysApart rows =
-    (i j : ℕ) → i < length rows → j < length rows → keyHash (rowAt rows i .key) ≡ keyHash (rowAt rows j .key) → rowAt rows i .key ≡ rowAt rows j .key
+    (i j : ℕ) → i < length rows → j < length rows → Asked (rowAt rows i) → Asked (rowAt rows j)
+    → keyHash (rowAt rows i .key) ≡ keyHash (rowAt rows j .key) → rowAt rows i .key ≡ rowAt rows j .key
 
 -- The window, for every village.
 abbrev pub fresh : Settings → List ℕ → List Row → List ℕ → State
@@ -105,9 +112,9 @@ VillageWindow =
 abbrev pub rowsOf : List (List ℕ) → List Row
 rowsOf lines = map (λ line. rowOfLine (lineOf line)) lines
 
--- The first line that can have no row; and what is printed for the lines from there on.
+-- The first line that can have no row, line 202; and what is printed for the lines from there on.
 abbrev pub firstPast : ℕ
-firstPast = 202
+firstPast = lineOfRow mostRows
 
 unfoldable pub printedPast : ℕ → List (List ℕ) → List ℕ
 printedPast number [] = []
@@ -122,12 +129,12 @@ villageRows s memory further =
 abbrev pub printedVillage : Settings → List ℕ → List (List ℕ) → List ℕ
 printedVillage s memory further = printed 1 0 0 ++ (printedRows (villageRows s memory further) ++ printedPast firstPast (drop mostRows further))
 
--- Whole inputs. Line 1 is a settings line that is answered 0; its settings have a rate and turn new keys away when full, and no class, as those of every
--- settings line. No two of lines 2 to 201 have different keys of one hash. Then these rows are printed, and they stay within the window.
+-- Whole inputs. Line 1 is a settings line that is answered 0; its settings have a rate and turn new keys away when full. No two tries among lines 2 to 201
+-- that are not refused by number have different keys of one hash. Then these rows are printed, and they stay within the window.
 abbrev pub InputWindow : Type 0
 InputWindow =
     (input memory first : List ℕ) (further : List (List ℕ)) (s : Settings) (rate : Rate) → linesOf input ≡ first ∷ further → lineOf first ≡ SetUp s →
-    Desk.setUp s memory .answer .told .code ≡ 0 → s .classes ≡ 0 → s .limit ≡ Open rate → s .eviction .«when_full» ≡ RefuseNew →
+    Desk.setUp s memory .answer .told .code ≡ 0 → s .limit ≡ Open rate → s .eviction .«when_full» ≡ RefuseNew →
     KeysApart (rowsOf (take mostRows further)) →
     (printedFor input memory ≡ printedVillage s memory further)
     × ((key : ℕ) → WithinRate 1 rate (λ t u. tokensGranted key t u (villageRows s memory further)))
