@@ -8,8 +8,8 @@
 --
 -- Theorems, in proofs/:
 -- * `village-stays-within-the-window`: every run does. It is the window of demand 3 for the list of tries that the run makes (`calls`):
---   `run-leaves-what-its-calls-leave`, each try on the words that the last one left; `run-never-goes-back`, moments never fall, on any memory;
---   `run-grants-what-its-calls-grant`, the tokens of the rows are the tokens of the calls.
+--   `run-leaves-what-its-calls-leave`, each try on the words that the last one left; `run-never-goes-back`, on any memory the moments of the tries that are
+--   not refused by number never fall; `run-grants-what-its-calls-grant`, the tokens of the rows are the tokens of the calls.
 -- * `contract-stays-within-the-window`: so it is with the rows of code that is as the contract of `outage_rows::run` says.
 -- * `every-input-stays-within-the-window`: the same of the program's whole inputs (`InputWindow`). Where line 1 is accepted, what is printed is the rows of
 --   lines 2 to 201 as they end (`input-prints-its-village`), run on the words that the set-up of line 1 left (`village-runs-fresh`), and they stay within the

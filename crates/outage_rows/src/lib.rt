@@ -2,7 +2,7 @@
 ghost use mathlib.Core.Path.{_≡_};
 ghost use mathlib.Core.List.{_++_, _∷_, []};
 ghost use Prim.Native.Nat.{_+_, _*_, _<_, _≤_};
-ghost use lib.ListN.{length};
+ghost use lib.ListN.{length, drop};
 ghost use Rattle.outage_rows.specs.Model as Model;
 ghost use Rattle.outage_rows.specs.Layout.{rowWidth, rowsIn, stateIn, stateOf};
 ghost use Rattle.outage_rows.specs.Model.{Below};
@@ -46,7 +46,8 @@ pub fn run(settings: Settings, rs: &mut [u64], ws: &mut [u64])
 // Keeps a row behind the first n rows. The words past it stay.
 pub fn keep(rs: &mut [u64], n: usize, row: Row)
     requires { ⌜ rowWidth * (n + 1) ≤ length (now rs) ⌝ }
-    ensures { λ _. ⌜ rowsIn (n + 1) (now (rs .exit)) ≡ rowsIn n (now (rs .entry)) ++ (row ∷ []) ⌝ }
+    ensures { λ _. ⌜ (rowsIn (n + 1) (now (rs .exit)) ≡ rowsIn n (now (rs .entry)) ++ (row ∷ []))
+        × (drop (rowWidth * (n + 1)) (now (rs .exit)) ≡ drop (rowWidth * (n + 1)) (now (rs .entry))) ⌝ }
 {
     words::put(rs, n + 1, n, row);
 }

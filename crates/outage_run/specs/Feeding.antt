@@ -91,3 +91,4 @@ pub record OneTurn (f : Feed) (end : ℕ) (input rs memory output : List ℕ) (r
 pub record LastLine (f : Feed) (pending : ℕ) (input rs memory output : List ℕ) (r : Feed) (rs′ memory′ output′ : List ℕ) : Type 0 where
   pub answers : fed r rs′ memory′ output′ ≡ andThen (linesAnswered village (lastLine (take pending input)) (villageOf f rs memory)) finished
   pub fits : r .put ≤ length output
+  pub beyond : SameFrom (r .put) output output′

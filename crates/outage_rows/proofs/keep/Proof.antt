@@ -15,7 +15,7 @@ same-length : tie.Need-same-length
 same-length c = search needs
 
 returns : tie.Need-returns
-returns c = c .before .before .put .ensures .0 ∙ one-row-more _ _ _
+returns c = (c .before .before .put .ensures .0 ∙ one-row-more _ _ _, c .before .before .put .ensures .1)
 
 pub keep-spec : {M : Type 1} → statement M
 keep-spec = tie.close (tie.spec add-put put-requires same-length returns)

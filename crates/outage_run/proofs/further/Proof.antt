@@ -71,7 +71,7 @@ returns-2 c =
     (row-took (start′ .args .feed) (start′ .args .number) (lineOf (start′ .args .line .now)) (start′ .args .rs .now) (start′ .args .memory .now)
     (start′ .args .output .now) (λ none. omega (arith, none, if1′ .left))
     (rw (c .before .before .before .before .before .before .read .ensures) at (c .before .before .before .before .before .row-of .ensures))
-    (c .before .before .before .before .keep .ensures))
+    (c .before .before .before .before .keep .ensures .0))
 
 pub further-spec : {M : Type 1} → statement M
 further-spec =

@@ -3,6 +3,7 @@ use Rattle.outage_run.proofs.FeedingLaws.{last-then-run}
 use Rattle.outage_run.specs.Run.{village}
 use Rattle.outage_run.specs.Feeding.{villageOf}
 use Rattle.desk_cutting.proofs.UnderwayLaws.{no-last-line, last-is-answered}
+use Rattle.desk_cutting.proofs.WrittenLaws.{same-further}
 use native.Mathlib.Omega.{arith}
 use borrow.Author.Needs.{needs}
 use Rattle.outage_run.proofs.last_line.Statement.{statement}
@@ -38,6 +39,7 @@ returns c =
     record {
       answers = last-then-run none ran;
       fits = omega (arith, ran .fits, start′ .pre .2);
+      beyond = ran .beyond;
     }
 
 sub-take-line : tie.Need-sub-take-line
@@ -87,6 +89,7 @@ returns-2 c =
     record {
       answers = last-then-run last (finish2′ .ensures);
       fits = omega (arith, took .fits, finish2′ .ensures .fits, s .pre .2);
+      beyond = same-further _ _ _ _ _ (took .beyond) (finish2′ .ensures .after) (finish2′ .ensures .beyond);
     }
 
 pub last-line-spec : {M : Type 1} → statement M
