@@ -8,7 +8,7 @@ ghost use Rattle.bucket.specs.Debt.{missing_tokens, charged, taken_out, restored
 use units::Nanos;
 
 // The rate of a bucket: `amount` tokens come back every `period`, up to `capacity`; a fresh bucket holds `initial`.
-#[derive(Drop)]
+#[derive(Clone, Copy)]
 pub struct BucketConfig {
     pub capacity: u32,
     pub amount: u32,
@@ -17,14 +17,14 @@ pub struct BucketConfig {
 }
 
 // A bucket: how many parts it lacked to be full at the moment of the stamp. A token is `period` parts.
-#[derive(Drop)]
+#[derive(Clone, Copy)]
 pub struct BucketCore {
     pub shortfall: u64,
     pub stamp: Nanos,
 }
 
 // What is asked of a bucket: tokens now; tokens after a wait of at most so long; or tokens now of this bucket and of others, whose largest wait is given.
-#[derive(Drop)]
+#[derive(Clone, Copy)]
 pub enum Request {
     Acquire,
     Reserve(Nanos),
@@ -33,7 +33,7 @@ pub enum Request {
 
 // When tokens or room are due: after the wait, at the moment. Both are held to 64 bits. Where a call comes before a bucket's stamp, as after a clock was set
 // back, a wait above 0 includes the time until the stamp.
-#[derive(Drop)]
+#[derive(Clone, Copy)]
 pub struct Due {
     pub wait: Nanos,
     pub moment: Nanos,
@@ -41,14 +41,14 @@ pub struct Due {
 
 // What a bucket answers: the tokens are charged and usable when they are due, or nothing is charged and a try of the cost is granted then, if nothing happens
 // meanwhile.
-#[derive(Drop)]
+#[derive(Clone, Copy)]
 pub enum BucketDecision {
     Allowed(Due),
     Denied(Due),
 }
 
 // An answer, the bucket after it, and whether the answer turned a try away: the bucket made it wait.
-#[derive(Drop)]
+#[derive(Clone, Copy)]
 pub struct BucketOutcome {
     pub decision: BucketDecision,
     pub bucket: BucketCore,

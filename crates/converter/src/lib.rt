@@ -18,7 +18,7 @@ use rules::Reply;
 use settings::Settings;
 
 // Document 01's layout, and the present one.
-#[derive(Drop)]
+#[derive(Clone, Copy)]
 pub enum Layout {
     Old,
     Present,

@@ -16,7 +16,7 @@ use rows::Place;
 pub mod words;
 
 // Where items lie in words: from word `first` on, each in a row of `width` words. The first word of a row is the item's hash, and word `key` of it is its key.
-#[derive(Drop)]
+#[derive(Clone, Copy)]
 pub struct Rows {
     pub first: usize,
     pub width: usize,

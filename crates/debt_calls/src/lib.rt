@@ -13,14 +13,14 @@ use store::{Part, debts, refusals};
 use units::Nanos;
 
 // A debt that has not settled, and the place after it.
-#[derive(Drop)]
+#[derive(Clone, Copy)]
 pub struct Unsettled {
     pub debt: Debt,
     pub next: usize,
 }
 
 // What is to be written: so many debts of a part. A call that is refused by a number writes none.
-#[derive(Drop)]
+#[derive(Clone, Copy)]
 pub struct Plan {
     pub part: Part,
     pub count: usize,

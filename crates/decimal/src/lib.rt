@@ -4,14 +4,14 @@ ghost use Rattle.rows.specs.Outcome.{outcome};
 ghost use Rattle.decimal.specs.Decimal.{front_of, at_most, number_of, digits_of, written};
 
 // A number that may be missing.
-#[derive(Drop)]
+#[derive(Clone, Copy)]
 pub enum OptionNumber {
     None,
     Some(u64),
 }
 
 // The digits that bytes begin with from a place on, as a number, and the place after them.
-#[derive(Drop)]
+#[derive(Clone, Copy)]
 pub struct Digits {
     pub value: u64,
     pub end: usize,

@@ -10,7 +10,7 @@ use shard::Identity;
 use units::Nanos;
 
 // How the run stands.
-#[derive(Drop)]
+#[derive(Clone, Copy)]
 pub enum Stage {
     // Line 1 is to come.
     First,
@@ -21,7 +21,7 @@ pub enum Stage {
 }
 
 // What a line is told, and how the run stands then.
-#[derive(Drop)]
+#[derive(Clone, Copy)]
 pub struct Served {
     pub told: Told,
     pub stage: Stage,

@@ -7,7 +7,7 @@ use mathlib.Core.List.{List, [], ◌∷◌, ◌++◌, append-nil}
 use lib.Dec.{eqb}
 use lib.ListN.{length, take, drop}
 use Rattle.arith.proofs.Cases.{by_test}
-use Rattle.bytes.specs.Bytes.{index_after, index_of}
+use Rattle.scan.specs.Bytes.{index_after, index_of}
 use Rattle.desk_lines.specs.Fields as Fields
 use Rattle.desk_lines.specs.Lines.{longest_line}
 use Rattle.desk_lines.specs.Printed.{line_feed}

@@ -7,7 +7,7 @@ use mathlib.Core.List.{List, [], ◌∷◌}
 use lib.Dec.{T}
 use lib.ListN.{length, take, drop, length-take, length-drop}
 use lib.Seq.{drop-drop}
-use Rattle.bytes.specs.Bytes.{index_of}
+use Rattle.scan.specs.Bytes.{index_of}
 use Rattle.rows.specs.Outcome.{Outcome, outcome}
 use Rattle.rows.specs.Segments.{segment}
 use Rattle.desk_lines.specs.Printed.{line_feed}

@@ -14,7 +14,7 @@ use libc::STDOUT_FILENO;
 pub const MEMORY_WORDS: usize = 8192;
 
 // Why a run is over.
-#[derive(Drop)]
+#[derive(Clone, Copy)]
 pub enum Ending {
     // The input has ended, and its last line is answered.
     Input,
@@ -31,7 +31,7 @@ pub enum Ending {
 }
 
 // A run that is over: its ending, how far it has come, and how many reads were turned.
-#[derive(Drop)]
+#[derive(Clone, Copy)]
 pub struct Ran {
     pub ending: Ending,
     pub feed: Feed,

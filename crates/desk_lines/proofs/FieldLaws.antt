@@ -8,7 +8,7 @@ use lib.Dec.{eqb, leb}
 use lib.ListN.{length, take, drop, get_or, length-drop, drop_of_length-le}
 use lib.Seq.{take-length, length-take-le, drop-cons, drop-drop}
 use Rattle.arith.proofs.Cases.{by_test, by_le}
-use Rattle.bytes.specs.Bytes.{index_after, index_of, slice}
+use Rattle.scan.specs.Bytes.{index_after, index_of, slice}
 use Rattle.decimal.specs.declared.Digits.{Digits}
 use Rattle.decimal.specs.Decimal.{is_digit, digits_ahead, front_of, at_most, number_of}
 use Rattle.decimal.proofs.ReadLaws.{ahead_within, ahead_are_digits, digits_are_a_number}

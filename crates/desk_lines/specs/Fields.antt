@@ -1,7 +1,7 @@
 -- A line's bytes as fields, parted by one space each.
 use Rattle.std.specs.Prelude.{ℕ, ◌+◌, ◌-◌, cond, List, [], ◌∷◌, eqb, leb, length, drop}
 use Rattle.rows.specs.Segments.{segment}
-use Rattle.bytes.specs.Bytes.{index_of}
+use Rattle.scan.specs.Bytes.{index_of}
 
 -- A space.
 abbrev pub space : ℕ

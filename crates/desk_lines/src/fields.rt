@@ -9,21 +9,21 @@ use decimal::OptionNumber;
 use units::{Nanos, OptionNanos};
 
 // How far a line has been read: the place at which the next field begins, one past the end of the line if none is left; or that it failed.
-#[derive(Drop)]
+#[derive(Clone, Copy)]
 pub struct Rest {
     pub at: usize,
     pub good: bool,
 }
 
 // A number that was read, and what is left.
-#[derive(Drop)]
+#[derive(Clone, Copy)]
 pub struct NumberRead {
     pub value: u64,
     pub rest: Rest,
 }
 
 // An idle time that was read, and what is left.
-#[derive(Drop)]
+#[derive(Clone, Copy)]
 pub struct IdleRead {
     pub value: OptionNanos,
     pub rest: Rest,
@@ -34,7 +34,7 @@ pub(crate) fn end(line: &[u8], from: usize) -> usize
     requires { from ≤ length line.now }
     ensures { result ≡ field_end line.now from }
 {
-    bytes::scan::find(line, from, line.len(), b' ')
+    scan::find(line, from, line.len(), b' ')
 }
 
 // A field's number, if it was one, and the place of the next field.

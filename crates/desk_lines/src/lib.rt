@@ -16,7 +16,7 @@ mod parts;
 pub mod print;
 
 // The moment, key and cost of a try, a peek or a reservation.
-#[derive(Drop)]
+#[derive(Clone, Copy)]
 pub struct Request {
     pub at: Nanos,
     pub key: u64,
@@ -24,7 +24,7 @@ pub struct Request {
 }
 
 // What a line asks for.
-#[derive(Drop)]
+#[derive(Clone, Copy)]
 pub enum Line {
     SetUp(Settings),
     Try(Request),

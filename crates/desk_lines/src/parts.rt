@@ -9,14 +9,14 @@ use settings::rate::{OptionTokens, Rate};
 use units::Nanos;
 
 // A request that was read, and what is left.
-#[derive(Drop)]
+#[derive(Clone, Copy)]
 pub struct RequestRead {
     pub value: Request,
     pub rest: Rest,
 }
 
 // A rate that was read, and what is left.
-#[derive(Drop)]
+#[derive(Clone, Copy)]
 pub struct RateRead {
     pub value: Rate,
     pub rest: Rest,

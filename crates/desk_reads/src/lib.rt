@@ -5,7 +5,7 @@ ghost use Rattle.desk_reads.specs.Reads.{Grows, brought_by};
 use libc::{EINTR, STDIN_FILENO};
 
 // What a read brought.
-#[derive(Drop)]
+#[derive(Clone, Copy)]
 pub enum Got {
     // Bytes: with them, so many are pending. A read that a signal interrupts brings none, so that the next turn makes it again.
     More(usize),

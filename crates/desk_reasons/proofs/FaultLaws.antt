@@ -8,7 +8,7 @@ use mathlib.Core.List.{List, [], ◌∷◌}
 use lib.Dec.{eqb, leb, ltb}
 use lib.ListN.{length, get_or, drop, drop_of_length-le}
 use lib.Seq.{drop-cons}
-use Rattle.bytes.specs.Bytes.{index_of, slice}
+use Rattle.scan.specs.Bytes.{index_of, slice}
 use Rattle.decimal.specs.Decimal.{is_digit, all_digits}
 use Rattle.desk_lines.proofs.FieldLaws.{found_from}
 use Rattle.desk_reasons.specs.declared.Fault.{Fault}

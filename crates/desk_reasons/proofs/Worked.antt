@@ -2,7 +2,7 @@
 use mathlib.Core.Path.{◌≡◌, refl}
 use mathlib.Core.Bool.{true, false}
 use mathlib.Core.List.{[], ◌∷◌}
-use Rattle.bytes.specs.Bytes.{index_after, index_of}
+use Rattle.scan.specs.Bytes.{index_after, index_of}
 use Rattle.decimal.specs.Decimal.{is_digit, all_digits, decimal_from, number_of}
 use Rattle.desk_lines.specs.Fields.{fields}
 use Rattle.desk_lines.specs.Lines.{taken, is_dash, line_of_letter, line_of, most32}

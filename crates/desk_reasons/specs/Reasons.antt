@@ -1,6 +1,6 @@
 -- Why a line of the desk is answered with 9: the first of its fields that is at fault, and what is wrong with it.
 use Rattle.std.specs.Prelude.{ℕ, ◌+◌, Bool, true, false, cond, List, [], ◌∷◌, eqb, leb, ltb, length, get_or, drop}
-use Rattle.bytes.specs.Bytes.{index_of}
+use Rattle.scan.specs.Bytes.{index_of}
 use Rattle.decimal.specs.declared.OptionNumber.{OptionNumber}
 use Rattle.decimal.specs.declared.OptionNumber.TheVariants as number
 use Rattle.decimal.specs.Decimal.{all_digits, number_of}

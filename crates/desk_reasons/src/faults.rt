@@ -66,7 +66,7 @@ fn seen(field: &[u8], otherwise: Fault) -> Fault
 fn has(field: &[u8], byte: u8) -> bool
     ensures { result ≡ Reasons.has byte field.now }
 {
-    bytes::scan::find(field, 0, field.len(), byte) < field.len()
+    scan::find(field, 0, field.len(), byte) < field.len()
 }
 
 // Whether a field begins with the three bytes of a byte order mark.

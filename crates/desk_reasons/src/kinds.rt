@@ -7,7 +7,7 @@ ghost use Rattle.desk_reasons.specs.Reasons as Reasons;
 use decimal::OptionNumber;
 
 // What a field has to be.
-#[derive(Drop)]
+#[derive(Clone, Copy)]
 pub enum Kind {
     // There is no such field.
     None,

@@ -11,7 +11,7 @@ mod faults;
 mod kinds;
 
 // What is wrong with a field.
-#[derive(Drop)]
+#[derive(Clone, Copy)]
 pub enum Fault {
     // The line ends before it.
     Missing,
@@ -36,7 +36,7 @@ pub enum Fault {
 }
 
 // Why a line is answered with 9.
-#[derive(Drop)]
+#[derive(Clone, Copy)]
 pub enum Reason {
     // It is not.
     Fine,
@@ -118,7 +118,7 @@ pub fn reason_of(line: &[u8]) -> Reason
     if LONGEST_LINE < line.len() {
         return Reason::Long;
     }
-    let end = bytes::scan::find(line, 0, line.len(), b' ');
+    let end = scan::find(line, 0, line.len(), b' ');
     let letter = kinds::letter_in(&line[0..end]);
     if letter == 0 {
         return Reason::Field(1, faults::of_letter(&line[0..end]));
@@ -134,7 +134,7 @@ fn of_fields(line: &[u8], letter: u8, from: usize) -> Reason
     let mut at = from;
     let mut i: usize = 0;
     while at <= line.len() {
-        let end = bytes::scan::find(line, at, line.len(), b' ');
+        let end = scan::find(line, at, line.len(), b' ');
         let kind = kinds::at(letter, i);
         if !kinds::accepts(kind, &line[at..end]) {
             return Reason::Field(i + 2, faults::of_field(kind, &line[at..end]));

@@ -9,7 +9,7 @@ use desk_answers::Stage;
 use desk_lines::print;
 
 // How far the run has come.
-#[derive(Drop)]
+#[derive(Clone, Copy)]
 pub struct Feed {
     pub stage: Stage,
     // The number of the last line that was answered.
@@ -19,14 +19,14 @@ pub struct Feed {
 }
 
 // How far the run has come, and the place in the input at which the next line begins.
-#[derive(Drop)]
+#[derive(Clone, Copy)]
 pub struct Lines {
     pub feed: Feed,
     pub at: usize,
 }
 
 // How far the run has come after a turn, and how many bytes at the start of the input are pending of a line that has not ended.
-#[derive(Drop)]
+#[derive(Clone, Copy)]
 pub struct Turned {
     pub feed: Feed,
     pub pending: usize,
@@ -88,7 +88,7 @@ fn whole_lines(bytes: &[u8], output: &mut [u8], memory: &mut [u64], feed: Feed) 
     let mut feed = feed;
     let mut at: usize = 0;
     while at < bytes.len() {
-        let stop = bytes::scan::find(bytes, at, bytes.len(), b'\n');
+        let stop = scan::find(bytes, at, bytes.len(), b'\n');
         if stop == bytes.len() {
             break;
         }

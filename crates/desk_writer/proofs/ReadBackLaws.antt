@@ -13,7 +13,7 @@ use Rattle.decimal.specs.declared.OptionNumber.TheVariants as number
 use Rattle.decimal.specs.Decimal.{is_digit, all_digits, number_of, digits_of}
 use Rattle.decimal.proofs.ReadBackLaws.{digits_are_digits, digits_read_back}
 use Rattle.rows.specs.Outcome.{outcome}
-use Rattle.bytes.specs.Bytes.{index_after, index_of}
+use Rattle.scan.specs.Bytes.{index_after, index_of}
 use Rattle.desk_lines.specs.declared.Request.{Request}
 use Rattle.desk_lines.specs.Fields.{space, fields, on_first}
 use Rattle.desk_lines.specs.Lines.{Reading, left, Taken, taken, taken_request, finished, most64, most32, longest_line, line_of_letter, line_of_fields}

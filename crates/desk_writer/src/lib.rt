@@ -9,7 +9,7 @@ use desk_lines::Request;
 use units::Nanos;
 
 // A call that a line can be written for.
-#[derive(Drop)]
+#[derive(Clone, Copy)]
 pub enum DeskCall {
     Try(Request),
     Peek(Request),
@@ -22,7 +22,7 @@ pub enum DeskCall {
 }
 
 // What a writer tells: 0 and how many bytes the line has with its LF, or the number of a refusal and 0.
-#[derive(Drop)]
+#[derive(Clone, Copy)]
 pub struct Written {
     pub number: u64,
     pub size: usize,

@@ -21,14 +21,14 @@ use units::Nanos;
 const MIN_REFUSAL_WAIT: u64 = 1000000;
 
 // Whether a slot was evicted; if none could be, when room is expected.
-#[derive(Drop)]
+#[derive(Clone, Copy)]
 pub enum Room {
     Made,
     Refused(Due),
 }
 
 // Who goes in an eviction, by its place: a free slot is full and goes without loss; one that owes goes once its debt is recorded.
-#[derive(Drop)]
+#[derive(Clone, Copy)]
 pub enum Victim {
     Free(usize),
     Owing(usize),
@@ -37,14 +37,14 @@ pub enum Victim {
 // How soon the slots recover that are not full. Of those whose stamp is not after the moment `least` is the least shortfall: the slot that has it recovers the
 // soonest of them. To work out how soon takes a division, and for these slots only a refusal makes it. Of the others, which a clock set back leaves, `later` is
 // the soonest recovery. Each is the largest number of 64 bits while there is no such slot.
-#[derive(Drop)]
+#[derive(Clone, Copy)]
 pub struct Awaited {
     pub least: u64,
     pub later: u64,
 }
 
 // What the walk of the hand has noted: the first full slot, the first slot neither full nor marked, and how soon those not full recover.
-#[derive(Drop)]
+#[derive(Clone, Copy)]
 pub struct Walk {
     pub full: Place,
     pub unmarked: Place,
@@ -52,7 +52,7 @@ pub struct Walk {
 }
 
 // A row of looks at slots side by side: how many are left, and the least shortfall so far.
-#[derive(Drop)]
+#[derive(Clone, Copy)]
 pub struct Row {
     pub left: usize,
     pub least: u64,

@@ -12,7 +12,7 @@ use libc::STDOUT_FILENO;
 mod notes;
 
 // What was read of the description.
-#[derive(Drop)]
+#[derive(Clone, Copy)]
 enum Described {
     // All of it, with its length in bytes.
     Whole(usize),
@@ -23,7 +23,7 @@ enum Described {
 }
 
 // Where the reading stands after a read.
-#[derive(Drop)]
+#[derive(Clone, Copy)]
 enum Step {
     // The bytes that are read so far. There may be more.
     More(usize),
@@ -105,7 +105,7 @@ fn all_lines(text: &[u8]) {
 }
 
 // A run: whether all was written, how many lines were written, and how many were left out.
-#[derive(Drop)]
+#[derive(Clone, Copy)]
 struct Ran {
     whole: bool,
     written: u64,

@@ -12,7 +12,7 @@ mod places;
 
 // Where an index and its items lie in one slice: the index has `size` places from word `base` on. The items lie before it, from word `first` on, each in a row
 // of `width` words. The first word of a row is the item's hash, and word `key` of it is the item's key. Items without a key have the hash for a key, in word 0.
-#[derive(Drop)]
+#[derive(Clone, Copy)]
 pub struct Index {
     pub base: usize,
     pub size: usize,
@@ -28,7 +28,7 @@ pub const PLACES_PER_ITEM: usize = 2;
 const HASH: usize = 0;
 
 // What lookup makes of one place: an item that it looks for, an empty place, or a reason to go on.
-#[derive(Drop)]
+#[derive(Clone, Copy)]
 enum Probed {
     Hit(usize),
     Empty,
@@ -37,7 +37,7 @@ enum Probed {
 
 // What the pass over the places after an emptied one knows when it looks at a place: the last place that it left empty, how many places lie between that one
 // and this one, and of how many places before this one it knows that all are in use but that one.
-#[derive(Drop)]
+#[derive(Clone, Copy)]
 struct Pass {
     gap: usize,
     run: usize,

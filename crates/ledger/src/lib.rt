@@ -19,21 +19,21 @@ pub mod words;
 
 // A forgotten key's debt: when its bucket would be full again. C has the same two words.
 #[repr(C)]
-#[derive(Drop)]
+#[derive(Clone, Copy)]
 pub struct Debt {
     pub hash: u64,
     pub settles: Nanos,
 }
 
 // What the looks at a full ledger come to: a settled debt, or else the one that settles soonest.
-#[derive(Drop)]
+#[derive(Clone, Copy)]
 pub enum Choice {
     Settled(usize),
     Soonest(usize),
 }
 
 // Whether a debt was recorded; where there was no room for it, how long until the soonest of the debts looked at settles.
-#[derive(Drop)]
+#[derive(Clone, Copy)]
 pub enum Recorded {
     Done,
     NoRoom(Nanos),
@@ -41,7 +41,7 @@ pub enum Recorded {
 
 // Whether a debt can be written: in the place of the debt of its hash, or, where there is none, as one more; where there is no room for it, how long until the
 // soonest of the debts looked at settles.
-#[derive(Drop)]
+#[derive(Clone, Copy)]
 pub enum Prepared {
     Ready(Place),
     Full(Nanos),

@@ -4,7 +4,7 @@ use native.Mathlib.Omega.{arith}
 use mathlib.Core.Path.{◌≡◌, sym, ap}
 use mathlib.Core.List.{List}
 use lib.ListN.{length, take, drop}
-use Rattle.bytes.specs.Bytes.{index_of, slice}
+use Rattle.scan.specs.Bytes.{index_of, slice}
 use Rattle.desk_lines.proofs.FieldLaws.{found_from}
 use Rattle.lesson_words.specs.declared.Fault.TheVariants as fault
 use Rattle.lesson_lines.specs.declared.words.Rest.TheVariants.{Left}

@@ -11,7 +11,7 @@
 -- The clock is the moment of the last call that was written before (`clock_after`), and 0 at first. A line that is wrong does not move it.
 use Rattle.std.specs.Prelude.{ℕ, ◌+◌, ◌-◌, ◌≤◌, ◌<◌, Bool, false, cond, List, eqb, leb, length, take, drop, get_or}
 use Rattle.rows.specs.Segments.{segment}
-use Rattle.bytes.specs.Bytes.{index_of}
+use Rattle.scan.specs.Bytes.{index_of}
 use Rattle.units.specs.Units.{nanos_of}
 use Rattle.decimal.specs.declared.OptionNumber.TheVariants as number
 use Rattle.desk_lines.specs.Lines.{most64, most32, most_rule, longest_line}

@@ -10,14 +10,14 @@ use lesson_words::{Fault, Kind};
 use units::Nanos;
 
 // A request that was read, and what is left.
-#[derive(Drop)]
+#[derive(Clone, Copy)]
 pub struct RequestRead {
     pub value: Request,
     pub rest: Rest,
 }
 
 // A call that was read, or the place of a word that is at fault.
-#[derive(Drop)]
+#[derive(Clone, Copy)]
 pub enum CallRead {
     Call(DeskCall),
     Wrong(usize, Fault),

@@ -15,7 +15,7 @@ mod calls;
 mod words;
 
 // The numbers of a settings line.
-#[derive(Drop)]
+#[derive(Clone, Copy)]
 pub struct Limits {
     pub amount: u32,
     // In nanoseconds.
@@ -31,14 +31,14 @@ pub struct Limits {
 }
 
 // Limits that were read, and what is left.
-#[derive(Drop)]
+#[derive(Clone, Copy)]
 pub struct LimitsRead {
     pub value: Limits,
     pub rest: Rest,
 }
 
 // What a line means.
-#[derive(Drop)]
+#[derive(Clone, Copy)]
 pub enum Meaning {
     // It is empty.
     Blank,
@@ -53,7 +53,7 @@ pub enum Meaning {
 pub fn read(clock: u64, line: &[u8]) -> Meaning
     ensures { result ≡ Lesson.meaning_of clock line.now }
 {
-    let stop = bytes::scan::find(line, 0, line.len(), b'#');
+    let stop = scan::find(line, 0, line.len(), b'#');
     of_words(clock, &line[0..stop])
 }
 

@@ -6,7 +6,7 @@ use decimal::OptionNumber;
 use lesson_words::{Fault, Kind, Value};
 
 // How far a line has been read.
-#[derive(Drop)]
+#[derive(Clone, Copy)]
 pub enum Rest {
     // What is left begins at this place.
     Left(usize),
@@ -15,14 +15,14 @@ pub enum Rest {
 }
 
 // A number that was read, and what is left.
-#[derive(Drop)]
+#[derive(Clone, Copy)]
 pub struct NumberRead {
     pub value: u64,
     pub rest: Rest,
 }
 
 // A letter that was read, the place where it is, and what is left.
-#[derive(Drop)]
+#[derive(Clone, Copy)]
 pub struct LetterRead {
     pub value: u8,
     pub from: usize,
@@ -30,7 +30,7 @@ pub struct LetterRead {
 }
 
 // An idle time that was read, and what is left.
-#[derive(Drop)]
+#[derive(Clone, Copy)]
 pub struct IdleRead {
     pub value: OptionNumber,
     pub rest: Rest,

@@ -1,7 +1,7 @@
 -- What is left of a lesson before a step and after it.
 use Rattle.std.proofs.Common.{◌≡◌, ℕ, zero, suc, ◌+◌, ◌-◌, ◌<◌, ◌≤◌, true, false, eqb, ltb, leb, List, [], ◌∷◌, ◌++◌, length, get_or, take, drop, sym, refl, ap, ◌∙◌, true≢false, add-one, arith, length-drop, drop_of_length-le, take_all, drop-drop, ne_eqb}
 use Rattle.arith.proofs.Cases.{by_test, by_le}
-use Rattle.bytes.specs.Bytes.{index_of}
+use Rattle.scan.specs.Bytes.{index_of}
 use Rattle.desk_cutting.specs.Cutting.{cut, last_line, lines_of}
 use Rattle.desk_cutting.proofs.CutLaws.{no_feed, at_feed}
 use Rattle.desk_lines.specs.Printed.{line_feed}

@@ -9,7 +9,7 @@ use lesson_lines::{Limits, Meaning};
 use lesson_words::Fault;
 
 // What is told of a line, by its number.
-#[derive(Drop)]
+#[derive(Clone, Copy)]
 pub enum Note {
     Nothing,
     // The word that begins at this place of the line is at fault.
@@ -19,7 +19,7 @@ pub enum Note {
 }
 
 // Where a run stands.
-#[derive(Drop)]
+#[derive(Clone, Copy)]
 pub struct Progress {
     // The place at which the next line begins.
     pub at: usize,
@@ -34,7 +34,7 @@ pub struct Progress {
 }
 
 // A step: where the run stands after it, how many bytes of a line it put, what is to be told, and whether nothing was left.
-#[derive(Drop)]
+#[derive(Clone, Copy)]
 pub struct Step {
     pub progress: Progress,
     pub size: usize,
@@ -99,7 +99,7 @@ pub fn next(text: &[u8], out: &mut [u8], progress: Progress) -> Step
     }
     let at = progress.at;
     if at < text.len() {
-        let stop = bytes::scan::find(text, at, text.len(), b'\n');
+        let stop = scan::find(text, at, text.len(), b'\n');
         let meaning = lesson_lines::read(progress.clock, &text[at..stop]);
         let number = std::num::wrapping_add_u64(progress.number, 1);
         return take(meaning, out, stop + 1, number, progress.clock);

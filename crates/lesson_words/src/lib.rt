@@ -11,7 +11,7 @@ pub mod addresses;
 pub mod times;
 
 // What a word has to be.
-#[derive(Drop)]
+#[derive(Clone, Copy)]
 pub enum Kind {
     // A number of at most this.
     Number(u64),
@@ -23,7 +23,7 @@ pub enum Kind {
 }
 
 // What is wrong with a word.
-#[derive(Drop)]
+#[derive(Clone, Copy)]
 pub enum Fault {
     // The line ends before it.
     Missing,
@@ -52,7 +52,7 @@ pub enum Fault {
 }
 
 // A word's number, or what is wrong with the word.
-#[derive(Drop)]
+#[derive(Clone, Copy)]
 pub enum Value {
     Number(u64),
     Wrong(Fault),

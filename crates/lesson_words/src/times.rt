@@ -6,14 +6,14 @@ use crate::{Fault, Value, or_else, small};
 use decimal::Digits;
 
 // A unit has `by` times ten to the power `tens` nanoseconds. What is no unit has `by` 0.
-#[derive(Drop)]
+#[derive(Clone, Copy)]
 pub struct Unit {
     pub by: u64,
     pub tens: usize,
 }
 
 // The digits after a point as a number, how many they are, and the place after them.
-#[derive(Drop)]
+#[derive(Clone, Copy)]
 pub struct Fraction {
     pub value: u64,
     pub places: usize,

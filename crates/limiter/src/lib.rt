@@ -28,7 +28,7 @@ const PATCH: u32 = 0;
 
 // The settings as numbers. A flag is off at 0 and on at any other number.
 #[repr(C)]
-#[derive(Drop)]
+#[derive(Clone, Copy)]
 pub struct LimiterSettings {
     // Nanoseconds for `amount` tokens.
     pub period: u64,

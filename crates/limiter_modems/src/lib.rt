@@ -16,7 +16,7 @@ use units::Nanos;
 
 // The identity of a modem as numbers: the code 0, and the hash and the key of its address; or the code of a refusal, 0 and 0.
 #[repr(C)]
-#[derive(Drop)]
+#[derive(Clone, Copy)]
 pub struct LimiterIdentity {
     pub code: u64,
     pub hash: u64,

@@ -13,7 +13,7 @@ use units::Nanos;
 const ADDRESS_BYTES: usize = 6;
 
 // What a slice names: no modem, by the number that it is refused as, or the modem of this identity.
-#[derive(Drop)]
+#[derive(Clone, Copy)]
 pub enum Identified {
     Refused(u32),
     Modem(Identity),

@@ -16,7 +16,7 @@ use libc::STDOUT_FILENO;
 use outage_run::{Feed, MOST_ROWS};
 
 // A run that is over: its ending, how far it has come, and how many reads were turned.
-#[derive(Drop)]
+#[derive(Clone, Copy)]
 pub struct Ran {
     pub ending: Ending,
     pub feed: Feed,

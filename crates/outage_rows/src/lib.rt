@@ -15,7 +15,7 @@ mod words;
 
 // A row: the moment of its next try, or of its last once it has ended, the key, the cost, the tries made, the desk's code, and whether it is live. It is live
 // unless the last word is 0. A cost of more than 32 bits is read as the largest that 32 bits hold.
-#[derive(Drop)]
+#[derive(Clone, Copy)]
 pub struct Row {
     pub at: Nanos,
     pub key: u64,

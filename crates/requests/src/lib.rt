@@ -25,7 +25,7 @@ use store::{Part, lending, refusals};
 use units::Nanos;
 
 // What an attempt comes to.
-#[derive(Drop)]
+#[derive(Clone, Copy)]
 pub enum Attempt {
     // The answer.
     Answered(Reply),
@@ -34,7 +34,7 @@ pub enum Attempt {
 }
 
 // Why an attempt leaves a request, on a limiter with a rate: it is refused by number, or its key has no slot.
-#[derive(Drop)]
+#[derive(Clone, Copy)]
 pub enum Why {
     Refused,
     New,

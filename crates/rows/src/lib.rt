@@ -1,7 +1,7 @@
 // Words in rows, and places: definitions in specs/, laws in proofs/, over any item.
 
 // Where a lookup finds an item: at a place, counted from 0, or nowhere.
-#[derive(Drop)]
+#[derive(Clone, Copy)]
 pub enum Place {
     At(usize),
     Nowhere,

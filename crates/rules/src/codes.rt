@@ -8,7 +8,7 @@ use settings::decision::Decision;
 // A reply as C, Rust and the desk are told it. The number is a wait in nanoseconds, tokens, or keys. The moment is that at which a grant is usable, or at
 // which to try again: the call's moment plus the wait, and 0 for all other replies.
 #[repr(C)]
-#[derive(Drop)]
+#[derive(Clone, Copy)]
 pub struct Told {
     pub code: u64,
     pub number: u64,

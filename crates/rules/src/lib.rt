@@ -16,7 +16,7 @@ use units::Nanos;
 pub mod codes;
 
 // What an operation answers.
-#[derive(Drop)]
+#[derive(Clone, Copy)]
 pub enum Reply {
     // The answer to a try or a peek.
     Tried(Decision),

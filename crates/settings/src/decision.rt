@@ -6,7 +6,7 @@ use bucket::Due;
 use units::OptionNanos;
 
 // Granted, due at once; to be asked for again when it is due; or never to be granted, since the cost is more than a full bucket or the limiter is closed.
-#[derive(Drop)]
+#[derive(Clone, Copy)]
 pub enum Decision {
     Acquired(Due),
     Retry { after: Due },

@@ -10,7 +10,7 @@ pub const DEFAULT_MAX_KEYS: usize = 1048576;
 
 // What to do when a new key that has no debt finds its shard full, and the ledger has no room for the debt of the slot that would go: turn the key away, or
 // forget the debt, of those looked at, that settles soonest.
-#[derive(Drop)]
+#[derive(Clone, Copy)]
 pub enum WhenFull {
     RefuseNew,
     ForgetDebt,
@@ -30,7 +30,7 @@ impl WhenFull {
 }
 
 // The cap on keys, the idle time after which a full bucket may be forgotten, and the rule when full.
-#[derive(Drop)]
+#[derive(Clone, Copy)]
 pub struct Eviction {
     pub max_keys: usize,
     pub idle_ttl: OptionNanos,

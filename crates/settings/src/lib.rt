@@ -17,14 +17,14 @@ pub mod eviction;
 pub mod rate;
 
 // The rate, if there is one. A closed limiter has none: it grants tries of cost 0, and nothing else.
-#[derive(Drop)]
+#[derive(Clone, Copy)]
 pub enum Limit {
     Closed,
     Open(Rate),
 }
 
 // The settings that every call is given. `classes` is how many classes the table has that belongs to the settings.
-#[derive(Drop)]
+#[derive(Clone, Copy)]
 pub struct Settings {
     pub limit: Limit,
     pub eviction: Eviction,
@@ -33,7 +33,7 @@ pub struct Settings {
 }
 
 // How the lent words are divided: the number of shards, the keys that each has places for, and the number of classes.
-#[derive(Drop)]
+#[derive(Clone, Copy)]
 pub struct Shape {
     pub shards: usize,
     pub cap: usize,

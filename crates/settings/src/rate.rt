@@ -7,14 +7,14 @@ use bucket::BucketConfig;
 use units::Nanos;
 
 // A number of tokens that may be left unset.
-#[derive(Drop)]
+#[derive(Clone, Copy)]
 pub enum OptionTokens {
     None,
     Some(u32),
 }
 
 // `amount` tokens come back every `period`. `burst` is the most that gather; unset, it is the amount. A fresh bucket holds `initial`; unset, the burst.
-#[derive(Drop)]
+#[derive(Clone, Copy)]
 pub struct Rate {
     pub amount: u32,
     pub period: Nanos,

@@ -17,14 +17,14 @@ use slot::Slot;
 use units::{Nanos, OptionNanos};
 
 // A key: its hash and the key itself, together.
-#[derive(Drop)]
+#[derive(Clone, Copy)]
 pub struct Identity {
     pub hash: u64,
     pub key: u64,
 }
 
 // The settings that a shard needs.
-#[derive(Drop)]
+#[derive(Clone, Copy)]
 pub struct Policy {
     pub config: BucketConfig,
     pub idle_ttl: OptionNanos,

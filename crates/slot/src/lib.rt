@@ -11,7 +11,7 @@ const MOST_TURNED_AWAY: u64 = 0xFFFF_FFFF;
 
 // The identity (hash and key), the bucket, the mark that an access sets and the CLOCK hand clears, last-seen (the idle stamp
 // of the first access, raised by later ones where an idle time is set), and how many tries the bucket has turned away.
-#[derive(Drop)]
+#[derive(Clone, Copy)]
 pub struct Slot {
     pub hash: u64,
     pub key: u64,

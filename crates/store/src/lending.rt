@@ -9,7 +9,7 @@ use crate::{Part, refusals, words};
 use settings::{Settings, Shape};
 
 // The part of the key's shard; or nothing, and the number by which the call is refused.
-#[derive(Drop)]
+#[derive(Clone, Copy)]
 pub enum Lending {
     Refused(u32),
     Lent(Part),

@@ -20,7 +20,7 @@ pub mod refusals;
 pub mod words;
 
 // Where the shard of a key lies in the lent words, and how many places it has.
-#[derive(Drop)]
+#[derive(Clone, Copy)]
 pub struct Part {
     pub start: usize,
     pub end: usize,

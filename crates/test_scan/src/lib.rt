@@ -1,7 +1,7 @@
 // Decimal numbers, read from the text of recorded cases, in which any other bytes part them. For test programs alone.
 
 // A number, and where the reading stands after it and the bytes that part it from the next.
-#[derive(Drop)]
+#[derive(Clone, Copy)]
 pub struct Number {
     pub value: u64,
     pub at: usize,

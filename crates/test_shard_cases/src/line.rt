@@ -1,7 +1,7 @@
 // A line of the cases.
 
 // An operation and its arguments, and where the reading stands after them.
-#[derive(Drop)]
+#[derive(Clone, Copy)]
 pub struct Line {
     pub operation: u64,
     pub a: u64,

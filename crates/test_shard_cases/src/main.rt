@@ -19,7 +19,7 @@ const MOST_PLACES: usize = 9;
 const MOST_WORDS: usize = words::HEAD_WORDS + words::PLACE_WORDS * MOST_PLACES;
 
 // Where the reading stands, the places of the shard, and the configuration of its buckets.
-#[derive(Drop)]
+#[derive(Clone, Copy)]
 pub struct State {
     pub at: usize,
     pub cap: usize,

@@ -4,14 +4,14 @@ ghost use Rattle.std.specs.Prelude.{◌≤◌, length};
 use limiter::LimiterSettings;
 
 // A store: how many words each call is lent, and its settings.
-#[derive(Drop)]
+#[derive(Clone, Copy)]
 pub struct Store {
     pub size: usize,
     pub settings: LimiterSettings,
 }
 
 // The arguments of a call.
-#[derive(Drop)]
+#[derive(Clone, Copy)]
 pub struct Call {
     pub at: u64,
     pub hash: u64,
@@ -21,7 +21,7 @@ pub struct Call {
 }
 
 // The rate's numbers of some settings, and where the reading stands after them.
-#[derive(Drop)]
+#[derive(Clone, Copy)]
 pub struct RateRead {
     pub closed: u32,
     pub amount: u32,
@@ -38,7 +38,7 @@ pub(crate) fn end(text: &[u8], from: usize) -> usize
     requires { from ≤ length text.now }
     ensures { (from ≤ result) × (result ≤ length text.now) }
 {
-    bytes::scan::find(text, from, text.len(), b'\n')
+    scan::find(text, from, text.len(), b'\n')
 }
 
 // The next five numbers.

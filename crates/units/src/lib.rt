@@ -5,22 +5,22 @@ ghost use Rattle.units.specs.Units.{millis_of};
 
 // A moment or a span in nanoseconds.
 #[repr(C)]
-#[derive(Drop)]
+#[derive(Clone, Copy)]
 pub struct Nanos(pub u64);
 
 // A moment or a span in whole milliseconds: what the idle stamps count.
-#[derive(Drop)]
+#[derive(Clone, Copy)]
 pub struct Millis(pub u64);
 
 // A span or a moment that may be missing.
-#[derive(Drop)]
+#[derive(Clone, Copy)]
 pub enum OptionNanos {
     None,
     Some(Nanos),
 }
 
 // A span in milliseconds that may be missing. The definitions use it for the idle limit.
-#[derive(Drop)]
+#[derive(Clone, Copy)]
 pub enum OptionMillis {
     None,
     Some(Millis),

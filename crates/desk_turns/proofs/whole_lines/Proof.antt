@@ -1,6 +1,6 @@
 -- `whole_lines` answers one line more with each turn of its loop, and stops where no line feed is left or the run has ended.
 use Rattle.std.proofs.Common.{◌≡◌, ◌+◌, ◌-◌, ◌*◌, ◌<◌, ◌≤◌, false, length, drop, sym, refl, ◌∙◌, arith, rules}
-use Rattle.bytes.specs.Bytes.{index_of}
+use Rattle.scan.specs.Bytes.{index_of}
 use Rattle.desk_lines.specs.Printed.{line_feed, longest_printed}
 use Rattle.desk_lines.proofs.FieldLaws.{found_from}
 use Rattle.desk_turns.specs.Run.{has_ended}

@@ -7,7 +7,7 @@ use Rattle.lesson_lines.proofs.read.Statement.{statement}
 use Rattle.lesson_lines.proofs.read.Tie as tie
 use Rattle.lesson_lines.proofs.read.Reads as reads
 use Rattle.lesson_lines.proofs.read.Lts as lts
-use Rattle.bytes.proofs.scan.find.Reads as find-reads
+use Rattle.scan.proofs.find.Reads as find-reads
 use Rattle.lesson_lines.proofs.of_words.Reads as of-words-reads
 
 -- src/lib.rt:56:9

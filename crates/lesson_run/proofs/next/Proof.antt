@@ -7,7 +7,7 @@ use Rattle.lesson_run.proofs.next.Statement.{statement}
 use Rattle.lesson_run.proofs.next.Tie as tie
 use Rattle.lesson_run.proofs.next.Reads as reads
 use Rattle.lesson_run.proofs.next.Lts as lts
-use Rattle.bytes.proofs.scan.find.Reads as find-reads
+use Rattle.scan.proofs.find.Reads as find-reads
 use Rattle.lesson_lines.proofs.read.Reads as read-reads
 use Rattle.lesson_run.proofs.next_call.Reads as next-call-reads
 use Rattle.lesson_run.proofs.take.Reads as take-reads

@@ -1,5 +1,5 @@
 -- `whole_lines` takes one line more with each turn of its loop, and stops where no line feed is left or the run has ended.
-use Rattle.bytes.specs.Bytes.{index_of}
+use Rattle.scan.specs.Bytes.{index_of}
 use Rattle.std.proofs.Common.{◌≡◌, ◌+◌, ◌-◌, ◌<◌, length, drop, sym, ◌∙◌, arith, rules}
 use Rattle.outage_run.proofs.FeedingLaws.{Underway, none_yet}
 use Rattle.desk_cutting.proofs.UnderwayLaws.{none_left, rest_left, line_follows, none_follow, ended_is_over}
