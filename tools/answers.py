@@ -122,6 +122,43 @@ def convert(crate, fn, entry, say):
         if m and not m.group(2).startswith(("Need", "invariant", "decreases")):
             helpers[m.group(1)] = m.group(2)
 
+    arms = {}
+    for a in entry["arms"]:
+        if a:
+            for new, state, steps in a[2]:
+                if not new.endswith("-own"):
+                    arms[(norm(state), tuple(steps))] = f"{a[0]}.{new}"
+    typed = {norm(state): new for row in entry["typed"] for new, state in row}
+
+    def member(m):
+        name, path = m.group(1), [x for x in (m.group(2) or "").split(".") if x]
+        for n in (norm(name), norm(re.sub(r"_(lem|met)$", "", name))):
+            for k in range(len(path), -1, -1):
+                if (n, tuple(path[:k])) in arms:
+                    return "c." + ".".join([arms[(n, tuple(path[:k]))], *path[k:]])
+            if path[:1] == ["given"] and n in typed:
+                return "c." + ".".join(["type_inv", typed[n], *path[1:]])
+        return "c." + ".".join([field(name), *path])
+
+    def field(name):
+        for n in (norm(name), norm(re.sub(r"_(lem|met)$", "", name)), norm(re.sub(r"^does_", "", name)), norm(name) + "s"):
+            if n in fields:
+                return fields[n]
+        return {"inv": "invariant", "pre": "requires"}.get(name, name)
+
+    instances = {}
+
+    def instance(h, place):
+        """The helper at the place of the goal that uses it; a helper that several places use stands once for each."""
+        mine = instances.setdefault(h, {})
+        if place not in mine:
+            mine[place] = None
+            mine[place] = h if len(mine) == 1 else f"{h}_{len(mine)}"
+            made.append((h, place, mine[place]))
+        return mine[place] or h
+
+    made = []
+
     def simplify(body, var, goal):
         """The body over c, with no walk back; var is the name of the state."""
         names = {var}
@@ -140,18 +177,34 @@ def convert(crate, fn, entry, say):
                 body = body[: m.start()] + body[m.end() :]
                 names.add(m.group(1))
         alt = "|".join(sorted(map(re.escape, names), key=len, reverse=True))
-        # helper calls
-        for h, place in helpers.items():
-            def call(m):
-                np = new_place_n.get(norm(place))
-                if np is None or goal is None:
-                    return f"{m.group(1)}{h} c"
-                return f"{m.group(1)}{h} (goal.at.{goal} c).{np}"
-            body = re.sub(rf"(?<![\w.'-])()({re.escape(h)}) (?:{alt})(?![\w.'-])", call, body)
-        body = re.sub(rf"(?<![\w.'-])(?:{alt})\.(" + WORD + ")", lambda m: "c." + fields.get(norm(m.group(1)), m.group(1)), body)
+        for h in helpers:
+            body = re.sub(rf"(?<![\w.'-]){re.escape(h)} (?:{alt})(?![\w.'-])", lambda m: f"{instance(h, goal)} c", body)
+        body = re.sub(rf"(?<![\w.'-])(?:{alt})\.(" + WORD + r")((?:\.(?:" + WORD + r"))*)", member, body)
         body = re.sub(rf"(?<![\w.'-])(?:{alt})(?![\w'-])(?!\.)", "c", body)
         body = re.sub(r"(?<![\w'-])c\.pre(?![\w'-])", "c.requires", body)
         return body
+
+    texts = {}
+
+    def helper(h, place, name):
+        comment, code = texts[h]
+        whole_d = "\n".join(code)
+        old = helpers[h]
+        idx = re.search(rf"^{re.escape(h)}\s", whole_d[len(code[0]) :], re.M)
+        cut = len(code[0]) + idx.start() if idx else len(whole_d)
+        sig, eqs = whole_d[:cut].rstrip("\n"), whole_d[cut:]
+        bound = re.search(r"\((" + WORD + rf") : tie\.{re.escape(old)}(?: [^)]*)?\)", sig)
+        if bound:
+            sig = sig.replace(bound.group(0), "(@STATE@)", 1)
+            sig = simplify(sig, bound.group(1), place)
+            sig = sig.replace("(@STATE@)", f"(c : goal.{place})", 1)
+        else:
+            sig = re.sub(rf"tie\.{re.escape(old)}(?: [^→]*)? →", f"goal.{place} →", sig, 1)
+        me = re.match(rf"\s*{re.escape(h)}\s+(" + WORD + r")((?:\s+[^\s=]+)*)\s*=\s*(.*)", eqs, re.S)
+        if not me:
+            raise Left(f"helper {h}")
+        sig = re.sub(rf"^((?:abbrev |unfoldable )?){re.escape(h)} :", lambda m: f"{m.group(1)}{name} :", sig)
+        return comment + (sig + f"\n{name} c{me.group(2)} = " + simplify(me.group(3), me.group(1), place)).split("\n")
 
     answers, invariants, others, inv_records = [], [], [], []
     for d in decls:
@@ -204,7 +257,7 @@ def convert(crate, fn, entry, say):
             params = mm.group(1).split()
             body = mm.group(2)
             if params:
-                body = simplify(body, params[0], g)
+                body = simplify(body, params[0], place_of_goal[g][1])
             answers.append((comment, [f"pub {g} : goal.{g}", *lines, f"{g} c = {body}"]))
             continue
         name = re.match(r"(?:abbrev |unfoldable |pub )*(" + WORD + ")", first)
@@ -213,30 +266,21 @@ def convert(crate, fn, entry, say):
         whole_d = "\n".join(code)
         h = re.match(r"(?:abbrev |unfoldable )?(" + WORD + r") :", first)
         if h and h.group(1) in helpers:
-            hn = h.group(1)
-            place = helpers[hn]
-            np = new_place_n.get(norm(place))
-            sigeq = whole_d
-            # split signature and equations
-            idx = re.search(rf"^{re.escape(hn)}\s", whole_d[len(first):], re.M)
-            sig = whole_d[: len(first) + idx.start()] if idx else first
-            eqs = whole_d[len(sig):]
-            sig = re.sub(rf"\((" + WORD + rf") : tie\.{re.escape(place)}(?: [^)]*)?\)", lambda m: f"(c : goal.{np})", sig, 1)
-            sig = re.sub(rf"tie\.{re.escape(place)}(?: [^→]*)? →", f"goal.{np} →", sig, 1)
-            mvar = re.match(r".*?\((" + WORD + rf") : tie\.", whole_d, re.S)
-            v1 = mvar.group(1) if mvar else None
-            if v1:
-                sig = simplify(sig.replace(f"({v1} :", "(c :"), v1, None)
-            me = re.match(rf"\s*{re.escape(hn)}\s+(" + WORD + r")((?:\s+[^\s=]+)*)\s*=\s*(.*)", eqs, re.S)
-            if me:
-                eqs = f"\n{hn} c{me.group(2)} = " + simplify(me.group(3), me.group(1), None)
-            others.append(("helper", comment + (sig.rstrip("\n") + eqs).split("\n")))
+            texts[h.group(1)] = (comment, code)
             continue
         if re.match(r"record ", first):
             body = ["pub " + first] + [re.sub(r"^(\s+)(?!pub )(" + WORD + r"(?:\s+" + WORD + r")*) :", r"\1pub \2 :", l) for l in code[1:]]
             inv_records.append((comment, body))
             continue
         others.append(("other", comment + code))
+
+    shown, k = [], 0
+    while k < len(made):
+        shown.append((made[k][0], helper(*made[k])))
+        k += 1
+    rank = list(texts)
+    shown.sort(key=lambda it: rank.index(it[0]))
+    others += [("helper", t) for _, t in shown]
 
     def text_of(items):
         return "\n\n".join("\n".join([*c, *b]) for c, b in items)

@@ -1,0 +1,6 @@
+-- `kinds::is_number` reads the field.
+use borrow.Author.Rules.{rules}
+use Rattle.desk_reasons.proofs.kinds.is_number.Goals as goal
+
+pub returns : goal.returns
+returns c = rw (c.is_some.ensures, c.number.ensures)
