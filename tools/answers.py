@@ -144,7 +144,7 @@ def convert(crate, fn, entry, say):
         for n in (norm(name), norm(re.sub(r"_(lem|met)$", "", name)), norm(re.sub(r"^does_", "", name)), norm(name) + "s"):
             if n in fields:
                 return fields[n]
-        return {"inv": "invariant", "pre": "requires"}.get(name, name)
+        return {"inv": "invariant", "pre": "requires"}.get(name, re.sub(r"_[A-Z]", lambda m: m.group(0).lower(), name))
 
     instances = {}
 
@@ -252,7 +252,7 @@ def convert(crate, fn, entry, say):
             mm = re.match(rf"\s*{re.escape(local)}((?:\s+[^\s=]+)*)\s*=\s*(.*)", eq, re.S)
             if not mm:
                 raise Left(f"equation of {local}")
-            if mm.group(2).strip() in ("search rules", "search needs"):
+            if mm.group(2).strip() in ("search rules", "search needs") and not lines:
                 continue
             params = mm.group(1).split()
             body = mm.group(2)

@@ -30,3 +30,7 @@ offset_bounds-ws-k c = omega (arith, lies-inside_2 c)
 
 pub bounds-ws-k : goal.bounds-ws-k
 bounds-ws-k c = omega (arith, lies-inside_3 c)
+
+pub returns : goal.returns
+unfolding row_word
+returns c = search rules

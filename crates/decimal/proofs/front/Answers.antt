@@ -43,7 +43,7 @@ stops bytes from value end r none =
 
 -- Before a 19th digit the number has at most 18.
 small : (c : goal.Else-byte-gt57) → c.loop-end.value < 10 ^ 18
-small c = let loop' = c.loop-end in fewer_digits_fit loop'.value _ 18 loop'.inv.fits (omega arith)
+small c = let loop' = c.loop-end in fewer_digits_fit loop'.value _ 18 loop'.invariant.fits (omega arith)
 
 pub loop-end-init : goal.loop-end-init
 loop-end-init c = begins _ _ c.requires
@@ -58,7 +58,7 @@ pub overflow_add-value : goal.overflow_add-value
 overflow_add-value c = record { fits = omega (arith, small c) }
 
 pub loop-end-preserved : goal.loop-end-preserved
-loop-end-preserved c = goes_on _ _ _ _ c.loop-end.inv (omega arith) (omega arith) (omega arith) (omega arith)
+loop-end-preserved c = goes_on _ _ _ _ c.loop-end.invariant (omega arith) (omega arith) (omega arith) (omega arith)
 
 pub returns-after-loop-end : goal.returns-after-loop-end
 returns-after-loop-end c = stops _ _ _ _ c.loop-end.invariant (λ more. omega arith)

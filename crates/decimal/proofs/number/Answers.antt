@@ -35,16 +35,16 @@ follows_6 : (c : goal.Else-digit-most) → c.front-front.result.end < length c.a
 follows_6 c = omega (arith, (front_inside _ 0 (omega arith) c.front-front.ensures).1, c.if-end-bytes.false)
 
 -- It is a digit, once it is known to lie between `0` and `9`.
-is_digit : (c : goal.Then-value-most) → is_digit (get_or c.args.bytes.now c.front-front.result.end 0) ≡ true
-is_digit c = digit _ (omega arith) (omega arith)
+is_digit_lem : (c : goal.Then-value-most) → is_digit (get_or c.args.bytes.now c.front-front.result.end 0) ≡ true
+is_digit_lem c = digit _ (omega arith) (omega arith)
 
 -- It is a digit, once it is known to lie between `0` and `9`.
-is_digit_2 : (c : goal.Then-digit-most) → is_digit (get_or c.args.bytes.now c.front-front.result.end 0) ≡ true
-is_digit_2 c = digit _ (omega arith) (omega arith)
+is_digit_lem_2 : (c : goal.Then-digit-most) → is_digit (get_or c.args.bytes.now c.front-front.result.end 0) ≡ true
+is_digit_lem_2 c = digit _ (omega arith) (omega arith)
 
 -- It is a digit, once it is known to lie between `0` and `9`.
-is_digit_3 : (c : goal.Else-digit-most) → is_digit (get_or c.args.bytes.now c.front-front.result.end 0) ≡ true
-is_digit_3 c = digit _ (omega arith) (omega arith)
+is_digit_lem_3 : (c : goal.Else-digit-most) → is_digit (get_or c.args.bytes.now c.front-front.result.end 0) ≡ true
+is_digit_lem_3 c = digit _ (omega arith) (omega arith)
 
 pub returns-then-bytes-lt1 : goal.returns-then-bytes-lt1
 returns-then-bytes-lt1 c = empty_is_no_number _ _ (omega arith)
@@ -65,10 +65,10 @@ pub returns-then-byte-gt57 : goal.returns-then-byte-gt57
 returns-then-byte-gt57 c = no_digit_follows _ _ (omega arith) (omega arith) c.front-front.ensures (follows_3 c) (above_is_no_digit _ (omega arith))
 
 pub returns-then-value-most : goal.returns-then-value-most
-returns-then-value-most c = too_much_follows _ _ (omega arith) (omega arith) c.front-front.ensures (follows_4 c) (is_digit c) (omega arith)
+returns-then-value-most c = too_much_follows _ _ (omega arith) (omega arith) c.front-front.ensures (follows_4 c) (is_digit_lem c) (omega arith)
 
 pub returns-then-digit-most : goal.returns-then-digit-most
-returns-then-digit-most c = too_much_follows _ _ (omega arith) (omega arith) c.front-front.ensures (follows_5 c) (is_digit_2 c) (omega arith)
+returns-then-digit-most c = too_much_follows _ _ (omega arith) (omega arith) c.front-front.ensures (follows_5 c) (is_digit_lem_2 c) (omega arith)
 
 pub returns : goal.returns
-returns c = last_digit_follows _ _ (omega arith) (omega arith) c.front-front.ensures (follows_6 c) (is_digit_3 c) (omega arith)
+returns c = last_digit_follows _ _ (omega arith) (omega arith) c.front-front.ensures (follows_6 c) (is_digit_lem_3 c) (omega arith)

@@ -28,4 +28,4 @@ returns-then-letter-eq0 c = let line = c.args.line.now in
 
 pub returns : goal.returns
 returns c = let line = c.args.line.now in
-    c.of_Fields.ensures ∙ letter_first line c.if-line-eq0.left c.if-line-gt-LONGEST_LINE.left (stops_2 c) c.letter_in-letter.ensures c.if-letter-eq0.false
+    c.of_fields.ensures ∙ letter_first line c.if-line-eq0.left c.if-line-gt-LONGEST_LINE.left (stops_2 c) c.letter_in-letter.ensures c.if-letter-eq0.false

@@ -36,7 +36,7 @@ loop-at-init c = let pre' = c.requires in
     (refl, refl, omega arith, omega (arith, pre'.0), pre'.1, none_yet _ _ _ _)
 
 pub loop-at-preserved : goal.loop-at-preserved
-loop-at-preserved c = let inv = c.loop-at.inv in
+loop-at-preserved c = let inv = c.loop-at.invariant in
     let answered = c.answer_line-feed.ensures in (
       search rules,
       search rules,
@@ -70,7 +70,7 @@ returns-then-stop-bytes c = let inv = c.loop-at.invariant in
     }
 
 pub returns-then-has_ended : goal.returns-then-has_ended
-returns-then-has_ended c = let inv = c.loop-at.inv in
+returns-then-has_ended c = let inv = c.loop-at.invariant in
     let answered = c.answer_line-feed.ensures in
     let told = c.has_ended.ensures in
     let ended = c.if-has_ended.true in

@@ -27,3 +27,7 @@ offset_bounds-ws-k c = omega (arith, lies-before_2 c)
 
 pub bounds-ws-k : goal.bounds-ws-k
 bounds-ws-k c = omega (arith, lies-before_3 c)
+
+pub returns : goal.returns
+unfolding item_word
+returns c = search rules

@@ -5,7 +5,7 @@ use Rattle.index.proofs.pass_one.Goals as goal
 
 pub move_word-requires : goal.move_word-requires
 move_word-requires c = let pre' = c.requires in
-    (pre'.0.inside, pre'.1, picked_below pre' c.from_home-back.ensures _ c.by_Home.ensures)
+    (pre'.0.inside, pre'.1, picked_below pre' c.from_home-back.ensures _ c.by_home.ensures)
 
 pub overflow_add-run : goal.overflow_add-run
 overflow_add-run c = let pre' = c.requires in
@@ -17,7 +17,7 @@ overflow_add-pass c = omega (arith, c.requires.4.bounded)
 pub returns-then-back-pass : goal.returns-then-back-pass
 returns-then-back-pass c = let pre' = c.requires in
     rw c.fewer.ensures
-    (pass_moves pre' c.from_home-back.ensures c.if-back-pass.true _ _ _ c.by_Home.ensures c.move_word.ensures
+    (pass_moves pre' c.from_home-back.ensures c.if-back-pass.true _ _ _ c.by_home.ensures c.move_word.ensures
     c.by_home-then-back-pass.ensures c.by_home-then-back-pass-2.ensures)
 
 pub overflow_add-result : goal.overflow_add-result

@@ -49,14 +49,14 @@ returns-then-settles-at c = let settled = rw (c.settles_at-settles.ensures, c.cu
     rw (c.set_cursor.ensures, c.cursor-cursor.ensures) (sym ends ∙ c.loop-left.invariant.same)
 
 pub sooner-best-requires : goal.sooner-best-requires
-sooner-best-requires c = let inv = c.loop-left.inv in
+sooner-best-requires c = let inv = c.loop-left.invariant in
     (inv.intact, intact_below inv.intact inv.below, (held_2 c).1)
 
 pub overflow_add-cursor : goal.overflow_add-cursor
 overflow_add-cursor c = omega (arith, (held_3 c).1)
 
 pub loop-left-preserved : goal.loop-left-preserved
-loop-left-preserved c = let inv = c.loop-left.inv in
+loop-left-preserved c = let inv = c.loop-left.invariant in
     let unsettled = rw (c.settles_at-settles.ensures, c.cursor-cursor.ensures) at c.if-settles-at.false in
     let goes_on = scan_turn _ _ _ _ c.loop-left-test.taken unsettled in
     record {

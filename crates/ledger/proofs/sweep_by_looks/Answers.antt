@@ -10,7 +10,7 @@ pub loop-left-init : goal.loop-left-init
 loop-left-init c = sweep_begins c.requires
 
 pub look-requires : goal.look-requires
-look-requires c = (c.loop-left.inv.lent, search rules)
+look-requires c = (c.loop-left.invariant.lent, search rules)
 
 pub loop-left-preserved : goal.loop-left-preserved
 loop-left-preserved c = sweep_goes_on (sweep_by_looks _ _) c.loop-left.invariant c.loop-left-test.true c.look.auto.0 c.look.ensures

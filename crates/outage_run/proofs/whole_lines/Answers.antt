@@ -25,7 +25,7 @@ take_line-feed-requires c = let loop' = c.loop-at in (
 pub loop-at-preserved : goal.loop-at-preserved
 loop-at-preserved c = let loop' = c.loop-at in
     let find' = c.find-stop in
-    let inv = loop'.inv in
+    let inv = loop'.invariant in
     let bytes = c.args.bytes.now in
     let took = c.take_line-feed.ensures in
     let stops : find'.result ≡ loop'.at + index_of line_feed (drop loop'.at bytes) = found_from line_feed _ _ find'.ensures.0 in
@@ -73,7 +73,7 @@ returns-then-stop-bytes c = let loop' = c.loop-at in
 pub returns-then-has_ended : goal.returns-then-has_ended
 returns-then-has_ended c = let loop' = c.loop-at in
     let find' = c.find-stop in
-    let inv = loop'.inv in
+    let inv = loop'.invariant in
     let bytes = c.args.bytes.now in
     let took = c.take_line-feed.ensures in
     let stops : find'.result ≡ loop'.at + index_of line_feed (drop loop'.at bytes) = found_from line_feed _ _ find'.ensures.0 in

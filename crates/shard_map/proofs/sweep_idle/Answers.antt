@@ -10,7 +10,7 @@ pub loop-left-init : goal.loop-left-init
 loop-left-init c = sweep_begins c.requires.0
 
 pub idle_look-requires : goal.idle_look-requires
-idle_look-requires c = (c.loop-left.inv.lent, c.requires.1, search rules)
+idle_look-requires c = (c.loop-left.invariant.lent, c.requires.1, search rules)
 
 pub loop-left-preserved : goal.loop-left-preserved
 loop-left-preserved c = let looked = c.idle_look in
