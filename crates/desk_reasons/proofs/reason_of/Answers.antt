@@ -24,8 +24,8 @@ returns-then-line-gt-LONGEST_LINE c = line_is_long _ c.if-line-eq0.false c.if-li
 pub returns-then-letter-eq0 : goal.returns-then-letter-eq0
 returns-then-letter-eq0 c = let line = c.args.line.now in
     let none = c.if-letter-eq0.true in
-    no_letter_first line c.if-line-eq0.left c.if-line-gt-LONGEST_LINE.left (stops c) c.letter_in-letter.ensures none c.of_letter.ensures
+    no_letter_first line c.if-line-eq0.false c.if-line-gt-LONGEST_LINE.false (stops c) c.letter_in-letter.ensures none c.of_letter.ensures
 
 pub returns : goal.returns
 returns c = let line = c.args.line.now in
-    c.of_fields.ensures ∙ letter_first line c.if-line-eq0.left c.if-line-gt-LONGEST_LINE.left (stops_2 c) c.letter_in-letter.ensures c.if-letter-eq0.false
+    c.of_fields.ensures ∙ letter_first line c.if-line-eq0.false c.if-line-gt-LONGEST_LINE.false (stops_2 c) c.letter_in-letter.ensures c.if-letter-eq0.false

@@ -38,5 +38,5 @@ overflow_add-result c = omega (arith, no_more_2 c, c.fewer-run.ensures, c.ranges
 
 pub returns-in-At : goal.returns-in-At
 returns-in-At c = let pre' = c.requires in
-    row_passed pre'.1 _ _ _ c.in-At.is (omega (arith, c.if-left-eq0.left)) pre'.2 c.hand-pos.ensures
+    row_passed pre'.1 _ _ _ c.in-At.is (omega (arith, c.if-left-eq0.false)) pre'.2 c.hand-pos.ensures
     c.len.ensures c.fewer-run.ensures c.look_along-row.ensures c.set_hand.ensures

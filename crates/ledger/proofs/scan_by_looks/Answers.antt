@@ -58,7 +58,7 @@ overflow_add-cursor c = omega (arith, (held_3 c).1)
 pub loop-left-preserved : goal.loop-left-preserved
 loop-left-preserved c = let inv = c.loop-left.invariant in
     let unsettled = rw (c.settles_at-settles.ensures, c.cursor-cursor.ensures) at c.if-settles-at.false in
-    let goes_on = scan_turn _ _ _ _ c.loop-left-test.taken unsettled in
+    let goes_on = scan_turn _ _ _ _ c.loop-left-test.true unsettled in
     record {
       intact = intact_after inv.intact c.set_cursor-in-loop-left.auto.0 c.set_cursor-in-loop-left.ensures inv.intact.sound;
       long = c.set_cursor-in-loop-left.auto.0 ∙ inv.long;

@@ -30,7 +30,7 @@ loop-at-preserved c = let loop' = c.loop-at in
     let took = c.take_line-feed.ensures in
     let stops : find'.result ≡ loop'.at + index_of line_feed (drop loop'.at bytes) = found_from line_feed _ _ find'.ensures.0 in
     let inside : find'.result < length bytes = omega
-    (arith, c.if-stop-bytes.left, find'.ensures.1) in
+    (arith, c.if-stop-bytes.false, find'.ensures.1) in
     record {
       same_output = search rules;
       same_rs = search rules;
@@ -78,7 +78,7 @@ returns-then-has_ended c = let loop' = c.loop-at in
     let took = c.take_line-feed.ensures in
     let stops : find'.result ≡ loop'.at + index_of line_feed (drop loop'.at bytes) = found_from line_feed _ _ find'.ensures.0 in
     let inside : find'.result < length bytes = omega
-    (arith, c.if-stop-bytes.left, find'.ensures.1) in
+    (arith, c.if-stop-bytes.false, find'.ensures.1) in
     let told = c.has_ended.ensures in
     let ended = c.if-has_ended.true in
     record {

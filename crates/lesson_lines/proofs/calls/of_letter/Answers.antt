@@ -26,7 +26,7 @@ returns-then-letter-eq102 c = c.refund_call.ensures ∙ letter_f _ _ c.args.lett
 
 pub returns-then-letter-eq100 : goal.returns-then-letter-eq100
 returns-then-letter-eq100 c = c.remove_call.ensures ∙ letter_d _ _ c.args.letter
-    c.if-letter-eq97.left c.if-letter-eq112.false c.if-letter-eq114.false c.if-letter-eq102.false c.if-letter-eq100.true
+    c.if-letter-eq97.false c.if-letter-eq112.false c.if-letter-eq114.false c.if-letter-eq102.false c.if-letter-eq100.true
 
 pub returns : goal.returns
 returns c = no_call_letter _ _ c.args.letter c.if-letter-eq97.false c.if-letter-eq112.false c.if-letter-eq114.false

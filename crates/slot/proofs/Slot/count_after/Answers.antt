@@ -4,7 +4,7 @@ use borrow.Author.Rules.{rules}
 use Rattle.slot.proofs.Slot.count_after.Goals as goal
 
 pub returns-then-turns_away : goal.returns-then-turns_away
-returns-then-turns_away c = rw c.if-turns_away.taken (omega (arith, c.smaller.ensures))
+returns-then-turns_away c = rw c.if-turns_away.true (omega (arith, c.smaller.ensures))
 
 pub returns : goal.returns
-returns c = rw c.if-turns_away.left
+returns c = rw c.if-turns_away.false
