@@ -22,13 +22,13 @@ use Rattle.evict.proofs.evict_one.Goals as goal
 
 -- After a look that does not end the walk, the walk goes on with one look less.
 turned : (c : goal.After-pass_owing-arg-1) → let a = c.args in
-    Walking a.ws.now a.cap a.config a.at c.hand_look-slot.new.0 (c.loop-left.false - 1) c.noted-walk.result
+    Walking a.ws.now a.cap a.config a.at c.hand_look-slot.new.0 (c.loop-left.left - 1) c.noted-walk.result
 turned c = let once = c.goes_at_once.ensures in
     let saw = c.hand_look-slot.ensures in
     let inv = c.loop-left.invariant in
     let after = after_look inv.intact c.hand_look-slot.auto.0 _ saw in
     let accepted = c.requires.1 in
-    let more : 0 < c.loop-left.false = omega (arith, c.if-left-eq0.false) in
+    let more : 0 < c.loop-left.left = omega (arith, c.if-left-eq0.false) in
     let goes_on = walk_turn _ _ _ _ _ more c.hand-pos.ensures saw once accepted c.if-goes_at_once.false c.noted-walk.ensures in
     record {
       intact = after.intact;
@@ -39,13 +39,13 @@ turned c = let once = c.goes_at_once.ensures in
 
 -- After a look that does not end the walk, the walk goes on with one look less.
 turned_2 : (c : goal.After-with_least-walk) → let a = c.args in
-    Walking a.ws.now a.cap a.config a.at c.hand_look-slot.new.0 (c.loop-left.false - 1) c.noted-walk.result
+    Walking a.ws.now a.cap a.config a.at c.hand_look-slot.new.0 (c.loop-left.left - 1) c.noted-walk.result
 turned_2 c = let once = c.goes_at_once.ensures in
     let saw = c.hand_look-slot.ensures in
     let inv = c.loop-left.invariant in
     let after = after_look inv.intact c.hand_look-slot.auto.0 _ saw in
     let accepted = c.requires.1 in
-    let more : 0 < c.loop-left.false = omega (arith, c.if-left-eq0.false) in
+    let more : 0 < c.loop-left.left = omega (arith, c.if-left-eq0.false) in
     let goes_on = walk_turn _ _ _ _ _ more c.hand-pos.ensures saw once accepted c.if-goes_at_once.false c.noted-walk.ensures in
     record {
       intact = after.intact;

@@ -13,7 +13,7 @@ turned : (c : goal.In-Hit) {p : Probed} → c.probe.result ≡ p
     let test = keyed args.index args.ws.now args.hash args.key in
     let ix = places_of args.index args.ws.now in
     let size = args.index.size in
-    after_look p (find_from args.n test ix (onward size c.loop-left.q) (c.loop-left.false - 1))
+    after_look p (find_from args.n test ix (onward size c.loop-left.q) (c.loop-left.left - 1))
     ≡ find_from args.n test ix (onward size args.home) (size - 1)
 turned c which = find_turn _ _ _ _ _ _ (places_length _ _ c.requires.0.inside) c.loop-left-test.true c.probe.ensures which
     ∙ c.loop-left.invariant.same
@@ -24,7 +24,7 @@ turned_2 : (c : goal.In-Empty) {p : Probed} → c.probe.result ≡ p
     let test = keyed args.index args.ws.now args.hash args.key in
     let ix = places_of args.index args.ws.now in
     let size = args.index.size in
-    after_look p (find_from args.n test ix (onward size c.loop-left.q) (c.loop-left.false - 1))
+    after_look p (find_from args.n test ix (onward size c.loop-left.q) (c.loop-left.left - 1))
     ≡ find_from args.n test ix (onward size args.home) (size - 1)
 turned_2 c which = find_turn _ _ _ _ _ _ (places_length _ _ c.requires.0.inside) c.loop-left-test.true c.probe.ensures which
     ∙ c.loop-left.invariant.same
@@ -35,7 +35,7 @@ turned_3 : (c : goal.After-onward-q-in-Other) {p : Probed} → c.probe.result �
     let test = keyed args.index args.ws.now args.hash args.key in
     let ix = places_of args.index args.ws.now in
     let size = args.index.size in
-    after_look p (find_from args.n test ix (onward size c.loop-left.q) (c.loop-left.false - 1))
+    after_look p (find_from args.n test ix (onward size c.loop-left.q) (c.loop-left.left - 1))
     ≡ find_from args.n test ix (onward size args.home) (size - 1)
 turned_3 c which = find_turn _ _ _ _ _ _ (places_length _ _ c.requires.0.inside) c.loop-left-test.true c.probe.ensures which
     ∙ c.loop-left.invariant.same

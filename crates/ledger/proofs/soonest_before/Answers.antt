@@ -15,7 +15,7 @@ pub loop-left-preserved : goal.loop-left-preserved
 loop-left-preserved c = let more = c.loop-left-test.true in
     let inv = c.loop-left.invariant in
     let a = c.args in
-    let looked : a.end - c.loop-left.false < a.cap = omega (arith, inv.fewer, more, c.requires.2, c.requires.3) in
+    let looked : a.end - c.loop-left.left < a.cap = omega (arith, inv.fewer, more, c.requires.2, c.requires.3) in
     record {
       fewer = omega (arith, inv.fewer);
       below = sooner_below (ledger a.cap a.ws.now) _ _ c.sooner-best.ensures inv.below looked;
