@@ -11,11 +11,11 @@ use Rattle.desk_reasons.proofs.of_fields.Goals as goal
 
 -- The search stops where the field ends.
 stops : (c : goal.After-of_field) → c.find-end.result ≡ field_end c.args.line.now c.loop-at.at
-stops c = found_from space c.args.line.now c.loop-at.at c.find-end.ensures.0
+stops c = found_from space c.args.line.now c.loop-at.at c.find-end.ensures.first
 
 -- The search stops where the field ends.
 stops_2 : (c : goal.Else-not-accepts) → c.find-end.result ≡ field_end c.args.line.now c.loop-at.at
-stops_2 c = found_from space c.args.line.now c.loop-at.at c.find-end.ensures.0
+stops_2 c = found_from space c.args.line.now c.loop-at.at c.find-end.ensures.first
 
 pub loop-at-init : goal.loop-at-init
 loop-at-init c = (omega arith, omega arith, refl)

@@ -9,11 +9,11 @@ use Rattle.desk_reasons.proofs.reason_of.Goals as goal
 
 -- The search stops where the first field ends.
 stops : (c : goal.After-of_letter) → c.find-end.result ≡ field_end c.args.line.now 0
-stops c = found_from space c.args.line.now 0 c.find-end.ensures.0
+stops c = found_from space c.args.line.now 0 c.find-end.ensures.first
 
 -- The search stops where the first field ends.
 stops_2 : (c : goal.After-of_fields) → c.find-end.result ≡ field_end c.args.line.now 0
-stops_2 c = found_from space c.args.line.now 0 c.find-end.ensures.0
+stops_2 c = found_from space c.args.line.now 0 c.find-end.ensures.first
 
 pub returns-then-line-eq0 : goal.returns-then-line-eq0
 returns-then-line-eq0 c = line_is_blank _ c.if-line-eq0.true

@@ -11,25 +11,25 @@ use Rattle.desk_turns.proofs.whole_lines.Goals as goal
 -- The search stops at the next line feed.
 stops : (c : goal.Else-has_ended) → let bytes = c.args.bytes.now in
     c.find-stop.result ≡ c.loop-at.at + index_of line_feed (drop c.loop-at.at bytes)
-stops c = found_from line_feed _ _ c.find-stop.ensures.0
+stops c = found_from line_feed _ _ c.find-stop.ensures.first
 
 -- The search stops at the next line feed.
 stops_2 : (c : goal.Then-stop-bytes) → let bytes = c.args.bytes.now in
     c.find-stop.result ≡ c.loop-at.at + index_of line_feed (drop c.loop-at.at bytes)
-stops_2 c = found_from line_feed _ _ c.find-stop.ensures.0
+stops_2 c = found_from line_feed _ _ c.find-stop.ensures.first
 
 -- The search stops at the next line feed.
 stops_3 : (c : goal.Then-has_ended) → let bytes = c.args.bytes.now in
     c.find-stop.result ≡ c.loop-at.at + index_of line_feed (drop c.loop-at.at bytes)
-stops_3 c = found_from line_feed _ _ c.find-stop.ensures.0
+stops_3 c = found_from line_feed _ _ c.find-stop.ensures.first
 
 -- A line that is answered ends inside the bytes.
 inside : (c : goal.Else-has_ended) → c.find-stop.result < length c.args.bytes.now
-inside c = omega (arith, c.if-stop-bytes.false, c.find-stop.ensures.1)
+inside c = omega (arith, c.if-stop-bytes.false, c.find-stop.ensures.range)
 
 -- A line that is answered ends inside the bytes.
 inside_2 : (c : goal.Then-has_ended) → c.find-stop.result < length c.args.bytes.now
-inside_2 c = omega (arith, c.if-stop-bytes.false, c.find-stop.ensures.1)
+inside_2 c = omega (arith, c.if-stop-bytes.false, c.find-stop.ensures.range)
 
 pub loop-at-init : goal.loop-at-init
 loop-at-init c = let pre' = c.requires in

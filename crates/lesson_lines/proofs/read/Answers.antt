@@ -10,4 +10,4 @@ use Rattle.lesson_lines.proofs.of_words.Reads as of-words-reads
 use Rattle.lesson_lines.proofs.read.Goals as goal
 
 pub returns : goal.returns
-returns c = rw (before_the_comment c.args.line.now c.find-stop.ensures.0) at c.of_words.ensures
+returns c = rw (before_the_comment c.args.line.now c.find-stop.ensures.first) at c.of_words.ensures

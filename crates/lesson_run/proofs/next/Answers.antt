@@ -39,7 +39,7 @@ returns-then-at-text c = let args' = c.args in
     let p = args'.progress in
     let m = read'.result in
     let is = c.take.ensures in
-    let here = line_left t p c.if-progress.false c.if-at-text.true (found_from line_feed t p.at c.find-stop.ensures.0) in
+    let here = line_left t p c.if-progress.false c.if-at-text.true (found_from line_feed t p.at c.find-stop.ensures.first) in
     record {
       splits = rw (← read'.ensures, ← c.wrapping_add_u64-number.ensures) at here ∙ taken_splits t _ _ _ m _ _ is;
       good = taken_good t _ _ _ m _ _ (meaning_within _ _ read'.ensures) is;

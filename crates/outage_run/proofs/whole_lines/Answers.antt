@@ -18,7 +18,7 @@ take_line-feed-requires c = let loop' = c.loop-at in (
         loop'.invariant.fits,
         loop'.invariant.same_output,
         c.if-stop-bytes.false,
-        c.find-stop.ensures.1,
+        c.find-stop.ensures.range,
       ),
     )
 
@@ -28,9 +28,9 @@ loop-at-preserved c = let loop' = c.loop-at in
     let inv = loop'.invariant in
     let bytes = c.args.bytes.now in
     let took = c.take_line-feed.ensures in
-    let stops : find'.result ≡ loop'.at + index_of line_feed (drop loop'.at bytes) = found_from line_feed _ _ find'.ensures.0 in
+    let stops : find'.result ≡ loop'.at + index_of line_feed (drop loop'.at bytes) = found_from line_feed _ _ find'.ensures.first in
     let inside : find'.result < length bytes = omega
-    (arith, c.if-stop-bytes.false, find'.ensures.1) in
+    (arith, c.if-stop-bytes.false, find'.ensures.range) in
     record {
       same_output = search rules;
       same_rs = search rules;
@@ -60,7 +60,7 @@ returns-then-stop-bytes c = let loop' = c.loop-at in
     let if1' = c.if-stop-bytes in
     let inv = loop'.invariant in
     let bytes = c.args.bytes.now in
-    let stops : find'.result ≡ loop'.at + index_of line_feed (drop loop'.at bytes) = found_from line_feed _ _ find'.ensures.0 in
+    let stops : find'.result ≡ loop'.at + index_of line_feed (drop loop'.at bytes) = found_from line_feed _ _ find'.ensures.first in
     record {
       answers = none_left inv.far (omega (arith, stops, if1'.true));
       leaves = λ goes_on. rest_left inv.far (omega (arith, stops, if1'.true));
@@ -76,9 +76,9 @@ returns-then-has_ended c = let loop' = c.loop-at in
     let inv = loop'.invariant in
     let bytes = c.args.bytes.now in
     let took = c.take_line-feed.ensures in
-    let stops : find'.result ≡ loop'.at + index_of line_feed (drop loop'.at bytes) = found_from line_feed _ _ find'.ensures.0 in
+    let stops : find'.result ≡ loop'.at + index_of line_feed (drop loop'.at bytes) = found_from line_feed _ _ find'.ensures.first in
     let inside : find'.result < length bytes = omega
-    (arith, c.if-stop-bytes.false, find'.ensures.1) in
+    (arith, c.if-stop-bytes.false, find'.ensures.range) in
     let told = c.has_ended.ensures in
     let ended = c.if-has_ended.true in
     record {

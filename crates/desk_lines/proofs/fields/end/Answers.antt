@@ -5,4 +5,4 @@ use borrow.Author.Rules.{rules}
 use Rattle.desk_lines.proofs.fields.end.Goals as goal
 
 pub returns : goal.returns
-returns c = found_from space c.args.line.now c.args.from c.find.ensures.0
+returns c = found_from space c.args.line.now c.args.from c.find.ensures.first

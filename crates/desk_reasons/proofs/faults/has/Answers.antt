@@ -4,4 +4,4 @@ use borrow.Author.Rules.{rules}
 use Rattle.desk_reasons.proofs.faults.has.Goals as goal
 
 pub returns : goal.returns
-returns c = has_by_search _ _ c.find.ensures.0
+returns c = has_by_search _ _ c.find.ensures.first
