@@ -23,7 +23,7 @@ settles_at-settles-requires c = (c.requires.0.size, (held c).1)
 
 pub remove_at-requires : goal.remove_at-requires
 remove_at-requires c = let intact = c.requires.0 in
-    let still-intact = intact_after intact c.set_cursor.auto.0 c.set_cursor.ensures intact.sound in
+    let still-intact = intact_after intact c.set_cursor.auto.ws c.set_cursor.ensures intact.sound in
     (still-intact, rw c.set_cursor.ensures (held_2 c).0)
 
 pub overflow_add-cursor : goal.overflow_add-cursor

@@ -6,21 +6,21 @@ use borrow.Author.Rules.{rules}
 use Rattle.ledger.proofs.make_room.Goals as goal
 
 -- After the scan the words are still lent and the place that it chose holds a debt; so does the place of the soonest.
-scanned : (c : goal.After-remove_at-arg-1) → AfterScan c.args.cap c.scan.new.0 c.scan.result
-scanned c = after_scan _ c.requires.0 c.requires.1 c.scan.auto.0 c.scan.ensures
+scanned : (c : goal.After-remove_at-arg-1) → AfterScan c.args.cap c.scan.new.ws c.scan.result
+scanned c = after_scan _ c.requires.0 c.requires.1 c.scan.auto.ws c.scan.ensures
 
 -- After the scan the words are still lent and the place that it chose holds a debt; so does the place of the soonest.
-scanned_2 : (c : goal.After-remove_at-arg-then-forget-1) → AfterScan c.args.cap c.scan.new.0 c.scan.result
-scanned_2 c = after_scan _ c.requires.0 c.requires.1 c.scan.auto.0 c.scan.ensures
+scanned_2 : (c : goal.After-remove_at-arg-then-forget-1) → AfterScan c.args.cap c.scan.new.ws c.scan.result
+scanned_2 c = after_scan _ c.requires.0 c.requires.1 c.scan.auto.ws c.scan.ensures
 
 -- After the scan the words are still lent and the place that it chose holds a debt; so does the place of the soonest.
-scanned_3 : (c : goal.Else-forget) → AfterScan c.args.cap c.scan.new.0 c.scan.result
-scanned_3 c = after_scan _ c.requires.0 c.requires.1 c.scan.auto.0 c.scan.ensures
+scanned_3 : (c : goal.Else-forget) → AfterScan c.args.cap c.scan.new.ws c.scan.result
+scanned_3 c = after_scan _ c.requires.0 c.requires.1 c.scan.auto.ws c.scan.ensures
 
-soonest-held : (c : goal.After-remove_at-arg-then-forget-1) → c.in-Soonest.pos < (ledger c.args.cap c.scan.last.0).debts.count
+soonest-held : (c : goal.After-remove_at-arg-then-forget-1) → c.in-Soonest.pos < (ledger c.args.cap c.scan.new.ws).debts.count
 soonest-held c = choice_held (scanned_2 c) c.in-Soonest.is
 
-soonest-held_2 : (c : goal.Else-forget) → c.in-Soonest.pos < (ledger c.args.cap c.scan.last.0).debts.count
+soonest-held_2 : (c : goal.Else-forget) → c.in-Soonest.pos < (ledger c.args.cap c.scan.new.ws).debts.count
 soonest-held_2 c = choice_held (scanned_3 c) c.in-Soonest.is
 
 pub remove_at-requires : goal.remove_at-requires

@@ -8,14 +8,12 @@ use Rattle.ledger.proofs.owed_by.Goals as goal
 pub settles_at-requires : goal.settles_at-requires
 settles_at-requires c = let pre' = c.requires in
     let position' = c.position in
-    let pos' = c.pos-1 in
-    (pre'.size, found_below _ pre' position'.ensures pos'.given.1)
+    (pre'.size, found_below _ pre' position'.ensures c.in-At.is)
 
 pub returns-in-At : goal.returns-in-At
 returns-in-At c = let settles-at' = c.settles_at in
     let position' = c.position in
-    let pos' = c.pos-1 in
-    rw settles-at'.ensures (owed_where _ _ (sym position'.ensures ∙ pos'.given.1))
+    rw settles-at'.ensures (owed_where _ _ (sym position'.ensures ∙ c.in-At.is))
 
 pub returns-in-Nowhere : goal.returns-in-Nowhere
 returns-in-Nowhere c = owed_where _ _ (sym c.position.ensures ∙ c.in-Nowhere.is)

@@ -9,7 +9,7 @@ use Rattle.ledger.proofs.record.Goals as goal
 
 pub write-requires : goal.write-requires
 write-requires c = let prepare' = c.prepare in
-    let after = after_prepare _ _ _ c.requires prepare'.auto.0 prepare'.ensures in
+    let after = after_prepare _ _ _ c.requires prepare'.auto.ws prepare'.ensures in
     (after.intact, written_after after c.in-Ready.is)
 
 pub returns-in-Ready : goal.returns-in-Ready

@@ -10,10 +10,10 @@ row : (c : goal.Then-meets_unsettled) → RowFits c.args.cap c.cursor-first.resu
 row c = row_fits _ c.requires.0 c.cursor-first.ensures c.meets_unsettled.ensures c.if-meets_unsettled.true
 
 pub overflow_add-end : goal.overflow_add-end
-overflow_add-end c = omega (arith, (row c).ranges, c.ranges)
+overflow_add-end c = omega (arith, (row c).fits, c.ranges)
 
 pub soonest_before-best-requires : goal.soonest_before-best-requires
-soonest_before-best-requires c = (c.requires.0, (row c).some, omega arith, (row c).ranges)
+soonest_before-best-requires c = (c.requires.0, (row c).some, omega arith, (row c).fits)
 
 pub returns-then-meets_unsettled : goal.returns-then-meets_unsettled
 returns-then-meets_unsettled c = let looks = c.ledger_looks-looks.ensures in

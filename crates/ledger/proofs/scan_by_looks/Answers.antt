@@ -60,8 +60,8 @@ loop-left-preserved c = let inv = c.loop-left.invariant in
     let unsettled = rw (c.settles_at-settles.ensures, c.cursor-cursor.ensures) at c.if-settles-at.false in
     let goes_on = scan_turn _ _ _ _ c.loop-left-test.true unsettled in
     record {
-      intact = intact_after inv.intact c.set_cursor-in-loop-left.auto.0 c.set_cursor-in-loop-left.ensures inv.intact.sound;
-      long = c.set_cursor-in-loop-left.auto.0 ∙ inv.long;
+      intact = intact_after inv.intact c.set_cursor-in-loop-left.auto.ws c.set_cursor-in-loop-left.ensures inv.intact.sound;
+      long = c.set_cursor-in-loop-left.auto.ws ∙ inv.long;
       some = rw c.set_cursor-in-loop-left.ensures inv.some;
       below = rw (c.set_cursor-in-loop-left.ensures, c.sooner-best.ensures) (intact_sooner inv.intact inv.below (held_4 c).0);
       same = rw (c.set_cursor-in-loop-left.ensures, c.sooner-best.ensures, c.cursor-cursor.ensures) (sym goes_on ∙ inv.same);

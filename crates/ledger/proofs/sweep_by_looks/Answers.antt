@@ -13,7 +13,7 @@ pub look-requires : goal.look-requires
 look-requires c = (c.loop-left.invariant.lent, search rules)
 
 pub loop-left-preserved : goal.loop-left-preserved
-loop-left-preserved c = sweep_goes_on (sweep_by_looks _ _) c.loop-left.invariant c.loop-left-test.true c.look.auto.0 c.look.ensures
+loop-left-preserved c = sweep_goes_on (sweep_by_looks _ _) c.loop-left.invariant c.loop-left-test.true c.look.auto.ws c.look.ensures
 
 pub returns-after-loop-left : goal.returns-after-loop-left
 returns-after-loop-left c = sweep_ends (sweep_by_looks _ _) c.loop-left.invariant c.loop-left-test.false

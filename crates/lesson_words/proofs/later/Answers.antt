@@ -12,8 +12,7 @@ pub returns-then-n-clock : goal.returns-then-n-clock
 returns-then-n-clock c = rw c.in-Number.is (later_within _ _ (omega arith))
 
 pub returns-else-n-clock : goal.returns-else-n-clock
-returns-else-n-clock c = let value' = c.value-1 in
-    rw value'.given.1 (later_too_far c.args.clock value'.given.0.0 (omega arith))
+returns-else-n-clock c = rw c.in-Number.is (later_too_far c.args.clock c.in-Number.n (omega arith))
 
 pub returns-in-Wrong : goal.returns-in-Wrong
 returns-in-Wrong c = rw c.in-Wrong.is

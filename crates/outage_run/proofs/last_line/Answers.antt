@@ -30,14 +30,13 @@ finish-requires-2 c = let took = rw c.unprinted-feed.ensures at c.take_line-feed
     (omega (arith, took.rows, c.requires.1), omega (arith, took.fits, c.requires.2))
 
 pub returns : goal.returns
-returns c = let finish2' = c.finish-2 in
-    let a = c.args in
+returns c = let a = c.args in
     let took = rw c.unprinted-feed.ensures at
     c.take_line-feed.ensures in
     let last = last_is_answered village a.pending a.input.now (village_of a.feed a.rs.now a.memory.now)
     (λ none. omega (arith, none, c.if-pending-eq0.false)) c.requires.0 c.requires.3 took.answers in
     record {
-      answers = last_then_run last finish2'.ensures;
-      fits = omega (arith, took.fits, finish2'.ensures.fits, c.requires.2);
-      beyond = same_further _ _ _ _ _ took.beyond finish2'.ensures.after finish2'.ensures.beyond;
+      answers = last_then_run last c.finish-2.ensures;
+      fits = omega (arith, took.fits, c.finish-2.ensures.fits, c.requires.2);
+      beyond = same_further _ _ _ _ _ took.beyond c.finish-2.ensures.after c.finish-2.ensures.beyond;
     }

@@ -9,5 +9,4 @@ pub returns-in-Some : goal.returns-in-Some
 returns-in-Some c = let sweep-idle' = c.sweep_idle in
     let idle-looks' = c.idle_looks in
     let idle-limit' = c.idle_limit-limit in
-    let idle-ttl' = c.idle_ttl-1 in
-    rw (sweep-idle'.ensures, idle-looks'.ensures, idle-limit'.ensures, idle-ttl'.given.1)
+    rw (sweep-idle'.ensures, idle-looks'.ensures, idle-limit'.ensures, c.in-Some.is)

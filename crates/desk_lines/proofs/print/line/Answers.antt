@@ -16,7 +16,7 @@ field-requires c = omega (
       arith,
       answer_is c.field-second.ensures,
       field_short c.args.number space,
-      c.field-second.kept.0,
+      c.field-second.auto.0,
       answer_is c.field-third.ensures,
       field_short c.args.code space,
       c.field-third.auto.0,
