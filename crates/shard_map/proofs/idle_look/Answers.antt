@@ -21,11 +21,11 @@ held_3 : (c : goal.After-set_sweep-arg-else-is_reclaimable-1) → let a = c.args
 held_3 c = intact_sweep c.requires.0 c.requires.2 c.sweep-sweep.ensures
 
 tested : (c : goal.After-slice_known-then-is_reclaimable-2-1) → let a = c.args in let s = shard a.cap a.ws.now in
-    c.is_reclaimable.result ≡ reclaimable a.config a.at a.ttl-ms (slot_at s (sweep_of s))
+    c.is_reclaimable.result ≡ reclaimable a.config a.at a.ttl_ms (slot_at s (sweep_of s))
 tested c = rw (c.load.ensures, c.sweep-sweep.ensures) at c.is_reclaimable.ensures
 
 tested_2 : (c : goal.After-slice_known-else-is_reclaimable-1) → let a = c.args in let s = shard a.cap a.ws.now in
-    c.is_reclaimable.result ≡ reclaimable a.config a.at a.ttl-ms (slot_at s (sweep_of s))
+    c.is_reclaimable.result ≡ reclaimable a.config a.at a.ttl_ms (slot_at s (sweep_of s))
 tested_2 c = rw (c.load.ensures, c.sweep-sweep.ensures) at c.is_reclaimable.ensures
 
 pub load-requires : goal.load-requires
@@ -35,7 +35,7 @@ pub is_reclaimable-requires : goal.is_reclaimable-requires
 is_reclaimable-requires c = c.requires.1
 
 pub remove_at-requires : goal.remove_at-requires
-remove_at-requires c = let after = after_sweep c.requires.0 c.set_sweep.auto.0 _ c.set_sweep.ensures in
+remove_at-requires c = let after = after_sweep c.requires.0 c.set_sweep.auto.ws _ c.set_sweep.ensures in
     (after.intact, rw after.count (held_2 c).0)
 
 pub overflow_add-sweep : goal.overflow_add-sweep

@@ -36,10 +36,10 @@ put-requires c = let h = held_2 c in search rules
 
 pub put-requires-2 : goal.put-requires-2
 put-requires-2 c = let h = held_3 c in
-    (c.put.auto.0 ∙ c.remove_from_index.auto.0 ∙ c.requires.0.size, search rules)
+    (c.put.auto.ws ∙ c.remove_from_index.auto.ws ∙ c.requires.0.size, search rules)
 
 pub set_count-requires : goal.set_count-requires
-set_count-requires c = c.put-2.auto.0 ∙ c.put.auto.0 ∙ c.remove_from_index.auto.0 ∙ c.requires.0.size
+set_count-requires c = c.put-2.auto.ws ∙ c.put.auto.ws ∙ c.remove_from_index.auto.ws ∙ c.requires.0.size
 
 pub returns : goal.returns
 returns c = let stores = remove_by_stores _ _ in

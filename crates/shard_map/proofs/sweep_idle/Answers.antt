@@ -14,7 +14,7 @@ idle_look-requires c = (c.loop-left.invariant.lent, c.requires.1, search rules)
 
 pub loop-left-preserved : goal.loop-left-preserved
 loop-left-preserved c = let looked = c.idle_look in
-    sweep_goes_on (idle_sweep_by_looks _ _ _ _) c.loop-left.invariant c.loop-left-test.true looked.auto.0 looked.ensures
+    sweep_goes_on (idle_sweep_by_looks _ _ _ _) c.loop-left.invariant c.loop-left-test.true looked.auto.ws looked.ensures
 
 pub returns-after-loop-left : goal.returns-after-loop-left
 returns-after-loop-left c = sweep_ends (idle_sweep_by_looks _ _ _ _) c.loop-left.invariant c.loop-left-test.false

@@ -12,7 +12,7 @@ pay_down-requires c = (intact_ledger c.requires.0 c.ledger_start-start.ensures, 
 pub returns : goal.returns
 returns c = let gave = c.pay_down in
     let a = c.args in
-    ledger_answers _ _ c.requires.0.size c.ledger_start-start.ensures _ gave.auto.0
+    ledger_answers _ _ c.requires.0.size c.ledger_start-start.ensures _ gave.auto.ws
     (λ m. Ledger.paid_down m a.hash a.cost a.config)
     (λ m ws. paid_with_others m ws _ _ _)
     gave.ensures

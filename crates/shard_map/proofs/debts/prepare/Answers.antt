@@ -12,7 +12,7 @@ prepare-requires c = intact_ledger c.requires c.ledger_start-start.ensures
 pub returns : goal.returns
 returns c = let gave = c.prepare in
     let a = c.args in
-    ledger_answers _ _ c.requires.size c.ledger_start-start.ensures _ gave.auto.0
+    ledger_answers _ _ c.requires.size c.ledger_start-start.ensures _ gave.auto.ws
     (λ m. prepared m a.hash a.at a.forget)
     (λ m ws. prepared_with_others m ws _ _ _)
     gave.ensures

@@ -11,4 +11,4 @@ sweep-requires c = intact_ledger c.requires c.ledger_start-start.ensures
 
 pub returns : goal.returns
 returns c = let gave = c.sweep in
-    ledger_leaves _ _ c.requires.size c.ledger_start-start.ensures _ gave.auto.0 (Ledger.sweep _ _) (λ m ws. sweep_with_others m ws _ _) gave.ensures
+    ledger_leaves _ _ c.requires.size c.ledger_start-start.ensures _ gave.auto.ws (Ledger.sweep _ _) (λ m ws. sweep_with_others m ws _ _) gave.ensures

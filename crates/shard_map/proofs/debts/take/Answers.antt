@@ -11,5 +11,5 @@ take-requires c = intact_ledger c.requires c.ledger_start-start.ensures
 
 pub returns : goal.returns
 returns c = let gave = c.take in
-    ledger_answers _ _ c.requires.size c.ledger_start-start.ensures _ gave.auto.0 (λ m. Ledger.taken m c.args.hash)
+    ledger_answers _ _ c.requires.size c.ledger_start-start.ensures _ gave.auto.ws (λ m. Ledger.taken m c.args.hash)
     (λ m ws. taken_with_others m ws _) gave.ensures

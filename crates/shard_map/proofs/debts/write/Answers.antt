@@ -19,5 +19,5 @@ write-requires c = let pre' = c.requires in
 pub returns : goal.returns
 returns c = let gave = c.write in
     let a = c.args in
-    ledger_leaves _ _ c.requires.0.size c.ledger_start-start.ensures _ gave.auto.0 (λ m. written m a.place a.debt)
+    ledger_leaves _ _ c.requires.0.size c.ledger_start-start.ensures _ gave.auto.ws (λ m. written m a.place a.debt)
     (λ m ws. written_with_others m ws a.place a.debt) gave.ensures
