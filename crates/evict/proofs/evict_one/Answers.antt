@@ -19,62 +19,63 @@ use Rattle.evict.proofs.RowLaws.{after_row}
 use borrow.Author.Rules.{rules}
 use Rattle.evict.proofs.evict_one.Invariants.{Walking, Ended}
 use Rattle.evict.proofs.evict_one.Goals as goal
+use Rattle.evict.proofs.evict_one.Goals.{then-left-eq0, else-left-eq0+then-goes_at_once}
 
 -- After a look that does not end the walk, the walk goes on with one look less.
 turned : (c : goal.After-pass_owing-arg-1) → let a = c.args in
-    Walking a.ws.now a.cap a.config a.at c.hand_look-slot.new.0 (c.loop-left.left - 1) c.noted-walk.result
+    Walking a.ws.now a.cap a.config a.at c.hand_look-slot.new.ws (c.loop-left.left - 1) c.noted-walk.result
 turned c = let once = c.goes_at_once.ensures in
     let saw = c.hand_look-slot.ensures in
     let inv = c.loop-left.invariant in
-    let after = after_look inv.intact c.hand_look-slot.auto.0 _ saw in
+    let after = after_look inv.intact c.hand_look-slot.auto.ws _ saw in
     let accepted = c.requires.1 in
     let more : 0 < c.loop-left.left = omega (arith, c.if-left-eq0.false) in
     let goes_on = walk_turn _ _ _ _ _ more c.hand-pos.ensures saw once accepted c.if-goes_at_once.false c.noted-walk.ensures in
     record {
       intact = after.intact;
       some = rw after.count inv.some;
-      long = c.hand_look-slot.auto.0 ∙ inv.long;
+      long = c.hand_look-slot.auto.ws ∙ inv.long;
       same = sym goes_on ∙ inv.same;
     }
 
 -- After a look that does not end the walk, the walk goes on with one look less.
 turned_2 : (c : goal.After-with_least-walk) → let a = c.args in
-    Walking a.ws.now a.cap a.config a.at c.hand_look-slot.new.0 (c.loop-left.left - 1) c.noted-walk.result
+    Walking a.ws.now a.cap a.config a.at c.hand_look-slot.new.ws (c.loop-left.left - 1) c.noted-walk.result
 turned_2 c = let once = c.goes_at_once.ensures in
     let saw = c.hand_look-slot.ensures in
     let inv = c.loop-left.invariant in
-    let after = after_look inv.intact c.hand_look-slot.auto.0 _ saw in
+    let after = after_look inv.intact c.hand_look-slot.auto.ws _ saw in
     let accepted = c.requires.1 in
     let more : 0 < c.loop-left.left = omega (arith, c.if-left-eq0.false) in
     let goes_on = walk_turn _ _ _ _ _ more c.hand-pos.ensures saw once accepted c.if-goes_at_once.false c.noted-walk.ensures in
     record {
       intact = after.intact;
       some = rw after.count inv.some;
-      long = c.hand_look-slot.auto.0 ∙ inv.long;
+      long = c.hand_look-slot.auto.ws ∙ inv.long;
       same = sym goes_on ∙ inv.same;
     }
 
 walk-ended : (c : goal.After-slice_known-2-1) → let a = c.args in
     Ended a.ws.now a.cap a.config a.at c.if-left-eq0.ws c.if-left-eq0.ended c.loop-left.walk
 walk-ended c = let inv = c.loop-left.invariant in
-    ⊎_elim
-    (λ w. rw (w.1, w.2) (record { long = inv.long; same = sym inv.same ∙ walk_end _ _ _ _ _ w.0.taken }))
-    (λ w. rw (w.9, w.10) (record {
-      long = w.4.kept.0 ∙ inv.long;
-      same = sym inv.same ∙ walk_ends_at_once _ _ _ _ _ (omega (arith, w.0.left)) w.2.ensures w.4.ensures w.7.ensures w.8.taken;
-    }))
-    c.if-left-eq0.branch
+    elim c.if-left-eq0.branch [
+      then-left-eq0 w ↦ rw (w.ws-is, w.ended-is) (record { long = inv.long; same = sym inv.same ∙ walk_end _ _ _ _ _ w.if-left-eq0.true })
+    | else-left-eq0+then-goes_at_once w ↦ rw (w.ws-is, w.ended-is) (record {
+        long = w.hand_look-slot.auto.ws ∙ inv.long;
+        same = sym inv.same ∙ walk_ends_at_once _ _ _ _ _ (omega (arith, w.if-left-eq0.false)) w.hand-pos.ensures w.hand_look-slot.ensures w.goes_at_once.ensures w.if-goes_at_once.true;
+      })
+    ]
 
 walk-ended_2 : (c : goal.After-choose) → let a = c.args in
     Ended a.ws.now a.cap a.config a.at c.if-left-eq0.ws c.if-left-eq0.ended c.loop-left.walk
 walk-ended_2 c = let inv = c.loop-left.invariant in
-    ⊎_elim
-    (λ w. rw (w.1, w.2) (record { long = inv.long; same = sym inv.same ∙ walk_end _ _ _ _ _ w.0.taken }))
-    (λ w. rw (w.9, w.10) (record {
-      long = w.4.kept.0 ∙ inv.long;
-      same = sym inv.same ∙ walk_ends_at_once _ _ _ _ _ (omega (arith, w.0.left)) w.2.ensures w.4.ensures w.7.ensures w.8.taken;
-    }))
-    c.if-left-eq0.branch
+    elim c.if-left-eq0.branch [
+      then-left-eq0 w ↦ rw (w.ws-is, w.ended-is) (record { long = inv.long; same = sym inv.same ∙ walk_end _ _ _ _ _ w.if-left-eq0.true })
+    | else-left-eq0+then-goes_at_once w ↦ rw (w.ws-is, w.ended-is) (record {
+        long = w.hand_look-slot.auto.ws ∙ inv.long;
+        same = sym inv.same ∙ walk_ends_at_once _ _ _ _ _ (omega (arith, w.if-left-eq0.false)) w.hand-pos.ensures w.hand_look-slot.ensures w.goes_at_once.ensures w.if-goes_at_once.true;
+      })
+    ]
 
 -- So the words are still lent there, and the victim is held.
 walk-left : (c : goal.After-choose) → let a = c.args in
@@ -112,11 +113,11 @@ loop-left-smaller c = omega (arith, c.pass_owing-row.ensures.fewer, c.if-left-eq
 pub loop-left-preserved : goal.loop-left-preserved
 loop-left-preserved c = let passed = c.pass_owing-row.ensures in
     let went = turned_2 c in
-    let after = after_row went.intact c.pass_owing-row.auto.0 passed in
+    let after = after_row went.intact c.pass_owing-row.auto.ws passed in
     record {
       intact = after.intact;
       some = rw after.count went.some;
-      long = c.pass_owing-row.auto.0 ∙ went.long;
+      long = c.pass_owing-row.auto.ws ∙ went.long;
       same = rw c.with_least-walk.ensures (sym passed.same ∙ went.same);
     }
 
@@ -126,7 +127,7 @@ evict_victim-requires c = let pre' = c.requires in
     (after.intact, pre'.1, rw (c.choose.ensures, c.hand-first.ensures) after.held)
 
 pub shape_of-ws : goal.shape_of-ws
-shape_of-ws c = c.evict_victim.auto.0 ∙ (walk-ended c).long
+shape_of-ws c = c.evict_victim.auto.ws ∙ (walk-ended c).long
 
 pub returns : goal.returns
 returns c = let hand = c.hand-first.ensures in

@@ -12,13 +12,13 @@ get-slot-requires c = let pre' = c.requires in
     (pre'.0, intact_below pre'.0 pre'.2)
 
 pub write-requires : goal.write-requires
-write-requires c = let went = after_prepare _ _ _ c.requires.0 c.prepare.auto.0 c.prepare.ensures in
+write-requires c = let went = after_prepare _ _ _ c.requires.0 c.prepare.auto.ws c.prepare.ensures in
     (went.lent.intact, may_be_written went c.in-Ready.is)
 
 pub evict_at-requires : goal.evict_at-requires
 evict_at-requires c = let pre' = c.requires in
     let gave = written_is_recorded _ _ _ _ c.prepare.ensures c.in-Ready.is c.write.ensures in
-    let k = after_record pre'.0 (c.write.auto.0 ∙ c.prepare.auto.0) _ _ _ gave in
+    let k = after_record pre'.0 (c.write.auto.ws ∙ c.prepare.auto.ws) _ _ _ gave in
     (k.intact, rw k.count pre'.2)
 
 pub returns-in-Ready : goal.returns-in-Ready
