@@ -15,7 +15,7 @@ use borrow.Author.Rules.{rules}
 use Rattle.classes.proofs.chains_refusal.Given as goal
 
 pub record SoFar (cs : List Class) (lengths : List ℕ) (class : ℕ) : Type 0 where
-  pub none-refused : chains_refused cs ≡ first_from (chain_refusal cs) class (length cs - class)
+  pub none_refused : chains_refused cs ≡ first_from (chain_refusal cs) class (length cs - class)
   pub kept : Kept cs lengths
 
 abbrev pub invariant-loop-class : goal.invariant-loop-class
