@@ -1,16 +1,9 @@
-use Rattle.classes.specs.Layout.{classes_in}
-use Rattle.classes.specs.declared.Class.{Class}
-use Rattle.classes.specs.Classes.{most_classes, chain_refusal, first_from, chains_refused}
-use Rattle.classes.specs.code.Lengths.{Kept}
-use lib.ListN.{length}
-use mathlib.Core.List.{List}
-use mathlib.Core.Path.{◌≡◌, sym, ◌∙◌}
+use Rattle.classes.specs.Classes.{most_classes}
+use mathlib.Core.Path.{sym, ◌∙◌}
 use native.Mathlib.Nat.{sub-zero}
 use native.Mathlib.Omega.{arith}
-use Prim.Native.Nat.{ℕ, ◌-◌}
 use Rattle.classes.proofs.RefusalLaws.{no_place_is_left, refused_here, not_refused_here}
 use Rattle.classes.proofs.LengthLaws.{nothing_kept, none_found_is_refused, found_is_not_refused}
-use borrow.Author.Rules.{rules}
 use Rattle.classes.proofs.chains_refusal.Goals as goal
 
 pub loop-class-init : goal.loop-class-init
