@@ -2,7 +2,6 @@
 use native.Mathlib.Omega.{arith}
 use Rattle.classes.proofs.LayoutLaws.{class_has_words}
 use Rattle.classes.proofs.ChainLaws.{taken_cost}
-use borrow.Author.Rules.{rules}
 use Rattle.classes.proofs.charge_own.Goals as goal
 
 pub config_at-config-requires : goal.config_at-config-requires

@@ -2,7 +2,6 @@
 use Rattle.classes.proofs.ChainLaws.{config_held}
 use Rattle.settings.specs.Rate.{config_of}
 use mathlib.Core.Path.{ap, ◌∙◌}
-use borrow.Author.Rules.{rules}
 use Rattle.classes.proofs.config_at.Goals as goal
 
 pub load_rate-rate-requires : goal.load_rate-rate-requires

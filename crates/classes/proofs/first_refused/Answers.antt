@@ -1,12 +1,7 @@
-use Rattle.classes.specs.Layout.{classes_in}
-use Rattle.classes.specs.Classes.{first_from, first_refused, refused_by}
-use lib.ListN.{length}
-use mathlib.Core.Path.{◌≡◌, sym, ◌∙◌}
+use mathlib.Core.Path.{sym, ◌∙◌}
 use native.Mathlib.Nat.{sub-zero}
 use native.Mathlib.Omega.{arith}
-use Prim.Native.Nat.{◌-◌}
 use Rattle.classes.proofs.RefusalLaws.{no_place_is_left, refused_here, not_refused_here}
-use borrow.Author.Rules.{rules}
 use Rattle.classes.proofs.first_refused.Goals as goal
 
 pub loop-class-init : goal.loop-class-init

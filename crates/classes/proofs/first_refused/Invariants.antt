@@ -2,12 +2,8 @@
 use Rattle.classes.specs.Layout.{classes_in}
 use Rattle.classes.specs.Classes.{first_from, first_refused, refused_by}
 use lib.ListN.{length}
-use mathlib.Core.Path.{◌≡◌, sym, ◌∙◌}
-use native.Mathlib.Nat.{sub-zero}
-use native.Mathlib.Omega.{arith}
+use mathlib.Core.Path.{◌≡◌}
 use Prim.Native.Nat.{◌-◌}
-use Rattle.classes.proofs.RefusalLaws.{no_place_is_left, refused_here, not_refused_here}
-use borrow.Author.Rules.{rules}
 use Rattle.classes.proofs.first_refused.Given as goal
 
 abbrev pub invariant-loop-class : goal.invariant-loop-class

@@ -1,7 +1,6 @@
 -- `number_refusal`: one law for each outcome of the comparison.
 use Rattle.classes.proofs.RefusalLaws.{number_in_the_table, number_past_the_table}
 use native.Mathlib.Omega.{arith}
-use borrow.Author.Rules.{rules}
 use Rattle.classes.proofs.number_refusal.Goals as goal
 
 pub returns-then-class-count : goal.returns-then-class-count

@@ -2,7 +2,6 @@
 use Rattle.classes.proofs.LengthLaws.{too_long_stays_so, none_is_longer, longer_by_one}
 use mathlib.Core.Path.{sym}
 use native.Mathlib.Omega.{arith}
-use borrow.Author.Rules.{rules}
 use Rattle.classes.proofs.one_longer.Goals as goal
 
 pub returns-then-length-eq0 : goal.returns-then-length-eq0

@@ -1,7 +1,6 @@
 -- `parent_of` reads the class above where there is the class; past the last there is none.
 use Rattle.classes.proofs.LayoutLaws.{class_count_lem, no_parent_past}
 use native.Mathlib.Omega.{arith}
-use borrow.Author.Rules.{rules}
 use Rattle.classes.proofs.parent_of.Goals as goal
 
 pub load_parent-requires : goal.load_parent-requires

@@ -1,7 +1,6 @@
 -- `parent_refusal` goes by the parent: none, or its number.
 use Rattle.classes.proofs.RefusalLaws.{top_has_no_refusal, parent_refused}
 use mathlib.Core.Path.{sym, ◌∙◌}
-use borrow.Author.Rules.{rules}
 use Rattle.classes.proofs.parent_refusal.Goals as goal
 
 pub returns-in-None : goal.returns-in-None

@@ -2,7 +2,6 @@
 use Rattle.classes.proofs.LayoutLaws.{class_count_lem, no_rate_past}
 use mathlib.Core.Path.{◌∙◌}
 use native.Mathlib.Omega.{arith}
-use borrow.Author.Rules.{rules}
 use Rattle.classes.proofs.rate_of.Goals as goal
 
 pub load_rate-requires : goal.load_rate-requires

@@ -2,7 +2,6 @@
 use Rattle.classes.proofs.RefusalLaws.{rate_refused}
 use Rattle.settings.specs.Rate.{rate_refusal}
 use mathlib.Core.Path.{ap, ◌∙◌}
-use borrow.Author.Rules.{rules}
 use Rattle.classes.proofs.rate_refusal.Goals as goal
 
 pub returns : goal.returns

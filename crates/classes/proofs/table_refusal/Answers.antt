@@ -2,7 +2,6 @@
 use mathlib.Core.Path.{sym, ◌∙◌}
 use native.Mathlib.Omega.{arith}
 use Rattle.classes.proofs.RefusalLaws.{too_many_classes, refused_for_a_rate, refused_for_a_parent, refused_for_a_chain, parents_pass}
-use borrow.Author.Rules.{rules}
 use Rattle.classes.proofs.table_refusal.Goals as goal
 
 pub returns-then-count-gt-MOST_CLASSES : goal.returns-then-count-gt-MOST_CLASSES

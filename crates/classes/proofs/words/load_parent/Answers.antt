@@ -1,7 +1,6 @@
 -- `words::load_parent` gives the class above: the last two words of the class.
 use Rattle.classes.proofs.LayoutLaws.{parent_read}
 use mathlib.Core.Path.{◌∙◌}
-use borrow.Author.Rules.{rules}
 use Rattle.classes.proofs.words.load_parent.Goals as goal
 
 pub returns : goal.returns

@@ -1,6 +1,5 @@
 -- `words::load_rate` gives the rate: the first four words of the class.
 use Rattle.classes.proofs.LayoutLaws.{rate_read}
-use borrow.Author.Rules.{rules}
 use Rattle.classes.proofs.words.load_rate.Goals as goal
 
 pub returns : goal.returns

@@ -3,7 +3,6 @@ use Rattle.classes.proofs.LayoutLaws.{bucket_put}
 use native.Mathlib.Omega.{arith}
 use lib.ListN.{length-set}
 use native.Mathlib.Numerals.{add-one}
-use borrow.Author.Rules.{rules}
 use Rattle.classes.proofs.words.store_bucket.Goals as goal
 
 pub bounds-buckets-first-2 : goal.bounds-buckets-first-2

@@ -1,9 +1,0 @@
--- `words::parent` goes by the word that says whether there is a parent.
-use borrow.Author.Tests.{eq-eqb, ne_eqb}
-use Rattle.classes.proofs.words.parent.Goals as goal
-
-pub returns-then-has-eq0 : goal.returns-then-has-eq0
-returns-then-has-eq0 c = rw (eq-eqb _ _ c.if-has-eq0.true)
-
-pub returns : goal.returns
-returns c = rw (ne_eqb _ _ c.if-has-eq0.false)
