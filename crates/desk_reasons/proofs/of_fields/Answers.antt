@@ -23,14 +23,14 @@ loop-at-init c = (omega arith, omega arith, refl)
 pub returns-then-not-accepts : goal.returns-then-not-accepts
 returns-then-not-accepts c = let a = c.args in
     let loop' = c.loop-at in
-    let wrong = sym c.accepts.ensures ∙ not-true _ c.if-not-accepts.true in
+    let wrong = sym c.accepts.ensures ∙ c.if-not-accepts.true in
     let is-kind = c.at-kind.ensures in
     field_at_fault a.line.now a.letter loop'.at loop'.i (omega arith) (stops c) is-kind wrong c.of_field.ensures ∙ loop'.invariant.2
 
 pub loop-at-preserved : goal.loop-at-preserved
 loop-at-preserved c = let a = c.args in
     let loop' = c.loop-at in
-    let right = sym c.accepts.ensures ∙ not-false _ c.if-not-accepts.false in
+    let right = sym c.accepts.ensures ∙ c.if-not-accepts.false in
     let is-kind = c.at-kind.ensures in
     let next = field_is_fine a.line.now a.letter loop'.at loop'.i (omega arith) (stops_2 c) is-kind right in
     (omega (arith, stops_2 c), omega (arith, stops_2 c), next ∙ loop'.invariant.2)

@@ -1,19 +1,13 @@
 -- src/lib.rt:203:23
 use Rattle.lesson_words.proofs.ValueLaws.{later_within, later_too_far}
-use Rattle.lesson_words.specs.Times.{most64}
-use borrow.Author.Tests.{le-leb, lt-leb}
 use native.Mathlib.Omega.{arith}
-use Prim.Native.Nat.{◌+◌, ◌≤◌, ◌<◌}
-use borrow.Author.Rules.{rules}
-use Rattle.lesson_words.proofs.later.Reads as reads
 use Rattle.lesson_words.proofs.later.Goals as goal
 
 pub returns-then-n-clock : goal.returns-then-n-clock
 returns-then-n-clock c = rw c.in-Number.is (later_within _ _ (omega arith))
 
 pub returns-else-n-clock : goal.returns-else-n-clock
-returns-else-n-clock c = let value' = c.value-1 in
-    rw value'.given.1 (later_too_far c.args.clock value'.given.0.0 (omega arith))
+returns-else-n-clock c = rw c.in-Number.is (later_too_far c.args.clock c.in-Number.n (omega arith))
 
 pub returns-in-Wrong : goal.returns-in-Wrong
 returns-in-Wrong c = rw c.in-Wrong.is
