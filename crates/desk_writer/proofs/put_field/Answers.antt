@@ -9,7 +9,7 @@ pub put-requires : goal.put-requires
 put-requires c = simp length-set (omega arith)
 
 pub shape_of-out : goal.shape_of-out
-shape_of-out c = rw length-set at c.put.auto.0
+shape_of-out c = rw length-set at c.put.auto.out
 
 pub returns : goal.returns
 returns c = let a = c.args in

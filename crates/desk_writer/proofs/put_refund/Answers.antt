@@ -16,7 +16,7 @@ put_field-requires c = let a = c.args in
     room_for_next 102 (a.key ∷ []) a.cost a.out.now one [] c.requires
 
 pub shape_of-out : goal.shape_of-out
-shape_of-out c = omega (arith, c.put_field.auto.0, c.put_field-cost_at.auto.0, length-set c.args.out.now 0 102)
+shape_of-out c = omega (arith, c.put_field.auto.out, c.put_field-cost_at.auto.out, length-set c.args.out.now 0 102)
 
 pub returns : goal.returns
 returns c = let a = c.args in

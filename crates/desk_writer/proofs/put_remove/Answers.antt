@@ -11,7 +11,7 @@ put_field-requires c = let a = c.args in
     room_for_next 100 [] a.key a.out.now (letter_is_written 100 a.out.now) [] c.requires
 
 pub shape_of-out : goal.shape_of-out
-shape_of-out c = rw length-set at c.put_field.auto.0
+shape_of-out c = rw length-set at c.put_field.auto.out
 
 pub returns : goal.returns
 returns c = let a = c.args in

@@ -16,7 +16,7 @@ put-end-requires c = omega (arith, line_size c.args.call)
 
 pub put_end-requires : goal.put_end-requires
 put_end-requires c = let call' = c.args.call in
-    omega (arith, line_size call', answer_is c.put-end.ensures, c.put-end.auto.0)
+    omega (arith, line_size call', answer_is c.put-end.ensures, c.put-end.auto.out)
 
 pub returns : goal.returns
 returns c = let a = c.args in

@@ -16,7 +16,7 @@ field-at-requires-2 c = let field' = c.field-at in
       arith,
       answer_is field'.ensures,
       field_short c.args.a space,
-      field'.auto.0,
+      field'.auto.out,
       c.requires,
     )
 
@@ -28,10 +28,10 @@ field-at-requires-3 c = let field' = c.field-at in
       arith,
       answer_is field'.ensures,
       field_short args'.a space,
-      field'.auto.0,
+      field'.auto.out,
       answer_is field2'.ensures,
       field_short args'.b space,
-      field2'.auto.0,
+      field2'.auto.out,
       c.requires,
     )
 
@@ -44,14 +44,14 @@ field-requires c = let field' = c.field-at in
       arith,
       answer_is field'.ensures,
       field_short args'.a space,
-      field'.kept.0,
+      field'.auto.out,
       answer_is field2'.ensures,
       field_short args'.b
           space,
-      field2'.auto.0,
+      field2'.auto.out,
       answer_is field3'.ensures,
       field_short args'.c space,
-      field3'.auto.0,
+      field3'.auto.out,
       c.requires,
     )
 

@@ -19,7 +19,7 @@ field-at-requires-2 c = let field' = c.field-at in
       arith,
       answer_is field'.ensures,
       field_short c.args.modems space,
-      field'.auto.0,
+      field'.auto.out,
       c.requires,
     )
 
@@ -31,10 +31,10 @@ put_idle-at-requires c = let field' = c.field-at in
       arith,
       answer_is field'.ensures,
       field_short args'.modems space,
-      field'.auto.0,
+      field'.auto.out,
       answer_is field2'.ensures,
       field_short args'.shards space,
-      field2'.auto.0,
+      field2'.auto.out,
       c.requires,
     )
 
@@ -47,13 +47,13 @@ field-requires c = let field' = c.field-at in
       arith,
       answer_is field'.ensures,
       field_short args'.modems space,
-      field'.kept.0,
+      field'.auto.out,
       answer_is field2'.ensures,
       field_short args'.shards space,
-      field2'.auto.0,
+      field2'.auto.out,
       answer_is put-idle'.ensures,
       idle_short args'.idle,
-      put-idle'.auto.0,
+      put-idle'.auto.out,
       c.requires,
     )
 
