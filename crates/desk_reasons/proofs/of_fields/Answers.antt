@@ -1,12 +1,8 @@
-use Rattle.desk_reasons.proofs.WalkLaws.{reason_from, line_ends, field_at_fault, field_is_fine}
+use Rattle.desk_reasons.proofs.WalkLaws.{line_ends, field_at_fault, field_is_fine}
 use mathlib.Core.Path.{◌≡◌, refl, sym, ◌∙◌}
-use Prim.Native.Nat.{◌+◌, ◌-◌, ◌≤◌}
-use lib.ListN.{length}
 use native.Mathlib.Omega.{arith}
-use borrow.Author.Tests.{not-true, not-false}
 use Rattle.desk_lines.specs.Fields.{space, field_end}
 use Rattle.desk_lines.proofs.FieldLaws.{found_from}
-use borrow.Author.Rules.{rules}
 use Rattle.desk_reasons.proofs.of_fields.Goals as goal
 
 -- The search stops where the field ends.

@@ -1,11 +1,6 @@
-use borrow.Author.Tests.{not-true, not-false}
 use Rattle.desk_reasons.proofs.FaultLaws.{none_left, digit_goes_on, other_ends}
-use mathlib.Core.Path.{◌≡◌, refl, sym, ◌∙◌}
-use Prim.Native.Nat.{◌-◌, ◌≤◌}
-use lib.ListN.{length, drop}
-use Rattle.decimal.specs.Decimal.{all_digits}
+use mathlib.Core.Path.{refl, sym, ◌∙◌}
 use native.Mathlib.Omega.{arith}
-use borrow.Author.Rules.{rules}
 use Rattle.desk_reasons.proofs.faults.all_digits.Goals as goal
 
 pub loop-i-init : goal.loop-i-init
