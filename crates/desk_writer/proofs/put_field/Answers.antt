@@ -2,7 +2,6 @@
 use native.Mathlib.Omega.{arith}
 use lib.ListN.{length-set}
 use Rattle.desk_writer.proofs.WritingLaws.{field_is_written}
-use borrow.Author.Rules.{rules}
 use Rattle.desk_writer.proofs.put_field.Goals as goal
 
 pub put-requires : goal.put-requires

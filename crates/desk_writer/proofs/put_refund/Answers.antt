@@ -3,7 +3,6 @@ use native.Mathlib.Omega.{arith}
 use mathlib.Core.List.{[], ◌∷◌}
 use lib.ListN.{length-set}
 use Rattle.desk_writer.proofs.WritingLaws.{letter_is_written, room_for_next, next_is_written}
-use borrow.Author.Rules.{rules}
 use Rattle.desk_writer.proofs.put_refund.Goals as goal
 
 pub put_field-cost_at-requires : goal.put_field-cost_at-requires

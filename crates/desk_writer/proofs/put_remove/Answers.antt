@@ -1,9 +1,7 @@
 -- `put_remove` stores the letter and the key.
-use native.Mathlib.Omega.{arith}
-use mathlib.Core.List.{[], ◌∷◌}
+use mathlib.Core.List.{[]}
 use lib.ListN.{length-set}
 use Rattle.desk_writer.proofs.WritingLaws.{letter_is_written, room_for_next, next_is_written}
-use borrow.Author.Rules.{rules}
 use Rattle.desk_writer.proofs.put_remove.Goals as goal
 
 pub put_field-requires : goal.put_field-requires

@@ -7,7 +7,6 @@ use Rattle.rows.specs.Outcome.{outcome}
 use Rattle.desk_lines.specs.Printed.{written_over}
 use Rattle.desk_writer.specs.Writer.{spaced}
 use Rattle.desk_writer.proofs.WritingLaws.{letter_is_written, room_for_next, next_is_written}
-use borrow.Author.Rules.{rules}
 use Rattle.desk_writer.proofs.put_three.Goals as goal
 
 -- What is stored after one number and after two.

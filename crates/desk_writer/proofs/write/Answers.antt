@@ -5,7 +5,6 @@ use Rattle.rows.proofs.OutcomeLaws.{answer_is}
 use Rattle.desk_writer.proofs.SizeLaws.{line_size}
 use Rattle.desk_writer.proofs.ReadBackLaws.{refusal_changes_no_byte}
 use Rattle.desk_writer.proofs.WritingLaws.{line_is_written}
-use borrow.Author.Rules.{rules}
 use Rattle.desk_writer.proofs.write.Goals as goal
 
 pub returns-then-out-size : goal.returns-then-out-size
