@@ -1,5 +1,4 @@
 -- `eviction` has a case for no idle time and one for an idle time.
-use borrow.Author.Rules.{rules}
 use Rattle.desk_lines.proofs.eviction.Goals as goal
 
 pub returns-in-None : goal.returns-in-None

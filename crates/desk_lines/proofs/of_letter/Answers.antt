@@ -1,7 +1,6 @@
 -- `of_letter` has a case for each letter.
 use mathlib.Core.Path.{◌∙◌}
 use Rattle.desk_lines.proofs.LineLaws.{after_letter, letter_a, letter_p, letter_r, letter_f, letter_d, letter_s, other_letter}
-use borrow.Author.Rules.{rules}
 use Rattle.desk_lines.proofs.of_letter.Goals as goal
 
 pub returns-then-letter-eq97 : goal.returns-then-letter-eq97

@@ -4,7 +4,6 @@ use Rattle.desk_lines.specs.Lines.{Taken}
 use Rattle.desk_lines.specs.declared.Request.{Request}
 use Rattle.desk_lines.specs.declared.Line.TheVariants.{Peek}
 use Rattle.desk_lines.proofs.LineLaws.{finished_line, unfinished_line, rest_of}
-use borrow.Author.Rules.{rules}
 use Rattle.desk_lines.proofs.peek_line.Goals as goal
 
 pub returns-then-is_finished : goal.returns-then-is_finished

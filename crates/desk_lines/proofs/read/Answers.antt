@@ -1,7 +1,6 @@
 -- `read` asks for at most 100 bytes and a first field of one byte, and goes by that byte.
 use mathlib.Core.Path.{sym, ◌∙◌}
 use Rattle.desk_lines.proofs.LineLaws.{too_long, no_letter_lem, letter_inside, by_letter_lem}
-use borrow.Author.Rules.{rules}
 use Rattle.desk_lines.proofs.read.Goals as goal
 
 pub returns-then-line-gt-LONGEST_LINE : goal.returns-then-line-gt-LONGEST_LINE

@@ -4,7 +4,6 @@ use Rattle.desk_lines.specs.Lines.{most32}
 use Rattle.desk_lines.specs.declared.Line.TheVariants.{Refund}
 use Rattle.desk_lines.proofs.LineLaws.{finished_line, unfinished_line, rest_of, taken_after}
 use Rattle.desk_lines.proofs.ReadingLaws.{value_within}
-use borrow.Author.Rules.{rules}
 use Rattle.desk_lines.proofs.refund_line.Goals as goal
 
 pub overflow_cast-result : goal.overflow_cast-result

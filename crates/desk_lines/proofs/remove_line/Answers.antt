@@ -1,7 +1,6 @@
 -- `remove_line` is finished after a key.
 use Rattle.desk_lines.specs.declared.Line.TheVariants.{Remove}
 use Rattle.desk_lines.proofs.LineLaws.{finished_line, unfinished_line, rest_of}
-use borrow.Author.Rules.{rules}
 use Rattle.desk_lines.proofs.remove_line.Goals as goal
 
 pub returns-then-is_finished : goal.returns-then-is_finished

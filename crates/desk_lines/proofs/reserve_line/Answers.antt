@@ -3,7 +3,6 @@ use Rattle.desk_lines.specs.Lines.{most64}
 use Rattle.units.specs.Units.{nanos_of}
 use Rattle.desk_lines.specs.declared.Line.TheVariants.{Reserve}
 use Rattle.desk_lines.proofs.LineLaws.{finished_line, unfinished_line, rest_of, taken_after}
-use borrow.Author.Rules.{rules}
 use Rattle.desk_lines.proofs.reserve_line.Goals as goal
 
 pub returns-then-is_finished : goal.returns-then-is_finished

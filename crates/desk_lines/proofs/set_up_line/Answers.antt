@@ -3,7 +3,6 @@ use mathlib.Core.Path.{◌≡◌}
 use Rattle.desk_lines.specs.Lines.{taken, taken_idle, taken_rate, most64, most_rule}
 use Rattle.desk_lines.specs.Places.{reading_at}
 use Rattle.desk_lines.proofs.LineLaws.{finished_line, unfinished_line, set_up_rest, set_up_line}
-use borrow.Author.Rules.{rules}
 use Rattle.desk_lines.proofs.set_up_line.Goals as goal
 
 rest_left : (c : goal.After-eviction) → let a = c.args in let r = reading_at a.line.now a.rest in

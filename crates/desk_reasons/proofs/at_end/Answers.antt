@@ -1,5 +1,4 @@
 -- `at_end` has a case for each kind.
-use borrow.Author.Rules.{rules}
 use Rattle.desk_reasons.proofs.at_end.Goals as goal
 
 pub returns-in-Number : goal.returns-in-Number

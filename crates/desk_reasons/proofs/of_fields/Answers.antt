@@ -1,12 +1,8 @@
-use Rattle.desk_reasons.proofs.WalkLaws.{reason_from, line_ends, field_at_fault, field_is_fine}
+use Rattle.desk_reasons.proofs.WalkLaws.{line_ends, field_at_fault, field_is_fine}
 use mathlib.Core.Path.{◌≡◌, refl, sym, ◌∙◌}
-use Prim.Native.Nat.{◌+◌, ◌-◌, ◌≤◌}
-use lib.ListN.{length}
 use native.Mathlib.Omega.{arith}
-use borrow.Author.Tests.{not-true, not-false}
 use Rattle.desk_lines.specs.Fields.{space, field_end}
 use Rattle.desk_lines.proofs.FieldLaws.{found_from}
-use borrow.Author.Rules.{rules}
 use Rattle.desk_reasons.proofs.of_fields.Goals as goal
 
 -- The search stops where the field ends.
@@ -23,14 +19,14 @@ loop-at-init c = (omega arith, omega arith, refl)
 pub returns-then-not-accepts : goal.returns-then-not-accepts
 returns-then-not-accepts c = let a = c.args in
     let loop' = c.loop-at in
-    let wrong = sym c.accepts.ensures ∙ not-true _ c.if-not-accepts.true in
+    let wrong = sym c.accepts.ensures ∙ c.if-not-accepts.true in
     let is-kind = c.at-kind.ensures in
     field_at_fault a.line.now a.letter loop'.at loop'.i (omega arith) (stops c) is-kind wrong c.of_field.ensures ∙ loop'.invariant.2
 
 pub loop-at-preserved : goal.loop-at-preserved
 loop-at-preserved c = let a = c.args in
     let loop' = c.loop-at in
-    let right = sym c.accepts.ensures ∙ not-false _ c.if-not-accepts.false in
+    let right = sym c.accepts.ensures ∙ c.if-not-accepts.false in
     let is-kind = c.at-kind.ensures in
     let next = field_is_fine a.line.now a.letter loop'.at loop'.i (omega arith) (stops_2 c) is-kind right in
     (omega (arith, stops_2 c), omega (arith, stops_2 c), next ∙ loop'.invariant.2)

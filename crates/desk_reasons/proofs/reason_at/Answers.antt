@@ -1,7 +1,6 @@
 -- `reason_at` looks at the line, and then at its place.
 use mathlib.Core.Path.{sym, ◌∙◌}
 use Rattle.desk_reasons.proofs.WalkLaws.{fine_by_place, faulty_anywhere}
-use borrow.Author.Rules.{rules}
 use Rattle.desk_reasons.proofs.reason_at.Goals as goal
 
 pub returns-then-is_fine : goal.returns-then-is_fine

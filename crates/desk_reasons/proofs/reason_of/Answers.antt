@@ -1,10 +1,8 @@
 -- `reason_of` looks at the length of the line, at its first field, and then at the others.
 use Rattle.desk_lines.proofs.FieldLaws.{found_from}
 use Rattle.desk_lines.specs.Fields.{space, field_end}
-use native.Mathlib.Omega.{arith}
 use mathlib.Core.Path.{◌≡◌, ◌∙◌}
 use Rattle.desk_reasons.proofs.WalkLaws.{line_is_blank, line_is_long, no_letter_first, letter_first}
-use borrow.Author.Rules.{rules}
 use Rattle.desk_reasons.proofs.reason_of.Goals as goal
 
 -- The search stops where the first field ends.

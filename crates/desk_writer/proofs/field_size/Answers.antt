@@ -1,7 +1,6 @@
 -- `field_size` adds the space.
 use native.Mathlib.Omega.{arith}
 use Rattle.decimal.proofs.WriteLaws.{digits_count}
-use borrow.Author.Rules.{rules}
 use Rattle.desk_writer.proofs.field_size.Goals as goal
 
 pub overflow_add-result : goal.overflow_add-result

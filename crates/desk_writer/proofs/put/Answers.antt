@@ -1,5 +1,4 @@
 -- `put` has a case for each kind of call.
-use borrow.Author.Rules.{rules}
 use Rattle.desk_writer.proofs.put.Goals as goal
 
 pub put_request-requires : goal.put_request-requires

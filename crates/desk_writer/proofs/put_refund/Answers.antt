@@ -3,7 +3,6 @@ use native.Mathlib.Omega.{arith}
 use mathlib.Core.List.{[], ◌∷◌}
 use lib.ListN.{length-set}
 use Rattle.desk_writer.proofs.WritingLaws.{letter_is_written, room_for_next, next_is_written}
-use borrow.Author.Rules.{rules}
 use Rattle.desk_writer.proofs.put_refund.Goals as goal
 
 pub put_field-cost_at-requires : goal.put_field-cost_at-requires
@@ -16,7 +15,7 @@ put_field-requires c = let a = c.args in
     room_for_next 102 (a.key ∷ []) a.cost a.out.now one [] c.requires
 
 pub shape_of-out : goal.shape_of-out
-shape_of-out c = omega (arith, c.put_field.auto.0, c.put_field-cost_at.auto.0, length-set c.args.out.now 0 102)
+shape_of-out c = omega (arith, c.put_field.auto.out, c.put_field-cost_at.auto.out, length-set c.args.out.now 0 102)
 
 pub returns : goal.returns
 returns c = let a = c.args in

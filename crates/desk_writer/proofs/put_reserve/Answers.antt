@@ -4,17 +4,16 @@ use Rattle.desk_writer.proofs.WritingLaws.{room_for_next, next_is_written}
 use Rattle.desk_writer.specs.Writer.{request_numbers}
 use mathlib.Core.List.{[], ◌∷◌}
 use native.Mathlib.Omega.{arith}
-use borrow.Author.Rules.{rules}
 use Rattle.desk_writer.proofs.put_reserve.Goals as goal
 
 pub put_three-wait_at-requires : goal.put_three-wait_at-requires
 put_three-wait_at-requires c = let args' = c.args in
-    omega (arith, spaced_append_size (request_numbers args'.request) (args'.max-wait.0 ∷ []), c.requires)
+    omega (arith, spaced_append_size (request_numbers args'.request) (args'.max_wait.0 ∷ []), c.requires)
 
 pub put_field-requires : goal.put_field-requires
 put_field-requires c = let a = c.args in
-    room_for_next 114 (request_numbers a.request) a.max-wait.0 a.out.now c.put_three-wait_at.ensures [] c.requires
+    room_for_next 114 (request_numbers a.request) a.max_wait.0 a.out.now c.put_three-wait_at.ensures [] c.requires
 
 pub returns : goal.returns
 returns c = let a = c.args in
-    next_is_written 114 (request_numbers a.request) a.max-wait.0 a.out.now c.put_three-wait_at.ensures c.put_field.ensures
+    next_is_written 114 (request_numbers a.request) a.max_wait.0 a.out.now c.put_three-wait_at.ensures c.put_field.ensures

@@ -2,7 +2,6 @@
 use native.Mathlib.Omega.{arith}
 use mathlib.Core.List.{[], ◌∷◌}
 use Rattle.desk_writer.proofs.SizeLaws.{spaced_none_size, spaced_size}
-use borrow.Author.Rules.{rules}
 use Rattle.desk_writer.proofs.request_size.Goals as goal
 
 pub returns : goal.returns

@@ -1,6 +1,5 @@
 -- `size` adds the letter and the LF to the numbers of each kind of call.
 use Rattle.desk_writer.proofs.WritingLaws.{try_size, peek_size, reserve_size, refund_size, remove_size}
-use borrow.Author.Rules.{rules}
 use Rattle.desk_writer.proofs.size.Goals as goal
 
 pub returns-in-Try : goal.returns-in-Try

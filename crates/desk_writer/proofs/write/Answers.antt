@@ -5,7 +5,6 @@ use Rattle.rows.proofs.OutcomeLaws.{answer_is}
 use Rattle.desk_writer.proofs.SizeLaws.{line_size}
 use Rattle.desk_writer.proofs.ReadBackLaws.{refusal_changes_no_byte}
 use Rattle.desk_writer.proofs.WritingLaws.{line_is_written}
-use borrow.Author.Rules.{rules}
 use Rattle.desk_writer.proofs.write.Goals as goal
 
 pub returns-then-out-size : goal.returns-then-out-size
@@ -16,7 +15,7 @@ put-end-requires c = omega (arith, line_size c.args.call)
 
 pub put_end-requires : goal.put_end-requires
 put_end-requires c = let call' = c.args.call in
-    omega (arith, line_size call', answer_is c.put-end.ensures, c.put-end.auto.0)
+    omega (arith, line_size call', answer_is c.put-end.ensures, c.put-end.auto.out)
 
 pub returns : goal.returns
 returns c = let a = c.args in

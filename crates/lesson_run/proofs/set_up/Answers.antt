@@ -18,7 +18,7 @@ returns c = let args' = c.args in
       short = omega (
         arith,
         limits_are_inside l o c.requires is,
-        put-limits'.auto.0,
+        put-limits'.auto.out,
       );
       quiet = refl;
       going = refl;

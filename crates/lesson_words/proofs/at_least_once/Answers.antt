@@ -1,7 +1,5 @@
 -- src/lib.rt:175:23
 use borrow.Author.Tests.{eq-eqb, ne_eqb}
-use borrow.Author.Rules.{rules}
-use Rattle.lesson_words.proofs.at_least_once.Reads as reads
 use Rattle.lesson_words.proofs.at_least_once.Goals as goal
 
 pub returns-then-n-eq0 : goal.returns-then-n-eq0

@@ -1,8 +1,6 @@
 -- src/lib.rt:65:9
 use Rattle.lesson_words.specs.Words.{is_blank}
 use borrow.Author.Tests.{eq-eqb, ne_eqb}
-use borrow.Author.Rules.{rules}
-use Rattle.lesson_words.proofs.is_blank.Reads as reads
 use Rattle.lesson_words.proofs.is_blank.Goals as goal
 
 pub returns-then-byte-eq32 : goal.returns-then-byte-eq32

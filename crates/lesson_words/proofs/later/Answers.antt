@@ -1,11 +1,6 @@
 -- src/lib.rt:203:23
 use Rattle.lesson_words.proofs.ValueLaws.{later_within, later_too_far}
-use Rattle.lesson_words.specs.Times.{most64}
-use borrow.Author.Tests.{le-leb, lt-leb}
 use native.Mathlib.Omega.{arith}
-use Prim.Native.Nat.{◌+◌, ◌≤◌, ◌<◌}
-use borrow.Author.Rules.{rules}
-use Rattle.lesson_words.proofs.later.Reads as reads
 use Rattle.lesson_words.proofs.later.Goals as goal
 
 pub returns-then-n-clock : goal.returns-then-n-clock

@@ -1,9 +1,4 @@
 -- src/lib.rt:217:27
-use borrow.Author.Rules.{rules}
-use Rattle.lesson_words.proofs.modem.Reads as reads
-use Rattle.decimal.proofs.number.Reads as number-reads
-use Rattle.lesson_words.proofs.addresses.address.Reads as address-reads
-use Rattle.lesson_words.proofs.or_else.Reads as or-else-reads
 use Rattle.lesson_words.proofs.modem.Goals as goal
 
 pub returns : goal.returns

@@ -1,12 +1,7 @@
 -- src/lib.rt:190:9
 use Rattle.lesson_words.proofs.ValueLaws.{empty_moment, moment_after_the_clock, moment_by_itself}
 use Rattle.lesson_words.proofs.TimeLaws.{rest_is_dropped}
-use mathlib.Core.Path.{◌≡◌, sym, ◌∙◌}
-use native.Mathlib.Omega.{arith}
-use borrow.Author.Rules.{rules}
-use Rattle.lesson_words.proofs.moment.Reads as reads
-use Rattle.lesson_words.proofs.later.Reads as later-reads
-use Rattle.lesson_words.proofs.times.time.Reads as time-reads
+use mathlib.Core.Path.{◌∙◌}
 use Rattle.lesson_words.proofs.moment.Goals as goal
 
 pub returns-then-word-eq0 : goal.returns-then-word-eq0

@@ -1,9 +1,6 @@
 -- src/lib.rt:150:8
 use Rattle.lesson_words.proofs.ValueLaws.{digits_are_large, others_are_no_number}
-use mathlib.Core.Path.{◌≡◌, sym, ◌∙◌}
-use borrow.Author.Rules.{rules}
-use Rattle.lesson_words.proofs.number_fault.Reads as reads
-use Rattle.lesson_words.proofs.all_digits.Reads as all-digits-reads
+use mathlib.Core.Path.{sym, ◌∙◌}
 use Rattle.lesson_words.proofs.number_fault.Goals as goal
 
 pub returns-then-all_digits : goal.returns-then-all_digits

@@ -1,6 +1,4 @@
 -- src/lib.rt:141:28
-use borrow.Author.Rules.{rules}
-use Rattle.lesson_words.proofs.or_else.Reads as reads
 use Rattle.lesson_words.proofs.or_else.Goals as goal
 
 pub returns-in-Some : goal.returns-in-Some

@@ -1,8 +1,6 @@
 -- src/lib.rt:108:9
 use Rattle.lesson_words.specs.Words.{small}
 use borrow.Author.Tests.{le-leb, lt-leb}
-use borrow.Author.Rules.{rules}
-use Rattle.lesson_words.proofs.small.Reads as reads
 use Rattle.lesson_words.proofs.small.Goals as goal
 
 pub returns-then-byte-lt65 : goal.returns-then-byte-lt65

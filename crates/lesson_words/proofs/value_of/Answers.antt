@@ -1,11 +1,4 @@
 -- src/lib.rt:121:22
-use borrow.Author.Rules.{rules}
-use Rattle.lesson_words.proofs.value_of.Reads as reads
-use Rattle.lesson_words.proofs.at_least_once.Reads as at-least-once-reads
-use Rattle.lesson_words.proofs.modem.Reads as modem-reads
-use Rattle.lesson_words.proofs.moment.Reads as moment-reads
-use Rattle.lesson_words.proofs.plain.Reads as plain-reads
-use Rattle.lesson_words.proofs.times.time.Reads as time-reads
 use Rattle.lesson_words.proofs.value_of.Goals as goal
 
 pub returns-in-Number : goal.returns-in-Number

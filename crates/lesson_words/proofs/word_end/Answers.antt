@@ -1,13 +1,6 @@
 use Rattle.lesson_words.proofs.WordLaws.{no_word_at_end, word_goes_on, word_stops}
-use Rattle.lesson_words.specs.Words.{word_size}
-use borrow.Author.Tests.{not-true, not-false}
-use mathlib.Core.Path.{◌≡◌, refl, sym, ◌∙◌}
+use mathlib.Core.Path.{refl, sym, ◌∙◌}
 use native.Mathlib.Omega.{arith}
-use lib.ListN.{length, drop}
-use Prim.Native.Nat.{◌+◌, ◌-◌, ◌≤◌}
-use borrow.Author.Rules.{rules}
-use Rattle.lesson_words.proofs.word_end.Reads as reads
-use Rattle.lesson_words.proofs.is_blank.Reads as is-blank-reads
 use Rattle.lesson_words.proofs.word_end.Goals as goal
 
 pub loop-at-init : goal.loop-at-init

@@ -1,13 +1,6 @@
 use Rattle.lesson_words.proofs.WordLaws.{no_blank_at_end, blank_goes_on, blanks_stop}
-use Rattle.lesson_words.specs.Words.{blanks_ahead}
-use borrow.Author.Tests.{not-true, not-false}
-use mathlib.Core.Path.{◌≡◌, refl, sym, ◌∙◌}
+use mathlib.Core.Path.{refl, sym, ◌∙◌}
 use native.Mathlib.Omega.{arith}
-use lib.ListN.{length, drop}
-use Prim.Native.Nat.{◌+◌, ◌-◌, ◌≤◌}
-use borrow.Author.Rules.{rules}
-use Rattle.lesson_words.proofs.word_start.Reads as reads
-use Rattle.lesson_words.proofs.is_blank.Reads as is-blank-reads
 use Rattle.lesson_words.proofs.word_start.Goals as goal
 
 pub loop-at-init : goal.loop-at-init
@@ -16,7 +9,7 @@ loop-at-init c = (omega arith, refl)
 pub loop-at-preserved : goal.loop-at-preserved
 loop-at-preserved c = (
   omega arith,
-  sym (blank_goes_on _ _ (omega arith) (sym c.is_blank.ensures ∙ not-false _ c.if-not-is_blank.false)) ∙ c.loop-at.invariant.1,
+  sym (blank_goes_on _ _ (omega arith) (sym c.is_blank.ensures ∙ c.if-not-is_blank.false)) ∙ c.loop-at.invariant.1,
 )
 
 pub returns-after-loop-at : goal.returns-after-loop-at
@@ -29,5 +22,5 @@ returns-then-not-is_blank c = let loop' = c.loop-at in
       arith,
       loop'.invariant.1,
       blanks_stop c.args.line.now loop'.at (omega arith)
-          (sym c.is_blank.ensures ∙ not-true _ c.if-not-is_blank.true),
+          (sym c.is_blank.ensures ∙ c.if-not-is_blank.true),
     )

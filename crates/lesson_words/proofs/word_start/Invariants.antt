@@ -1,13 +1,7 @@
-use Rattle.lesson_words.proofs.WordLaws.{no_blank_at_end, blank_goes_on, blanks_stop}
 use Rattle.lesson_words.specs.Words.{blanks_ahead}
-use borrow.Author.Tests.{not-true, not-false}
-use mathlib.Core.Path.{◌≡◌, refl, sym, ◌∙◌}
-use native.Mathlib.Omega.{arith}
+use mathlib.Core.Path.{◌≡◌}
 use lib.ListN.{length, drop}
 use Prim.Native.Nat.{◌+◌, ◌-◌, ◌≤◌}
-use borrow.Author.Rules.{rules}
-use Rattle.lesson_words.proofs.word_start.Reads as reads
-use Rattle.lesson_words.proofs.is_blank.Reads as is-blank-reads
 use Rattle.lesson_words.proofs.word_start.Given as goal
 
 abbrev pub invariant-loop-at : goal.invariant-loop-at

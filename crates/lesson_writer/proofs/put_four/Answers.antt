@@ -16,39 +16,42 @@ field-at-requires-2 c = let field' = c.field-at in
       arith,
       answer_is field'.ensures,
       field_short c.args.a space,
-      field'.auto.0,
+      field'.auto.out,
       c.requires,
     )
 
 pub field-at-requires-3 : goal.field-at-requires-3
 field-at-requires-3 c = let field' = c.field-at in
     let args' = c.args in
+    let field2' = c.field-at-2 in
     omega (
       arith,
       answer_is field'.ensures,
       field_short args'.a space,
-      field'.auto.0,
-      answer_is c.field-at-2.ensures,
+      field'.auto.out,
+      answer_is field2'.ensures,
       field_short args'.b space,
-      c.field-at-2.auto.0,
+      field2'.auto.out,
       c.requires,
     )
 
 pub field-requires : goal.field-requires
 field-requires c = let field' = c.field-at in
     let args' = c.args in
+    let field2' = c.field-at-2 in
+    let field3' = c.field-at-3 in
     omega (
       arith,
       answer_is field'.ensures,
       field_short args'.a space,
-      field'.kept.0,
-      answer_is c.field-at-2.ensures,
+      field'.auto.out,
+      answer_is field2'.ensures,
       field_short args'.b
           space,
-      c.field-at-2.auto.0,
-      answer_is c.field-at-3.ensures,
+      field2'.auto.out,
+      answer_is field3'.ensures,
       field_short args'.c space,
-      c.field-at-3.auto.0,
+      field3'.auto.out,
       c.requires,
     )
 

@@ -18,7 +18,7 @@ use Rattle.lesson_writer.proofs.put_limits.Goals as goal
 
 pub put_four-at-requires : goal.put_four-at-requires
 put_four-at-requires c = let put-letter' = c.put_letter-at in
-    omega (arith, answer_is put-letter'.ensures, put-letter'.auto.0, c.requires)
+    omega (arith, answer_is put-letter'.ensures, put-letter'.auto.out, c.requires)
 
 pub put_room-requires : goal.put_room-requires
 put_room-requires c = let put-letter' = c.put_letter-at in
@@ -27,10 +27,10 @@ put_room-requires c = let put-letter' = c.put_letter-at in
     omega (
       arith,
       answer_is put-letter'.ensures,
-      put-letter'.kept.0,
+      put-letter'.auto.out,
       answer_is put-four'.ensures,
       four_short l.amount l.period l.burst l.initial,
-      put-four'.auto.0,
+      put-four'.auto.out,
       c.requires,
     )
 

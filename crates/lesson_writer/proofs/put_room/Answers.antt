@@ -19,39 +19,41 @@ field-at-requires-2 c = let field' = c.field-at in
       arith,
       answer_is field'.ensures,
       field_short c.args.modems space,
-      field'.auto.0,
+      field'.auto.out,
       c.requires,
     )
 
 pub put_idle-at-requires : goal.put_idle-at-requires
 put_idle-at-requires c = let field' = c.field-at in
     let args' = c.args in
+    let field2' = c.field-at-2 in
     omega (
       arith,
       answer_is field'.ensures,
       field_short args'.modems space,
-      field'.auto.0,
-      answer_is c.field-at-2.ensures,
+      field'.auto.out,
+      answer_is field2'.ensures,
       field_short args'.shards space,
-      c.field-at-2.auto.0,
+      field2'.auto.out,
       c.requires,
     )
 
 pub field-requires : goal.field-requires
 field-requires c = let field' = c.field-at in
     let args' = c.args in
+    let field2' = c.field-at-2 in
     let put-idle' = c.put_idle-at in
     omega (
       arith,
       answer_is field'.ensures,
       field_short args'.modems space,
-      field'.kept.0,
-      answer_is c.field-at-2.ensures,
+      field'.auto.out,
+      answer_is field2'.ensures,
       field_short args'.shards space,
-      c.field-at-2.auto.0,
+      field2'.auto.out,
       answer_is put-idle'.ensures,
       idle_short args'.idle,
-      put-idle'.auto.0,
+      put-idle'.auto.out,
       c.requires,
     )
 

@@ -5,10 +5,10 @@ use Rattle.shard.proofs.ModelLaws.{intact_after_taking, room_made_fits_a_slot, n
 use borrow.Author.Rules.{rules}
 use Rattle.shard.proofs.admit.Goals as goal
 
-still-intact : (c : goal.After-make_room-arg-1) → Intact c.args.cap c.take-owed.new.0
+still-intact : (c : goal.After-make_room-arg-1) → Intact c.args.cap c.take-owed.new.ws
 still-intact c = intact_after_taking c.requires.0 c.take-owed.auto.0 c.args.id c.take-owed.ensures
 
-still-intact_2 : (c : goal.After-join-arg-1) → Intact c.args.cap c.take-owed.new.0
+still-intact_2 : (c : goal.After-join-arg-1) → Intact c.args.cap c.take-owed.new.ws
 still-intact_2 c = intact_after_taking c.requires.0 c.take-owed.auto.0 c.args.id c.take-owed.ensures
 
 pub make_room-requires : goal.make_room-requires

@@ -17,7 +17,7 @@ found_2 c = sym c.position-place.ensures ∙ c.in-At.is
 
 pub remove_at-requires : goal.remove_at-requires
 remove_at-requires c = let id = c.args.id in
-    (intact_after_taking c.requires c.take-debt.auto.0 id c.take-debt.ensures, taking_keeps_held id _ c.take-debt.ensures _ (found c))
+    (intact_after_taking c.requires c.take-debt.auto.ws id c.take-debt.ensures, taking_keeps_held id _ c.take-debt.ensures _ (found c))
 
 pub returns-in-At : goal.returns-in-At
 returns-in-At c = rw c.remove_at.ensures (remove_with_slot _ _ c.take-debt.ensures _ (found_2 c))

@@ -7,7 +7,7 @@ pub sweep-requires : goal.sweep-requires
 sweep-requires c = let sweep-idle' = c.sweep_idle in
     let args' = c.args in
     let pre' = c.requires in
-    intact_after_idle_sweep pre'.0 sweep-idle'.auto.0 args'.policy args'.at sweep-idle'.ensures
+    intact_after_idle_sweep pre'.0 sweep-idle'.auto.ws args'.policy args'.at sweep-idle'.ensures
 
 pub returns : goal.returns
 returns c = let ledger-looks' = c.ledger_looks in

@@ -1,7 +1,6 @@
 -- `fields::end` is the kit's search for a space.
 use Rattle.desk_lines.proofs.FieldLaws.{found_from}
 use Rattle.desk_lines.specs.Fields.{space}
-use borrow.Author.Rules.{rules}
 use Rattle.desk_lines.proofs.fields.end.Goals as goal
 
 pub returns : goal.returns

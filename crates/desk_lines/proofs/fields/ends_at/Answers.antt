@@ -1,7 +1,6 @@
 -- `fields::ends_at` looks for the end of the line, and for a space.
 use native.Mathlib.Omega.{arith}
 use Rattle.desk_lines.proofs.FieldLaws.{ends_at_end, ends_at_space}
-use borrow.Author.Rules.{rules}
 use Rattle.desk_lines.proofs.fields.ends_at.Goals as goal
 
 pub returns-then-place-line : goal.returns-then-place-line

@@ -2,7 +2,6 @@
 use native.Mathlib.Omega.{arith}
 use mathlib.Core.Path.{sym, ◌∙◌}
 use Rattle.desk_lines.proofs.ReadingLaws.{dash_inside, idle_of_dash, idle_of_number}
-use borrow.Author.Rules.{rules}
 use Rattle.desk_lines.proofs.fields.idle.Goals as goal
 
 pub overflow_add-result : goal.overflow_add-result

@@ -1,6 +1,5 @@
 -- `fields::is_dash` looks at the byte at the place and at where the field ends.
 use Rattle.desk_lines.proofs.ReadingLaws.{end_has_no_dash, other_byte_is_no_dash, dash_by_end, failed_has_no_dash}
-use borrow.Author.Rules.{rules}
 use Rattle.desk_lines.proofs.fields.is_dash.Goals as goal
 
 pub returns-then-line-at : goal.returns-then-line-at

@@ -1,6 +1,5 @@
 -- `fields::number` fails where no field is left or the reading has failed; else the field is read as a number.
 use Rattle.desk_lines.proofs.ReadingLaws.{number_is_taken, no_number_is_taken, no_field_is_taken}
-use borrow.Author.Rules.{rules}
 use Rattle.desk_lines.proofs.fields.number.Goals as goal
 
 pub returns-then-line-at : goal.returns-then-line-at

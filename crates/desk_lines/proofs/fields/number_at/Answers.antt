@@ -1,12 +1,10 @@
 -- `fields::number_at` reads the front of the field; where the field does not end with it, the field's end is looked for, and the whole field read.
-use Prim.Native.Nat.{◌≤◌, ◌<◌}
+use Prim.Native.Nat.{◌≤◌}
 use native.Mathlib.Omega.{arith}
-use mathlib.Core.Path.{◌≡◌, sym, ◌∙◌}
+use mathlib.Core.Path.{sym, ◌∙◌}
 use lib.ListN.{length}
 use Rattle.decimal.proofs.ReadLaws.{front_inside}
-use Rattle.desk_lines.specs.Fields.{field_end}
 use Rattle.desk_lines.proofs.FieldLaws.{field_ends_inside, ends_with_front, front_is_the_field}
-use borrow.Author.Rules.{rules}
 use borrow.Author.Tests.{eqb-true}
 use Rattle.desk_lines.proofs.fields.number_at.Goals as goal
 

@@ -1,5 +1,4 @@
 -- `fields::number_read` has a case for a number and one for none.
-use borrow.Author.Rules.{rules}
 use Rattle.desk_lines.proofs.fields.number_read.Goals as goal
 
 pub returns-in-None : goal.returns-in-None

@@ -3,7 +3,6 @@ use native.Mathlib.Omega.{arith}
 use Rattle.desk_lines.specs.Lines.{most32}
 use Rattle.desk_lines.proofs.LineLaws.{request_taken}
 use Rattle.desk_lines.proofs.ReadingLaws.{value_within}
-use borrow.Author.Rules.{rules}
 use Rattle.desk_lines.proofs.parts.request.Goals as goal
 
 pub overflow_cast-result : goal.overflow_cast-result

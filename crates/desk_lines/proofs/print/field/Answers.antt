@@ -8,11 +8,10 @@ use Rattle.desk_lines.proofs.PrintLaws.{written_after}
 use Rattle.decimal.proofs.WriteLaws.{digits_count}
 use Rattle.decimal.specs.Decimal.{digits_of}
 use Rattle.rows.proofs.OutcomeLaws.{answer_is}
-use borrow.Author.Rules.{rules}
 use Rattle.desk_lines.proofs.print.field.Goals as goal
 
-has_room : (c : goal.After-slice_known-2-1) → c.put-end.result < length c.put-end.new.0
-has_room c = omega (arith, answer_is c.put-end.ensures, digits_count c.args.n, c.put-end.auto.0, c.requires)
+has_room : (c : goal.After-slice_known-2-1) → c.put-end.result < length c.put-end.new.out
+has_room c = omega (arith, answer_is c.put-end.ensures, digits_count c.args.n, c.put-end.auto.out, c.requires)
 
 pub put-end-requires : goal.put-end-requires
 put-end-requires c = omega (arith, digits_count c.args.n)

@@ -5,23 +5,22 @@ use Rattle.desk_lines.proofs.PrintLaws.{written_after, field_short}
 use Rattle.desk_lines.specs.Printed.{line_feed, printed_field}
 use Rattle.desk_lines.specs.Fields.{space}
 use Rattle.rows.proofs.OutcomeLaws.{answer_is}
-use borrow.Author.Rules.{rules}
 use Rattle.desk_lines.proofs.print.line.Goals as goal
 
 pub field-third-requires : goal.field-third-requires
-field-third-requires c = omega (arith, answer_is c.field-second.ensures, field_short c.args.number space, c.field-second.auto.0, c.requires)
+field-third-requires c = omega (arith, answer_is c.field-second.ensures, field_short c.args.number space, c.field-second.auto.out, c.requires)
 
 pub field-requires : goal.field-requires
 field-requires c = omega (
-      arith,
-      answer_is c.field-second.ensures,
-      field_short c.args.number space,
-      c.field-second.auto.0,
-      answer_is c.field-third.ensures,
-      field_short c.args.code space,
-      c.field-third.auto.0,
-      c.requires,
-    )
+  arith,
+  answer_is c.field-second.ensures,
+  field_short c.args.number space,
+  c.field-second.auto.out,
+  answer_is c.field-third.ensures,
+  field_short c.args.code space,
+  c.field-third.auto.out,
+  c.requires,
+)
 
 pub returns : goal.returns
 returns c = let a = c.args in

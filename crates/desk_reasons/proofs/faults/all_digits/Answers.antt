@@ -1,11 +1,6 @@
-use borrow.Author.Tests.{not-true, not-false}
 use Rattle.desk_reasons.proofs.FaultLaws.{none_left, digit_goes_on, other_ends}
-use mathlib.Core.Path.{◌≡◌, refl, sym, ◌∙◌}
-use Prim.Native.Nat.{◌-◌, ◌≤◌}
-use lib.ListN.{length, drop}
-use Rattle.decimal.specs.Decimal.{all_digits}
+use mathlib.Core.Path.{refl, sym, ◌∙◌}
 use native.Mathlib.Omega.{arith}
-use borrow.Author.Rules.{rules}
 use Rattle.desk_reasons.proofs.faults.all_digits.Goals as goal
 
 pub loop-i-init : goal.loop-i-init
@@ -13,11 +8,11 @@ loop-i-init c = (omega arith, refl)
 
 pub returns-then-not-is_digit : goal.returns-then-not-is_digit
 returns-then-not-is_digit c = let loop' = c.loop-i in
-    other_ends _ loop'.i (omega arith) (sym c.is_digit.ensures ∙ not-true _ c.if-not-is_digit.true) ∙ loop'.invariant.1
+    other_ends _ loop'.i (omega arith) (sym c.is_digit.ensures ∙ c.if-not-is_digit.true) ∙ loop'.invariant.1
 
 pub loop-i-preserved : goal.loop-i-preserved
 loop-i-preserved c = let loop' = c.loop-i in
-    (omega arith, digit_goes_on _ loop'.i (omega arith) (sym c.is_digit.ensures ∙ not-false _ c.if-not-is_digit.false) ∙ loop'.invariant.1)
+    (omega arith, digit_goes_on _ loop'.i (omega arith) (sym c.is_digit.ensures ∙ c.if-not-is_digit.false) ∙ loop'.invariant.1)
 
 pub returns : goal.returns
 returns c = let end = c.loop-i in

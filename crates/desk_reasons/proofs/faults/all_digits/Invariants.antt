@@ -1,12 +1,8 @@
 -- `faults::all_digits` looks at one byte more with each turn: the bytes from there on are all digits exactly if all are.
-use borrow.Author.Tests.{not-true, not-false}
-use Rattle.desk_reasons.proofs.FaultLaws.{none_left, digit_goes_on, other_ends}
-use mathlib.Core.Path.{◌≡◌, refl, sym, ◌∙◌}
+use mathlib.Core.Path.{◌≡◌}
 use Prim.Native.Nat.{◌-◌, ◌≤◌}
 use lib.ListN.{length, drop}
 use Rattle.decimal.specs.Decimal.{all_digits}
-use native.Mathlib.Omega.{arith}
-use borrow.Author.Rules.{rules}
 use Rattle.desk_reasons.proofs.faults.all_digits.Given as goal
 
 abbrev pub invariant-loop-i : goal.invariant-loop-i

@@ -1,6 +1,5 @@
 -- `faults::has` is the kit's search for a byte.
 use Rattle.desk_reasons.proofs.FaultLaws.{has_by_search}
-use borrow.Author.Rules.{rules}
 use Rattle.desk_reasons.proofs.faults.has.Goals as goal
 
 pub returns : goal.returns

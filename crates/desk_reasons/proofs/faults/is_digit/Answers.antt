@@ -1,6 +1,5 @@
 -- `faults::is_digit` compares a byte with `0` and `9`.
 use Rattle.desk_reasons.proofs.FaultLaws.{below_digits, from_digits}
-use borrow.Author.Rules.{rules}
 use Rattle.desk_reasons.proofs.faults.is_digit.Goals as goal
 
 pub returns-then-byte-lt48 : goal.returns-then-byte-lt48

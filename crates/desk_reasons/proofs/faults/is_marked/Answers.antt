@@ -1,6 +1,5 @@
 -- `faults::is_marked` looks at the first three bytes.
 use Rattle.desk_reasons.proofs.FaultLaws.{too_short_for_a_mark, first_of_no_mark, second_of_no_mark, mark_by_third}
-use borrow.Author.Rules.{rules}
 use Rattle.desk_reasons.proofs.faults.is_marked.Goals as goal
 
 pub returns-then-field-lt3 : goal.returns-then-field-lt3

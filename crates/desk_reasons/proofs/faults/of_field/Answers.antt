@@ -1,5 +1,4 @@
 -- `faults::of_field` looks at the field, then by its kind.
-use borrow.Author.Rules.{rules}
 use Rattle.desk_reasons.proofs.faults.of_field.Goals as goal
 
 pub returns : goal.returns

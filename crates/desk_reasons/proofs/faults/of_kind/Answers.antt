@@ -1,5 +1,4 @@
 -- `faults::of_kind` has a case for each kind.
-use borrow.Author.Rules.{rules}
 use Rattle.desk_reasons.proofs.faults.of_kind.Goals as goal
 
 pub returns-in-Number : goal.returns-in-Number

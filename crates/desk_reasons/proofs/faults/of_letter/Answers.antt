@@ -1,6 +1,5 @@
 -- `faults::of_letter` looks for a byte order mark first.
 use mathlib.Core.Path.{sym, ◌∙◌}
-use borrow.Author.Rules.{rules}
 use Rattle.desk_reasons.proofs.faults.of_letter.Goals as goal
 
 pub returns-then-is_marked : goal.returns-then-is_marked

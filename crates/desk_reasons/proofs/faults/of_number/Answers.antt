@@ -1,7 +1,6 @@
 -- `faults::of_number` looks whether all bytes are digits, then how many they are.
 use Rattle.desk_reasons.proofs.FaultLaws.{number_large, number_long, number_of_others}
 use mathlib.Core.Path.{sym, ◌∙◌}
-use borrow.Author.Rules.{rules}
 use Rattle.desk_reasons.proofs.faults.of_number.Goals as goal
 
 pub returns-then-field-le20 : goal.returns-then-field-le20

@@ -4,7 +4,6 @@ use mathlib.Core.Path.{◌≡◌, sym, ◌∙◌}
 use mathlib.Core.Bool.{false}
 use lib.ListN.{length}
 use Rattle.desk_reasons.specs.Reasons.{has}
-use borrow.Author.Rules.{rules}
 use Rattle.desk_reasons.proofs.faults.seen.Goals as goal
 
 -- Once a tab was looked for: there is a byte, and no CR.

@@ -1,5 +1,4 @@
 -- `kinds::accepts` has a case for each kind.
-use borrow.Author.Rules.{rules}
 use Rattle.desk_reasons.proofs.kinds.accepts.Goals as goal
 
 pub returns-in-Number : goal.returns-in-Number

@@ -1,7 +1,6 @@
 -- `kinds::at` has a case for each letter.
 use Rattle.desk_reasons.proofs.KindLaws.{kind_a, kind_p, kind_r, kind_f, kind_d, kind_s, kind_of_other}
 use mathlib.Core.Path.{◌∙◌}
-use borrow.Author.Rules.{rules}
 use Rattle.desk_reasons.proofs.kinds.at.Goals as goal
 
 pub returns-then-letter-eq97 : goal.returns-then-letter-eq97

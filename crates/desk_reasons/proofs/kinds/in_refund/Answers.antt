@@ -1,7 +1,6 @@
 -- `kinds::in_refund` has one field more than `kinds::in_remove`.
 use Rattle.desk_reasons.proofs.KindLaws.{refund_as_remove}
 use mathlib.Core.Path.{◌∙◌}
-use borrow.Author.Rules.{rules}
 use Rattle.desk_reasons.proofs.kinds.in_refund.Goals as goal
 
 pub returns-then-i-eq1 : goal.returns-then-i-eq1

@@ -2,7 +2,6 @@
 use Rattle.desk_reasons.proofs.KindLaws.{none_past}
 use Rattle.desk_reasons.specs.Reasons.{remove_kinds}
 use native.Mathlib.Omega.{arith}
-use borrow.Author.Rules.{rules}
 use Rattle.desk_reasons.proofs.kinds.in_remove.Goals as goal
 
 pub returns-then-i-eq0 : goal.returns-then-i-eq0

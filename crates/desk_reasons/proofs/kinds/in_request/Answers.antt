@@ -2,7 +2,6 @@
 use Rattle.desk_reasons.proofs.KindLaws.{none_past, request_64}
 use Rattle.desk_reasons.specs.Reasons.{request_kinds}
 use native.Mathlib.Omega.{arith}
-use borrow.Author.Rules.{rules}
 use Rattle.desk_reasons.proofs.kinds.in_request.Goals as goal
 
 pub returns-then-i-lt2 : goal.returns-then-i-lt2

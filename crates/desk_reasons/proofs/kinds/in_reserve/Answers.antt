@@ -1,7 +1,6 @@
 -- `kinds::in_reserve` has one field more than `kinds::in_request`.
 use Rattle.desk_reasons.proofs.KindLaws.{reserve_as_request}
 use mathlib.Core.Path.{◌∙◌}
-use borrow.Author.Rules.{rules}
 use Rattle.desk_reasons.proofs.kinds.in_reserve.Goals as goal
 
 pub returns-then-i-eq3 : goal.returns-then-i-eq3

@@ -2,7 +2,6 @@
 use Rattle.desk_reasons.proofs.KindLaws.{none_past, set_up_32, set_up_64}
 use Rattle.desk_reasons.specs.Reasons.{set_up_kinds}
 use native.Mathlib.Omega.{arith}
-use borrow.Author.Rules.{rules}
 use Rattle.desk_reasons.proofs.kinds.in_set_up.Goals as goal
 
 pub returns-then-i-eq1 : goal.returns-then-i-eq1

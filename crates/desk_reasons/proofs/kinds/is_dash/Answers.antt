@@ -1,7 +1,5 @@
 -- `kinds::is_dash` looks at the one byte of a field.
-use native.Mathlib.Omega.{arith}
 use Rattle.desk_reasons.proofs.KindLaws.{long_is_no_dash, one_is_dash}
-use borrow.Author.Rules.{rules}
 use Rattle.desk_reasons.proofs.kinds.is_dash.Goals as goal
 
 pub returns-then-field-ne1 : goal.returns-then-field-ne1

@@ -1,6 +1,5 @@
 -- `kinds::is_idle` takes a dash, else a number.
 use mathlib.Core.Path.{sym, ◌∙◌}
-use borrow.Author.Rules.{rules}
 use Rattle.desk_reasons.proofs.kinds.is_idle.Goals as goal
 
 pub returns-then-is_dash : goal.returns-then-is_dash

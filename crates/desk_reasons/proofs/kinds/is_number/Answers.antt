@@ -1,5 +1,4 @@
 -- `kinds::is_number` reads the field.
-use borrow.Author.Rules.{rules}
 use Rattle.desk_reasons.proofs.kinds.is_number.Goals as goal
 
 pub returns : goal.returns

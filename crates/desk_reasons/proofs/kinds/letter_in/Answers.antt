@@ -1,8 +1,6 @@
 -- `kinds::letter_in` looks at the one byte of a field.
 use mathlib.Core.Path.{◌∙◌}
-use native.Mathlib.Omega.{arith}
 use Rattle.desk_reasons.proofs.KindLaws.{no_letter_lem, one_letter_lem}
-use borrow.Author.Rules.{rules}
 use Rattle.desk_reasons.proofs.kinds.letter_in.Goals as goal
 
 pub returns-then-field-ne1 : goal.returns-then-field-ne1

@@ -1,11 +1,6 @@
 -- src/addresses.rt:18:9
 use Rattle.lesson_words.proofs.AddressLaws.{other_length, is_address, is_no_address}
-use mathlib.Core.Path.{◌≡◌, sym, ◌∙◌}
-use native.Mathlib.Omega.{arith}
-use borrow.Author.Rules.{rules}
-use Rattle.lesson_words.proofs.addresses.address.Reads as reads
-use Rattle.lesson_words.proofs.addresses.all_fit.Reads as all-fit-reads
-use Rattle.lesson_words.proofs.addresses.six_bytes.Reads as six-bytes-reads
+use mathlib.Core.Path.{sym, ◌∙◌}
 use Rattle.lesson_words.proofs.addresses.address.Goals as goal
 
 pub returns-then-word-ne-ADDRESS_BYTES : goal.returns-then-word-ne-ADDRESS_BYTES

@@ -1,13 +1,6 @@
 use Rattle.lesson_words.proofs.AddressLaws.{none_left, fit_goes_on, misfit_ends}
-use Rattle.lesson_words.specs.Addresses.{all_fit}
-use borrow.Author.Tests.{not-true, not-false}
-use mathlib.Core.Path.{◌≡◌, refl, sym, ◌∙◌}
+use mathlib.Core.Path.{refl, sym, ◌∙◌}
 use native.Mathlib.Omega.{arith}
-use lib.ListN.{length, drop}
-use Prim.Native.Nat.{◌-◌, ◌≤◌}
-use borrow.Author.Rules.{rules}
-use Rattle.lesson_words.proofs.addresses.all_fit.Reads as reads
-use Rattle.lesson_words.proofs.addresses.fits_at.Reads as fits-at-reads
 use Rattle.lesson_words.proofs.addresses.all_fit.Goals as goal
 
 pub loop-i-init : goal.loop-i-init
@@ -15,11 +8,11 @@ loop-i-init c = (omega arith, refl)
 
 pub returns-then-not-fits_at : goal.returns-then-not-fits_at
 returns-then-not-fits_at c = let loop' = c.loop-i in
-    misfit_ends _ loop'.i (omega arith) (sym c.fits_at.ensures ∙ not-true _ c.if-not-fits_at.true) ∙ loop'.invariant.1
+    misfit_ends _ loop'.i (omega arith) (sym c.fits_at.ensures ∙ c.if-not-fits_at.true) ∙ loop'.invariant.1
 
 pub loop-i-preserved : goal.loop-i-preserved
 loop-i-preserved c = let loop' = c.loop-i in
-    (omega arith, fit_goes_on _ loop'.i (omega arith) (sym c.fits_at.ensures ∙ not-false _ c.if-not-fits_at.false) ∙ loop'.invariant.1)
+    (omega arith, fit_goes_on _ loop'.i (omega arith) (sym c.fits_at.ensures ∙ c.if-not-fits_at.false) ∙ loop'.invariant.1)
 
 pub returns : goal.returns
 returns c = let loop' = c.loop-i in

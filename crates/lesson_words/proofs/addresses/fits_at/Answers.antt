@@ -1,9 +1,6 @@
 -- src/addresses.rt:45:9
 use Rattle.lesson_words.specs.Addresses.{fits_at}
 use borrow.Author.Tests.{eq-eqb, ne_eqb}
-use borrow.Author.Rules.{rules}
-use Rattle.lesson_words.proofs.addresses.fits_at.Reads as reads
-use Rattle.lesson_words.proofs.addresses.is_hex.Reads as is-hex-reads
 use Rattle.lesson_words.proofs.addresses.fits_at.Goals as goal
 
 pub returns-then-i-eq2 : goal.returns-then-i-eq2

@@ -1,17 +1,11 @@
 -- src/addresses.rt:75:9
 use Rattle.lesson_words.proofs.AddressLaws.{digit_range, letter_range, hex_of_another, hex_of_digit, hex_of_letter}
-use borrow.Author.Tests.{not-true, not-false}
-use mathlib.Core.Path.{◌≡◌, sym, ◌∙◌}
+use mathlib.Core.Path.{sym, ◌∙◌}
 use native.Mathlib.Omega.{arith}
-use borrow.Author.Rules.{rules}
-use Rattle.lesson_words.proofs.addresses.hex.Reads as reads
-use Rattle.lesson_words.proofs.addresses.is_digit.Reads as is-digit-reads
-use Rattle.lesson_words.proofs.addresses.is_hex.Reads as is-hex-reads
-use Rattle.lesson_words.proofs.small.Reads as small-reads
 use Rattle.lesson_words.proofs.addresses.hex.Goals as goal
 
 pub returns-then-not-is_hex : goal.returns-then-not-is_hex
-returns-then-not-is_hex c = (hex_of_another _ (sym c.is_hex.ensures ∙ not-true _ c.if-not-is_hex.true), omega arith)
+returns-then-not-is_hex c = (hex_of_another _ (sym c.is_hex.ensures ∙ c.if-not-is_hex.true), omega arith)
 
 pub overflow_sub-result : goal.overflow_sub-result
 overflow_sub-result c = (digit_range c.args.byte (sym c.is_digit.ensures ∙ c.if-is_digit.true)).0
@@ -19,16 +13,16 @@ overflow_sub-result c = (digit_range c.args.byte (sym c.is_digit.ensures ∙ c.i
 pub returns-then-is_digit : goal.returns-then-is_digit
 returns-then-is_digit c = let is-digit' = c.is_digit in
     let if2' = c.if-is_digit in (
-      hex_of_digit _ (sym c.is_hex.ensures ∙ not-false _ c.if-not-is_hex.false) (sym is-digit'.ensures ∙ if2'.true),
+      hex_of_digit _ (sym c.is_hex.ensures ∙ c.if-not-is_hex.false) (sym is-digit'.ensures ∙ if2'.true),
       omega (arith, digit_range c.args.byte (sym is-digit'.ensures ∙ if2'.true)),
     )
 
 pub overflow_sub-result-2 : goal.overflow_sub-result-2
 overflow_sub-result-2 c = omega (
-      arith,
-      c.small.ensures,
-      letter_range c.args.byte (sym c.is_hex.ensures ∙ not-false _ c.if-not-is_hex.false) (sym c.is_digit.ensures ∙ c.if-is_digit.false),
-    )
+  arith,
+  c.small.ensures,
+  letter_range c.args.byte (sym c.is_hex.ensures ∙ c.if-not-is_hex.false) (sym c.is_digit.ensures ∙ c.if-is_digit.false),
+)
 
 pub returns : goal.returns
 returns c = let small' = c.small in
@@ -36,11 +30,11 @@ returns c = let small' = c.small in
     let if1' = c.if-not-is_hex in
     let is-digit' = c.is_digit in
     let if2' = c.if-is_digit in (
-      rw small'.ensures (hex_of_letter _ (sym is-hex'.ensures ∙ not-false _ if1'.false) (sym is-digit'.ensures ∙ if2'.false)),
+      rw small'.ensures (hex_of_letter _ (sym is-hex'.ensures ∙ if1'.false) (sym is-digit'.ensures ∙ if2'.false)),
       omega (
         arith,
         small'.ensures,
-        letter_range c.args.byte (sym is-hex'.ensures ∙ not-false _ if1'.false) (sym
+        letter_range c.args.byte (sym is-hex'.ensures ∙ if1'.false) (sym
             is-digit'.ensures ∙ if2'.false),
       ),
     )

@@ -1,8 +1,6 @@
 -- src/addresses.rt:101:9
 use Rattle.decimal.specs.Decimal.{is_digit}
 use borrow.Author.Tests.{le-leb, lt-leb}
-use borrow.Author.Rules.{rules}
-use Rattle.lesson_words.proofs.addresses.is_digit.Reads as reads
 use Rattle.lesson_words.proofs.addresses.is_digit.Goals as goal
 
 pub returns-then-byte-lt48 : goal.returns-then-byte-lt48

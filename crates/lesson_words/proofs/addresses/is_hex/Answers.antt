@@ -1,11 +1,7 @@
 -- src/addresses.rt:87:8
 use Rattle.lesson_words.specs.Addresses.{is_hex}
 use borrow.Author.Tests.{le-leb, lt-leb}
-use mathlib.Core.Path.{◌≡◌, sym, ◌∙◌}
-use borrow.Author.Rules.{rules}
-use Rattle.lesson_words.proofs.addresses.is_hex.Reads as reads
-use Rattle.lesson_words.proofs.addresses.is_digit.Reads as is-digit-reads
-use Rattle.lesson_words.proofs.small.Reads as small-reads
+use mathlib.Core.Path.{sym, ◌∙◌}
 use Rattle.lesson_words.proofs.addresses.is_hex.Goals as goal
 
 pub returns-then-is_digit : goal.returns-then-is_digit

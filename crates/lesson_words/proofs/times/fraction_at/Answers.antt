@@ -1,12 +1,8 @@
 -- src/times.rt:51:9
 use Rattle.lesson_words.proofs.TimeLaws.{no_fraction_at_end, fraction_at_point, no_fraction_at_another, front_fits}
-use mathlib.Core.Path.{◌≡◌, refl, sym, ◌∙◌}
+use mathlib.Core.Path.{◌∙◌}
 use Prim.Native.Nat.{◌+◌}
 use native.Mathlib.Omega.{arith}
-use borrow.Author.Rules.{rules}
-use Rattle.lesson_words.proofs.times.fraction_at.Reads as reads
-use Rattle.decimal.proofs.front.Reads as front_reads
-use Rattle.lesson_words.proofs.times.none.Reads as none_reads
 use Rattle.lesson_words.proofs.times.fraction_at.Goals as goal
 
 pub returns-then-end-word : goal.returns-then-end-word

@@ -1,14 +1,8 @@
 -- src/times.rt:171:42
-use Rattle.lesson_words.proofs.TimeLaws.{power_at_most, power_positive, units_multiplied, units_divided, factor_fits, factor_positive, digits_times_unit}
-use mathlib.Core.Path.{◌≡◌, refl, sym, ◌∙◌}
-use native.Mathlib.Nat.{mul-le-mul_right}
+use Rattle.lesson_words.proofs.TimeLaws.{power_positive, units_multiplied, units_divided, factor_fits, factor_positive, digits_times_unit}
+use mathlib.Core.Path.{◌∙◌}
 use native.Mathlib.Omega.{arith}
-use Prim.Native.Nat.{◌*◌, ◌^◌, ◌≤◌, ◌-◌}
-use borrow.Author.Rules.{rules}
-use Rattle.lesson_words.proofs.times.in_nanos.Reads as reads
-use Rattle.lesson_words.proofs.times.power.Reads as power-reads
-use Rattle.lesson_words.proofs.times.product.Reads as product-reads
-use Rattle.lesson_words.proofs.times.quotient.Reads as quotient-reads
+use Prim.Native.Nat.{◌-◌}
 use Rattle.lesson_words.proofs.times.in_nanos.Goals as goal
 
 pub overflow_mul-unit : goal.overflow_mul-unit

@@ -1,12 +1,7 @@
 -- From one place of the run back to another.
 use Rattle.lesson_words.proofs.TimeLaws.{all_digits_fit, no_digits, no_unit, too_many_digits, digits_in_nanos}
-use mathlib.Core.Path.{◌≡◌, refl, sym, ◌∙◌}
+use mathlib.Core.Path.{◌∙◌}
 use native.Mathlib.Omega.{arith}
-use Prim.Native.Nat.{◌+◌, ◌*◌, ◌^◌, ◌≤◌, ◌<◌}
-use borrow.Author.Rules.{rules}
-use Rattle.lesson_words.proofs.times.of_decimal.Reads as reads
-use Rattle.lesson_words.proofs.times.in_nanos.Reads as in-nanos-reads
-use Rattle.lesson_words.proofs.times.power.Reads as power-reads
 use Rattle.lesson_words.proofs.times.of_decimal.Goals as goal
 
 pub returns-then-count-eq0 : goal.returns-then-count-eq0

@@ -1,8 +1,6 @@
 -- src/times.rt:96:9
 use Rattle.lesson_words.specs.Times.{one_letter}
 use borrow.Author.Tests.{eq-eqb, ne_eqb}
-use borrow.Author.Rules.{rules}
-use Rattle.lesson_words.proofs.times.one_letter.Reads as reads
 use Rattle.lesson_words.proofs.times.one_letter.Goals as goal
 
 pub returns-then-a-eq115 : goal.returns-then-a-eq115

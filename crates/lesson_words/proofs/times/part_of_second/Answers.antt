@@ -1,8 +1,6 @@
 -- src/times.rt:117:9
 use Rattle.lesson_words.specs.Times.{part_of_second}
 use borrow.Author.Tests.{eq-eqb, ne_eqb}
-use borrow.Author.Rules.{rules}
-use Rattle.lesson_words.proofs.times.part_of_second.Reads as reads
 use Rattle.lesson_words.proofs.times.part_of_second.Goals as goal
 
 pub returns-then-a-eq110 : goal.returns-then-a-eq110

@@ -1,9 +1,6 @@
 use Rattle.lesson_words.proofs.TimeLaws.{one_power_more, power_at_most}
-use mathlib.Core.Path.{◌≡◌, refl, sym, ◌∙◌}
+use mathlib.Core.Path.{◌≡◌, refl}
 use native.Mathlib.Omega.{arith}
-use Prim.Native.Nat.{◌^◌, ◌-◌, ◌≤◌}
-use borrow.Author.Rules.{rules}
-use Rattle.lesson_words.proofs.times.power.Reads as reads
 use Rattle.lesson_words.proofs.times.power.Goals as goal
 
 pub loop-i-init : goal.loop-i-init

@@ -1,9 +1,5 @@
-use Rattle.lesson_words.proofs.TimeLaws.{one_power_more, power_at_most}
-use mathlib.Core.Path.{◌≡◌, refl, sym, ◌∙◌}
-use native.Mathlib.Omega.{arith}
+use mathlib.Core.Path.{◌≡◌}
 use Prim.Native.Nat.{◌^◌, ◌-◌, ◌≤◌}
-use borrow.Author.Rules.{rules}
-use Rattle.lesson_words.proofs.times.power.Reads as reads
 use Rattle.lesson_words.proofs.times.power.Given as goal
 
 abbrev pub invariant-loop-i : goal.invariant-loop-i

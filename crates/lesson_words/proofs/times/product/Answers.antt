@@ -1,8 +1,6 @@
 -- src/times.rt:179:13
 use Rattle.lesson_words.proofs.TimeLaws.{product_fits, product_is, product_is_far}
 use native.Mathlib.Omega.{arith}
-use borrow.Author.Rules.{rules}
-use Rattle.lesson_words.proofs.times.product.Reads as reads
 use Rattle.lesson_words.proofs.times.product.Goals as goal
 
 pub overflow_mul-result : goal.overflow_mul-result

@@ -1,8 +1,6 @@
 -- src/times.rt:190:8
 use Rattle.lesson_words.specs.Times.{quotient_of}
 use borrow.Author.Tests.{eq-eqb, ne_eqb}
-use borrow.Author.Rules.{rules}
-use Rattle.lesson_words.proofs.times.quotient.Reads as reads
 use Rattle.lesson_words.proofs.times.quotient.Goals as goal
 
 pub returns-then-n-by-eq0 : goal.returns-then-n-by-eq0

@@ -1,8 +1,6 @@
 -- src/times.rt:132:9
 use Rattle.lesson_words.specs.Times.{three_letters}
 use borrow.Author.Tests.{eq-eqb, ne_eqb}
-use borrow.Author.Rules.{rules}
-use Rattle.lesson_words.proofs.times.three_letters.Reads as reads
 use Rattle.lesson_words.proofs.times.three_letters.Goals as goal
 
 pub returns-then-a-ne109 : goal.returns-then-a-ne109

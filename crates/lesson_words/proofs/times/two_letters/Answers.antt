@@ -1,9 +1,6 @@
 -- src/times.rt:108:9
 use Rattle.lesson_words.specs.Times.{two_letters}
 use borrow.Author.Tests.{eq-eqb, ne_eqb}
-use borrow.Author.Rules.{rules}
-use Rattle.lesson_words.proofs.times.two_letters.Reads as reads
-use Rattle.lesson_words.proofs.times.part_of_second.Reads as part-of-second-reads
 use Rattle.lesson_words.proofs.times.two_letters.Goals as goal
 
 pub returns-then-b-eq115 : goal.returns-then-b-eq115

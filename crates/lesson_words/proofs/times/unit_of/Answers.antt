@@ -1,13 +1,7 @@
 -- src/times.rt:78:9
 use Rattle.lesson_words.proofs.TimeLaws.{unit_of_none, unit_of_one, unit_of_two, unit_of_three, unit_of_more}
-use mathlib.Core.Path.{◌≡◌, ◌∙◌}
+use mathlib.Core.Path.{◌∙◌}
 use native.Mathlib.Omega.{arith}
-use borrow.Author.Rules.{rules}
-use Rattle.lesson_words.proofs.times.unit_of.Reads as reads
-use Rattle.lesson_words.proofs.small.Reads as small-reads
-use Rattle.lesson_words.proofs.times.one_letter.Reads as one-letter-reads
-use Rattle.lesson_words.proofs.times.three_letters.Reads as three-letters-reads
-use Rattle.lesson_words.proofs.times.two_letters.Reads as two-letters-reads
 use Rattle.lesson_words.proofs.times.unit_of.Goals as goal
 
 pub returns-then-bytes-eq0 : goal.returns-then-bytes-eq0

@@ -1,17 +1,6 @@
 -- src/times.rt:39:9
 use Rattle.lesson_words.proofs.TimeLaws.{whole_fits_lem}
-use Rattle.lesson_words.proofs.TimeLaws.{front_fits, fraction_fits, unit_is_small, FrontFits, FractionFits, Small, rest_is_dropped}
-use lib.ListN.{length, take, drop}
-use mathlib.Core.Path.{◌≡◌, refl, sym, ◌∙◌}
-use mathlib.Core.List.{List}
-use native.Mathlib.Omega.{arith}
-use Prim.Native.Nat.{◌+◌, ◌*◌, ◌-◌, ◌^◌, ◌≤◌, ◌<◌}
-use borrow.Author.Rules.{rules}
-use Rattle.lesson_words.proofs.times.with_unit.Reads as reads
-use Rattle.decimal.proofs.front.Reads as front_reads
-use Rattle.lesson_words.proofs.times.fraction_at.Reads as fraction-at-reads
-use Rattle.lesson_words.proofs.times.of_decimal.Reads as of-decimal-reads
-use Rattle.lesson_words.proofs.times.unit_of.Reads as unit-of-reads
+use Rattle.lesson_words.proofs.TimeLaws.{fraction_fits, unit_is_small, rest_is_dropped}
 use Rattle.lesson_words.proofs.times.with_unit.Goals as goal
 
 pub fraction_at-fraction-requires : goal.fraction_at-fraction-requires
