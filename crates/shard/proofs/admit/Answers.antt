@@ -6,17 +6,17 @@ use borrow.Author.Rules.{rules}
 use Rattle.shard.proofs.admit.Goals as goal
 
 still-intact : (c : goal.After-make_room-arg-1) → Intact c.args.cap c.take-owed.new.ws
-still-intact c = intact_after_taking c.requires.0 c.take-owed.auto.0 c.args.id c.take-owed.ensures
+still-intact c = intact_after_taking c.requires.0 c.take-owed.auto.ws c.args.id c.take-owed.ensures
 
 still-intact_2 : (c : goal.After-join-arg-1) → Intact c.args.cap c.take-owed.new.ws
-still-intact_2 c = intact_after_taking c.requires.0 c.take-owed.auto.0 c.args.id c.take-owed.ensures
+still-intact_2 c = intact_after_taking c.requires.0 c.take-owed.auto.ws c.args.id c.take-owed.ensures
 
 pub make_room-requires : goal.make_room-requires
 make_room-requires c = (still-intact c, c.requires.1)
 
 pub join-requires : goal.join-requires
 join-requires c = let told = c.in-Made.is in
-    let made = room_made_fits_a_slot (still-intact_2 c) c.make_room.auto.0 c.args.policy c.args.at c.make_room.ensures told in
+    let made = room_made_fits_a_slot (still-intact_2 c) c.make_room.auto.ws c.args.policy c.args.at c.make_room.ensures told in
     (made.0, c.requires.1, c.requires.2, made.1)
 
 pub returns-in-Made : goal.returns-in-Made

@@ -8,16 +8,16 @@ use borrow.Author.Rules.{rules}
 use Rattle.shard.proofs.make_room.Goals as goal
 
 still-intact : (c : goal.After-slice_known-2-1) → Intact c.args.cap c.sweep.new.ws
-still-intact c = intact_after_sweeps c.requires.0 c.sweep.auto.0 c.args.policy c.args.at c.sweep.ensures
+still-intact c = intact_after_sweeps c.requires.0 c.sweep.auto.ws c.args.policy c.args.at c.sweep.ensures
 
 still-intact_2 : (c : goal.Then-len-cap) → Intact c.args.cap c.sweep.new.ws
-still-intact_2 c = intact_after_sweeps c.requires.0 c.sweep.auto.0 c.args.policy c.args.at c.sweep.ensures
+still-intact_2 c = intact_after_sweeps c.requires.0 c.sweep.auto.ws c.args.policy c.args.at c.sweep.ensures
 
 still-intact_3 : (c : goal.After-evict_one-arg-1) → Intact c.args.cap c.sweep.new.ws
-still-intact_3 c = intact_after_sweeps c.requires.0 c.sweep.auto.0 c.args.policy c.args.at c.sweep.ensures
+still-intact_3 c = intact_after_sweeps c.requires.0 c.sweep.auto.ws c.args.policy c.args.at c.sweep.ensures
 
 still-intact_4 : (c : goal.After-slice_known-3-1) → Intact c.args.cap c.sweep.new.ws
-still-intact_4 c = intact_after_sweeps c.requires.0 c.sweep.auto.0 c.args.policy c.args.at c.sweep.ensures
+still-intact_4 c = intact_after_sweeps c.requires.0 c.sweep.auto.ws c.args.policy c.args.at c.sweep.ensures
 
 pub len-requires : goal.len-requires
 len-requires c = (still-intact c).size
