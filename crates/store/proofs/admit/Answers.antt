@@ -26,13 +26,13 @@ admit-decision-requires c = let pre' = c.requires in (intact_of_sound pre'.0 pre
 
 pub move_total-requires : goal.move_total-requires
 move_total-requires c = let pre' = c.requires in
-    let back = back_placed pre'.0 (OneShard.admit _ _ _ _ _) _ c.admit-decision.auto.0 c.admit-decision.ensures in
+    let back = back_placed pre'.0 (OneShard.admit _ _ _ _ _) _ c.admit-decision.auto.ws c.admit-decision.ensures in
     let small =
-    total_stays_small pre'.0 (OneShard.admit _ _ _ _ _) _ c.admit-decision.auto.0 c.admit-decision.ensures (admit_count_fits _ pre'.1 _ _ _ _ _) pre'.4
+    total_stays_small pre'.0 (OneShard.admit _ _ _ _ _) _ c.admit-decision.auto.ws c.admit-decision.ensures (admit_count_fits _ pre'.1 _ _ _ _ _) pre'.4
     c.other_slots-others.ensures in
     (back, omega (arith, small, pre'.4.small, pre'.0.within, pre'.0.ends))
 
 pub returns : goal.returns
 returns c = let pre' = c.requires in
     rw c.move_total.ensures
-    (lent_counted pre'.0 (OneShard.admit _ _ _ _ _) _ c.admit-decision.auto.0 c.admit-decision.ensures pre'.4 c.other_slots-others.ensures)
+    (lent_counted pre'.0 (OneShard.admit _ _ _ _ _) _ c.admit-decision.auto.ws c.admit-decision.ensures pre'.4 c.other_slots-others.ensures)

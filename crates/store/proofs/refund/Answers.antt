@@ -22,5 +22,5 @@ refund-requires c = (intact_of_sound c.requires.0 c.requires.1, c.requires.2)
 
 pub returns : goal.returns
 returns c = let refund' = c.refund in
-    lent_answered c.requires.0 (OneShard.refunded _ _ _) _ refund'.auto.0 refund'.ensures
+    lent_answered c.requires.0 (OneShard.refunded _ _ _) _ refund'.auto.ws refund'.ensures
     (refund_keeps_count _ _ _ _)

@@ -25,13 +25,13 @@ remove-known-requires c = let pre' = c.requires in intact_of_sound pre'.0 pre'.1
 
 pub move_total-requires : goal.move_total-requires
 move_total-requires c = let pre' = c.requires in
-    let back = back_placed pre'.0 (OneShard.removed _) _ c.remove-known.auto.0 c.remove-known.ensures in
+    let back = back_placed pre'.0 (OneShard.removed _) _ c.remove-known.auto.ws c.remove-known.ensures in
     let small =
-    total_stays_small pre'.0 (OneShard.removed _) _ c.remove-known.auto.0 c.remove-known.ensures (removed_count_fits _ pre'.1 _) pre'.2
+    total_stays_small pre'.0 (OneShard.removed _) _ c.remove-known.auto.ws c.remove-known.ensures (removed_count_fits _ pre'.1 _) pre'.2
     c.other_slots-others.ensures in
     (back, omega (arith, small, pre'.2.small, pre'.0.within, pre'.0.ends))
 
 pub returns : goal.returns
 returns c = let pre' = c.requires in
     rw c.move_total.ensures
-    (lent_counted pre'.0 (OneShard.removed _) _ c.remove-known.auto.0 c.remove-known.ensures pre'.2 c.other_slots-others.ensures)
+    (lent_counted pre'.0 (OneShard.removed _) _ c.remove-known.auto.ws c.remove-known.ensures pre'.2 c.other_slots-others.ensures)

@@ -24,5 +24,5 @@ pub returns : goal.returns
 returns c = let args' = c.args in
     let existing' = c.with_existing in
     lent_answered c.requires.0
-    (λ s. OneShard.with_existing args'.policy args'.request args'.cost args'.at s args'.pos) _ existing'.auto.0 existing'.ensures
+    (λ s. OneShard.with_existing args'.policy args'.request args'.cost args'.at s args'.pos) _ existing'.auto.ws existing'.ensures
     (existing_keeps_count args'.policy args'.request args'.cost args'.at _ args'.pos)

@@ -21,7 +21,7 @@ returns-then-refusal-ne0 c = let a = c.args in
     refused_lends_nothing _ (first_is_told a.further number c.if-refusal-ne0.true) c.if-refusal-ne0.true
 
 pub lend-requires : goal.lend-requires
-lend-requires c = accepted_shape c.args.settings (accepted c) (omega (arith, c.well-formed)) c.shape.ensures
+lend-requires c = accepted_shape c.args.settings (accepted c) (omega (arith, c.well_formed)) c.shape.ensures
 
 pub returns : goal.returns
 returns c = let a = c.args in
