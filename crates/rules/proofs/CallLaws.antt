@@ -101,9 +101,9 @@ module _ {S N : Type 0} (terms : Terms S N) where
       let accepted = (ask_not_refused settings id (looks l) ws (keyed_not_refused s n (looks l) ws none).1).0 in
       let reply = looked_in l settings.limit id (shard_at settings id.hash ws) in
       ap (λ (o : Outcome Reply (List ℕ)). o.after) (in_shard_unchanged settings id.hash ws accepted reply)
-  looked_unchanged (keyed s n (requests _ _ _)) ws no none = elim no [ ]
-  looked_unchanged (keyed s n (undoes _)) ws no none = elim no [ ]
-  looked_unchanged (keyed s n (passes _ _ _ _)) ws no none = elim no [ ]
+  looked_unchanged (keyed s n (requests _ _ _)) ws read none = elim read [ ]
+  looked_unchanged (keyed s n (undoes _)) ws read none = elim read [ ]
+  looked_unchanged (keyed s n (passes _ _ _ _)) ws read none = elim read [ ]
   looked_unchanged (whole s len) ws looks_at_all none = refl
   looked_unchanged (whole s (debts at i room)) ws looks_at_all none = refl
 
