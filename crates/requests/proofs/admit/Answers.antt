@@ -15,7 +15,7 @@ is_part_2 : (c : goal.After-slice_known-in-Open-1) → c.part_of-part.result ≡
 is_part_2 c = c.part_of-part.ensures ∙ ap (λ (shape : Shape). part_in shape c.args.id.hash) c.shape.ensures
 
 pub part_of-part-requires : goal.part_of-part-requires
-part_of-part-requires c = new_key_has_shape c.requires (omega (arith, c.well-formed)) c.shape.ensures
+part_of-part-requires c = new_key_has_shape c.requires (omega (arith, c.well_formed)) c.shape.ensures
 
 pub admit-requires : goal.admit-requires
 admit-requires c = new_may_be_asked (new_key_asks c.requires c.in-Open.is (is_part c)) c.policy.ensures

@@ -11,7 +11,7 @@ use borrow.Author.Rules.{rules}
 use Rattle.requests.proofs.attempt_try.Goals as goal
 
 pub unless_refused-reply-requires : goal.unless_refused-reply-requires
-unless_refused-reply-requires c = λ none. accepted_shape c.args.settings (sym c.refusal.ensures ∙ none) (omega (arith, c.well-formed)) c.shape.ensures
+unless_refused-reply-requires c = λ none. accepted_shape c.args.settings (sym c.refusal.ensures ∙ none) (omega (arith, c.well_formed)) c.shape.ensures
 
 pub try_open-requires : goal.try_open-requires
 try_open-requires c = c.in-Open.is

@@ -13,27 +13,27 @@ use Rattle.requests.proofs.reserve_within.Goals as goal
 
 -- What is asked for.
 abbrev request : goal.Then-capacity-cost → Request
-request c = Reserve c.args.max-wait
+request c = Reserve c.args.max_wait
 
 -- What is asked for.
 abbrev request_2 : goal.After-due_now → Request
-request_2 c = Reserve c.args.max-wait
+request_2 c = Reserve c.args.max_wait
 
 -- What is asked for.
 abbrev request_3 : goal.After-reserve_reply → Request
-request_3 c = Reserve c.args.max-wait
+request_3 c = Reserve c.args.max_wait
 
 -- What is asked for.
 abbrev request_4 : goal.In-Nowhere → Request
-request_4 c = Reserve c.args.max-wait
+request_4 c = Reserve c.args.max_wait
 
 -- What is asked for.
 abbrev request_5 : goal.Else-cost-eq0 → Request
-request_5 c = Reserve c.args.max-wait
+request_5 c = Reserve c.args.max_wait
 
 -- What is asked for.
 abbrev request_6 : goal.After-policy → Request
-request_6 c = Reserve c.args.max-wait
+request_6 c = Reserve c.args.max_wait
 
 asks : (c : goal.Else-cost-eq0) → let a = c.args in Asking a.settings a.id a.cost a.ws.now a.rate a.part
 asks c = let a = c.args in

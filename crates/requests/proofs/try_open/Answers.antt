@@ -45,7 +45,7 @@ returns-then-late-ne0 c = let a = c.args in
     further_is_left Acquire a.settings a.at a.id a.cost a.ws.now c.requires c.moment_refusal-late.ensures c.if-late-ne0.true
 
 pub lend-requires : goal.lend-requires
-lend-requires c = accepted_shape c.args.settings (accepted c) (omega (arith, c.well-formed)) c.shape.ensures
+lend-requires c = accepted_shape c.args.settings (accepted c) (omega (arith, c.well_formed)) c.shape.ensures
 
 pub decide-requires : goal.decide-requires
 decide-requires c = let lent = lent_part _ _ (lending c) c.in-Lent.is in
