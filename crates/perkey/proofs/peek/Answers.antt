@@ -11,7 +11,7 @@ use borrow.Author.Rules.{rules}
 use Rattle.perkey.proofs.peek.Goals as goal
 
 pub unless_refused-requires : goal.unless_refused-requires
-unless_refused-requires c = λ none. accepted_shape c.args.settings (sym c.refusal.ensures ∙ none) (omega (arith, c.well-formed)) c.shape.ensures
+unless_refused-requires c = λ none. accepted_shape c.args.settings (sym c.refusal.ensures ∙ none) (omega (arith, c.well_formed)) c.shape.ensures
 
 pub peek_open-requires : goal.peek_open-requires
 peek_open-requires c = c.in-Open.is

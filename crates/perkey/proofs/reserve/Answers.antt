@@ -7,15 +7,15 @@ use Rattle.perkey.proofs.reserve.Goals as goal
 
 pub finish-requires : goal.finish-requires
 finish-requires c = let a = c.args in
-    left_may_be_finished (Reserve a.max-wait) a.settings a.at a.id a.cost a.ws.now _ refl c.attempt_reserve.ensures
+    left_may_be_finished (Reserve a.max_wait) a.settings a.at a.id a.cost a.ws.now _ refl c.attempt_reserve.ensures
     c.in-Left.is
 
 pub returns-in-Answered : goal.returns-in-Answered
 returns-in-Answered c = let a = c.args in
-    attempt_is_told (Reserve a.max-wait) a.settings a.at a.id a.cost a.ws.now _ refl c.attempt_reserve.ensures
+    attempt_is_told (Reserve a.max_wait) a.settings a.at a.id a.cost a.ws.now _ refl c.attempt_reserve.ensures
     c.in-Answered.is
 
 pub returns-in-Left : goal.returns-in-Left
 returns-in-Left c = let a = c.args in
-    finished_is_told (Reserve a.max-wait) a.settings a.at a.id a.cost a.ws.now _ refl c.attempt_reserve.ensures
+    finished_is_told (Reserve a.max_wait) a.settings a.at a.id a.cost a.ws.now _ refl c.attempt_reserve.ensures
     c.in-Left.is c.finish.ensures
