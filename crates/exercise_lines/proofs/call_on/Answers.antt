@@ -1,6 +1,5 @@
 -- `call_on` has a case for each kind of call.
 use Rattle.exercise_lines.specs.Repeats.{call_on, within64}
-use borrow.Author.Rules.{rules}
 use Rattle.exercise_lines.proofs.call_on.Goals as goal
 
 pub request_on-requires : goal.request_on-requires

@@ -1,6 +1,5 @@
 -- `is_within` has a case for each kind of call.
 use Rattle.exercise_lines.specs.Repeats.{within64}
-use borrow.Author.Rules.{rules}
 use Rattle.exercise_lines.proofs.is_within.Goals as goal
 
 pub returns-in-Try : goal.returns-in-Try

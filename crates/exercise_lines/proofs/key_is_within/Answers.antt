@@ -1,7 +1,6 @@
 -- `key_is_within` compares with what is left up to 64 bits.
 use native.Mathlib.Omega.{arith}
 use Rattle.exercise_lines.proofs.RepeatLaws.{key_by_difference}
-use borrow.Author.Rules.{rules}
 use Rattle.exercise_lines.proofs.key_is_within.Goals as goal
 
 pub returns : goal.returns

@@ -3,7 +3,6 @@ use Prim.Native.Nat.{◌+◌}
 use native.Mathlib.Omega.{arith}
 use Rattle.desk_lines.specs.Lines.{most64}
 use borrow.Author.Tests.{leb-true}
-use borrow.Author.Rules.{rules}
 use Rattle.exercise_lines.proofs.key_on.Goals as goal
 
 pub overflow_add-result : goal.overflow_add-result

@@ -1,7 +1,6 @@
 -- `moment_is_within` divides what is left up to 64 bits by the spacing.
 use native.Mathlib.Omega.{arith}
 use Rattle.exercise_lines.proofs.RepeatLaws.{moment_by_division, moment_without_spacing}
-use borrow.Author.Rules.{rules}
 use Rattle.exercise_lines.proofs.moment_is_within.Goals as goal
 
 pub returns-then-spacing-eq0 : goal.returns-then-spacing-eq0

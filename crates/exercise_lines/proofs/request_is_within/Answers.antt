@@ -1,6 +1,5 @@
 -- `request_is_within` looks at the moment, and then at the key.
 use Rattle.exercise_lines.specs.Repeats.{request_within}
-use borrow.Author.Rules.{rules}
 use Rattle.exercise_lines.proofs.request_is_within.Goals as goal
 
 pub returns-then-moment_is_within : goal.returns-then-moment_is_within

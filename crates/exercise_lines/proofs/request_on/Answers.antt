@@ -1,7 +1,6 @@
 -- `request_on` adds to both numbers, and each sum has at most 64 bits.
 use native.Mathlib.Omega.{arith}
 use Rattle.exercise_lines.proofs.RepeatLaws.{both_within}
-use borrow.Author.Rules.{rules}
 use Rattle.exercise_lines.proofs.request_on.Goals as goal
 
 pub overflow_mul-result : goal.overflow_mul-result

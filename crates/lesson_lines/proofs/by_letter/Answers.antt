@@ -1,12 +1,6 @@
 -- src/lib.rt:85:9
 use Rattle.lesson_lines.proofs.LetterLaws.{letter_s, letter_v, letter_of_call}
-use mathlib.Core.Path.{◌≡◌, sym, ◌∙◌}
-use borrow.Author.Rules.{rules}
-use Rattle.lesson_lines.proofs.by_letter.Reads as reads
-use Rattle.lesson_lines.proofs.calls.of_letter.Reads as of-letter-reads
-use Rattle.lesson_lines.proofs.settings_line.Reads as settings-line-reads
-use Rattle.lesson_lines.proofs.village_line.Reads as village-line-reads
-use Rattle.lesson_lines.proofs.village_of.Reads as village-of-reads
+use mathlib.Core.Path.{◌∙◌}
 use Rattle.lesson_lines.proofs.by_letter.Goals as goal
 
 pub returns-then-letter-eq115 : goal.returns-then-letter-eq115

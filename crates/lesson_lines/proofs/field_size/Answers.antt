@@ -1,9 +1,6 @@
 -- src/lib.rt:198:9
 use Rattle.decimal.proofs.WriteLaws.{digits_count}
 use native.Mathlib.Omega.{arith}
-use borrow.Author.Rules.{rules}
-use Rattle.lesson_lines.proofs.field_size.Reads as reads
-use Rattle.decimal.proofs.width.Reads as width-reads
 use Rattle.lesson_lines.proofs.field_size.Goals as goal
 
 pub overflow_add-result : goal.overflow_add-result

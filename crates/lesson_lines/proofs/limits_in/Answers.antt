@@ -2,10 +2,6 @@
 use Rattle.lesson_lines.proofs.ReadingLaws.{number_within, limits_are_taken}
 use Rattle.desk_lines.specs.Lines.{most32}
 use native.Mathlib.Omega.{arith}
-use borrow.Author.Rules.{rules}
-use Rattle.lesson_lines.proofs.limits_in.Reads as reads
-use Rattle.lesson_lines.proofs.words.idle.Reads as idle-reads
-use Rattle.lesson_lines.proofs.words.number.Reads as number-reads
 use Rattle.lesson_lines.proofs.limits_in.Goals as goal
 
 pub overflow_cast-result : goal.overflow_cast-result
@@ -17,19 +13,19 @@ overflow_cast-result c = let args' = c.args in
 
 pub overflow_cast-result-2 : goal.overflow_cast-result-2
 overflow_cast-result-2 c = record {
-      fits = omega (
-        arith,
-        number_within most32 c.args.line.now 0 c.number-period.result.rest c.number-burst.ensures,
-      );
-    }
+  fits = omega (
+    arith,
+    number_within most32 c.args.line.now 0 c.number-period.result.rest c.number-burst.ensures,
+  );
+}
 
 pub overflow_cast-result-3 : goal.overflow_cast-result-3
 overflow_cast-result-3 c = record {
-      fits = omega (
-        arith,
-        number_within most32 c.args.line.now 0 c.number-burst.result.rest c.number-initial.ensures,
-      );
-    }
+  fits = omega (
+    arith,
+    number_within most32 c.args.line.now 0 c.number-burst.result.rest c.number-initial.ensures,
+  );
+}
 
 pub returns : goal.returns
 returns c = limits_are_taken c.args.line.now c.args.rest c.number-amount.ensures c.number-period.ensures

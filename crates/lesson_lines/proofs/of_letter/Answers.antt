@@ -1,9 +1,6 @@
 -- src/lib.rt:76:26
 use Rattle.lesson_lines.proofs.LetterLaws.{letter_was_read}
-use mathlib.Core.Path.{◌≡◌, sym, ◌∙◌}
-use borrow.Author.Rules.{rules}
-use Rattle.lesson_lines.proofs.of_letter.Reads as reads
-use Rattle.lesson_lines.proofs.by_letter.Reads as by-letter-reads
+use mathlib.Core.Path.{◌∙◌}
 use Rattle.lesson_lines.proofs.of_letter.Goals as goal
 
 pub returns-in-Left : goal.returns-in-Left

@@ -1,9 +1,5 @@
 -- src/lib.rt:143:16
 use borrow.Author.Tests.{le-leb, lt-leb}
-use mathlib.Core.Path.{◌≡◌, sym, ◌∙◌}
-use borrow.Author.Rules.{rules}
-use Rattle.lesson_lines.proofs.set_up.Reads as reads
-use Rattle.lesson_lines.proofs.limits_size.Reads as limits-size-reads
 use Rattle.lesson_lines.proofs.set_up.Goals as goal
 
 pub returns-then-limits_size-le-LONGEST_LINE : goal.returns-then-limits_size-le-LONGEST_LINE

@@ -1,9 +1,5 @@
 -- src/lib.rt:118:24
-use mathlib.Core.Path.{◌≡◌, sym, ◌∙◌}
-use borrow.Author.Rules.{rules}
-use Rattle.lesson_lines.proofs.village_of.Reads as reads
-use Rattle.exercise_lines.proofs.is_within.Reads as is-within-reads
-use Rattle.exercise_lines.proofs.last.Reads as last-reads
+use mathlib.Core.Path.{sym, ◌∙◌}
 use Rattle.lesson_lines.proofs.village_of.Goals as goal
 
 pub returns-then-is_within : goal.returns-then-is_within

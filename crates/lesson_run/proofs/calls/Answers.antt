@@ -1,11 +1,4 @@
 -- src/lib.rt:195:55
-use Rattle.std.proofs.Common.{◌≡◌, sym, ◌∙◌, rules}
-use Rattle.lesson_run.proofs.calls.Reads as reads
-use Rattle.exercise_lines.proofs.call_on.Reads as call-on-reads
-use Rattle.exercise_lines.proofs.last.Reads as last-reads
-use Rattle.lesson_run.proofs.falls.Reads as falls-reads
-use Rattle.lesson_run.proofs.moment_in.Reads as moment-in-reads
-use Rattle.lesson_run.proofs.quiet.Reads as quiet-reads
 use Rattle.lesson_run.proofs.calls.Goals as goal
 
 pub call_on-last-requires : goal.call_on-last-requires

@@ -1,6 +1,5 @@
 -- src/lib.rt:213:9
-use Rattle.std.proofs.Common.{rules, le-ltb, lt-ltb}
-use Rattle.lesson_run.proofs.falls.Reads as reads
+use Rattle.std.proofs.Common.{le-ltb, lt-ltb}
 use Rattle.lesson_run.proofs.falls.Goals as goal
 
 pub returns-then-moment-clock : goal.returns-then-moment-clock

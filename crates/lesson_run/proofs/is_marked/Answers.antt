@@ -1,8 +1,7 @@
 -- src/lib.rt:81:9
 use Rattle.lesson_run.specs.Run.{is_marked}
-use Rattle.std.proofs.Common.{rules, eq-eqb, ne_eqb, le-leb}
+use Rattle.std.proofs.Common.{eq-eqb, ne_eqb, le-leb}
 use borrow.Author.Tests.{lt-leb}
-use Rattle.lesson_run.proofs.is_marked.Reads as reads
 use Rattle.lesson_run.proofs.is_marked.Goals as goal
 
 pub returns-then-text-lt3 : goal.returns-then-text-lt3

@@ -1,6 +1,5 @@
 -- src/lib.rt:229:9
-use Rattle.std.proofs.Common.{rules, eq-eqb, ne_eqb}
-use Rattle.lesson_run.proofs.lines_in.Reads as reads
+use Rattle.std.proofs.Common.{eq-eqb, ne_eqb}
 use Rattle.lesson_run.proofs.lines_in.Goals as goal
 
 pub returns-then-size-eq0 : goal.returns-then-size-eq0

@@ -3,13 +3,7 @@ use Rattle.lesson_run.proofs.RunLaws.{meaning_within, nothing_left, line_left, c
 use Rattle.lesson_run.proofs.RunLaws.{taken_going}
 use Rattle.desk_lines.proofs.FieldLaws.{found_from}
 use Rattle.desk_lines.specs.Printed.{line_feed}
-use Rattle.std.proofs.Common.{◌≡◌, sym, refl, ap, ◌∙◌, true≢false, arith, rules}
-use Rattle.lesson_run.proofs.next.Reads as reads
-use Rattle.scan.proofs.find.Reads as find-reads
-use Rattle.lesson_lines.proofs.read.Reads as read-reads
-use Rattle.lesson_run.proofs.next_call.Reads as next-call-reads
-use Rattle.lesson_run.proofs.take.Reads as take-reads
-use Rattle.std.proofs.num.wrapping_add_u64.Reads as wrapping-add-u64-reads
+use Rattle.std.proofs.Common.{sym, refl, ◌∙◌, true≢false, arith}
 use Rattle.lesson_run.proofs.next.Goals as goal
 
 pub next_call-requires : goal.next_call-requires
@@ -41,7 +35,7 @@ returns-then-at-text c = let args' = c.args in
     let is = c.take.ensures in
     let here = line_left t p c.if-progress.false c.if-at-text.true (found_from line_feed t p.at c.find-stop.ensures.first) in
     record {
-      splits = rw (← read'.ensures, ← c.wrapping_add_u64-number.ensures) at here ∙ taken_splits t _ _ _ m _ _ is;
+      splits = rw (← read'.ensures, ← c.wrapping_add_u64-number.ensures.value) at here ∙ taken_splits t _ _ _ m _ _ is;
       good = taken_good t _ _ _ m _ _ (meaning_within _ _ read'.ensures) is;
       short = taken_short t _ _ _ m _ _ is;
       ends = λ over. absurd (true≢false

@@ -1,10 +1,7 @@
 -- src/lib.rt:122:9
 use Rattle.lesson_run.proofs.PutLaws.{line_is_put, line_is_some, line_is_inside}
 use Rattle.exercise_lines.proofs.RepeatLaws.{call_before}
-use Rattle.std.proofs.Common.{◌≡◌, sym, refl, ◌∙◌, arith, rules}
-use Rattle.lesson_run.proofs.next_call.Reads as reads
-use Rattle.desk_writer.proofs.write.Reads as write-reads
-use Rattle.exercise_lines.proofs.call_on.Reads as call-on-reads
+use Rattle.std.proofs.Common.{refl, arith}
 use Rattle.lesson_run.proofs.next_call.Goals as goal
 
 pub call_on-call-requires : goal.call_on-call-requires
@@ -21,7 +18,7 @@ returns c = let args' = c.args in
       puts = rw (← c.call_on-call.ensures) (line_is_put _ o c.requires.0 is);
       some =
           line_is_some _ o c.requires.0 is;
-      short = omega (arith, line_is_inside _ o c.requires.0 is, write'.auto.1);
+      short = omega (arith, line_is_inside _ o c.requires.0 is, write'.auto.out);
       quiet = refl;
       going = refl;
     }

@@ -1,8 +1,6 @@
 -- src/lib.rt:174:9
 use Rattle.lesson_run.proofs.PutLaws.{limits_are_put, limits_are_some, limits_are_inside}
-use Rattle.std.proofs.Common.{◌≡◌, sym, refl, ◌∙◌, arith, rules}
-use Rattle.lesson_run.proofs.set_up.Reads as reads
-use Rattle.lesson_writer.proofs.put_limits.Reads as put-limits-reads
+use Rattle.std.proofs.Common.{refl, arith}
 use Rattle.lesson_run.proofs.set_up.Goals as goal
 
 pub returns : goal.returns

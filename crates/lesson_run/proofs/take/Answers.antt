@@ -1,10 +1,4 @@
 -- src/lib.rt:147:33
-use Rattle.std.proofs.Common.{rules}
-use Rattle.lesson_run.proofs.take.Reads as reads
-use Rattle.lesson_run.proofs.at_line.Reads as at-line-reads
-use Rattle.lesson_run.proofs.calls.Reads as calls-reads
-use Rattle.lesson_run.proofs.quiet.Reads as quiet-reads
-use Rattle.lesson_run.proofs.set_up.Reads as set-up-reads
 use Rattle.lesson_run.proofs.take.Goals as goal
 
 pub calls-requires : goal.calls-requires

@@ -2,8 +2,6 @@
 use Rattle.lesson_writer.proofs.WritingLaws.{two_bytes}
 use lib.ListN.{length-set}
 use native.Mathlib.Omega.{arith}
-use borrow.Author.Rules.{rules}
-use Rattle.lesson_writer.proofs.put_dash.Reads as reads
 use Rattle.lesson_writer.proofs.put_dash.Goals as goal
 
 pub bounds-out-next : goal.bounds-out-next

@@ -5,9 +5,6 @@ use Rattle.desk_lines.specs.Printed.{printed_field}
 use Rattle.desk_lines.proofs.PrintLaws.{written_after, field_short}
 use mathlib.Core.List.{◌++◌}
 use native.Mathlib.Omega.{arith}
-use borrow.Author.Rules.{rules}
-use Rattle.lesson_writer.proofs.put_four.Reads as reads
-use Rattle.desk_lines.proofs.print.field.Reads as field-reads
 use Rattle.lesson_writer.proofs.put_four.Goals as goal
 
 pub field-at-requires-2 : goal.field-at-requires-2

@@ -1,8 +1,4 @@
 -- src/lib.rt:79:28
-use borrow.Author.Rules.{rules}
-use Rattle.lesson_writer.proofs.put_idle.Reads as reads
-use Rattle.desk_lines.proofs.print.field.Reads as field-reads
-use Rattle.lesson_writer.proofs.put_dash.Reads as put-dash-reads
 use Rattle.lesson_writer.proofs.put_idle.Goals as goal
 
 pub returns-in-Some : goal.returns-in-Some

@@ -6,14 +6,9 @@ use Rattle.desk_lines.specs.Fields.{space}
 use Rattle.desk_lines.specs.Printed.{written_over}
 use Rattle.desk_lines.proofs.PrintLaws.{written_after}
 use Prim.Native.Nat.{ℕ}
-use mathlib.Core.Path.{◌≡◌, ap, ◌∙◌}
+use mathlib.Core.Path.{ap, ◌∙◌}
 use mathlib.Core.List.{List, [], ◌∷◌, ◌++◌}
 use native.Mathlib.Omega.{arith}
-use borrow.Author.Rules.{rules}
-use Rattle.lesson_writer.proofs.put_limits.Reads as reads
-use Rattle.lesson_writer.proofs.put_four.Reads as put-four-reads
-use Rattle.lesson_writer.proofs.put_letter.Reads as put-letter-reads
-use Rattle.lesson_writer.proofs.put_room.Reads as put-room-reads
 use Rattle.lesson_writer.proofs.put_limits.Goals as goal
 
 pub put_four-at-requires : goal.put_four-at-requires

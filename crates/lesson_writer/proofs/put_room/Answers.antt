@@ -7,10 +7,6 @@ use Rattle.desk_lines.specs.Printed.{printed_field, line_feed}
 use Rattle.desk_lines.proofs.PrintLaws.{written_after, field_short}
 use mathlib.Core.List.{◌++◌}
 use native.Mathlib.Omega.{arith}
-use borrow.Author.Rules.{rules}
-use Rattle.lesson_writer.proofs.put_room.Reads as reads
-use Rattle.desk_lines.proofs.print.field.Reads as field-reads
-use Rattle.lesson_writer.proofs.put_idle.Reads as put-idle-reads
 use Rattle.lesson_writer.proofs.put_room.Goals as goal
 
 pub field-at-requires-2 : goal.field-at-requires-2

@@ -1,6 +1,4 @@
 -- src/calls.rt:85:26
-use borrow.Author.Rules.{rules}
-use Rattle.lesson_lines.proofs.calls.ended.Reads as reads
 use Rattle.lesson_lines.proofs.calls.ended.Goals as goal
 
 pub returns-in-Left : goal.returns-in-Left

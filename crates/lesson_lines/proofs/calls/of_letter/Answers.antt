@@ -1,13 +1,6 @@
 -- From one place of the run back to another.
 use Rattle.lesson_lines.proofs.LetterLaws.{letter_a, letter_p, letter_r, letter_f, letter_d, no_call_letter}
-use mathlib.Core.Path.{◌≡◌, sym, ◌∙◌}
-use borrow.Author.Rules.{rules}
-use Rattle.lesson_lines.proofs.calls.of_letter.Reads as reads
-use Rattle.lesson_lines.proofs.calls.peek_call.Reads as peek-call-reads
-use Rattle.lesson_lines.proofs.calls.refund_call.Reads as refund-call-reads
-use Rattle.lesson_lines.proofs.calls.remove_call.Reads as remove-call-reads
-use Rattle.lesson_lines.proofs.calls.reserve_call.Reads as reserve-call-reads
-use Rattle.lesson_lines.proofs.calls.try_call.Reads as try-call-reads
+use mathlib.Core.Path.{◌∙◌}
 use Rattle.lesson_lines.proofs.calls.of_letter.Goals as goal
 
 pub returns-then-letter-eq97 : goal.returns-then-letter-eq97

@@ -1,9 +1,4 @@
 -- src/calls.rt:104:9
-use borrow.Author.Rules.{rules}
-use Rattle.lesson_lines.proofs.calls.peek_call.Reads as reads
-use Rattle.lesson_lines.proofs.calls.ended.Reads as ended-reads
-use Rattle.lesson_lines.proofs.calls.request.Reads as request-reads
-use Rattle.lesson_lines.proofs.words.finish.Reads as finish-reads
 use Rattle.lesson_lines.proofs.calls.peek_call.Goals as goal
 
 pub returns : goal.returns

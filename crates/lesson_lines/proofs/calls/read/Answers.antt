@@ -1,9 +1,6 @@
 -- src/calls.rt:34:26
 use Rattle.lesson_lines.proofs.LetterLaws.{call_letter_was_read}
-use mathlib.Core.Path.{◌≡◌, sym, ◌∙◌}
-use borrow.Author.Rules.{rules}
-use Rattle.lesson_lines.proofs.calls.read.Reads as reads
-use Rattle.lesson_lines.proofs.calls.of_letter.Reads as of-letter-reads
+use mathlib.Core.Path.{◌∙◌}
 use Rattle.lesson_lines.proofs.calls.read.Goals as goal
 
 pub returns-in-Left : goal.returns-in-Left

@@ -2,11 +2,6 @@
 use Rattle.lesson_lines.proofs.ReadingLaws.{number_within}
 use Rattle.desk_lines.specs.Lines.{most32}
 use native.Mathlib.Omega.{arith}
-use borrow.Author.Rules.{rules}
-use Rattle.lesson_lines.proofs.calls.refund_call.Reads as reads
-use Rattle.lesson_lines.proofs.calls.ended.Reads as ended-reads
-use Rattle.lesson_lines.proofs.words.finish.Reads as finish-reads
-use Rattle.lesson_lines.proofs.words.number.Reads as number-reads
 use Rattle.lesson_lines.proofs.calls.refund_call.Goals as goal
 
 pub overflow_cast-cost : goal.overflow_cast-cost

@@ -2,9 +2,6 @@
 use Rattle.lesson_lines.proofs.ReadingLaws.{number_within}
 use Rattle.desk_lines.specs.Lines.{most32}
 use native.Mathlib.Omega.{arith}
-use borrow.Author.Rules.{rules}
-use Rattle.lesson_lines.proofs.calls.request.Reads as reads
-use Rattle.lesson_lines.proofs.words.number.Reads as number-reads
 use Rattle.lesson_lines.proofs.calls.request.Goals as goal
 
 pub overflow_cast-result : goal.overflow_cast-result

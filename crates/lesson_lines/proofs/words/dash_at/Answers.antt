@@ -1,8 +1,6 @@
 -- src/words.rt:185:8
 use Rattle.lesson_lines.proofs.ReadingLaws.{dash_by_byte, no_dash}
 use native.Mathlib.Omega.{arith}
-use borrow.Author.Rules.{rules}
-use Rattle.lesson_lines.proofs.words.dash_at.Reads as reads
 use Rattle.lesson_lines.proofs.words.dash_at.Goals as goal
 
 pub bounds-line-from : goal.bounds-line-from

@@ -1,9 +1,4 @@
 -- src/words.rt:196:20
-use borrow.Author.Rules.{rules}
-use Rattle.lesson_lines.proofs.words.finish.Reads as reads
-use Rattle.lesson_lines.proofs.words.none_left.Reads as none-left-reads
-use Rattle.lesson_lines.proofs.words.word_end.Reads as word-end-reads
-use Rattle.lesson_lines.proofs.words.word_from.Reads as word-from-reads
 use Rattle.lesson_lines.proofs.words.finish.Goals as goal
 
 pub returns-in-Left : goal.returns-in-Left

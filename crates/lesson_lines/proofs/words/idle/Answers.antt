@@ -1,11 +1,5 @@
 -- src/words.rt:150:20
 use Rattle.lesson_lines.proofs.ReadingLaws.{word_between}
-use mathlib.Core.Path.{◌≡◌, sym, ◌∙◌}
-use borrow.Author.Rules.{rules}
-use Rattle.lesson_lines.proofs.words.idle.Reads as reads
-use Rattle.lesson_lines.proofs.words.idle_at.Reads as idle-at-reads
-use Rattle.lesson_lines.proofs.words.word_end.Reads as word-end-reads
-use Rattle.lesson_lines.proofs.words.word_from.Reads as word-from-reads
 use Rattle.lesson_lines.proofs.words.idle.Goals as goal
 
 pub idle_at-requires : goal.idle_at-requires

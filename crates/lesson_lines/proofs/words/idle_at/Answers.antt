@@ -1,11 +1,7 @@
 -- src/words.rt:166:8
 use Rattle.lesson_lines.proofs.ReadingLaws.{idle_of_dash, idle_of_time}
 use Rattle.lesson_lines.specs.Lesson.{time_read}
-use mathlib.Core.Path.{◌≡◌, sym, ap, ◌∙◌}
-use borrow.Author.Rules.{rules}
-use Rattle.lesson_lines.proofs.words.idle_at.Reads as reads
-use Rattle.lesson_lines.proofs.words.dash_at.Reads as dash-at-reads
-use Rattle.lesson_lines.proofs.words.number_at.Reads as number-at-reads
+use mathlib.Core.Path.{sym, ap, ◌∙◌}
 use Rattle.lesson_lines.proofs.words.idle_at.Goals as goal
 
 pub returns-then-dash_at : goal.returns-then-dash_at

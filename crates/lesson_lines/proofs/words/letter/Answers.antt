@@ -1,12 +1,5 @@
 -- src/words.rt:109:20
 use Rattle.lesson_lines.proofs.ReadingLaws.{word_between}
-use mathlib.Core.Path.{◌≡◌, sym, ◌∙◌}
-use borrow.Author.Rules.{rules}
-use Rattle.lesson_lines.proofs.words.letter.Reads as reads
-use Rattle.lesson_lines.proofs.words.letter_at.Reads as letter-at-reads
-use Rattle.lesson_lines.proofs.words.no_letter.Reads as no-letter-reads
-use Rattle.lesson_lines.proofs.words.word_end.Reads as word-end-reads
-use Rattle.lesson_lines.proofs.words.word_from.Reads as word-from-reads
 use Rattle.lesson_lines.proofs.words.letter.Goals as goal
 
 pub letter_at-requires : goal.letter_at-requires

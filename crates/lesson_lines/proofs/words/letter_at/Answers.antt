@@ -1,11 +1,7 @@
 -- src/words.rt:123:9
 use Rattle.lesson_lines.proofs.ReadingLaws.{missing_letter, one_letter_lem, more_than_a_letter}
-use mathlib.Core.Path.{◌≡◌, sym, ◌∙◌}
+use mathlib.Core.Path.{◌∙◌}
 use native.Mathlib.Omega.{arith}
-use borrow.Author.Rules.{rules}
-use Rattle.lesson_lines.proofs.words.letter_at.Reads as reads
-use Rattle.lesson_lines.proofs.words.no_letter.Reads as no-letter-reads
-use Rattle.lesson_words.proofs.small.Reads as small-reads
 use Rattle.lesson_lines.proofs.words.letter_at.Goals as goal
 
 pub returns-then-from-end : goal.returns-then-from-end

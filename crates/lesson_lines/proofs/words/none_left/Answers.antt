@@ -1,7 +1,5 @@
 -- src/words.rt:208:9
 use Rattle.lesson_lines.proofs.ReadingLaws.{none_is_left, one_is_left}
-use borrow.Author.Rules.{rules}
-use Rattle.lesson_lines.proofs.words.none_left.Reads as reads
 use Rattle.lesson_lines.proofs.words.none_left.Goals as goal
 
 pub returns-then-from-end : goal.returns-then-from-end

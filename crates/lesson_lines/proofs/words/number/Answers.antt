@@ -1,12 +1,5 @@
 -- src/words.rt:63:20
 use Rattle.lesson_lines.proofs.ReadingLaws.{word_between}
-use mathlib.Core.Path.{◌≡◌, sym, ◌∙◌}
-use borrow.Author.Rules.{rules}
-use Rattle.lesson_lines.proofs.words.number.Reads as reads
-use Rattle.lesson_lines.proofs.words.failed.Reads as failed-reads
-use Rattle.lesson_lines.proofs.words.number_at.Reads as number-at-reads
-use Rattle.lesson_lines.proofs.words.word_end.Reads as word-end-reads
-use Rattle.lesson_lines.proofs.words.word_from.Reads as word-from-reads
 use Rattle.lesson_lines.proofs.words.number.Goals as goal
 
 pub number_at-requires : goal.number_at-requires

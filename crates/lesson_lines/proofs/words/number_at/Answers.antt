@@ -1,12 +1,7 @@
 -- src/words.rt:77:9
 use Rattle.lesson_lines.proofs.ReadingLaws.{missing_is_taken, value_is_taken}
-use mathlib.Core.Path.{◌≡◌, sym, ◌∙◌}
+use mathlib.Core.Path.{◌∙◌}
 use native.Mathlib.Omega.{arith}
-use borrow.Author.Rules.{rules}
-use Rattle.lesson_lines.proofs.words.number_at.Reads as reads
-use Rattle.lesson_lines.proofs.words.failed.Reads as failed-reads
-use Rattle.lesson_lines.proofs.words.taken_value.Reads as taken-value-reads
-use Rattle.lesson_words.proofs.value_of.Reads as value-of-reads
 use Rattle.lesson_lines.proofs.words.number_at.Goals as goal
 
 pub returns-then-from-end : goal.returns-then-from-end

@@ -1,7 +1,4 @@
 -- src/words.rt:87:23
-use borrow.Author.Rules.{rules}
-use Rattle.lesson_lines.proofs.words.taken_value.Reads as reads
-use Rattle.lesson_lines.proofs.words.failed.Reads as failed-reads
 use Rattle.lesson_lines.proofs.words.taken_value.Goals as goal
 
 pub returns-in-Number : goal.returns-in-Number

@@ -1,9 +1,5 @@
 -- src/words.rt:53:9
 use Rattle.lesson_lines.proofs.ReadingLaws.{no_word_end}
-use native.Mathlib.Omega.{arith}
-use borrow.Author.Rules.{rules}
-use Rattle.lesson_lines.proofs.words.word_end.Reads as reads
-use Rattle.lesson_words.proofs.word_end.Reads as word-end-reads
 use Rattle.lesson_lines.proofs.words.word_end.Goals as goal
 
 pub returns-then-line-from : goal.returns-then-line-from
