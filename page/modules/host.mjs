@@ -1,6 +1,7 @@
-// What a compiled program finds around it in place of an operating system: six functions, and a product that wasm32 has no instruction for. Standard input is
-// given as bytes, standard output and standard error are gathered as bytes. Reads and writes never fail here, so that the two functions that tell of an error
-// are never asked.
+// What a compiled program finds around it in place of an operating system: ten functions, and a product that wasm32 has no instruction for. Standard input is
+// given as bytes, standard output and standard error are gathered as bytes. Reads and writes never fail here, so that no error is told: the number of the last
+// error says only that there is no argument. A program asks for the features of the processor before it begins, since its code for x86-64 needs some; here it is
+// told that it has all of them.
 
 // A program that writes more than this is stopped: `exercise` can be asked for billions of lines.
 export const MOST_WRITTEN = 4000000;
@@ -12,19 +13,29 @@ export class Stopped extends Error {}
 // place of the stack, which is where it was once `main` has returned.
 const instances = new WeakMap();
 
+const PAGE = 65536;
+
 async function prepare(module) {
-  const host = { run: null };
+  const host = { run: null, error: 0 };
+  const write = (file, place, count) => host.run.write(file, place, Number(count));
   const env = {
     read: (file, place, room) => host.run.read(place, Number(room)),
-    write: (file, place, count) => host.run.write(file, place, Number(count)),
+    write,
+    __write: write,
     isatty: () => 0,
-    rattle_arg_count: () => 1n,
-    rattle_errno: () => 0,
+    rattle_arg: () => -1n,
+    rattle_set_errno: number => { host.error = number; },
+    rattle_errno: () => host.error,
     __xpg_strerror_r: () => 0,
+    __sysv_signal: () => 0n,
+    __x86_get_cpuid_feature_leaf: () => host.features,
     __multi3: (place, ...words) => multiply(host.memory, place, ...words),
   };
   const { exports } = await WebAssembly.instantiate(module, { env });
-  return Object.assign(host, { main: exports.main, memory: exports.memory, first: new Uint8Array(exports.memory.buffer).slice() });
+  // A page past the program's own, with each bit set.
+  host.features = exports.memory.grow(1) * PAGE;
+  const bytes = new Uint8Array(exports.memory.buffer).fill(255, host.features);
+  return Object.assign(host, { main: exports.main, memory: exports.memory, first: bytes.slice() });
 }
 
 // The product of two numbers of 128 bits, each given as its lower and its upper word. The lower 128 bits of it go to a place in the memory.

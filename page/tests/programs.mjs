@@ -18,7 +18,7 @@ export async function loadPrograms() {
 
 // The proved program as it runs on this machine.
 export function native(name, input) {
-  const { stdout, stderr, status } = spawnSync(inRoot('target/bin', name), { input, maxBuffer: 1 << 26 });
+  const { stdout, stderr, status } = spawnSync(inRoot('crates', name, 'out', name), { input, maxBuffer: 1 << 26 });
   return { output: stdout, told: stderr, status };
 }
 

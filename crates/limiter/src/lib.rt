@@ -55,16 +55,14 @@ pub struct LimiterSettings {
 }
 
 // Makes the words an empty store of these settings. Where it is accepted every word is written; what stood in them does not matter.
-#[unsafe(no_mangle)]
-pub extern "C" fn limiter_set_up(settings: LimiterSettings, ws: &mut [u64]) -> Told
+pub fn limiter_set_up(settings: LimiterSettings, ws: &mut [u64]) -> Told
     ensures { outcome result ws.new ≡ Replies.told (Rules.set_up (settings_of settings) ws.old) }
 {
     perkey::set_up(settings_of(settings), ws).told()
 }
 
 // Takes `cost` tokens for a key at the moment `at`, if its bucket has them: granted, to be tried again after a wait, or impossible.
-#[unsafe(no_mangle)]
-pub extern "C" fn limiter_try(
+pub fn limiter_try(
     settings: LimiterSettings,
     ws: &mut [u64],
     at: u64,
@@ -96,8 +94,7 @@ pub extern "C" fn limiter_try(
 }
 
 // Takes `cost` tokens for a key that become usable after a wait, if that wait is at most `max_wait`. The number is the wait.
-#[unsafe(no_mangle)]
-pub extern "C" fn limiter_reserve(
+pub fn limiter_reserve(
     settings: LimiterSettings,
     ws: &mut [u64],
     at: u64,
@@ -131,8 +128,7 @@ pub extern "C" fn limiter_reserve(
 }
 
 // What the key's bucket would answer to a try at the moment `at`. It takes nothing, and says nothing of room for a new key.
-#[unsafe(no_mangle)]
-pub extern "C" fn limiter_peek(
+pub fn limiter_peek(
     settings: LimiterSettings,
     ws: &[u64],
     at: u64,
@@ -153,8 +149,7 @@ pub extern "C" fn limiter_peek(
 }
 
 // The tokens that a key has at the moment `at`.
-#[unsafe(no_mangle)]
-pub extern "C" fn limiter_available(
+pub fn limiter_available(
     settings: LimiterSettings,
     ws: &[u64],
     at: u64,
@@ -167,21 +162,14 @@ pub extern "C" fn limiter_available(
 }
 
 // How many tries of a key its own bucket has turned away, from the call on that gave the key its slot. 0 for a key without a slot.
-#[unsafe(no_mangle)]
-pub extern "C" fn limiter_turned_away(
-    settings: LimiterSettings,
-    ws: &[u64],
-    hash: u64,
-    key: u64,
-) -> Told
+pub fn limiter_turned_away(settings: LimiterSettings, ws: &[u64], hash: u64, key: u64) -> Told
     ensures { outcome result ws.now ≡ Replies.told (Rules.times_turned_away (settings_of settings) (identity_of hash key) ws.now) }
 {
     perkey::turned_away(settings_of(settings), ws, Identity { hash, key }).told()
 }
 
 // Gives `cost` tokens back to a key, or to the debt that is remembered for its hash; unknown if there is neither.
-#[unsafe(no_mangle)]
-pub extern "C" fn limiter_refund(
+pub fn limiter_refund(
     settings: LimiterSettings,
     ws: &mut [u64],
     hash: u64,
@@ -194,29 +182,21 @@ pub extern "C" fn limiter_refund(
 }
 
 // Forgets a key, and the debt that is remembered for its hash; unknown if there is neither.
-#[unsafe(no_mangle)]
-pub extern "C" fn limiter_remove(
-    settings: LimiterSettings,
-    ws: &mut [u64],
-    hash: u64,
-    key: u64,
-) -> Told
+pub fn limiter_remove(settings: LimiterSettings, ws: &mut [u64], hash: u64, key: u64) -> Told
     ensures { outcome result ws.new ≡ Replies.told (Rules.remove (settings_of settings) (identity_of hash key) ws.old) }
 {
     perkey::remove(settings_of(settings), ws, Identity { hash, key }).told()
 }
 
 // Forgets all keys and debts.
-#[unsafe(no_mangle)]
-pub extern "C" fn limiter_clear(settings: LimiterSettings, ws: &mut [u64]) -> Told
+pub fn limiter_clear(settings: LimiterSettings, ws: &mut [u64]) -> Told
     ensures { outcome result ws.new ≡ Replies.told (Rules.clear (settings_of settings) ws.old) }
 {
     perkey::clear(settings_of(settings), ws).told()
 }
 
 // The number of keys that have a slot.
-#[unsafe(no_mangle)]
-pub extern "C" fn limiter_length(settings: LimiterSettings, ws: &[u64]) -> Told
+pub fn limiter_length(settings: LimiterSettings, ws: &[u64]) -> Told
     ensures { outcome result ws.now ≡ Replies.told (Rules.len (settings_of settings) ws.now) }
 {
     perkey::len(settings_of(settings), ws).told()
@@ -224,8 +204,7 @@ pub extern "C" fn limiter_length(settings: LimiterSettings, ws: &[u64]) -> Told
 
 // The words to lend for these settings: the length that every operation asks of `ws`. It follows from the sizes alone, so where only the rate is
 // refused it is the same as with a rate that is accepted. 0 where the sizes are refused, and for more classes than a table may have: no store has 0 words.
-#[unsafe(no_mangle)]
-pub extern "C" fn limiter_words(settings: LimiterSettings) -> u64
+pub fn limiter_words(settings: LimiterSettings) -> u64
     ensures { result ≡ words_to_lend (settings_of settings) }
 {
     let settings = settings_of(settings);
@@ -240,8 +219,7 @@ pub extern "C" fn limiter_words(settings: LimiterSettings) -> u64
 
 // A hash for a key, for callers who have no hash of their own: FNV-1a over its eight bytes, lowest first. It has no secret: where strangers choose
 // the keys, they can choose keys that share a shard or a hash.
-#[unsafe(no_mangle)]
-pub extern "C" fn limiter_key_hash(key: u64) -> u64
+pub fn limiter_key_hash(key: u64) -> u64
     ensures { result ≡ hash_of key }
 {
     hash::key_hash(key)
@@ -249,8 +227,7 @@ pub extern "C" fn limiter_key_hash(key: u64) -> u64
 
 // The version of this interface. The name holds the numbers that have to be equal in a caller's header and in the library: a caller's objects refer to it, so a
 // library of another version does not link.
-#[unsafe(no_mangle)]
-pub extern "C" fn limiter_version_0_9() -> u32
+pub fn limiter_version_0_9() -> u32
     ensures { result ≡ version_number }
 {
     65_536 * MAJOR + 256 * MINOR + PATCH

@@ -16,12 +16,7 @@ use shard::Identity;
 use units::Nanos;
 
 // Makes the words an empty store of these settings with the classes of a table. The number of classes is the table's, whatever the settings say.
-#[unsafe(no_mangle)]
-pub extern "C" fn limiter_table_set_up(
-    settings: LimiterSettings,
-    table: &[u64],
-    ws: &mut [u64],
-) -> Told
+pub fn limiter_table_set_up(settings: LimiterSettings, table: &[u64], ws: &mut [u64]) -> Told
     ensures { outcome result ws.new
         ≡ Replies.told (Rules.class_set_up (settings_of settings) table.now ws.old) }
 {
@@ -29,12 +24,7 @@ pub extern "C" fn limiter_table_set_up(
 }
 
 // Forgets every key, and fills every class bucket.
-#[unsafe(no_mangle)]
-pub extern "C" fn limiter_table_clear(
-    settings: LimiterSettings,
-    table: &[u64],
-    ws: &mut [u64],
-) -> Told
+pub fn limiter_table_clear(settings: LimiterSettings, table: &[u64], ws: &mut [u64]) -> Told
     ensures { outcome result ws.new
         ≡ Replies.told (Rules.class_clear (settings_of settings) table.now ws.old) }
 {
@@ -43,8 +33,7 @@ pub extern "C" fn limiter_table_clear(
 
 // Takes `cost` tokens from a key's bucket and from every bucket on the chain of `class`, if all have them at the moment `at`. Else it takes none, and tells the
 // largest of their waits, or the wait for room, or that the cost is impossible.
-#[unsafe(no_mangle)]
-pub extern "C" fn limiter_table_try(
+pub fn limiter_table_try(
     settings: LimiterSettings,
     table: &[u64],
     ws: &mut [u64],

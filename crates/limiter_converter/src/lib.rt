@@ -13,12 +13,7 @@ use limiter::{LimiterSettings, settings_of};
 use rules::codes::Told;
 
 // Moves the store of the source, in document 01's layout, to the target, in the present layout without classes.
-#[unsafe(no_mangle)]
-pub extern "C" fn limiter_convert_forth(
-    settings: LimiterSettings,
-    source: &[u64],
-    target: &mut [u64],
-) -> Told
+pub fn limiter_convert_forth(settings: LimiterSettings, source: &[u64], target: &mut [u64]) -> Told
     ensures { outcome result target.new
         ≡ Replies.told (Conversion.forth (settings_of settings) source.now target.old) }
 {
@@ -26,12 +21,7 @@ pub extern "C" fn limiter_convert_forth(
 }
 
 // Moves the store of the source, in the present layout without classes, to the target, in document 01's layout.
-#[unsafe(no_mangle)]
-pub extern "C" fn limiter_convert_back(
-    settings: LimiterSettings,
-    source: &[u64],
-    target: &mut [u64],
-) -> Told
+pub fn limiter_convert_back(settings: LimiterSettings, source: &[u64], target: &mut [u64]) -> Told
     ensures { outcome result target.new
         ≡ Replies.told (Conversion.back (settings_of settings) source.now target.old) }
 {
@@ -39,8 +29,7 @@ pub extern "C" fn limiter_convert_back(
 }
 
 // How many words document 01's layout has for these settings, 0 where it has no store of this size: where the sizes are refused, and for more than 4,096 keys.
-#[unsafe(no_mangle)]
-pub extern "C" fn limiter_words_01(settings: LimiterSettings) -> u64
+pub fn limiter_words_01(settings: LimiterSettings) -> u64
     ensures { result ≡ Conversion.old_words (settings_of settings) }
 {
     converter::old_words(settings_of(settings)) as u64

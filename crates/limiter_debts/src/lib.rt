@@ -17,8 +17,7 @@ use units::Nanos;
 
 // Writes the debts of the shard of a number that settle after the moment `at` over the first records, in the order of their places. The number told is how many
 // they are.
-#[unsafe(no_mangle)]
-pub extern "C" fn limiter_debts(
+pub fn limiter_debts(
     settings: LimiterSettings,
     ws: &[u64],
     at: u64,

@@ -15,30 +15,21 @@ use rules::codes::Told;
 use units::Nanos;
 
 // The line of a try at the moment `at`.
-#[unsafe(no_mangle)]
-pub extern "C" fn limiter_line_try(out: &mut [u8], at: u64, key: u64, cost: u32) -> Told
+pub fn limiter_line_try(out: &mut [u8], at: u64, key: u64, cost: u32) -> Told
     ensures { outcome result out.new ≡ told_written (Try (request_of at key cost)) out.old }
 {
     tell(desk_writer::write(DeskCall::Try(request(at, key, cost)), out))
 }
 
 // The line of a peek.
-#[unsafe(no_mangle)]
-pub extern "C" fn limiter_line_peek(out: &mut [u8], at: u64, key: u64, cost: u32) -> Told
+pub fn limiter_line_peek(out: &mut [u8], at: u64, key: u64, cost: u32) -> Told
     ensures { outcome result out.new ≡ told_written (Peek (request_of at key cost)) out.old }
 {
     tell(desk_writer::write(DeskCall::Peek(request(at, key, cost)), out))
 }
 
 // The line of a reservation.
-#[unsafe(no_mangle)]
-pub extern "C" fn limiter_line_reserve(
-    out: &mut [u8],
-    at: u64,
-    key: u64,
-    cost: u32,
-    max_wait: u64,
-) -> Told
+pub fn limiter_line_reserve(out: &mut [u8], at: u64, key: u64, cost: u32, max_wait: u64) -> Told
     ensures { outcome result out.new ≡ told_written (Reserve (request_of at key cost) (nanos_of max_wait)) out.old }
 {
     tell(desk_writer::write(
@@ -48,16 +39,14 @@ pub extern "C" fn limiter_line_reserve(
 }
 
 // The line of a refund.
-#[unsafe(no_mangle)]
-pub extern "C" fn limiter_line_refund(out: &mut [u8], key: u64, cost: u32) -> Told
+pub fn limiter_line_refund(out: &mut [u8], key: u64, cost: u32) -> Told
     ensures { outcome result out.new ≡ told_written (Refund key cost) out.old }
 {
     tell(desk_writer::write(DeskCall::Refund(key, cost), out))
 }
 
 // The line of a removal.
-#[unsafe(no_mangle)]
-pub extern "C" fn limiter_line_remove(out: &mut [u8], key: u64) -> Told
+pub fn limiter_line_remove(out: &mut [u8], key: u64) -> Told
     ensures { outcome result out.new ≡ told_written (Remove key) out.old }
 {
     tell(desk_writer::write(DeskCall::Remove(key), out))

@@ -26,8 +26,7 @@ pub struct LimiterIdentity {
 }
 
 // Takes `cost` tokens for a modem at the moment `at`, if its bucket has them: granted, to be tried again after a wait, or impossible.
-#[unsafe(no_mangle)]
-pub extern "C" fn limiter_modem_try(
+pub fn limiter_modem_try(
     settings: LimiterSettings,
     ws: &mut [u64],
     at: u64,
@@ -41,8 +40,7 @@ pub extern "C" fn limiter_modem_try(
 }
 
 // Takes `cost` tokens for a modem that become usable after a wait, if that wait is at most `max_wait`. The number is the wait.
-#[unsafe(no_mangle)]
-pub extern "C" fn limiter_modem_reserve(
+pub fn limiter_modem_reserve(
     settings: LimiterSettings,
     ws: &mut [u64],
     at: u64,
@@ -65,8 +63,7 @@ pub extern "C" fn limiter_modem_reserve(
 }
 
 // What the modem's bucket would answer to a try at the moment `at`. It takes nothing, and says nothing of room for a new modem.
-#[unsafe(no_mangle)]
-pub extern "C" fn limiter_modem_peek(
+pub fn limiter_modem_peek(
     settings: LimiterSettings,
     ws: &[u64],
     at: u64,
@@ -80,8 +77,7 @@ pub extern "C" fn limiter_modem_peek(
 }
 
 // Gives `cost` tokens back to a modem, or to the debt that is remembered for its hash; unknown if there is neither.
-#[unsafe(no_mangle)]
-pub extern "C" fn limiter_modem_refund(
+pub fn limiter_modem_refund(
     settings: LimiterSettings,
     ws: &mut [u64],
     address: &[u8],
@@ -93,20 +89,14 @@ pub extern "C" fn limiter_modem_refund(
 }
 
 // Forgets a modem, and the debt that is remembered for its hash; unknown if there is neither.
-#[unsafe(no_mangle)]
-pub extern "C" fn limiter_modem_remove(
-    settings: LimiterSettings,
-    ws: &mut [u64],
-    address: &[u8],
-) -> Told
+pub fn limiter_modem_remove(settings: LimiterSettings, ws: &mut [u64], address: &[u8]) -> Told
     ensures { outcome result ws.new ≡ Replies.told (Address.remove (settings_of settings) address.now ws.old) }
 {
     modems::remove(settings_of(settings), ws, address).told()
 }
 
 // The hash and the key that the calls above give a modem of this address, for the calls that take a hash and a key.
-#[unsafe(no_mangle)]
-pub extern "C" fn limiter_modem_identity(address: &[u8]) -> LimiterIdentity
+pub fn limiter_modem_identity(address: &[u8]) -> LimiterIdentity
     ensures { result ≡ identity_told address.now }
 {
     match modems::identify(address) {

@@ -23,7 +23,7 @@ use scenario::known::known;
 use scenario::{Hash, Op, Scenario};
 use times::Times;
 
-const OURS: &str = "../target/bin/desk";
+const OURS: &str = "../crates/desk/out/desk";
 const RUST: &str = "target/release/rust-desk";
 const INPUT: &str = "target/desk.in";
 const OUTPUT: &str = "target/desk.out";
