@@ -15,15 +15,15 @@ use Rattle.limiter.proofs.limiter_reserve.Goals as goal
 
 -- What is asked, and what the numbers are: the settings, the moment, the key.
 abbrev request : goal.After-finish-arg-1 → Request
-request c = Reserve (nanos_of c.args.max-wait)
+request c = Reserve (nanos_of c.args.max_wait)
 
 -- What is asked, and what the numbers are: the settings, the moment, the key.
 abbrev request_2 : goal.After-told → Request
-request_2 c = Reserve (nanos_of c.args.max-wait)
+request_2 c = Reserve (nanos_of c.args.max_wait)
 
 -- What is asked, and what the numbers are: the settings, the moment, the key.
 abbrev request_3 : goal.After-slice_known-in-Left-1 → Request
-request_3 c = Reserve (nanos_of c.args.max-wait)
+request_3 c = Reserve (nanos_of c.args.max_wait)
 
 abbrev settings : goal.After-finish-arg-1 → Settings
 settings c = settings_of c.args.settings
