@@ -37,7 +37,7 @@ refused_3 c = let a = c.args in
     ∙ ap (λ (n : ℕ). set_up_refusal (with_classes n a.settings) a.ws.now) (c.count.ensures ∙ class_count_lem a.table.now)
 
 pub set_up_refusal-refusal-requires : goal.set_up_refusal-refusal-requires
-set_up_refusal-refusal-requires c = counted_classes_few c.args.table.now (omega (arith, c.well-formed)) c.count.ensures
+set_up_refusal-refusal-requires c = counted_classes_few c.args.table.now (omega (arith, c.well_formed)) c.count.ensures
 
 pub returns-then-refusal-ne0 : goal.returns-then-refusal-ne0
 returns-then-refusal-ne0 c = settings_refusal_is_told (given c) c.args.table.now c.args.ws.now (refused c) c.if-refusal-ne0.true

@@ -25,7 +25,7 @@ returns-then-refusal-ne0 c = let a = c.args in
 pub lend-requires : goal.lend-requires
 lend-requires c = let a = c.args in
     try_has_shape a.settings a.table.now a.at a.id a.class a.cost a.ws.now (accepted c) c.shape-given.ensures
-    c.count.ensures c.with_classes-shape.ensures (omega (arith, c.well-formed))
+    c.count.ensures c.with_classes-shape.ensures (omega (arith, c.well_formed))
 
 pub pass-requires : goal.pass-requires
 pass-requires c = let a = c.args in
