@@ -2,7 +2,6 @@
 use native.Mathlib.Omega.{arith}
 use Rattle.classes.proofs.LayoutLaws.{class_count_lem}
 use Rattle.class_calls.proofs.RefusedTries.{counted_classes_few}
-use borrow.Author.Rules.{rules}
 use Rattle.class_calls.proofs.classes_at.Goals as goal
 
 pub bucket_words-requires : goal.bucket_words-requires

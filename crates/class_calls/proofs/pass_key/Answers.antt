@@ -1,7 +1,6 @@
 -- `pass_key` hands the wait of the chain to the store, and charges the chain where the store grants.
 use native.Mathlib.Omega.{arith}
 use Rattle.class_calls.proofs.PassLaws.{bucket_may_be_asked, buckets_fit, chain_may_be_charged, denied_is_told, granted_is_told}
-use borrow.Author.Rules.{rules}
 use Rattle.class_calls.proofs.pass_key.Goals as goal
 
 pub ask-requires : goal.ask-requires
