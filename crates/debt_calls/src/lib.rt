@@ -185,7 +185,7 @@ pub fn list_debts(
     shard: u64,
     records: &mut [Debt],
 ) -> Reply
-    ensures { outcome result (Debts.lent ws.now records.new)
+    ensures { outcome result (Debts.lent ws.exit.now records.new)
         ≡ Debts.list_debts settings at shard (Debts.lent ws.now records.old) }
 {
     let plan = planned(settings, ws, at, shard, records.len());

@@ -136,7 +136,7 @@ pub fn limiter_peek(
     key: u64,
     cost: u32,
 ) -> Told
-    ensures { outcome result ws.now ≡ Replies.told (Rules.peek (settings_of settings) (nanos_of at) (identity_of hash key) cost ws.now) }
+    ensures { outcome result ws.exit.now ≡ Replies.told (Rules.peek (settings_of settings) (nanos_of at) (identity_of hash key) cost ws.now) }
 {
     perkey::peek(
         settings_of(settings),
@@ -156,14 +156,14 @@ pub fn limiter_available(
     hash: u64,
     key: u64,
 ) -> Told
-    ensures { outcome result ws.now ≡ Replies.told (Rules.available (settings_of settings) (nanos_of at) (identity_of hash key) ws.now) }
+    ensures { outcome result ws.exit.now ≡ Replies.told (Rules.available (settings_of settings) (nanos_of at) (identity_of hash key) ws.now) }
 {
     perkey::available(settings_of(settings), ws, Nanos(at), Identity { hash, key }).told()
 }
 
 // How many tries of a key its own bucket has turned away, from the call on that gave the key its slot. 0 for a key without a slot.
 pub fn limiter_turned_away(settings: LimiterSettings, ws: &[u64], hash: u64, key: u64) -> Told
-    ensures { outcome result ws.now ≡ Replies.told (Rules.times_turned_away (settings_of settings) (identity_of hash key) ws.now) }
+    ensures { outcome result ws.exit.now ≡ Replies.told (Rules.times_turned_away (settings_of settings) (identity_of hash key) ws.now) }
 {
     perkey::turned_away(settings_of(settings), ws, Identity { hash, key }).told()
 }
@@ -197,7 +197,7 @@ pub fn limiter_clear(settings: LimiterSettings, ws: &mut [u64]) -> Told
 
 // The number of keys that have a slot.
 pub fn limiter_length(settings: LimiterSettings, ws: &[u64]) -> Told
-    ensures { outcome result ws.now ≡ Replies.told (Rules.len (settings_of settings) ws.now) }
+    ensures { outcome result ws.exit.now ≡ Replies.told (Rules.len (settings_of settings) ws.now) }
 {
     perkey::len(settings_of(settings), ws).told()
 }

@@ -63,7 +63,7 @@ pub extern "C" fn limiter_peek(
     key: u64,
     cost: u32,
 ) -> Told
-    ensures { outcome result ws.now ≡ Replies.told (Rules.peek (settings_of settings) (nanos_of at) (identity_of hash key) cost ws.now) }
+    ensures { outcome result ws.exit.now ≡ Replies.told (Rules.peek (settings_of settings) (nanos_of at) (identity_of hash key) cost ws.now) }
 {
     limiter::limiter_peek(settings, ws, at, hash, key, cost)
 }
@@ -77,7 +77,7 @@ pub extern "C" fn limiter_available(
     hash: u64,
     key: u64,
 ) -> Told
-    ensures { outcome result ws.now ≡ Replies.told (Rules.available (settings_of settings) (nanos_of at) (identity_of hash key) ws.now) }
+    ensures { outcome result ws.exit.now ≡ Replies.told (Rules.available (settings_of settings) (nanos_of at) (identity_of hash key) ws.now) }
 {
     limiter::limiter_available(settings, ws, at, hash, key)
 }
@@ -90,7 +90,7 @@ pub extern "C" fn limiter_turned_away(
     hash: u64,
     key: u64,
 ) -> Told
-    ensures { outcome result ws.now ≡ Replies.told (Rules.times_turned_away (settings_of settings) (identity_of hash key) ws.now) }
+    ensures { outcome result ws.exit.now ≡ Replies.told (Rules.times_turned_away (settings_of settings) (identity_of hash key) ws.now) }
 {
     limiter::limiter_turned_away(settings, ws, hash, key)
 }
@@ -133,7 +133,7 @@ pub extern "C" fn limiter_clear(settings: LimiterSettings, ws: &mut [u64]) -> To
 // The number of keys that have a slot.
 #[unsafe(no_mangle)]
 pub extern "C" fn limiter_length(settings: LimiterSettings, ws: &[u64]) -> Told
-    ensures { outcome result ws.now ≡ Replies.told (Rules.len (settings_of settings) ws.now) }
+    ensures { outcome result ws.exit.now ≡ Replies.told (Rules.len (settings_of settings) ws.now) }
 {
     limiter::limiter_length(settings, ws)
 }

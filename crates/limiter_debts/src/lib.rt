@@ -24,7 +24,7 @@ pub fn limiter_debts(
     shard: u64,
     records: &mut [Debt],
 ) -> Told
-    ensures { outcome result (Debts.lent ws.now records.new)
+    ensures { outcome result (Debts.lent ws.exit.now records.new)
         ≡ Replies.told (Debts.list_debts (settings_of settings) (nanos_of at) shard (Debts.lent ws.now records.old)) }
 {
     debt_calls::list_debts(settings_of(settings), ws, Nanos(at), shard, records).told()

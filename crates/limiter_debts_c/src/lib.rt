@@ -22,7 +22,7 @@ pub extern "C" fn limiter_debts(
     shard: u64,
     records: &mut [Debt],
 ) -> Told
-    ensures { outcome result (Debts.lent ws.now records.new)
+    ensures { outcome result (Debts.lent ws.exit.now records.new)
         ≡ Replies.told (Debts.list_debts (settings_of settings) (nanos_of at) shard (Debts.lent ws.now records.old)) }
 {
     limiter_debts::limiter_debts(settings, ws, at, shard, records)

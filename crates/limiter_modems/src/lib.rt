@@ -70,7 +70,7 @@ pub fn limiter_modem_peek(
     address: &[u8],
     cost: u32,
 ) -> Told
-    ensures { outcome result ws.now ≡
+    ensures { outcome result ws.exit.now ≡
         Replies.told (Address.peek (settings_of settings) (nanos_of at) address.now cost ws.now) }
 {
     modems::peek(settings_of(settings), ws, Nanos(at), address, cost).told()

@@ -53,7 +53,7 @@ pub extern "C" fn limiter_modem_peek(
     address: &[u8],
     cost: u32,
 ) -> Told
-    ensures { outcome result ws.now ≡
+    ensures { outcome result ws.exit.now ≡
         Replies.told (Address.peek (settings_of settings) (nanos_of at) address.now cost ws.now) }
 {
     limiter_modems::limiter_modem_peek(settings, ws, at, address, cost)

@@ -58,7 +58,7 @@ pub fn reserve(
 
 // What the modem's own bucket would answer to a try, taking nothing. It says nothing of space.
 pub fn peek(settings: Settings, ws: &[u64], at: Nanos, address: &[u8], cost: u32) -> Reply
-    ensures { outcome result ws.now ≡ Address.peek settings at address.now cost ws.now }
+    ensures { outcome result ws.exit.now ≡ Address.peek settings at address.now cost ws.now }
 {
     let refusal = address_refusal(address);
     if refusal != 0 {

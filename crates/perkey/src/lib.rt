@@ -76,7 +76,7 @@ pub fn reserve(
 // What the key's own bucket would answer to a try, taking nothing. It says nothing of space. A peek and a refund ask first whether there is a rate, as requests
 // do, so that all that follows is compiled for a limiter that has one (docs/DECISIONS.md).
 pub fn peek(settings: Settings, ws: &[u64], at: Nanos, id: Identity, cost: u32) -> Reply
-    ensures { outcome result ws.now ≡ Rules.peek settings at id cost ws.now }
+    ensures { outcome result ws.exit.now ≡ Rules.peek settings at id cost ws.now }
 {
     let limit = settings.limit;
     match limit {
@@ -106,7 +106,7 @@ fn peek_open(
     cost: u32,
 ) -> Reply
     requires { settings.limit ≡ Open rate }
-    ensures { outcome result ws.now ≡ Rules.peek settings at id cost ws.now }
+    ensures { outcome result ws.exit.now ≡ Rules.peek settings at id cost ws.now }
 {
     match lending::lend_for(settings, ws, id.hash, refusals::moment_refusal(at)) {
         Lending::Refused(refusal) => Reply::Refused(refusal),
@@ -149,7 +149,7 @@ fn due_reply(due: Due) -> Reply
 
 // The whole tokens that a key has; none where there is no rate.
 pub fn available(settings: Settings, ws: &[u64], at: Nanos, id: Identity) -> Reply
-    ensures { outcome result ws.now ≡ Rules.available settings at id ws.now }
+    ensures { outcome result ws.exit.now ≡ Rules.available settings at id ws.now }
 {
     let limit = settings.limit;
     match lending::lend_for(settings, ws, id.hash, refusals::moment_refusal(at)) {
@@ -175,7 +175,7 @@ fn tokens_in(limit: Limit, ws: &[u64], part: Part, at: Nanos, id: Identity) -> u
 
 // How many tries of a key its bucket has turned away; 0 for a key without a slot. It looks at no moment and at no rate.
 pub fn turned_away(settings: Settings, ws: &[u64], id: Identity) -> Reply
-    ensures { outcome result ws.now ≡ Rules.times_turned_away settings id ws.now }
+    ensures { outcome result ws.exit.now ≡ Rules.times_turned_away settings id ws.now }
 {
     match lending::lend_for(settings, ws, id.hash, 0) {
         Lending::Refused(refusal) => Reply::Refused(refusal),
@@ -243,7 +243,7 @@ pub fn clear(settings: Settings, ws: &mut [u64]) -> Reply
 
 // The total: on a grown store, how many keys have a slot. No shard is looked at.
 pub fn len(settings: Settings, ws: &[u64]) -> Reply
-    ensures { outcome result ws.now ≡ Rules.len settings ws.now }
+    ensures { outcome result ws.exit.now ≡ Rules.len settings ws.now }
 {
     let refusal = refusals::len_refusal(settings, ws);
     if refusal != 0 {
