@@ -72,11 +72,12 @@ module _ {S N : Type 0} (terms : Terms S N) where
   -- A call that agrees with one that names the key is alone, and so is one with which that one agrees.
   agrees_with : (k : Identity) (a b : Answered S N) → Calls k b → Agree terms a b → Alone k a
   agrees_with k a b c agree taken =
-      key_implies _ _ (λ i q hash. named k (λ j. i.hash ≡ j.hash → i.key ≡ j.key) b.call c.named q hash) a.call (agree taken c.taken)
+      key_implies (λ i. OfKey terms (λ j. i.hash ≡ j.hash → i.key ≡ j.key) b.call) (λ i. i.hash ≡ k.hash → i.key ≡ k.key)
+      (λ i q hash. named k (λ j. i.hash ≡ j.hash → i.key ≡ j.key) b.call c.named q hash) a.call (agree taken c.taken)
 
   agreed_with : (k : Identity) (a b : Answered S N) → Calls k a → Agree terms a b → Alone k b
   agreed_with k a b c agree taken =
-      key_implies _ _ (λ j q hash. sym (q (sym hash))) b.call
+      key_implies (λ j. k.hash ≡ j.hash → k.key ≡ j.key) (λ j. j.hash ≡ k.hash → j.key ≡ k.key) (λ j q hash. sym (q (sym hash))) b.call
       (named k (λ i. OfKey terms (λ j. i.hash ≡ j.hash → i.key ≡ j.key) b.call) a.call c.named (agree c.taken taken))
 
   rest_alone : (k : Identity) (a : Answered S N) → Calls k a → (rest : List (Answered S N)) → Every (Agree terms a) rest → Every (Alone k) rest

@@ -35,9 +35,9 @@ use Rattle.demands.specs.Isolation.{code_can_be_given, Isolated}
 named : (s : Settings) (id : Identity) (ask : Ask) (ws : List ℕ) → rules by_name (keyed s (key id) ask) ws ≡ keyed_rule (in_force ask s) id ask ws
 named s id ask ws = key_is_the_rule (λ s. s) settings_fit s id ask ws
 
-module _ (κs : Lfts 1) (κs₂ : Lfts 2) (ptr other_ptr : ℕ × ℕ) (name other_name : ℕ) where
+module _ (κs : Lfts 1) (κs₂ : Lfts 2) (ptr other_ptr : ℕ × ℕ) (name : ℕ) where
   -- The rules themselves are as the contracts tell, so that what follows is said of something.
-  pub rules_are_as_the_contracts_tell : Contracts κs κs₂ ptr other_ptr name other_name (answering by_name (rules by_name))
+  pub rules_are_as_the_contracts_tell : Contracts κs κs₂ ptr other_ptr name (answering by_name (rules by_name))
   rules_are_as_the_contracts_tell = record {
     by_key = record {
       sets_up_lem = λ s ws _ _ _. refl;
@@ -66,7 +66,7 @@ module _ (κs : Lfts 1) (κs₂ : Lfts 2) (ptr other_ptr : ℕ × ℕ) (name oth
     of_debts = record { lists = λ s at i records ws _ _ _. sym (listing_is_the_call (shape_of s) s at i ws records) };
   }
 
-  module _ (l : Limiter Settings Name) (all : Contracts κs κs₂ ptr other_ptr name other_name l) where
+  module _ (l : Limiter Settings Name) (all : Contracts κs κs₂ ptr other_ptr name l) where
     abbrev c : KeyContracts κs ptr name l
     c = all.by_key
 
@@ -126,7 +126,7 @@ module _ (κs : Lfts 1) (κs₂ : Lfts 2) (ptr other_ptr : ℕ × ℕ) (name oth
     pub key_contracts_meet_demand3 : Demand3 by_key on_keys
     key_contracts_meet_demand3 = demand2_gives_demand3 by_key keys_fit on_keys key_contracts_meet_demand2
 
-  module _ (l : Limiter Settings Name) (c : Contracts κs κs₂ ptr other_ptr name other_name l) where
+  module _ (l : Limiter Settings Name) (c : Contracts κs κs₂ ptr other_ptr name l) where
     pub contracts_meet_demand2 : Demand2 by_name l
     contracts_meet_demand2 = record { sets_up_lem = set_up_as_told l c; clears = clear_as_told l c; answers = ruled; lists = records_as_the_rules l c }
       where

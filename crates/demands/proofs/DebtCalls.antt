@@ -11,7 +11,7 @@ use prog.Routine.{Routine}
 use types.Logic.{Logic}
 use contract.Monad.{Fun, fact}
 use contract.Lifetimes.{Lfts}
-use denote.Ref.{Bor}
+use Rattle.std.specs.Borrow.{Bor, MutBor}
 use lib.ListN.{length, replicate, length-replicate}
 use Rattle.rows.specs.Outcome.{Outcome, outcome}
 use Rattle.units.specs.declared.Nanos.{Nanos}
@@ -27,16 +27,16 @@ use Rattle.rules.proofs.DebtLaws.{listing_is_the_call}
 use Rattle.debt_calls.specs.contracts.list_debts as operation
 use Rattle.limiter.specs.declared.LimiterSettings.{LimiterSettings}
 use Rattle.limiter_debts.specs.contracts.limiter_debts as export
-use Rattle.demands.specs.CodeContracts.{lent_at, ListDebtsLearnt}
+use Rattle.demands.specs.CodeContracts.{seen_at, lent_at, ListDebtsLearnt}
 use Rattle.demands.specs.Exports.{DebtsLearnt}
 
 -- The contracts of the operation and of the export, in every model of the logic, at any lifetimes and any place of what is lent: they ask nothing, and tell the
 -- facts that Contracts and Exports have written out.
 module _ {M : Type 1} {𝓤 : Ura M} (𝓛 : Logic 𝓤) (mem : Memory → SProp 𝓤) (run : Routine → Fun 𝓤) (κs : Lfts 2)
-    (ptr records_ptr : ℕ × ℕ) (name records_name : ℕ) where
+    (ptr records_ptr : ℕ × ℕ) (records_name : ℕ) where
   -- The arguments as the contracts have them: the settings, the words, the moment, the shard's number and the records.
-  abbrev lending : {S T : Type 0} → S → T → ℕ → Lent → S × (Bor (List ℕ) × (T × (ℕ × (Bor (List Debt) × Unit {0}))))
-  lending s at i given = (s, (lent_at ptr name given.words, (at, (i, (lent_at records_ptr records_name given.records, tt)))))
+  abbrev lending : {S T : Type 0} → S → T → ℕ → Lent → S × (Bor (List ℕ) × (T × (ℕ × (MutBor (List Debt) × Unit {0}))))
+  lending s at i given = (s, (seen_at ptr given.words, (at, (i, (lent_at records_ptr records_name given.records, tt)))))
 
   pub list_debts_is_read : (s : Settings) (at : Nanos) (i : ℕ) (before after : Lent) (r : Reply)
       → (operation.clauses 𝓛 mem run κs (lending s at i before)).ensures tt r (lending s at i after) ≡ fact 𝓤 (ListDebtsLearnt s at i before r after)

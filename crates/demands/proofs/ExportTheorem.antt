@@ -127,8 +127,8 @@ told_rules = record {
   records = λ n at shard records ws. records_by exported n (nanos_of at) shard records ws;
 }
 
-module _ (κs : Lfts 1) (κs₂ : Lfts 2) (ptr other_ptr : ℕ × ℕ) (name other_name : ℕ) where
-  pub rules_are_as_the_exports_tell : ExportContracts κs κs₂ ptr other_ptr name other_name told_rules
+module _ (κs : Lfts 1) (κs₂ : Lfts 2) (ptr other_ptr : ℕ × ℕ) (name : ℕ) where
+  pub rules_are_as_the_exports_tell : ExportContracts κs κs₂ ptr other_ptr name told_rules
   rules_are_as_the_exports_tell = record {
     by_key = record {
       sets_up_lem = λ n ws _ _ _. refl;
@@ -161,7 +161,7 @@ module _ (κs : Lfts 1) (κs₂ : Lfts 2) (ptr other_ptr : ℕ × ℕ) (name oth
     };
   }
 
-  module _ (e : Exports) (c : ExportContracts κs κs₂ ptr other_ptr name other_name e) where
+  module _ (e : Exports) (c : ExportContracts κs κs₂ ptr other_ptr name e) where
     -- No export asks anything of its caller: `tt` shows all that is asked.
     pub exports_meet_demand2 : ExportDemand2 e
     exports_meet_demand2 = record { sets_up_lem = set_up_ruled; clears = clear_ruled; answers = ruled; lists = records_ruled }

@@ -20,7 +20,7 @@ use Rattle.settings.specs.Settings.{shape_of}
 use Rattle.classes.specs.Layout.{classes_in}
 use Rattle.shard_map.specs.Model.{Shard}
 use Rattle.shard.specs.declared.Identity.{Identity}
-use Rattle.shard.proofs.DueLaws.{TellsItsMoment, granted, denied, every_answer_tells_its_moment}
+use Rattle.shard.proofs.DueLaws.{TellsItsMoment as DueTellsItsMoment, granted, denied, every_answer_tells_its_moment}
 use Rattle.store.specs.Memory.{shard_at, buckets_at}
 use Rattle.store.specs.Refusals.{latest_moment, longest_max_wait}
 use Rattle.store.proofs.RefusalLaws.{moment_not_refused}
@@ -52,7 +52,7 @@ undoing_tells u unknown = refl
 
 -- A reservation that is granted waits no longer than it asked for, so its moment is not held.
 granted_tells : (longest : Nanos) {at : Nanos} {d : BucketDecision} → at.0 ≤ latest_moment → longest.0 ≤ longest_max_wait
-    → TellsItsMoment (Reserve longest) at d → MomentTold as_reservation at (reply_to as_reservation d)
+    → DueTellsItsMoment (Reserve longest) at d → MomentTold as_reservation at (reply_to as_reservation d)
 granted_tells longest early patient (granted wait within others') = omega arith
 granted_tells longest early patient (denied wait) = tt
 

@@ -44,10 +44,10 @@ module _ (f g : Implementation) where
   alike_in_every Q blind (c ∷ cs) ws vs law every =
       (blind c (f c ws).answer (g c vs).answer law every.0, alike_in_every Q blind cs (f c ws).after (g c vs).after (rules c law).after every.1)
 
-  alike_in_time : (n : ℕ) (cs : List Call) (ws vs law : List ℕ) → TimesNeverFall n (replies f cs ws law) → TimesNeverFall n (replies g cs vs law)
+  alike_in_time : (cs : List Call) (n : ℕ) (ws vs law : List ℕ) → TimesNeverFall n (replies f cs ws law) → TimesNeverFall n (replies g cs vs law)
   unfolding Calls.replies Demands.TimesNeverFall Calls.accepted
-  alike_in_time n [] ws vs law rising = tt
-  alike_in_time n (c ∷ cs) ws vs law rising = (rising.0, alike_in_time _ cs (f c ws).after (g c vs).after (rules c law).after rising.1)
+  alike_in_time [] n ws vs law rising = tt
+  alike_in_time (c ∷ cs) n ws vs law rising = (rising.0, alike_in_time cs _ (f c ws).after (g c vs).after (rules c law).after rising.1)
 
   alike_in_hashes : (cs : List Call) (ws vs law : List ℕ) → NoSharedHash (replies f cs ws law) → NoSharedHash (replies g cs vs law)
   unfolding Calls.replies Demands.NoSharedHash Calls.accepted
@@ -83,7 +83,7 @@ module _ (told : Call → List ℕ → Reply) (cautious : (c : Call) (ws : List 
       let exact = rules_stay_within_class_windows by_key s table ws cs
       (alike_in_every (telling told) rules _ (λ c r q law e. e) cs ws ws ws same)
       (alike_in_every (telling told) rules _ (λ c r q law e. e) cs ws ws ws tabled)
-      (alike_in_time (telling told) rules 0 cs ws ws ws rising)
+      (alike_in_time (telling told) rules cs 0 ws ws ws rising)
       number d inside t u le in
       omega (arith, exact, mul-le-mul_right (class_at table d).rate.period.0 (no_more_through table d t u cs ws))
 
@@ -94,7 +94,7 @@ module _ (told : Call → List ℕ → Reply) (cautious : (c : Call) (ws : List 
       le_trans (mul-le-mul_right rate.period.0 (no_more_in_all k t u cs fresh))
       (rules_stay_within_the_window by_key (Demands.settings_by by_key table s) rate (table_words table) ws rated refuses done' cs
       (alike_in_every (telling told) rules _ (λ c r q law e. e) cs fresh fresh fresh same)
-      (alike_in_time (telling told) rules 0 cs fresh fresh fresh rising)
+      (alike_in_time (telling told) rules cs 0 fresh fresh fresh rising)
       (alike_in_hashes (telling told) rules cs fresh fresh fresh apart)
       k
       (alike_in_every (telling told) rules _ (λ c r q law e. e) cs fresh fresh fresh not_undone)

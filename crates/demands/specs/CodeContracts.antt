@@ -5,7 +5,7 @@
 use Rattle.std.specs.Prelude.{ℕ, ◌≡◌, true, List}
 use Rattle.std.proofs.Math.ListN as ListN
 use contract.Lifetimes.{Lfts}
-use Rattle.std.specs.Borrow.{Bor}
+use Rattle.std.specs.Borrow.{Bor, MutBor}
 use Rattle.rows.specs.Outcome.{outcome}
 use Rattle.units.specs.declared.Nanos.{Nanos}
 use Rattle.settings.specs.declared.Settings.{Settings}
@@ -37,13 +37,20 @@ use Rattle.class_calls.proofs.class_clear.Reads as ClassClear
 use Rattle.class_calls.proofs.class_try.Reads as ClassTry
 use Rattle.demands.specs.Demands.{untabled, tabled, Limiter}
 
--- Words, bytes or records that are lent, at some place.
-abbrev pub lent_at : {A : Type 0} → ℕ × ℕ → ℕ → List A → Bor (List A)
+-- Words, bytes or records that are lent at some place, to be read alone.
+abbrev pub seen_at : {A : Type 0} → ℕ × ℕ → List A → Bor (List A)
+seen_at ptr ws = record { ref_ptr = ptr; now = ws }
+
+-- The same, lent to be written.
+abbrev pub lent_at : {A : Type 0} → ℕ × ℕ → ℕ → List A → MutBor (List A)
 lent_at ptr name ws = record { ref_ptr = ptr; ghost_name = name; now = ws }
 
 -- For any lifetimes and any place of the lent words: no answer depends on them.
 module _ (κs : Lfts 1) (ptr : ℕ × ℕ) (name : ℕ) where
-  abbrev lent : List ℕ → Bor (List ℕ)
+  abbrev seen : List ℕ → Bor (List ℕ)
+  seen ws = seen_at ptr ws
+
+  abbrev lent : List ℕ → MutBor (List ℕ)
   lent ws = lent_at ptr name ws
 
   -- Of each operation of `perkey`: where its numbers fit and what it asks is shown, its contract holds of what the code gives.
@@ -67,20 +74,20 @@ module _ (κs : Lfts 1) (ptr : ℕ × ℕ) (name : ℕ) where
         Reserve.Learnt κs (s, (lent ws, (at, (id, (cost, (longest, tt)))))) o.answer (s, (lent o.after, (at, (id, (cost, (longest, tt))))))
     pub peeks : (s : Settings) (at : Nanos) (id : Identity) (cost : ℕ) (ws : List ℕ) → fits by_name (peek s at (key id) cost) ≡ true → lendable ws ≡ true →
         let o = l.answers (peek s at (key id) cost) ws in
-        Peek.Asked κs (s, (lent ws, (at, (id, (cost, tt))))) →
-        Peek.Learnt κs (s, (lent ws, (at, (id, (cost, tt))))) o.answer (s, (lent o.after, (at, (id, (cost, tt)))))
+        Peek.Asked κs (s, (seen ws, (at, (id, (cost, tt))))) →
+        Peek.Learnt κs (s, (seen ws, (at, (id, (cost, tt))))) o.answer (s, (seen o.after, (at, (id, (cost, tt)))))
     pub tells_available : (s : Settings) (at : Nanos) (id : Identity) (ws : List ℕ) → fits by_name (available s at (key id)) ≡ true → lendable ws ≡ true →
         let o = l.answers (available s at (key id)) ws in
-        Available.Asked κs (s, (lent ws, (at, (id, tt)))) →
-        Available.Learnt κs (s, (lent ws, (at, (id, tt)))) o.answer (s, (lent o.after, (at, (id, tt))))
+        Available.Asked κs (s, (seen ws, (at, (id, tt)))) →
+        Available.Learnt κs (s, (seen ws, (at, (id, tt)))) o.answer (s, (seen o.after, (at, (id, tt))))
     pub tells_turned_away : (s : Settings) (id : Identity) (ws : List ℕ) → fits by_name (times_turned_away s (key id)) ≡ true → lendable ws ≡ true →
         let o = l.answers (times_turned_away s (key id)) ws in
-        TurnedAway.Asked κs (s, (lent ws, (id, tt))) →
-        TurnedAway.Learnt κs (s, (lent ws, (id, tt))) o.answer (s, (lent o.after, (id, tt)))
+        TurnedAway.Asked κs (s, (seen ws, (id, tt))) →
+        TurnedAway.Learnt κs (s, (seen ws, (id, tt))) o.answer (s, (seen o.after, (id, tt)))
     pub tells_length : (s : Settings) (ws : List ℕ) → fits by_name (length s) ≡ true → lendable ws ≡ true →
         let o = l.answers (length s) ws in
-        Len.Asked κs (s, (lent ws, tt)) →
-        Len.Learnt κs (s, (lent ws, tt)) o.answer (s, (lent o.after, tt))
+        Len.Asked κs (s, (seen ws, tt)) →
+        Len.Learnt κs (s, (seen ws, tt)) o.answer (s, (seen o.after, tt))
     pub refunds : (s : Settings) (id : Identity) (cost : ℕ) (ws : List ℕ) → fits by_name (refund s (key id) cost) ≡ true → lendable ws ≡ true →
         let o = l.answers (refund s (key id) cost) ws in
         Refund.Asked κs (s, (lent ws, (id, (cost, tt)))) →
@@ -91,13 +98,17 @@ module _ (κs : Lfts 1) (ptr : ℕ × ℕ) (name : ℕ) where
         Remove.Learnt κs (s, (lent ws, (id, tt))) o.answer (s, (lent o.after, (id, tt)))
 
 -- The operations of `modems` are lent the bytes of the address, too.
-module _ (κs : Lfts 2) (ptr bytes_ptr : ℕ × ℕ) (name bytes_name : ℕ) where
+module _ (κs : Lfts 2) (ptr bytes_ptr : ℕ × ℕ) (name : ℕ) where
   -- The arguments of an operation as its contract has them: the settings, the words, the moment if there is one, the bytes, and what else is asked.
-  abbrev on_address : {A : Type 0} → Settings → List ℕ → List ℕ → A → Settings × (Bor (List ℕ) × (Bor (List ℕ) × A))
-  on_address s ws bytes more = (s, (lent_at ptr name ws, (lent_at bytes_ptr bytes_name bytes, more)))
+  abbrev on_address : {A : Type 0} → Settings → List ℕ → List ℕ → A → Settings × (MutBor (List ℕ) × (Bor (List ℕ) × A))
+  on_address s ws bytes more = (s, (lent_at ptr name ws, (seen_at bytes_ptr bytes, more)))
 
-  abbrev at_moment : {A : Type 0} → Settings → List ℕ → Nanos → List ℕ → A → Settings × (Bor (List ℕ) × (Nanos × (Bor (List ℕ) × A)))
-  at_moment s ws at bytes more = (s, (lent_at ptr name ws, (at, (lent_at bytes_ptr bytes_name bytes, more))))
+  abbrev at_moment : {A : Type 0} → Settings → List ℕ → Nanos → List ℕ → A → Settings × (MutBor (List ℕ) × (Nanos × (Bor (List ℕ) × A)))
+  at_moment s ws at bytes more = (s, (lent_at ptr name ws, (at, (seen_at bytes_ptr bytes, more))))
+
+  -- The same of an operation that only reads the words.
+  abbrev seen_at_moment : {A : Type 0} → Settings → List ℕ → Nanos → List ℕ → A → Settings × (Bor (List ℕ) × (Nanos × (Bor (List ℕ) × A)))
+  seen_at_moment s ws at bytes more = (s, (seen_at ptr ws, (at, (seen_at bytes_ptr bytes, more))))
 
   pub record AddressContracts (l : Limiter Settings Name) : Type 0 where
     pub tries : (s : Settings) (at : Nanos) (bytes : List ℕ) (cost : ℕ) (ws : List ℕ) → fits by_name (try s at (address bytes) cost) ≡ true
@@ -113,8 +124,8 @@ module _ (κs : Lfts 2) (ptr bytes_ptr : ℕ × ℕ) (name bytes_name : ℕ) whe
     pub peeks : (s : Settings) (at : Nanos) (bytes : List ℕ) (cost : ℕ) (ws : List ℕ) → fits by_name (peek s at (address bytes) cost) ≡ true
         → lendable ws ≡ true →
         let o = l.answers (peek s at (address bytes) cost) ws in
-        ModemPeek.Asked κs (at_moment s ws at bytes (cost, tt)) →
-        ModemPeek.Learnt κs (at_moment s ws at bytes (cost, tt)) o.answer (at_moment s o.after at bytes (cost, tt))
+        ModemPeek.Asked κs (seen_at_moment s ws at bytes (cost, tt)) →
+        ModemPeek.Learnt κs (seen_at_moment s ws at bytes (cost, tt)) o.answer (seen_at_moment s o.after at bytes (cost, tt))
     pub refunds : (s : Settings) (bytes : List ℕ) (cost : ℕ) (ws : List ℕ) → fits by_name (refund s (address bytes) cost) ≡ true → lendable ws ≡ true →
         let o = l.answers (refund s (address bytes) cost) ws in
         ModemRefund.Asked κs (on_address s ws bytes (cost, tt)) →
@@ -125,10 +136,10 @@ module _ (κs : Lfts 2) (ptr bytes_ptr : ℕ × ℕ) (name bytes_name : ℕ) whe
         ModemRemove.Learnt κs (on_address s ws bytes tt) o.answer (on_address s o.after bytes tt)
 
 -- The operations of `class_calls` are lent the class table, too.
-module _ (κs : Lfts 2) (ptr table_ptr : ℕ × ℕ) (name table_name : ℕ) where
+module _ (κs : Lfts 2) (ptr table_ptr : ℕ × ℕ) (name : ℕ) where
   -- The arguments of an operation as its contract has them: the settings, the table, the words, and what else is asked.
-  abbrev with_table : {A : Type 0} → Settings → List ℕ → List ℕ → A → Settings × (Bor (List ℕ) × (Bor (List ℕ) × A))
-  with_table s table ws more = (s, (lent_at table_ptr table_name table, (lent_at ptr name ws, more)))
+  abbrev with_table : {A : Type 0} → Settings → List ℕ → List ℕ → A → Settings × (Bor (List ℕ) × (MutBor (List ℕ) × A))
+  with_table s table ws more = (s, (seen_at table_ptr table, (lent_at ptr name ws, more)))
 
   pub record ClassContracts (l : Limiter Settings Name) : Type 0 where
     pub sets_up_lem : (s : Settings) (table ws : List ℕ) → settings_fit s ≡ true → lendable table ≡ true → lendable ws ≡ true →
@@ -158,9 +169,9 @@ pub record DebtContracts (l : Limiter Settings Name) : Type 0 where
       ListDebtsLearnt s at i (Debts.lent ws records) o.answer (Debts.lent o.after (l.lists s at i records ws))
 
 -- Of all four crates.
-module _ (κs : Lfts 1) (κs₂ : Lfts 2) (ptr other_ptr : ℕ × ℕ) (name other_name : ℕ) where
+module _ (κs : Lfts 1) (κs₂ : Lfts 2) (ptr other_ptr : ℕ × ℕ) (name : ℕ) where
   pub record Contracts (l : Limiter Settings Name) : Type 0 where
     pub by_key : KeyContracts κs ptr name l
-    pub by_address : AddressContracts κs₂ ptr other_ptr name other_name l
-    pub by_class : ClassContracts κs₂ ptr other_ptr name other_name l
+    pub by_address : AddressContracts κs₂ ptr other_ptr name l
+    pub by_class : ClassContracts κs₂ ptr other_ptr name l
     pub of_debts : DebtContracts l

@@ -5,7 +5,7 @@
 use Rattle.std.specs.Prelude.{ℕ, ◌-◌, ◌≡◌, Bool, true, cond, ◌&&◌, List, eqb}
 use Rattle.std.proofs.Math.ListN as ListN
 use contract.Lifetimes.{Lfts}
-use Rattle.std.specs.Borrow.{Bor}
+use Rattle.std.specs.Borrow.{Bor, MutBor}
 use Rattle.rows.specs.Outcome.{Outcome, outcome}
 use Rattle.units.specs.declared.Nanos.{Nanos}
 use Rattle.units.specs.Units.{nanos_of}
@@ -46,7 +46,7 @@ use Rattle.limiter_classes.proofs.limiter_table_set_up.Reads as ClassSetUp
 use Rattle.limiter_classes.proofs.limiter_table_clear.Reads as ClassClear
 use Rattle.limiter_classes.proofs.limiter_table_try.Reads as ClassTry
 use Rattle.demands.specs.Demands.{Table, untabled, tabled, table_fits, Limiter, set_up_by, records_by}
-use Rattle.demands.specs.CodeContracts.{lent_at}
+use Rattle.demands.specs.CodeContracts.{lent_at, seen_at}
 
 -- What each export gives for its numbers, bytes and words: three numbers, and words. A list of debts gives them for a number of lent records, and leaves
 -- records, too.
@@ -166,14 +166,24 @@ called e = record {
 -- For any lifetimes and any place of the lent words: no answer depends on them.
 module _ (κs : Lfts 1) (ptr : ℕ × ℕ) (name : ℕ) where
   -- The arguments of an export as its contract has them: the settings, the words, and the numbers of a moment and a key.
-  abbrev on_whole : LimiterSettings → List ℕ → LimiterSettings × (Bor (List ℕ) × Unit {0})
+  abbrev on_whole : LimiterSettings → List ℕ → LimiterSettings × (MutBor (List ℕ) × Unit {0})
   on_whole n ws = (n, (lent_at ptr name ws, tt))
 
-  abbrev on_key : {A : Type 0} → LimiterSettings → List ℕ → Identity → A → LimiterSettings × (Bor (List ℕ) × (ℕ × (ℕ × A)))
+  abbrev on_key : {A : Type 0} → LimiterSettings → List ℕ → Identity → A → LimiterSettings × (MutBor (List ℕ) × (ℕ × (ℕ × A)))
   on_key n ws id more = (n, (lent_at ptr name ws, (id.hash, (id.key, more))))
 
-  abbrev at_moment : {A : Type 0} → LimiterSettings → List ℕ → Nanos → Identity → A → LimiterSettings × (Bor (List ℕ) × (ℕ × (ℕ × (ℕ × A))))
+  abbrev at_moment : {A : Type 0} → LimiterSettings → List ℕ → Nanos → Identity → A → LimiterSettings × (MutBor (List ℕ) × (ℕ × (ℕ × (ℕ × A))))
   at_moment n ws at id more = (n, (lent_at ptr name ws, (at.0, (id.hash, (id.key, more)))))
+
+  -- The same of an export that only reads the words.
+  abbrev seen_on_whole : LimiterSettings → List ℕ → LimiterSettings × (Bor (List ℕ) × Unit {0})
+  seen_on_whole n ws = (n, (seen_at ptr ws, tt))
+
+  abbrev seen_on_key : {A : Type 0} → LimiterSettings → List ℕ → Identity → A → LimiterSettings × (Bor (List ℕ) × (ℕ × (ℕ × A)))
+  seen_on_key n ws id more = (n, (seen_at ptr ws, (id.hash, (id.key, more))))
+
+  abbrev seen_at_moment : {A : Type 0} → LimiterSettings → List ℕ → Nanos → Identity → A → LimiterSettings × (Bor (List ℕ) × (ℕ × (ℕ × (ℕ × A))))
+  seen_at_moment n ws at id more = (n, (seen_at ptr ws, (at.0, (id.hash, (id.key, more)))))
 
   -- Of each export: where its numbers fit and what it asks is shown, its contract holds of what it gives. (`Asked` and `Learnt`: Contracts.)
   pub record KeyExportContracts (e : Exports) : Type 0 where
@@ -196,23 +206,23 @@ module _ (κs : Lfts 1) (ptr : ℕ × ℕ) (name : ℕ) where
     pub peeks : (n : LimiterSettings) (at : Nanos) (id : Identity) (cost : ℕ) (ws : List ℕ) →
         fits exported (peek n at (key id) cost) ≡ true → lendable ws ≡ true →
         let o = e.peek n at.0 id.hash id.key cost ws in
-        Peek.Asked κs (at_moment n ws at id (cost, tt)) →
-        Peek.Learnt κs (at_moment n ws at id (cost, tt)) o.answer (at_moment n o.after at id (cost, tt))
+        Peek.Asked κs (seen_at_moment n ws at id (cost, tt)) →
+        Peek.Learnt κs (seen_at_moment n ws at id (cost, tt)) o.answer (seen_at_moment n o.after at id (cost, tt))
     pub tells_available : (n : LimiterSettings) (at : Nanos) (id : Identity) (ws : List ℕ) →
         fits exported (available n at (key id)) ≡ true → lendable ws ≡ true →
         let o = e.available n at.0 id.hash id.key ws in
-        Available.Asked κs (at_moment n ws at id tt) →
-        Available.Learnt κs (at_moment n ws at id tt) o.answer (at_moment n o.after at id tt)
+        Available.Asked κs (seen_at_moment n ws at id tt) →
+        Available.Learnt κs (seen_at_moment n ws at id tt) o.answer (seen_at_moment n o.after at id tt)
     pub tells_turned_away : (n : LimiterSettings) (id : Identity) (ws : List ℕ) →
         fits exported (times_turned_away n (key id)) ≡ true → lendable ws ≡ true →
         let o = e.turned_away_met n id.hash id.key ws in
-        TurnedAway.Asked κs (on_key n ws id tt) →
-        TurnedAway.Learnt κs (on_key n ws id tt) o.answer (on_key n o.after id tt)
+        TurnedAway.Asked κs (seen_on_key n ws id tt) →
+        TurnedAway.Learnt κs (seen_on_key n ws id tt) o.answer (seen_on_key n o.after id tt)
     pub tells_length : (n : LimiterSettings) (ws : List ℕ) →
         fits exported (length n) ≡ true → lendable ws ≡ true →
         let o = e.length n ws in
-        Length.Asked κs (on_whole n ws) →
-        Length.Learnt κs (on_whole n ws) o.answer (on_whole n o.after)
+        Length.Asked κs (seen_on_whole n ws) →
+        Length.Learnt κs (seen_on_whole n ws) o.answer (seen_on_whole n o.after)
     pub refunds : (n : LimiterSettings) (id : Identity) (cost : ℕ) (ws : List ℕ) →
         fits exported (refund n (key id) cost) ≡ true → lendable ws ≡ true →
         let o = e.refund n id.hash id.key cost ws in
@@ -225,13 +235,16 @@ module _ (κs : Lfts 1) (ptr : ℕ × ℕ) (name : ℕ) where
         Remove.Learnt κs (on_key n ws id tt) o.answer (on_key n o.after id tt)
 
 -- The exports of `limiter_modems` are lent the bytes of the address, too.
-module _ (κs : Lfts 2) (ptr bytes_ptr : ℕ × ℕ) (name bytes_name : ℕ) where
+module _ (κs : Lfts 2) (ptr bytes_ptr : ℕ × ℕ) (name : ℕ) where
   -- The arguments of an export as its contract has them: the settings, the words, the moment if there is one, the bytes, and what else is asked.
-  abbrev on_address : {A : Type 0} → LimiterSettings → List ℕ → List ℕ → A → LimiterSettings × (Bor (List ℕ) × (Bor (List ℕ) × A))
-  on_address n ws bytes more = (n, (lent_at ptr name ws, (lent_at bytes_ptr bytes_name bytes, more)))
+  abbrev on_address : {A : Type 0} → LimiterSettings → List ℕ → List ℕ → A → LimiterSettings × (MutBor (List ℕ) × (Bor (List ℕ) × A))
+  on_address n ws bytes more = (n, (lent_at ptr name ws, (seen_at bytes_ptr bytes, more)))
 
-  abbrev at_moment_on_address : {A : Type 0} → LimiterSettings → List ℕ → Nanos → List ℕ → A → LimiterSettings × (Bor (List ℕ) × (ℕ × (Bor (List ℕ) × A)))
-  at_moment_on_address n ws at bytes more = (n, (lent_at ptr name ws, (at.0, (lent_at bytes_ptr bytes_name bytes, more))))
+  abbrev at_moment_on_address : {A : Type 0} → LimiterSettings → List ℕ → Nanos → List ℕ → A → LimiterSettings × (MutBor (List ℕ) × (ℕ × (Bor (List ℕ) × A)))
+  at_moment_on_address n ws at bytes more = (n, (lent_at ptr name ws, (at.0, (seen_at bytes_ptr bytes, more))))
+
+  abbrev seen_at_moment_on_address : {A : Type 0} → LimiterSettings → List ℕ → Nanos → List ℕ → A → LimiterSettings × (Bor (List ℕ) × (ℕ × (Bor (List ℕ) × A)))
+  seen_at_moment_on_address n ws at bytes more = (n, (seen_at ptr ws, (at.0, (seen_at bytes_ptr bytes, more))))
 
   pub record AddressExportContracts (e : Exports) : Type 0 where
     pub tries : (n : LimiterSettings) (at : Nanos) (bytes : List ℕ) (cost : ℕ) (ws : List ℕ) →
@@ -248,8 +261,8 @@ module _ (κs : Lfts 2) (ptr bytes_ptr : ℕ × ℕ) (name bytes_name : ℕ) whe
     pub peeks : (n : LimiterSettings) (at : Nanos) (bytes : List ℕ) (cost : ℕ) (ws : List ℕ) →
         fits exported (peek n at (address bytes) cost) ≡ true → lendable ws ≡ true →
         let o = e.modem_peek n at.0 bytes cost ws in
-        ModemPeek.Asked κs (at_moment_on_address n ws at bytes (cost, tt)) →
-        ModemPeek.Learnt κs (at_moment_on_address n ws at bytes (cost, tt)) o.answer (at_moment_on_address n o.after at bytes (cost, tt))
+        ModemPeek.Asked κs (seen_at_moment_on_address n ws at bytes (cost, tt)) →
+        ModemPeek.Learnt κs (seen_at_moment_on_address n ws at bytes (cost, tt)) o.answer (seen_at_moment_on_address n o.after at bytes (cost, tt))
     pub refunds : (n : LimiterSettings) (bytes : List ℕ) (cost : ℕ) (ws : List ℕ) →
         fits exported (refund n (address bytes) cost) ≡ true → lendable ws ≡ true →
         let o = e.modem_refund n bytes cost ws in
@@ -262,9 +275,9 @@ module _ (κs : Lfts 2) (ptr bytes_ptr : ℕ × ℕ) (name bytes_name : ℕ) whe
         ModemRemove.Learnt κs (on_address n ws bytes tt) o.answer (on_address n o.after bytes tt)
 
 -- The exports of `limiter_classes` are lent the class table, too.
-module _ (κs : Lfts 2) (ptr table_ptr : ℕ × ℕ) (name table_name : ℕ) where
-  abbrev with_table : {A : Type 0} → LimiterSettings → List ℕ → List ℕ → A → LimiterSettings × (Bor (List ℕ) × (Bor (List ℕ) × A))
-  with_table n table ws more = (n, (lent_at table_ptr table_name table, (lent_at ptr name ws, more)))
+module _ (κs : Lfts 2) (ptr table_ptr : ℕ × ℕ) (name : ℕ) where
+  abbrev with_table : {A : Type 0} → LimiterSettings → List ℕ → List ℕ → A → LimiterSettings × (Bor (List ℕ) × (MutBor (List ℕ) × A))
+  with_table n table ws more = (n, (seen_at table_ptr table, (lent_at ptr name ws, more)))
 
   -- The numbers of a try through a class: the moment, the key, the class and the cost.
   abbrev numbers_of : Nanos → Identity → ℕ → ℕ → ℕ × (ℕ × (ℕ × (ℕ × (ℕ × Unit {0}))))
@@ -296,9 +309,9 @@ pub record DebtExportContracts (e : Exports) : Type 0 where
       DebtsLearnt n at.0 i (Debts.lent ws records) o.answer (Debts.lent o.after (e.records n at.0 i records ws))
 
 -- Of these four objects of the archive.
-module _ (κs : Lfts 1) (κs₂ : Lfts 2) (ptr other_ptr : ℕ × ℕ) (name other_name : ℕ) where
+module _ (κs : Lfts 1) (κs₂ : Lfts 2) (ptr other_ptr : ℕ × ℕ) (name : ℕ) where
   pub record ExportContracts (e : Exports) : Type 0 where
     pub by_key : KeyExportContracts κs ptr name e
-    pub by_address : AddressExportContracts κs₂ ptr other_ptr name other_name e
-    pub by_class : ClassExportContracts κs₂ ptr other_ptr name other_name e
+    pub by_address : AddressExportContracts κs₂ ptr other_ptr name e
+    pub by_class : ClassExportContracts κs₂ ptr other_ptr name e
     pub of_debts : DebtExportContracts e

@@ -74,12 +74,12 @@ module _ {S N : Type 0} (terms : Terms S N) (names : NamesFit terms) (l : Limite
       (λ s source target _ _ _. refl)
 
 -- The operations.
-module _ (κs : Lfts 1) (κs₂ : Lfts 2) (ptr other_ptr : ℕ × ℕ) (name other_name : ℕ) where
-  pub contracts_keep_the_windows_across : (l : Limiter Settings Name) → Contracts κs κs₂ ptr other_ptr name other_name l
-      → (converts : Conversion Settings Reply) → ForthContract κs₂ ptr other_ptr name other_name converts → WindowsAcross by_name l converts
+module _ (κs : Lfts 1) (κs₂ : Lfts 2) (ptr other_ptr : ℕ × ℕ) (name : ℕ) where
+  pub contracts_keep_the_windows_across : (l : Limiter Settings Name) → Contracts κs κs₂ ptr other_ptr name l
+      → (converts : Conversion Settings Reply) → ForthContract κs₂ ptr other_ptr name converts → WindowsAcross by_name l converts
   contracts_keep_the_windows_across l c converts told_forth =
       converting_limiter_keeps_the_windows_across by_name (names_fit (λ s. s) settings_fit) l
-      (contracts_meet_demand2 κs κs₂ ptr other_ptr name other_name l c) converts (λ s source target fit lent lent'. told_forth s source target fit lent lent' tt)
+      (contracts_meet_demand2 κs κs₂ ptr other_ptr name l c) converts (λ s source target fit lent lent'. told_forth s source target fit lent lent' tt)
 
 -- A conversion that is told as numbers is read as it was.
 conversion_comes_back : (s : Settings) (source target : List ℕ) → read_as knows (told (forth s source target)) ≡ forth s source target
@@ -92,12 +92,12 @@ conversion_comes_back s source target =
     (λ some. rw (unless_refused_refuses number target moved some) (ap (λ r. outcome r target) (refusal_comes_back knows number)))
 
 -- The exports.
-module _ (κs : Lfts 1) (κs₂ : Lfts 2) (ptr other_ptr : ℕ × ℕ) (name other_name : ℕ) where
-  pub exports_keep_the_windows_across : (e : Exports) → ExportContracts κs κs₂ ptr other_ptr name other_name e
-      → (converts : Conversion LimiterSettings Told) → ForthExportContract κs₂ ptr other_ptr name other_name converts
+module _ (κs : Lfts 1) (κs₂ : Lfts 2) (ptr other_ptr : ℕ × ℕ) (name : ℕ) where
+  pub exports_keep_the_windows_across : (e : Exports) → ExportContracts κs κs₂ ptr other_ptr name e
+      → (converts : Conversion LimiterSettings Told) → ForthExportContract κs₂ ptr other_ptr name converts
       → WindowsAcross exported (called e) (read_conversion converts)
   exports_keep_the_windows_across e c converts told_forth =
       converting_limiter_keeps_the_windows_across exported (names_fit settings_of numbers_fit) (called e)
-      (callers_have_demand2 κs κs₂ ptr other_ptr name other_name e c) (read_conversion converts)
+      (callers_have_demand2 κs κs₂ ptr other_ptr name e c) (read_conversion converts)
       (λ n source target fit lent lent'.
       ap (read_as knows) (told_forth n source target fit lent lent' tt) ∙ conversion_comes_back (settings_of n) source target)

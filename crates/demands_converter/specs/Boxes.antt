@@ -8,7 +8,7 @@
 -- * `exports_keep_the_windows_across`: so do the exports, as their contracts tell, for a caller who reads their numbers.
 use Rattle.std.specs.Prelude.{ℕ, ◌≡◌, true, List}
 use contract.Lifetimes.{Lfts}
-use Rattle.std.specs.Borrow.{Bor}
+use Rattle.std.specs.Borrow.{Bor, MutBor}
 use Rattle.rows.specs.Outcome.{Outcome}
 use Rattle.settings.specs.declared.Limit.TheVariants.{Open}
 use Rattle.settings.specs.declared.Settings.{Settings}
@@ -25,7 +25,7 @@ use Rattle.converter.proofs.convert_forth.Reads as Forth
 use Rattle.limiter_converter.proofs.limiter_convert_forth.Reads as ExportedForth
 use Rattle.demands.specs.Demands.{untabled, Limiter, set_up_by, settings_by, WithinWindow}
 use Rattle.demands.specs.Refunds.{refunded_of, WithinRefundWindow, WithinSpanWindow}
-use Rattle.demands.specs.CodeContracts.{lent_at}
+use Rattle.demands.specs.CodeContracts.{seen_at, lent_at}
 use Rattle.demands.specs.Exports.{numbers_fit, read_as}
 use Rattle.demands_converter.specs.OldStore.{left_by, OldHolds, across_boxes}
 
@@ -51,9 +51,9 @@ pub record WindowsAcross {S N : Type 0} (terms : Terms S N) (l : Limiter S N) (c
 -- The operation and the export that convert forth: where the numbers fit and what it asks is shown, the contract holds of what it gives (`Asked` and
 -- `Learnt`: Contracts of `demands`). The source is lent to be read, so its words after the call are those before it. For any lifetimes and any places of the
 -- lent words.
-module _ (κs : Lfts 2) (source_ptr target_ptr : ℕ × ℕ) (source_name target_name : ℕ) where
-  abbrev lent_both : {S : Type 0} → S → List ℕ → List ℕ → S × (Bor (List ℕ) × (Bor (List ℕ) × Unit {0}))
-  lent_both s source target = (s, (lent_at source_ptr source_name source, (lent_at target_ptr target_name target, tt)))
+module _ (κs : Lfts 2) (source_ptr target_ptr : ℕ × ℕ) (target_name : ℕ) where
+  abbrev lent_both : {S : Type 0} → S → List ℕ → List ℕ → S × (Bor (List ℕ) × (MutBor (List ℕ) × Unit {0}))
+  lent_both s source target = (s, (seen_at source_ptr source, (lent_at target_ptr target_name target, tt)))
 
   abbrev pub ForthContract : Conversion Settings Reply → Type 0
   ForthContract converts =

@@ -187,16 +187,16 @@ module _ {S : Type 0} (means : S → Settings) (fit : S → Bool) where
   named_demand2_keeps_the_address_refund_window l equal =
       demand2_keeps_the_address_refund_window (on_addresses means fit l) (named_demand2_gives_demand2 means fit l equal)
 
-module _ (κs : Lfts 1) (κs₂ : Lfts 2) (ptr other_ptr : ℕ × ℕ) (name other_name : ℕ) where
+module _ (κs : Lfts 1) (κs₂ : Lfts 2) (ptr other_ptr : ℕ × ℕ) (name : ℕ) where
   -- Code as the contracts tell.
-  pub contracts_keep_the_address_refund_window : (l : Limiter Settings Name) → Contracts κs κs₂ ptr other_ptr name other_name l
+  pub contracts_keep_the_address_refund_window : (l : Limiter Settings Name) → Contracts κs κs₂ ptr other_ptr name l
       → AddressRefundWindow (λ s. s) settings_fit (on_addresses (λ s. s) settings_fit l)
   contracts_keep_the_address_refund_window l c =
-      named_demand2_keeps_the_address_refund_window (λ s. s) settings_fit l (contracts_meet_demand2 κs κs₂ ptr other_ptr name other_name l c)
+      named_demand2_keeps_the_address_refund_window (λ s. s) settings_fit l (contracts_meet_demand2 κs κs₂ ptr other_ptr name l c)
 
   -- The exports that C and Rust call.
-  pub exports_keep_the_address_refund_window : (e : Exports) → ExportContracts κs κs₂ ptr other_ptr name other_name e
+  pub exports_keep_the_address_refund_window : (e : Exports) → ExportContracts κs κs₂ ptr other_ptr name e
       → AddressRefundWindow Exported.settings_of numbers_fit (on_addresses Exported.settings_of numbers_fit (called e))
   exports_keep_the_address_refund_window e c =
       named_demand2_keeps_the_address_refund_window Exported.settings_of numbers_fit (called e)
-      (callers_have_demand2 κs κs₂ ptr other_ptr name other_name e c)
+      (callers_have_demand2 κs κs₂ ptr other_ptr name e c)

@@ -104,15 +104,15 @@ module _ {S : Type 0} (means : S → Settings) (fit : S → Bool) where
   pub named_demand2_gives_address_demand3 : (l : Limiter S Name) → Demand2 (named_in means fit) l → AddressDemand3 means fit (on_addresses l)
   named_demand2_gives_address_demand3 l equal = demand2_gives_address_demand3 (on_addresses l) (named_demand2_gives_demand2 l equal)
 
-module _ (κs : Lfts 1) (κs₂ : Lfts 2) (ptr bytes_ptr : ℕ × ℕ) (name bytes_name : ℕ) where
+module _ (κs : Lfts 1) (κs₂ : Lfts 2) (ptr bytes_ptr : ℕ × ℕ) (name : ℕ) where
   -- Code as the contracts tell.
-  pub contracts_meet_address_demand3 : (l : Limiter Settings Name) → Contracts κs κs₂ ptr bytes_ptr name bytes_name l
+  pub contracts_meet_address_demand3 : (l : Limiter Settings Name) → Contracts κs κs₂ ptr bytes_ptr name l
       → AddressDemand3 (λ s. s) settings_fit (on_addresses (λ s. s) settings_fit l)
   contracts_meet_address_demand3 l c =
-      named_demand2_gives_address_demand3 (λ s. s) settings_fit l (contracts_meet_demand2 κs κs₂ ptr bytes_ptr name bytes_name l c)
+      named_demand2_gives_address_demand3 (λ s. s) settings_fit l (contracts_meet_demand2 κs κs₂ ptr bytes_ptr name l c)
 
   -- The exports that C and Rust call.
-  pub exports_meet_address_demand3 : (e : Exports) → ExportContracts κs κs₂ ptr bytes_ptr name bytes_name e
+  pub exports_meet_address_demand3 : (e : Exports) → ExportContracts κs κs₂ ptr bytes_ptr name e
       → AddressDemand3 Exported.settings_of numbers_fit (on_addresses Exported.settings_of numbers_fit (called e))
   exports_meet_address_demand3 e c =
-      named_demand2_gives_address_demand3 Exported.settings_of numbers_fit (called e) (callers_have_demand2 κs κs₂ ptr bytes_ptr name bytes_name e c)
+      named_demand2_gives_address_demand3 Exported.settings_of numbers_fit (called e) (callers_have_demand2 κs κs₂ ptr bytes_ptr name e c)
