@@ -35,6 +35,7 @@ pub fn read_more<R: Read>(source: &mut Stream<R>, input: &mut [u8], pending: usi
 }
 
 // What a read brought, by its answer, and by the number of the error where it failed. There was room, so that a read of nothing is the end of the input.
+#[tactic(auto, unfolding(crate::specs::Reads::brought_by))]
 fn brought(read: io::Result<usize>, pending: usize) -> Got
     requires { IfOk read (λ count. pending + count < 2 ^ 64) }
     ensures { result ≡ brought_by (answer_of read) (error_of read) pending (count_of read) }
