@@ -1,7 +1,7 @@
 // The streams of a program: what it reads, what it writes, and where it tells a person something. The error of a call that fails is kept, to be told at the end.
 #![tactic(auto)]
 
-ghost use Rattle.std.specs.Prelude.{◌≡◌, true};
+ghost use Rattle.std.specs.Prelude.{◌≡◌, true, false, IsNone, IsSome};
 ghost use Rattle.std.specs.Io.KnownBytes.{Appends};
 
 use std::env::FillError;
@@ -28,7 +28,11 @@ pub struct Streams<R, W, E> {
 }
 
 // No call has failed yet.
-pub fn open<R, W, E>(source: R, sink: W, err: E) -> Streams<R, W, E> {
+pub fn open<R, W, E>(source: R, sink: W, err: E) -> Streams<R, W, E>
+    ensures source { (result.source.inner ≡ source) × IsNone result.source.failure }
+    ensures sink { (result.sink.inner ≡ sink) × IsNone result.sink.failure }
+    ensures err { result.err ≡ err }
+{
     Streams {
         source: Stream {
             inner: source,
@@ -44,7 +48,8 @@ pub fn open<R, W, E>(source: R, sink: W, err: E) -> Streams<R, W, E> {
 
 // Writes all bytes. Tells whether all of them were written.
 pub fn write_all<W: Write>(sink: &mut Stream<W>, bytes: &[u8]) -> bool
-    ensures { result ≡ true → Appends (W.contents sink.old.inner) (W.contents sink.new.inner) bytes.now }
+    ensures all { result ≡ true → Appends (W.contents sink.old.inner) (W.contents sink.new.inner) bytes.now }
+    ensures failure { result ≡ false → IsSome sink.new.failure }
 {
     match sink.inner.write_all(bytes) {
         Ok(()) => true,

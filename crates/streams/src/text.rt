@@ -1,8 +1,6 @@
 // The text of an error.
-use std::fmt;
 use std::fmt::Write as _;
-use std::io;
-use std::str;
+use std::{fmt, io, str};
 
 // The most bytes of a text. What has no room is left out.
 const TEXT_BYTES: usize = 256;
