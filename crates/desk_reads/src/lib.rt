@@ -1,7 +1,7 @@
 // Reads of the input: what a read brought.
 #![tactic(auto)]
 
-ghost use Rattle.std.specs.Prelude.{◌≡◌, ◌+◌, ◌^◌, ◌<◌, length, take, IfOk};
+ghost use Rattle.std.specs.Prelude.{◌≡◌, ◌+◌, ◌^◌, ◌<◌, length, take, IfOk, IsSome};
 ghost use Rattle.desk_reads.specs.Reads.{Grows, brought_by, answer_of, number_of, error_of, count_of};
 
 use std::io;
@@ -25,7 +25,8 @@ const EINTR: i32 = 4;
 // Reads into the input after the bytes that are pending, which stay. It makes one read, and the stream keeps the error of one that failed.
 pub fn read_more<R: Read>(source: &mut Stream<R>, input: &mut [u8], pending: usize) -> Got
     requires { pending < length input.old }
-    ensures { Grows pending (length input.old) result × (take pending input.new ≡ take pending input.old) }
+    ensures brings { Grows pending (length input.old) result × (take pending input.new ≡ take pending input.old) }
+    ensures failure { result ≡ Got.Failed → IsSome source.new.failure }
 {
     let read = source.inner.read(&mut input[pending..]);
     if let Err(error) = read {
