@@ -72,6 +72,7 @@ fn read_all<R: Read>(source: &mut Stream<R>, text: &mut [u8]) -> Described
 }
 
 // Where the reading stands after a read, with the bytes that were read before it and those that there is room for.
+#[tactic(auto, unfolding(crate::specs::Described::step_after))]
 fn after(got: Got, size: usize, room: usize) -> Step
     ensures { result ≡ step_after got size room }
 {
