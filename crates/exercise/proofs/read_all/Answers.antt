@@ -11,8 +11,7 @@ returns-in-Over g c =
 
 pub loop-turns-preserved : goal.loop-turns-preserved
 loop-turns-preserved g c =
-    let r = c.read_more-got in
-    (
+    let r = c.read_more-got in (
       more_leaves_room _ c.loop-turns.size (length r.new.input) (omega (arith, r.auto.input, c.loop-turns.invariant.0)) c.after-step.ensures c.in-More.is,
       omega (arith, r.auto.input, c.loop-turns.invariant.1),
     )
