@@ -2,21 +2,31 @@
 #![tactic(auto)]
 
 use desk_feed::MEMORY_WORDS;
-use libc::STDIN_FILENO;
+use std::io::IsTerminal;
 
 // The bytes that are read at once, with those pending of a line that has not ended. The answers to so many lines have room in the output.
 const INPUT_BYTES: usize = 1024;
 
-fn main() {
-    if 1 < os::arg_count() {
-        desk_words::help();
+// The bytes that are written at once.
+const OUTPUT_BYTES: usize = 65536;
+
+fn main(rt: HostRuntime) {
+    if streams::has_argument(&rt) {
+        desk_words::help(&rt.stderr());
         return;
     }
-    if libc::isatty(STDIN_FILENO) == 1 {
-        desk_words::greet();
+    if rt.stdin().is_terminal() {
+        desk_words::greet(&rt.stderr());
     }
+    let mut streams = streams::open(rt.stdin(), rt.stdout(), rt.stderr());
     let mut input: [u8; INPUT_BYTES] = [0; INPUT_BYTES];
-    let mut output = io::large_buffer();
+    let mut output: [u8; OUTPUT_BYTES] = [0; OUTPUT_BYTES];
     let mut memory: [u64; MEMORY_WORDS] = [0; MEMORY_WORDS];
-    desk_words::tell(desk_feed::run(&mut input, &mut output, &mut memory));
+    let ran = desk_feed::run(&mut streams, &mut input, &mut output, &mut memory);
+    desk_words::tell(
+        &streams.err,
+        ran,
+        streams.source.failure,
+        streams.sink.failure,
+    );
 }

@@ -1,4 +1,4 @@
-// The lines of standard input, answered turn by turn. Every whole line that has been read is answered, and its answer written, before more is read.
+// The lines of the input, answered turn by turn. Every whole line that has been read is answered, and its answer written, before more is read.
 #![tactic(auto)]
 
 ghost use Rattle.std.specs.Prelude.{◌≡◌, false, ◌+◌, ◌*◌, ◌≤◌, ◌<◌, length};
@@ -10,7 +10,8 @@ ghost use Rattle.desk_feed.specs.Ran.{desk_words, standing, at_start, Answering,
 use desk_answers::Stage;
 use desk_reads::Got;
 use desk_turns::Feed;
-use libc::STDOUT_FILENO;
+use std::io::{Read, Write};
+use streams::{Stream, Streams};
 
 // The words of the memory from which the store is lent its own.
 pub const MEMORY_WORDS: usize = 8192;
@@ -41,7 +42,12 @@ pub struct Ran {
 }
 
 // Answers all lines, from the first on.
-pub fn run(input: &mut [u8], output: &mut [u8], memory: &mut [u64]) -> Ran
+pub fn run<R: Read, W: Write, E: Print>(
+    streams: &mut Streams<R, W, E>,
+    input: &mut [u8],
+    output: &mut [u8],
+    memory: &mut [u64],
+) -> Ran
     requires { (longest_line + 1 < length input.old) × (longest_printed * length input.old ≤ length output.old) × (length memory.old ≡ desk_words) }
     ensures { RanFrom (at_start memory.old) (length input.old) result memory.new }
 {
@@ -50,12 +56,13 @@ pub fn run(input: &mut [u8], output: &mut [u8], memory: &mut [u64]) -> Ran
         number: 0,
         put: 0,
     };
-    go_on(input, 0, output, memory, feed)
+    go_on(streams, input, 0, output, memory, feed)
 }
 
 // Answers all lines from wherever the run stands. The loop counts its turns since a proved loop has to end, up to a number that no run reaches.
 // The output has room for the answers of a turn, whose lines have a byte at least.
-fn go_on(
+fn go_on<R: Read, W: Write, E: Print>(
+    streams: &mut Streams<R, W, E>,
     input: &mut [u8],
     mut pending: usize,
     output: &mut [u8],
@@ -69,16 +76,16 @@ fn go_on(
     let mut feed = from;
     let mut turns: u64 = 0;
     while turns < u64::MAX {
-        let got = desk_reads::read_more(input, pending);
+        let got = desk_reads::read_more(&mut streams.source, input, pending);
         match got {
             Got::More(end) => {
-                let turned = desk_turns::turn(input, end, output, memory, feed);
+                let turned = desk_turns::turn(&streams.err, input, end, output, memory, feed);
                 turns += 1;
                 feed = turned.feed;
                 pending = turned.pending;
             }
             Got::End => {
-                return finish(input, pending, output, memory, feed, turns);
+                return finish(streams, input, pending, output, memory, feed, turns);
             }
             Got::Failed => {
                 let ending = Ending::Read;
@@ -89,7 +96,7 @@ fn go_on(
                 };
             }
         }
-        if !flush(output, feed) {
+        if !flush(&mut streams.sink, output, feed) {
             let ending = Ending::Write;
             return Ran {
                 ending,
@@ -115,7 +122,8 @@ fn go_on(
 }
 
 // The end of the input: the last line is answered, if one has begun. After a read that failed none is, since what is pending of it may be cut.
-fn finish(
+fn finish<R, W: Write, E: Print>(
+    streams: &mut Streams<R, W, E>,
     input: &[u8],
     pending: usize,
     output: &mut [u8],
@@ -126,8 +134,8 @@ fn finish(
     requires { (pending ≤ length input.now) × (longest_printed ≤ length output.old) × (has_ended feed.stage ≡ false) }
     ensures { AtEnd (standing pending input.now feed memory.old) turns result memory.new }
 {
-    let feed = desk_turns::last_line(input, pending, output, memory, feed);
-    if !flush(output, feed) {
+    let feed = desk_turns::last_line(&streams.err, input, pending, output, memory, feed);
+    if !flush(&mut streams.sink, output, feed) {
         let ending = Ending::LastWrite;
         return Ran {
             ending,
@@ -152,9 +160,9 @@ fn finish(
 }
 
 // Writes what is printed. Tells whether all of it was written: else further answers would come after a gap.
-fn flush(output: &[u8], feed: Feed) -> bool
+fn flush<W: Write>(sink: &mut Stream<W>, output: &[u8], feed: Feed) -> bool
     requires { (feed.put ≤ length output.now) × Answering feed output.now }
 {
     let put = feed.put;
-    io::write_all(STDOUT_FILENO, &output[0..put])
+    streams::write_all(sink, &output[0..put])
 }

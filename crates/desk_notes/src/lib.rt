@@ -4,7 +4,6 @@
 ghost use Rattle.std.specs.Prelude.{◌≤◌, length};
 
 use desk_reasons::{Fault, Reason};
-use libc::STDERR_FILENO;
 
 mod names;
 mod words;
@@ -13,19 +12,19 @@ mod words;
 const NOTE_BYTES: usize = 192;
 
 // Writes why a line is answered with 9, as line 1 or as another. A write that fails here has nobody to be told.
-pub fn tell(number: u64, first: bool, line: &[u8]) {
+pub fn tell(err: &impl Print, number: u64, first: bool, line: &[u8]) {
     let mut note: [u8; NOTE_BYTES] = [0; NOTE_BYTES];
     let letter = letter_of(line);
     let reason = desk_reasons::reason_at(first, line);
     let end = compose(&mut note, number, letter, reason);
-    write(&note, end);
+    write(err, &note, end);
 }
 
 // Writes the first bytes of a buffer.
-fn write(note: &[u8], end: usize)
+fn write(err: &impl Print, note: &[u8], end: usize)
     requires { end ≤ length note.now }
 {
-    io::write_all(STDERR_FILENO, &note[0..end]);
+    streams::say(err, &note[0..end]);
 }
 
 // The letter of a line, or 0 where it has no byte.

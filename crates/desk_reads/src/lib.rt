@@ -1,10 +1,12 @@
-// Reads of standard input: what a read brought.
+// Reads of the input: what a read brought.
 #![tactic(auto)]
 
-ghost use Rattle.std.specs.Prelude.{◌≡◌, ◌+◌, ◌^◌, ◌<◌, length, take};
-ghost use Rattle.desk_reads.specs.Reads.{Grows, brought_by};
+ghost use Rattle.std.specs.Prelude.{◌≡◌, ◌+◌, ◌^◌, ◌<◌, length, take, IfOk, IsSome};
+ghost use Rattle.desk_reads.specs.Reads.{Grows, brought_by, answer_of, number_of, error_of, count_of};
 
-use libc::{EINTR, STDIN_FILENO};
+use std::io;
+use std::io::Read;
+use streams::Stream;
 
 // What a read brought.
 #[derive(Clone, Copy)]
@@ -17,30 +19,50 @@ pub enum Got {
     Failed,
 }
 
-// Reads into the input after the bytes that are pending, which stay.
-pub fn read_more(input: &mut [u8], pending: usize) -> Got
+// The number of the error of a call that a signal interrupts.
+const EINTR: i32 = 4;
+
+// Reads into the input after the bytes that are pending, which stay. It makes one read, and the stream keeps the error of one that failed.
+pub fn read_more<R: Read>(source: &mut Stream<R>, input: &mut [u8], pending: usize) -> Got
     requires { pending < length input.old }
-    ensures { Grows pending (length input.old) result × (take pending input.new ≡ take pending input.old) }
+    ensures brings { Grows pending (length input.old) result × (take pending input.new ≡ take pending input.old) }
+    ensures failure { result ≡ Got.Failed → IsSome source.new.failure }
 {
-    let answer = libc::read(STDIN_FILENO, &mut input[pending..]);
-    let error = os::errno();
-    let count = io::count(answer, &input[pending..]);
-    brought(answer, error, pending, count)
+    let read = source.inner.read(&mut input[pending..]);
+    if let Err(error) = read {
+        source.failure = Some(error);
+    }
+    brought(read, pending)
 }
 
 // What a read brought, by its answer, and by the number of the error where it failed. There was room, so that a read of nothing is the end of the input.
-fn brought(answer: isize, error: i32, pending: usize, count: usize) -> Got
-    requires { pending + count < 2 ^ 64 }
-    ensures { result ≡ brought_by answer error pending count }
+#[tactic(auto, unfolding(crate::specs::Reads::brought_by))]
+fn brought(read: io::Result<usize>, pending: usize) -> Got
+    requires { IfOk read (λ count. pending + count < 2 ^ 64) }
+    ensures { result ≡ brought_by (answer_of read) (error_of read) pending (count_of read) }
 {
-    if answer < 0 {
-        if error == EINTR {
-            return Got::More(pending);
+    match read {
+        Ok(count) => {
+            if count == 0 {
+                return Got::End;
+            }
+            Got::More(pending + count)
         }
-        return Got::Failed;
+        Err(error) => {
+            if number(error) == EINTR {
+                return Got::More(pending);
+            }
+            return Got::Failed;
+        }
     }
-    if count == 0 {
-        return Got::End;
+}
+
+// The number of an error, or 0 where the system gave none.
+fn number(error: io::Error) -> i32
+    ensures { result ≡ number_of error }
+{
+    match error.raw_os_error() {
+        Some(number) => number,
+        None => 0,
     }
-    Got::More(pending + count)
 }

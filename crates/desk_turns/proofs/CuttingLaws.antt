@@ -1,6 +1,5 @@
 -- The pieces that an input is read in do not matter to the desk: what the turns print is what is printed for the lines of the whole input.
 use Rattle.std.proofs.Common.{◌≡◌, ℕ, ◌+◌, ◌-◌, ◌≤◌, false, List, [], ◌∷◌, ◌++◌, take, sym, ap, ◌∙◌, arith, take-add}
-use Rattle.rows.specs.Outcome.{Outcome, outcome}
 use Rattle.rows.specs.Segments.{segment}
 use Rattle.rows.proofs.OutcomeLaws.{answer_is, after_is}
 use Rattle.desk_answers.specs.declared.Stage.TheVariants.{First}
@@ -10,7 +9,7 @@ use Rattle.desk_cutting.proofs.AnsweringLaws as Laws
 use Rattle.desk_turns.specs.declared.Feed.{Feed}
 use Rattle.desk_turns.specs.declared.Turned.{Turned}
 use Rattle.desk_turns.specs.Feeding.{state_of, OneTurn}
-use Rattle.desk_turns.specs.Run.{State, has_ended, lines_answered, cut, last_line, lines_of, printed_all, kept_of, desk}
+use Rattle.desk_turns.specs.Run.{State, has_ended, lines_answered, last_line, lines_of, printed_all, kept_of, desk}
 use Rattle.desk_turns.specs.Run.{Standing, turned, turned_over, printed_in_turns, joined}
 use Rattle.desk_turns.proofs.RunLaws.{desk_by_line}
 

@@ -1,5 +1,5 @@
 -- A line is answered with 9 exactly if it has a reason, so a note is written for a line exactly if it has one.
-use Rattle.std.proofs.Common.{◌≡◌, ℕ, ◌+◌, Bool, true, false, cond, not, eqb, List, length, take, refl, ap, ◌∙◌, true≢false, arith, ne_eqb}
+use Rattle.std.proofs.Common.{◌≡◌, ℕ, ◌+◌, Bool, false, cond, not, eqb, List, length, take, refl, true≢false, arith, ne_eqb}
 use Rattle.arith.proofs.Cases.{by_test}
 use Rattle.settings.specs.declared.decision.Decision.TheVariants.{Acquired, Retry, Impossible}
 use Rattle.rules.specs.declared.Reply.{Reply}

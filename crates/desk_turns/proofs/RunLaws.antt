@@ -1,7 +1,6 @@
 -- The laws of answering line after line, for the desk.
 use Rattle.std.proofs.Common.{◌≡◌, ℕ, true, false, List, [], ◌∷◌}
 use Rattle.rows.specs.Outcome.{Outcome, outcome}
-use Rattle.desk_lines.specs.Lines.{line_of}
 use Rattle.desk_cutting.specs.Answering.{ByLine}
 use Rattle.desk_cutting.proofs.AnsweringLaws as Laws
 use Rattle.desk_turns.specs.Run.{State, has_ended, line_answered, and_then, lines_answered, desk}

@@ -5,7 +5,7 @@ use Rattle.desk_lines.specs.Fields.{fields}
 use Rattle.desk_lines.specs.Lines.{line_of_letter, line_of}
 use Rattle.desk_answers.specs.declared.Stage.TheVariants.{First, Ended}
 use Rattle.desk_cutting.specs.Answering as Answering
-use Rattle.desk_turns.specs.Run.{State, line_answered, lines_answered, cut, lines_of, printed_all, turned, turned_over}
+use Rattle.desk_turns.specs.Run.{line_answered, cut, lines_of, printed_all, turned_over}
 
 -- A NUL ends no line, and 138, an LF with 128 added, ends none.
 pub two_lines : lines_of (0 ∷ 138 ∷ 10 ∷ 255 ∷ []) ≡ (0 ∷ 138 ∷ []) ∷ (255 ∷ []) ∷ []

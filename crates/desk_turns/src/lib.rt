@@ -34,8 +34,9 @@ pub struct Turned {
     pub pending: usize,
 }
 
-// Answers the whole lines among the first `end` bytes of the input, and keeps what is left.
+// Answers the whole lines among the first `end` bytes of the input, and keeps what is left. What is wrong with a line is told on `err`.
 pub fn turn(
+    err: &impl Print,
     input: &mut [u8],
     end: usize,
     output: &mut [u8],
@@ -46,7 +47,7 @@ pub fn turn(
     ensures { OneTurn feed end input.old memory.old output.old result input.new memory.new
         output.new }
 {
-    let lines = whole_lines(&input[0..end], output, memory, unprinted(feed));
+    let lines = whole_lines(err, &input[0..end], output, memory, unprinted(feed));
     let pending = desk_cutting::keep_rest(input, lines.at, end);
     let feed = lines.feed;
     Turned { feed, pending }
@@ -54,6 +55,7 @@ pub fn turn(
 
 // Answers the line that the end of the input ends, if one has begun.
 pub fn last_line(
+    err: &impl Print,
     input: &[u8],
     pending: usize,
     output: &mut [u8],
@@ -67,7 +69,7 @@ pub fn last_line(
     if pending == 0 {
         return feed;
     }
-    answer_line(&input[0..pending], output, memory, feed)
+    answer_line(err, &input[0..pending], output, memory, feed)
 }
 
 // The same, with nothing printed.
@@ -83,7 +85,13 @@ fn unprinted(feed: Feed) -> Feed
 }
 
 // Answers the lines that end among some bytes. None is answered once the run has ended.
-fn whole_lines(bytes: &[u8], output: &mut [u8], memory: &mut [u64], feed: Feed) -> Lines
+fn whole_lines(
+    err: &impl Print,
+    bytes: &[u8],
+    output: &mut [u8],
+    memory: &mut [u64],
+    feed: Feed,
+) -> Lines
     requires { (feed.put + longest_printed * length bytes.now ≤ length output.old) × (has_ended feed.stage ≡ false) }
     ensures { WholeLines feed bytes.now memory.old output.old result memory.new output.new }
 {
@@ -94,7 +102,7 @@ fn whole_lines(bytes: &[u8], output: &mut [u8], memory: &mut [u64], feed: Feed) 
         if stop == bytes.len() {
             break;
         }
-        feed = answer_line(&bytes[at..stop], output, memory, feed);
+        feed = answer_line(err, &bytes[at..stop], output, memory, feed);
         at = stop + 1;
         if has_ended(feed) {
             break;
@@ -104,24 +112,30 @@ fn whole_lines(bytes: &[u8], output: &mut [u8], memory: &mut [u64], feed: Feed) 
 }
 
 // Answers a line, and prints its answer.
-fn answer_line(line: &[u8], output: &mut [u8], memory: &mut [u64], feed: Feed) -> Feed
+fn answer_line(
+    err: &impl Print,
+    line: &[u8],
+    output: &mut [u8],
+    memory: &mut [u64],
+    feed: Feed,
+) -> Feed
     requires { feed.put + longest_printed ≤ length output.old }
     ensures { OneLine feed line.now memory.old output.old result memory.new output.new }
 {
     let stage = feed.stage;
-    let number = std::num::wrapping_add_u64(feed.number, 1);
+    let number = feed.number.wrapping_add(1);
     let served = desk_answers::serve(stage, desk_lines::read(line), memory);
     let stage = served.stage;
     let told = served.told;
     let put = print::line(output, feed.put, number, told.code, told.number);
-    note(feed, number, told.code, line);
+    note(err, feed, number, told.code, line);
     Feed { stage, number, put }
 }
 
 // Notes on standard error why a line was answered with 9, by how the run stood before it.
-fn note(feed: Feed, number: u64, code: u64, line: &[u8]) {
+fn note(err: &impl Print, feed: Feed, number: u64, code: u64, line: &[u8]) {
     if code == 9 {
-        desk_notes::tell(number, is_first(feed), line);
+        desk_notes::tell(err, number, is_first(feed), line);
     }
 }
 

@@ -2,25 +2,41 @@
 #![tactic(auto)]
 
 use desk_feed::MEMORY_WORDS;
-use libc::STDIN_FILENO;
+use std::io::IsTerminal;
 
 // The bytes that are read at once, with those pending of a line that has not ended. What as many lines and all rows print has room in the output.
 const INPUT_BYTES: usize = 512;
 
+// The bytes that are written at once.
+const OUTPUT_BYTES: usize = 65536;
+
 // The words of 200 rows.
 const ROW_WORDS: usize = 1200;
 
-fn main() {
-    if 1 < os::arg_count() {
-        outage_words::help();
+fn main(rt: HostRuntime) {
+    if streams::has_argument(&rt) {
+        outage_words::help(&rt.stderr());
         return;
     }
-    if libc::isatty(STDIN_FILENO) == 1 {
-        outage_words::greet();
+    if rt.stdin().is_terminal() {
+        outage_words::greet(&rt.stderr());
     }
+    let mut streams = streams::open(rt.stdin(), rt.stdout(), rt.stderr());
     let mut input: [u8; INPUT_BYTES] = [0; INPUT_BYTES];
-    let mut output = io::large_buffer();
+    let mut output: [u8; OUTPUT_BYTES] = [0; OUTPUT_BYTES];
     let mut rows: [u64; ROW_WORDS] = [0; ROW_WORDS];
     let mut memory: [u64; MEMORY_WORDS] = [0; MEMORY_WORDS];
-    outage_words::tell(outage_feed::run(&mut input, &mut output, &mut rows, &mut memory));
+    let ran = outage_feed::run(
+        &mut streams,
+        &mut input,
+        &mut output,
+        &mut rows,
+        &mut memory,
+    );
+    outage_words::tell(
+        &streams.err,
+        ran,
+        streams.source.failure,
+        streams.sink.failure,
+    );
 }

@@ -1,4 +1,4 @@
-// The lines of standard input, taken turn by turn. What a turn prints is written before more is read.
+// The lines of the input, taken turn by turn. What a turn prints is written before more is read.
 #![tactic(auto)]
 
 ghost use Rattle.std.specs.Prelude.{◌≡◌, false, ◌+◌, ◌*◌, ◌≤◌, ◌<◌, length};
@@ -14,8 +14,9 @@ ghost use Rattle.outage_feed.specs.Ran.{standing, at_start, Answering, RanFrom, 
 use desk_answers::Stage;
 use desk_feed::Ending;
 use desk_reads::Got;
-use libc::STDOUT_FILENO;
 use outage_run::{Feed, MOST_ROWS};
+use std::io::{Read, Write};
+use streams::{Stream, Streams};
 
 // A run that is over: its ending, how far it has come, and how many reads were turned.
 #[derive(Clone, Copy)]
@@ -26,7 +27,13 @@ pub struct Ran {
 }
 
 // Takes all lines, from the first on.
-pub fn run(input: &mut [u8], output: &mut [u8], rs: &mut [u64], memory: &mut [u64]) -> Ran
+pub fn run<R: Read, W: Write, E>(
+    streams: &mut Streams<R, W, E>,
+    input: &mut [u8],
+    output: &mut [u8],
+    rs: &mut [u64],
+    memory: &mut [u64],
+) -> Ran
     requires { (longest_line + 1 < length input.old) × (longest_row * (most_rows + length input.old) ≤ length output.old)
         × (row_width * most_rows ≤ length rs.old) × (length memory.old ≡ desk_words) }
     ensures { RanFrom (at_start memory.old) (length input.old) result rs.new memory.new }
@@ -38,12 +45,13 @@ pub fn run(input: &mut [u8], output: &mut [u8], rs: &mut [u64], memory: &mut [u6
         room: MOST_ROWS,
         put: 0,
     };
-    go_on(input, 0, output, rs, memory, feed)
+    go_on(streams, input, 0, output, rs, memory, feed)
 }
 
 // Takes all lines from wherever the run stands. The loop counts its turns since a proved loop has to end, up to a number that no run reaches. The output has
 // room for what a turn prints: the rows, and its lines, which have a byte at least.
-fn go_on(
+fn go_on<R: Read, W: Write, E>(
+    streams: &mut Streams<R, W, E>,
     input: &mut [u8],
     mut pending: usize,
     output: &mut [u8],
@@ -59,7 +67,7 @@ fn go_on(
     let mut feed = from;
     let mut turns: u64 = 0;
     while turns < u64::MAX {
-        let got = desk_reads::read_more(input, pending);
+        let got = desk_reads::read_more(&mut streams.source, input, pending);
         match got {
             Got::More(end) => {
                 let turned = outage_run::turn(input, end, output, rs, memory, feed);
@@ -68,7 +76,16 @@ fn go_on(
                 pending = turned.pending;
             }
             Got::End => {
-                return finish(input, pending, output, rs, memory, feed, turns);
+                return finish(
+                    &mut streams.sink,
+                    input,
+                    pending,
+                    output,
+                    rs,
+                    memory,
+                    feed,
+                    turns,
+                );
             }
             Got::Failed => {
                 let ending = Ending::Read;
@@ -79,7 +96,7 @@ fn go_on(
                 };
             }
         }
-        if !flush(output, feed) {
+        if !flush(&mut streams.sink, output, feed) {
             let ending = Ending::Write;
             return Ran {
                 ending,
@@ -105,7 +122,8 @@ fn go_on(
 }
 
 // The end of the input: the last line is taken, if one has begun, and the rows are run. After a read that failed neither is done: lines may be missing.
-fn finish(
+fn finish<W: Write>(
+    sink: &mut Stream<W>,
     input: &[u8],
     pending: usize,
     output: &mut [u8],
@@ -120,7 +138,7 @@ fn finish(
         memory.new }
 {
     let feed = outage_run::last_line(input, pending, output, rs, memory, feed);
-    if !flush(output, feed) {
+    if !flush(sink, output, feed) {
         let ending = Ending::LastWrite;
         return Ran {
             ending,
@@ -145,9 +163,9 @@ fn finish(
 }
 
 // Writes what is printed. Tells whether all of it was written.
-fn flush(output: &[u8], feed: Feed) -> bool
+fn flush<W: Write>(sink: &mut Stream<W>, output: &[u8], feed: Feed) -> bool
     requires { (feed.put ≤ length output.now) × Answering feed output.now }
 {
     let put = feed.put;
-    io::write_all(STDOUT_FILENO, &output[0..put])
+    streams::write_all(sink, &output[0..put])
 }

@@ -2,18 +2,20 @@
 // which was worked out by hand.
 #![tactic(auto)]
 
+use std::io;
+
 mod buckets;
 mod shapes;
 
-fn main() {
-    shapes::sizes();
-    shapes::refused_rates();
-    shapes::refused_sizes();
-    shapes::looks();
-    shapes::configs();
-    buckets::tries();
-    buckets::set_back();
-    buckets::reservations();
-    buckets::restored();
-    buckets::extremes();
+fn main(rt: HostRuntime) -> io::Result<()> {
+    shapes::sizes(&rt)?;
+    shapes::refused_rates(&rt)?;
+    shapes::refused_sizes(&rt)?;
+    shapes::looks(&rt)?;
+    shapes::configs(&rt)?;
+    buckets::tries(&rt)?;
+    buckets::set_back(&rt)?;
+    buckets::reservations(&rt)?;
+    buckets::restored(&rt)?;
+    buckets::extremes(&rt)
 }

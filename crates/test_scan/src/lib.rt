@@ -1,11 +1,31 @@
 // Decimal numbers, read from the text of recorded cases, in which any other bytes part them. For test programs alone.
 #![tactic(auto)]
 
+ghost use Rattle.std.specs.Prelude.{◌≤◌, length, IfOk};
+
+use std::io;
+use std::io::Read;
+
 // A number, and where the reading stands after it and the bytes that part it from the next.
 #[derive(Clone, Copy)]
 pub struct Number {
     pub value: u64,
     pub at: usize,
+}
+
+// Reads until the text is full or the input ends. Tells how many bytes were read.
+pub fn read_full<R: Read>(source: &mut R, text: &mut [u8]) -> io::Result<usize>
+    ensures { IfOk result (λ n. n ≤ length text.new) }
+{
+    let mut size: usize = 0;
+    while size < text.len() {
+        let count = source.read(&mut text[size..])?;
+        if count == 0 {
+            break;
+        }
+        size += count;
+    }
+    Ok(size)
 }
 
 // The number that begins here, 0 where no digit stands.

@@ -5,9 +5,9 @@
 #![tactic(auto)]
 
 use bucket::BucketConfig;
-use libc::STDIN_FILENO;
 use line::Line;
 use shard_map::words;
+use std::io;
 use units::Nanos;
 
 mod line;
@@ -20,6 +20,9 @@ const MOST_PLACES: usize = 9;
 
 const MOST_WORDS: usize = words::HEAD_WORDS + words::PLACE_WORDS * MOST_PLACES;
 
+// The most bytes of the cases.
+const TEXT_BYTES: usize = 65536;
+
 // Where the reading stands, the places of the shard, and the configuration of its buckets.
 #[derive(Clone, Copy)]
 pub struct State {
@@ -28,15 +31,15 @@ pub struct State {
     pub config: BucketConfig,
 }
 
-fn main() {
-    let mut text = io::large_buffer();
-    let n = io::read_full(STDIN_FILENO, &mut text);
+fn main(rt: HostRuntime) -> io::Result<()> {
+    let mut text: [u8; TEXT_BYTES] = [0; TEXT_BYTES];
+    let n = test_scan::read_full(&mut rt.stdin(), &mut text)?;
     let mut words: [u64; MOST_WORDS] = [0; MOST_WORDS];
-    run(&text[..n], &mut words);
+    run(&rt, &text[..n], &mut words)
 }
 
 // Runs the cases, a line a turn. A line has a byte at least, so no more turns are needed than there are bytes.
-fn run(text: &[u8], words: &mut [u64]) {
+fn run(out: &impl Print, text: &[u8], words: &mut [u64]) -> io::Result<()> {
     let mut state = State {
         at: test_scan::skip_to_digit(text, 0),
         cap: 1,
@@ -47,13 +50,14 @@ fn run(text: &[u8], words: &mut [u64]) {
         if text.len() <= state.at {
             break;
         }
-        state = step(text, words, state);
+        state = step(out, text, words, state)?;
         turns -= 1;
     }
+    Ok(())
 }
 
 // Runs one line.
-fn step(text: &[u8], words: &mut [u64], state: State) -> State {
+fn step(out: &impl Print, text: &[u8], words: &mut [u64], state: State) -> io::Result<State> {
     let line = line::read_line(text, state.at);
     let cap = state.cap;
     let config = state.config;
@@ -63,23 +67,23 @@ fn step(text: &[u8], words: &mut [u64], state: State) -> State {
         config,
     };
     if line.operation == operations::CONFIG {
-        return configure(next, line);
+        return configure(out, next, line);
     }
     if line.operation == operations::LOAD {
-        return load(text, words, next, line);
+        return load(out, text, words, next, line);
     }
-    on_shard(words, next, line);
-    next
+    on_shard(out, words, next, line)?;
+    Ok(next)
 }
 
 // From now on the buckets have this configuration.
-fn configure(state: State, line: Line) -> State {
-    print::answer(0, 0);
-    State {
+fn configure(out: &impl Print, state: State, line: Line) -> io::Result<State> {
+    print::answer(out, 0, 0)?;
+    Ok(State {
         at: state.at,
         cap: state.cap,
         config: configured(line.a, line.b, line.c, line.d),
-    }
+    })
 }
 
 // The configuration of an amount, a period, a burst and an initial number of tokens.
@@ -93,12 +97,18 @@ fn configured(amount: u64, period: u64, burst: u64, initial: u64) -> BucketConfi
 }
 
 // From now on the shard has so many places, and the words that follow.
-fn load(text: &[u8], words: &mut [u64], state: State, line: Line) -> State {
+fn load(
+    out: &impl Print,
+    text: &[u8],
+    words: &mut [u64],
+    state: State,
+    line: Line,
+) -> io::Result<State> {
     let cap = line.a as usize;
     let config = state.config;
     let at = read_shard(text, state.at, words, cap);
-    print::answer(0, 0);
-    State { at, cap, config }
+    print::answer(out, 0, 0)?;
+    Ok(State { at, cap, config })
 }
 
 // Reads the words of a shard of so many places, and tells where the reading stands then.
@@ -126,26 +136,30 @@ fn fill(text: &[u8], from: usize, ws: &mut [u64]) -> usize {
 }
 
 // Runs an operation on the words of the shard.
-fn on_shard(words: &mut [u64], state: State, line: Line) {
+fn on_shard(out: &impl Print, words: &mut [u64], state: State, line: Line) -> io::Result<()> {
     let cap = state.cap;
     let config = state.config;
     if cap <= MOST_PLACES {
         let size = words::shard_words(cap);
         if size <= words.len() {
-            checked(&mut words[0..size], cap, config, line);
-            return;
+            return checked(out, &mut words[0..size], cap, config, line);
         }
     }
-    print::skipped();
+    print::skipped(out)
 }
 
 // Runs an operation where the words and the configuration are such as the functions of a shard are lent.
-fn checked(ws: &mut [u64], cap: usize, config: BucketConfig, line: Line) {
+fn checked(
+    out: &impl Print,
+    ws: &mut [u64],
+    cap: usize,
+    config: BucketConfig,
+    line: Line,
+) -> io::Result<()> {
     if sound::is_intact(ws, cap) {
         if sound::is_accepted(config) {
-            operations::run(ws, cap, config, line);
-            return;
+            return operations::run(out, ws, cap, config, line);
         }
     }
-    print::skipped();
+    print::skipped(out)
 }

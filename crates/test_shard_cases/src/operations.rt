@@ -10,6 +10,7 @@ use ledger::{Debt, Recorded};
 use rows::Place;
 use settings::eviction::Eviction;
 use shard_map::debts;
+use std::io;
 use units::{Millis, Nanos, OptionNanos};
 
 // The numbers of the operations.
@@ -34,64 +35,68 @@ const POSITION: u64 = 8;
 const DUMP: u64 = 9;
 
 // Runs an operation that concerns the ledger; the others are passed on.
-pub(crate) fn run(ws: &mut [u64], cap: usize, config: BucketConfig, line: Line)
+pub(crate) fn run(
+    out: &impl Print,
+    ws: &mut [u64],
+    cap: usize,
+    config: BucketConfig,
+    line: Line,
+) -> io::Result<()>
     requires { Intact cap ws.old × Accepted config }
 {
     if line.operation == TAKE {
-        take(ws, cap, line.a);
-        return;
+        return take(out, ws, cap, line.a);
     }
     if line.operation == RECORD {
-        record(ws, cap, line);
-        return;
+        return record(out, ws, cap, line);
     }
     if line.operation == SWEEP {
         debts::sweep(ws, cap, Nanos(line.a), Eviction::LEDGER_SCAN);
-        print::answer(0, 0);
-        return;
+        return print::answer(out, 0, 0);
     }
     if line.operation == PAY {
-        pay(ws, cap, config, line);
-        return;
+        return pay(out, ws, cap, config, line);
     }
-    run_on_slots(ws, cap, config, line);
+    run_on_slots(out, ws, cap, config, line)
 }
 
 // Runs an operation that concerns the slots, or a dump.
-fn run_on_slots(ws: &mut [u64], cap: usize, config: BucketConfig, line: Line)
+fn run_on_slots(
+    out: &impl Print,
+    ws: &mut [u64],
+    cap: usize,
+    config: BucketConfig,
+    line: Line,
+) -> io::Result<()>
     requires { Intact cap ws.old × Accepted config }
 {
     if line.operation == IDLE {
-        idle(ws, cap, config, line);
-        return;
+        return idle(out, ws, cap, config, line);
     }
     if line.operation == EVICT {
-        evict_one(ws, cap, config, line);
-        return;
+        return evict_one(out, ws, cap, config, line);
     }
     if line.operation == POSITION {
-        position(ws, cap, line);
-        return;
+        return position(out, ws, cap, line);
     }
     if line.operation == DUMP {
-        print::words(ws);
-        return;
+        return print::words(out, ws);
     }
-    print::skipped();
+    print::skipped(out)
 }
 
 // take HASH: code 3 where there is no debt, else the moment at which it settles.
-fn take(ws: &mut [u64], cap: usize, hash: u64)
+fn take(out: &impl Print, ws: &mut [u64], cap: usize, hash: u64) -> io::Result<()>
     requires { Intact cap ws.old }
 {
     match debts::take(ws, cap, hash) {
-        OptionNanos::Some(settles) => print::answer(0, settles.0),
-        OptionNanos::None => print::answer(3, 0),
+        OptionNanos::Some(settles) => print::answer(out, 0, settles.0),
+        OptionNanos::None => print::answer(out, 3, 0),
     }
 }
 
 // record NOW HASH SETTLES FORGET: code 1 and the wait where there is no room.
-fn record(ws: &mut [u64], cap: usize, line: Line)
+fn record(out: &impl Print, ws: &mut [u64], cap: usize, line: Line) -> io::Result<()>
     requires { Intact cap ws.old }
 {
     let debt = Debt {
@@ -99,24 +104,36 @@ fn record(ws: &mut [u64], cap: usize, line: Line)
         settles: Nanos(line.c),
     };
     match debts::record(ws, cap, debt, Nanos(line.a), line.d != 0) {
-        Recorded::Done => print::answer(0, 0),
-        Recorded::NoRoom(wait) => print::answer(1, wait.0),
+        Recorded::Done => print::answer(out, 0, 0),
+        Recorded::NoRoom(wait) => print::answer(out, 1, wait.0),
     }
 }
 
 // pay HASH COST: code 3 where there is no debt.
-fn pay(ws: &mut [u64], cap: usize, config: BucketConfig, line: Line)
+fn pay(
+    out: &impl Print,
+    ws: &mut [u64],
+    cap: usize,
+    config: BucketConfig,
+    line: Line,
+) -> io::Result<()>
     requires { Intact cap ws.old × Accepted config }
 {
     if debts::pay_down(ws, cap, line.a, test_scan::narrow(line.b), config) {
-        print::answer(0, 0);
+        print::answer(out, 0, 0)
     } else {
-        print::answer(3, 0);
+        print::answer(out, 3, 0)
     }
 }
 
 // idle NOW LIMIT: the number is how many slots went.
-fn idle(ws: &mut [u64], cap: usize, config: BucketConfig, line: Line)
+fn idle(
+    out: &impl Print,
+    ws: &mut [u64],
+    cap: usize,
+    config: BucketConfig,
+    line: Line,
+) -> io::Result<()>
     requires { Intact cap ws.old × Accepted config }
 {
     let before = ws[0];
@@ -128,33 +145,37 @@ fn idle(ws: &mut [u64], cap: usize, config: BucketConfig, line: Line)
         Millis(line.b),
         Eviction::TTL_SWEEP,
     );
-    print::answer(0, arith::saturating_sub(before, ws[0]));
+    print::answer(out, 0, arith::saturating_sub(before, ws[0]))
 }
 
 // evict NOW FORGET: code 1 and the wait where no slot can go. The function asks for a slot, and for a moment of at most 2^62.
-fn evict_one(ws: &mut [u64], cap: usize, config: BucketConfig, line: Line)
+fn evict_one(
+    out: &impl Print,
+    ws: &mut [u64],
+    cap: usize,
+    config: BucketConfig,
+    line: Line,
+) -> io::Result<()>
     requires { Intact cap ws.old × Accepted config }
 {
     if shard_map::len(ws, cap) == 0 {
-        print::skipped();
-        return;
+        return print::skipped(out);
     }
     if 0x4000_0000_0000_0000 < line.a {
-        print::skipped();
-        return;
+        return print::skipped(out);
     }
     match evict::evict_one(ws, cap, config, Nanos(line.a), line.b != 0) {
-        Room::Made => print::answer(0, 0),
-        Room::Refused(due) => print::answer(1, due.wait.0),
+        Room::Made => print::answer(out, 0, 0),
+        Room::Refused(due) => print::answer(out, 1, due.wait.0),
     }
 }
 
 // position HASH KEY: code 3 where there is no such slot, else its place, counted from 1.
-fn position(ws: &[u64], cap: usize, line: Line)
+fn position(out: &impl Print, ws: &[u64], cap: usize, line: Line) -> io::Result<()>
     requires { Intact cap ws.now }
 {
     match shard_map::position(ws, cap, line.a, line.b) {
-        Place::At(place) => print::answer(0, arith::saturating_add(place as u64, 1)),
-        Place::Nowhere => print::answer(3, 0),
+        Place::At(place) => print::answer(out, 0, arith::saturating_add(place as u64, 1)),
+        Place::Nowhere => print::answer(out, 3, 0),
     }
 }

@@ -1,33 +1,28 @@
 // What the program prints.
-use libc::STDOUT_FILENO;
+use std::io;
 
 // A code and a number, as the oracle prints them.
-pub(crate) fn answer(code: u64, number: u64) {
-    io::print_decimal(STDOUT_FILENO, code);
-    io::write_all(STDOUT_FILENO, b" ");
-    io::print_decimal(STDOUT_FILENO, number);
-    io::write_all(STDOUT_FILENO, b"\n");
+pub(crate) fn answer(out: &impl Print, code: u64, number: u64) -> io::Result<()> {
+    println!(out; "{code} {number}")
 }
 
 // An operation that was not run.
-pub(crate) fn skipped() {
-    io::write_all(STDOUT_FILENO, b"skipped\n");
+pub(crate) fn skipped(out: &impl Print) -> io::Result<()> {
+    println!(out; "skipped")
 }
 
 // All words, on one line.
-pub(crate) fn words(ws: &[u64]) {
-    let mut i: usize = 0;
-    while i < ws.len() {
-        word(i, ws[i]);
-        i += 1;
+pub(crate) fn words(out: &impl Print, ws: &[u64]) -> io::Result<()> {
+    for (i, w) in ws.iter().enumerate() {
+        word(out, i, *w)?;
     }
-    io::write_all(STDOUT_FILENO, b"\n");
+    println!(out; "")
 }
 
 // A word, parted from the one before it.
-fn word(i: usize, word: u64) {
+fn word(out: &impl Print, i: usize, word: u64) -> io::Result<()> {
     if 0 < i {
-        io::write_all(STDOUT_FILENO, b" ");
+        print!(out; " ")?;
     }
-    io::print_decimal(STDOUT_FILENO, word);
+    print!(out; "{word}")
 }

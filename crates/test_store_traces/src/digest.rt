@@ -1,14 +1,11 @@
 // A hash of all words, so that a line depends on every word.
-use libc::STDOUT_FILENO;
+use std::io;
 
 // Prints FNV-1a over the words, each taken in whole, and ends the line.
-pub(crate) fn print(ws: &[u64]) {
+pub(crate) fn print(out: &impl Print, ws: &[u64]) -> io::Result<()> {
     let mut digest: u64 = 14695981039346656037;
-    let mut i: usize = 0;
-    while i < ws.len() {
-        digest = hash::wrapping_mul(digest ^ ws[i], 1099511628211);
-        i += 1;
+    for w in ws {
+        digest = hash::wrapping_mul(digest ^ *w, 1099511628211);
     }
-    io::print_decimal(STDOUT_FILENO, digest);
-    io::write_all(STDOUT_FILENO, b"\n");
+    println!(out; "{digest}")
 }

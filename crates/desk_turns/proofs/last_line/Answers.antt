@@ -6,7 +6,7 @@ use Rattle.desk_turns.specs.Feeding.{state_of}
 use Rattle.desk_turns.proofs.last_line.Goals as goal
 
 pub returns-then-pending-eq0 : goal.returns-then-pending-eq0
-returns-then-pending-eq0 c = let a = c.args in
+returns-then-pending-eq0 g c = let a = c.args in
     let none = no_last_line desk a.pending a.input.now (state_of a.feed a.memory.now) (omega (arith, c.if-pending-eq0.true)) in
     record {
       answers = rw c.unprinted-feed.ensures none;
@@ -15,10 +15,10 @@ returns-then-pending-eq0 c = let a = c.args in
     }
 
 pub answer_line-requires : goal.answer_line-requires
-answer_line-requires c = rw c.unprinted-feed.ensures (omega (arith, c.requires.1))
+answer_line-requires g c = rw c.unprinted-feed.ensures (omega (arith, c.requires.1))
 
 pub returns : goal.returns
-returns c = let a = c.args in
+returns g c = let a = c.args in
     let answered = c.answer_line.ensures in
     let is-answered = rw c.unprinted-feed.ensures at answered.answers in
     let last = last_is_answered desk a.pending a.input.now (state_of a.feed a.memory.now) in
