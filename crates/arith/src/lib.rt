@@ -1,4 +1,6 @@
 // The 64-bit arithmetic that Rust has as methods of its integers, each function equal to a definition on the natural numbers.
+#![tactic(auto)]
+
 ghost use Rattle.std.specs.Prelude.{◌≡◌, ◌+◌, ◌-◌, ◌*◌, ◌<◌, ◌^◌, min, max};
 ghost use Rattle.arith.specs.Arith.{ceil_div, saturated};
 

@@ -1,4 +1,6 @@
 // The token bucket, by value: its shortfall in parts, and the moment at which that was the shortfall. Every function is exact for any stored words.
+#![tactic(auto)]
+
 ghost use Rattle.std.specs.Prelude.{◌≡◌, ◌≤◌, max};
 ghost use Rattle.arith.specs.Arith.{saturated};
 ghost use Rattle.bucket.specs.Bucket.{Accepted, full_parts, most_shortfall, read_shortfall, shortfall_at, available_at, full_at, fresh, grown, wait_at};

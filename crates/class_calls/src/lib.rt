@@ -1,5 +1,7 @@
 // The calls that look at the class table: set-up and clear with a table, and a try through a class. Settings, table, arguments and lent words are of any
 // kind. A call that is refused by number changes no word. The number of classes is taken from the table, whatever the settings say.
+#![tactic(auto)]
+
 ghost use Rattle.std.specs.Prelude.{◌≡◌, ◌+◌, ◌*◌, ◌≤◌, length};
 ghost use Rattle.rows.specs.Outcome.{outcome};
 ghost use Rattle.bucket.specs.Bucket.{Accepted};

@@ -1,5 +1,7 @@
 // Moves a store between document 01's layout and the present one without classes, from one lent memory to another. No operation asks anything of its settings
 // and words. A refusal by number changes neither memory, and the source is read only.
+#![tactic(auto)]
+
 ghost use Rattle.std.specs.Prelude.{◌≡◌, ◌+◌, ◌*◌, ◌≤◌, ◌<◌, ◌^◌, true, false, cond, not, ◌++◌, length, take, set};
 ghost use Rattle.rows.specs.Outcome.{outcome};
 ghost use Rattle.settings.specs.Settings.{settings_refusal, first_refusal, size_refusal};

@@ -1,4 +1,6 @@
 // Moves one shard from document 01's layout to the present one, and back: the checks of its words, and the copies.
+#![tactic(auto)]
+
 ghost use Rattle.std.specs.Prelude.{◌≡◌, ◌+◌, ◌*◌, ◌≤◌, ◌<◌, true, false, cond, eqb, length, get_or};
 ghost use Rattle.index.specs.Exact.{copies};
 ghost use Rattle.index.specs.Layout.{Fits, places_of, with_places, hash_of, key_of};

@@ -1,5 +1,7 @@
 // The call that lists the debts of one shard: it fills a list of records that the caller lends. Settings, arguments, words and records are of any kind. A call
 // that is refused by number writes no record, and no call writes a word of the store. What is to be written is decided first, as a plan.
+#![tactic(auto)]
+
 ghost use Rattle.std.specs.Prelude.{◌≡◌, ◌<◌, ◌≤◌, ◌∷◌, length, take};
 ghost use Rattle.rows.specs.Outcome.{outcome};
 ghost use Rattle.store.specs.Memory.{Placed};

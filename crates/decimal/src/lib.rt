@@ -1,4 +1,6 @@
 // Numbers as decimal digits: read from a field, and written.
+#![tactic(auto)]
+
 ghost use Rattle.std.specs.Prelude.{◌≡◌, ◌+◌, ◌≤◌, length};
 ghost use Rattle.rows.specs.Outcome.{outcome};
 ghost use Rattle.decimal.specs.Decimal.{front_of, at_most, number_of, digits_of, written};

@@ -1,4 +1,6 @@
 // The desk: a line of standard input is a call of the limiter, and a line of standard output its answer, as document 01 gives them.
+#![tactic(auto)]
+
 use desk_feed::MEMORY_WORDS;
 use libc::STDIN_FILENO;
 

@@ -1,4 +1,6 @@
 // What a line is answered, and what it does to the memory.
+#![tactic(auto)]
+
 ghost use Rattle.std.specs.Prelude.{◌≡◌};
 ghost use Rattle.rows.specs.Outcome.{outcome};
 ghost use Rattle.desk_answers.specs.Desk as Desk;

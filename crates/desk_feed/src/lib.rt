@@ -1,4 +1,6 @@
 // The lines of standard input, answered turn by turn. Every whole line that has been read is answered, and its answer written, before more is read.
+#![tactic(auto)]
+
 ghost use Rattle.std.specs.Prelude.{◌≡◌, false, ◌+◌, ◌*◌, ◌≤◌, ◌<◌, length};
 ghost use Rattle.desk_lines.specs.Lines.{longest_line};
 ghost use Rattle.desk_lines.specs.Printed.{longest_printed};

@@ -21,7 +21,7 @@ use Rattle.desk_lines.specs.declared.fields.IdleRead.{IdleRead}
 use Rattle.desk_lines.specs.declared.parts.RateRead.{RateRead}
 use Rattle.desk_lines.specs.declared.Line.{Line}
 use Rattle.desk_lines.specs.declared.Line.TheVariants.{SetUp, Malformed}
-use Rattle.desk_lines.specs.Fields.{fields, field_end, fields_from}
+use Rattle.desk_lines.specs.Fields.{field_end, fields_from}
 use Rattle.desk_lines.specs.Lines as Lines
 use Rattle.desk_lines.specs.Lines.{Reading, left, Taken, taken, taken_idle, taken_request, taken_rate, is_finished, finished}
 use Rattle.units.specs.Units.{nanos_of}

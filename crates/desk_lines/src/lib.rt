@@ -1,4 +1,6 @@
 // Lines of the desk program: which call a line's bytes are, and the bytes of what is printed for it.
+#![tactic(auto)]
+
 ghost use Rattle.std.specs.Prelude.{◌≡◌};
 ghost use Rattle.settings.specs.Eviction.{bounds, when_full_of};
 ghost use Rattle.desk_lines.specs.Fields.{fields_from};

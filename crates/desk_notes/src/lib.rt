@@ -1,4 +1,6 @@
 // What is written on standard error for a line that is answered with 9: the line's number, and why. A note is one line, and one write.
+#![tactic(auto)]
+
 ghost use Rattle.std.specs.Prelude.{◌≤◌, length};
 
 use desk_reasons::{Fault, Reason};

@@ -1,4 +1,6 @@
 // Reads of standard input: what a read brought.
+#![tactic(auto)]
+
 ghost use Rattle.std.specs.Prelude.{◌≡◌, ◌+◌, ◌^◌, ◌<◌, length, take};
 ghost use Rattle.desk_reads.specs.Reads.{Grows, brought_by};
 

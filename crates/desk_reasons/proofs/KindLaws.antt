@@ -2,13 +2,13 @@
 use Prim.Native.Nat.{ℕ, zero, suc, ◌≤◌, ◌<◌}
 use native.Mathlib.Omega.{arith}
 use mathlib.Core.Path.{◌≡◌, refl, sym, ◌∙◌}
-use mathlib.Core.Bool.{true, false}
-use mathlib.Core.List.{List, [], ◌∷◌}
+use mathlib.Core.Bool.{false}
+use mathlib.Core.List.{List, []}
 use lib.Dec.{eqb}
 use lib.ListN.{length, get_or, drop, drop_of_length-le}
 use Rattle.desk_lines.specs.Lines.{most32, most64, is_dash}
 use Rattle.desk_reasons.specs.declared.kinds.Kind.{Kind}
-use Rattle.desk_reasons.specs.declared.kinds.Kind.TheVariants.{None, Number, Idle}
+use Rattle.desk_reasons.specs.declared.kinds.Kind.TheVariants.{None, Number}
 use Rattle.desk_reasons.specs.Reasons.{request_kinds, reserve_kinds, refund_kinds, remove_kinds, set_up_kinds, kinds_of, first_kind, known, letter_in}
 use borrow.Author.Tests.{eq-eqb, ne_eqb}
 

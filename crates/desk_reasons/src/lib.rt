@@ -1,4 +1,6 @@
 // Why a line of the desk is answered with 9: the first of its fields that is at fault and what is wrong with it, or the line's place in the input.
+#![tactic(auto)]
+
 ghost use Rattle.std.specs.Prelude.{◌≡◌, ◌+◌, ◌^◌, ◌≤◌, ◌<◌, length};
 ghost use Rattle.desk_lines.specs.Fields.{fields_from};
 ghost use Rattle.desk_lines.specs.Lines.{longest_line};

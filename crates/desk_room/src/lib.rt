@@ -1,4 +1,6 @@
 // How many modems a store has room for in so many words: what the desk tells where line 1 asks for more.
+#![tactic(auto)]
+
 ghost use Rattle.std.specs.Prelude.{◌≡◌};
 ghost use Rattle.desk_room.specs.Room as Room;
 

@@ -1,4 +1,6 @@
 // Turns of the desk program: the whole lines among the bytes that have been read are answered, and what is left of them is kept; and the last line.
+#![tactic(auto)]
+
 ghost use Rattle.std.specs.Prelude.{◌≡◌, ◌+◌, ◌*◌, ◌≤◌, false, length};
 ghost use Rattle.desk_lines.specs.Printed.{longest_printed};
 ghost use Rattle.desk_turns.specs.Feeding.{OneLine, WholeLines, OneTurn, LastLine};

@@ -1,4 +1,6 @@
 // What the desk tells a person, all of it on standard error: standard output has the answers and nothing else.
+#![tactic(auto)]
+
 use desk_answers::Stage;
 use desk_feed::{Ending, MEMORY_WORDS, Ran};
 use libc::STDERR_FILENO;

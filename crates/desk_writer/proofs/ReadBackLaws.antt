@@ -1,5 +1,5 @@
 -- A written line is read as its call, over the reader's own definition.
-use Prim.Native.Nat.{ℕ, ◌+◌, ◌*◌, ◌^◌, ◌≤◌, ◌<◌}
+use Prim.Native.Nat.{ℕ, ◌+◌, ◌^◌, ◌≤◌, ◌<◌}
 use native.Mathlib.Omega.{arith}
 use mathlib.Core.Path.{◌≡◌, refl, sym, ap, ◌∙◌}
 use mathlib.Core.Bool.{true, false, true≢false}
@@ -9,13 +9,12 @@ use lib.ListN.{length, take, drop, length-append}
 use lib.Seq.{take-append_seam, drop-append_seam}
 use Rattle.arith.proofs.Cases.{by_test}
 use Rattle.units.specs.Units.{nanos_of}
-use Rattle.decimal.specs.declared.OptionNumber.TheVariants as number
-use Rattle.decimal.specs.Decimal.{is_digit, all_digits, number_of, digits_of}
+use Rattle.decimal.specs.Decimal.{is_digit, all_digits, digits_of}
 use Rattle.decimal.proofs.ReadBackLaws.{digits_are_digits, digits_read_back}
 use Rattle.rows.specs.Outcome.{outcome}
 use Rattle.scan.specs.Bytes.{index_after, index_of}
 use Rattle.desk_lines.specs.declared.Request.{Request}
-use Rattle.desk_lines.specs.Fields.{space, fields, on_first}
+use Rattle.desk_lines.specs.Fields.{space, fields}
 use Rattle.desk_lines.specs.Lines.{Reading, left, Taken, taken, taken_request, finished, most64, most32, longest_line, line_of_letter, line_of_fields}
 use Rattle.desk_lines.specs.Lines as reader
 use Rattle.desk_lines.specs.declared.Line.{Line}
@@ -24,7 +23,7 @@ use Rattle.desk_lines.specs.Printed.{line_feed}
 use Rattle.desk_lines.proofs.FieldLaws.{digit_is_no_space}
 use Rattle.desk_writer.specs.declared.DeskCall.{DeskCall}
 use Rattle.desk_writer.specs.declared.DeskCall.TheVariants.{Try, Peek, Reserve, Refund, Remove}
-use Rattle.desk_writer.specs.Writer.{field, spaced, request_numbers, letter_of, numbers_of, bytes_of, written_line, written, as_read, RequestFits, Fits}
+use Rattle.desk_writer.specs.Writer.{spaced, request_numbers, letter_of, numbers_of, bytes_of, written_line, written, as_read, RequestFits, Fits}
 use Rattle.desk_writer.proofs.SizeLaws.{line_size}
 use Rattle.desk_writer.proofs.LongestLaws.{written_line_has_at_most_76_bytes}
 use borrow.Author.Tests.{le-leb, lt-leb, ne_eqb}

@@ -8,12 +8,9 @@ use mathlib.Core.List.{List, [], ◌∷◌, ◌++◌}
 use lib.Dec.{eqb, leb}
 use lib.ListN.{length, length-append}
 use Rattle.arith.proofs.Cases.{by_test, by_le}
-use Rattle.decimal.specs.declared.OptionNumber.{OptionNumber}
-use Rattle.decimal.specs.declared.OptionNumber.TheVariants as number
-use Rattle.decimal.specs.Decimal.{is_digit, all_digits, decimal_from, number_of, digits_from, digits_of}
+use Rattle.decimal.specs.Decimal.{is_digit, all_digits, decimal_from, number_of, digits_from}
 use Rattle.decimal.proofs.ReadLaws.{one_digit_more_fits}
 use Rattle.decimal.proofs.WriteLaws.{one_digit, more_digits, some_left}
-use Rattle.desk_lines.specs.declared.Request.{Request}
 use Rattle.desk_lines.specs.declared.Line.{Line}
 use Rattle.desk_lines.specs.declared.Line.TheVariants as line
 use Rattle.desk_lines.specs.Fields.{space, fields, on_first}
@@ -23,7 +20,7 @@ use Rattle.desk_lines.specs.Lines as reader
 use Rattle.desk_lines.specs.Printed.{line_feed}
 use Rattle.desk_writer.specs.declared.DeskCall.{DeskCall}
 use Rattle.desk_writer.specs.declared.DeskCall.TheVariants.{Try, Peek, Reserve, Refund, Remove}
-use Rattle.desk_writer.specs.Writer.{field, spaced, request_numbers, numbers_of, bytes_of, written_line, as_read}
+use Rattle.desk_writer.specs.Writer.{field, spaced, request_numbers, bytes_of, written_line, as_read}
 use Rattle.desk_writer.proofs.SizeLaws.{spaced_none_size, spaced_size, spaced_append_size}
 use borrow.Author.Tests.{leb-true}
 

@@ -1,23 +1,21 @@
 -- A line is stored number by number, and what is stored is the line of the definition.
-use Prim.Native.Nat.{ℕ, ◌+◌, ◌≤◌, ◌<◌}
+use Prim.Native.Nat.{ℕ, ◌+◌, ◌≤◌}
 use native.Mathlib.Omega.{arith}
 use native.Mathlib.Nat.{zero-add}
 use mathlib.Core.Path.{◌≡◌, refl, sym, ap, ◌∙◌}
-use mathlib.Core.List.{List, [], ◌∷◌, ◌++◌, append_assoc, append-nil}
-use lib.ListN.{length, drop, set, length-append}
-use lib.Seq.{sets, length-sets, sets-eq}
+use mathlib.Core.List.{List, [], ◌∷◌, ◌++◌, append-nil}
+use lib.ListN.{length, drop, set}
+use lib.Seq.{length-sets, sets-eq}
 use Rattle.rows.specs.Outcome.{Outcome, outcome}
 use Rattle.rows.proofs.OutcomeLaws.{answer_is, after_is}
 use Rattle.decimal.specs.Decimal.{digits_of}
-use Rattle.decimal.proofs.WriteLaws.{digits_count}
 use Rattle.desk_lines.specs.Printed.{line_feed, written_over}
 use Rattle.desk_lines.proofs.PrintLaws.{written_after}
 use Rattle.units.specs.declared.Nanos.{Nanos}
 use Rattle.desk_lines.specs.declared.Request.{Request}
 use Rattle.desk_writer.specs.declared.DeskCall.{DeskCall}
 use Rattle.desk_writer.specs.declared.DeskCall.TheVariants.{Try, Peek, Reserve, Refund, Remove}
-use Rattle.desk_writer.specs.declared.Written.{Written}
-use Rattle.desk_writer.specs.Writer.{field, spaced, request_numbers, numbers_of, bytes_of, written_line, too_short, written}
+use Rattle.desk_writer.specs.Writer.{field, spaced, request_numbers, bytes_of, written_line, written}
 use Rattle.desk_writer.proofs.SizeLaws.{spaced_none_size, spaced_size, spaced_append, spaced_append_size, line_size}
 use borrow.Author.Tests.{le-leb}
 

@@ -1,5 +1,7 @@
 // Exercises for the desk, from lessons as people write them: what `lesson_lines` reads is written as lines of the desk, and what is wrong with a line is told
 // on standard error, with its number, the place and its text. In the end it is told how many lines were written and how many were left out.
+#![tactic(auto)]
+
 ghost use Rattle.std.specs.Prelude.{◌≡◌, ◌<◌, ◌≤◌, true, length};
 ghost use Rattle.lesson_run.specs.Run.{Stands, Stepped, Counted};
 ghost use Rattle.exercise.specs.Described.{Inside, step_after, Finished};

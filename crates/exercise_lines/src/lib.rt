@@ -1,4 +1,6 @@
 // The calls of a village: a call, and then the same for one modem after another, at moments a spacing apart.
+#![tactic(auto)]
+
 ghost use Rattle.std.specs.Prelude.{◌≡◌, true, ◌+◌, ◌*◌, ◌-◌, leb};
 ghost use Rattle.desk_lines.specs.Lines.{most64};
 ghost use Rattle.exercise_lines.specs.Repeats.{request_on, call_on, request_within, within64};

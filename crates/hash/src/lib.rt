@@ -1,4 +1,6 @@
 // FNV-1a for 64 bits (draft-eastlake-fnv), over a string of bytes and over a key.
+#![tactic(auto)]
+
 ghost use Rattle.std.specs.Prelude.{◌≡◌, ◌+◌, ◌*◌, ◌%◌, ◌^◌};
 ghost use Rattle.hash.specs.Fnv as Fnv;
 

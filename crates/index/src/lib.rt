@@ -1,6 +1,8 @@
 // An index by hash over lent words. A place holds 0, or the number of an item plus 1. A hash has a home place, and its walk goes from there, round, up to the
 // first empty place. Removal empties the item's place. Then it empties each place after it, up to the first empty one, and adds its item again. Last, the last
 // item gets the number that came free.
+#![tactic(auto)]
+
 ghost use Rattle.std.specs.Prelude.{◌≡◌, ◌+◌, ◌-◌, ◌*◌, ◌^◌, ◌<◌, ◌≤◌, length, if◌then◌else◌, nat_le, slice_set};
 ghost use Rattle.index.specs.Walk as Walk;
 ghost use Rattle.index.specs.code.Trail.{Trail, from_home, known_after};

@@ -111,6 +111,7 @@ module _ (at : Nanos) (l : Ledger) where
 
   one_look : (left : ℕ) (m : Ledger) → 0 < left → sweep at left m ≡ sweep at (left - 1) (look at m)
   unfolding sweep look Round.sweep
+  one_look zero m more = absurd (omega (arith, more))
   one_look (suc left) m more = let one : suc left - 1 ≡ left = omega arith in rw one refl
 
   row_is_swept : (end left : ℕ) → left ≤ end → end ≤ l.debts.count → unsettled_before at l end left ≡ true

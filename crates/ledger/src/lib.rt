@@ -1,5 +1,7 @@
 // The debts of keys that were evicted before their buckets were full, by the hash of the key. A key that comes back starts with its
 // debt, if the ledger still has it. The debts lie in lent words: the count, the cursor, then two words for each of `cap` debts; their index comes last.
+#![tactic(auto)]
+
 ghost use Rattle.std.specs.Prelude.{◌≡◌, ◌-◌, ◌≤◌, ◌<◌, length};
 ghost use Rattle.rows.specs.declared.Place.TheVariants.{Nowhere};
 ghost use Rattle.rows.specs.Outcome.{outcome};

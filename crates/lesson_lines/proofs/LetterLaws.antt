@@ -9,9 +9,7 @@ use Rattle.desk_lines.proofs.FieldLaws.{found_from}
 use Rattle.lesson_words.specs.declared.Fault.TheVariants as fault
 use Rattle.lesson_lines.specs.declared.words.Rest.TheVariants.{Left}
 use Rattle.lesson_lines.specs.declared.words.LetterRead.{LetterRead}
-use Rattle.lesson_lines.specs.declared.calls.CallRead.{CallRead}
 use Rattle.lesson_lines.specs.declared.calls.CallRead.TheVariants as read
-use Rattle.lesson_lines.specs.declared.Meaning.{Meaning}
 use Rattle.lesson_lines.specs.declared.Meaning.TheVariants as meaning
 use Rattle.lesson_lines.specs.Lesson.{try_of, peek_of, reserve_of, refund_of, remove_of, call_of, call_read}
 use Rattle.lesson_lines.specs.Lesson.{settings, village, village_of, by_letter, taken_letter, letter_read, word_from, words_mean, uncommented}

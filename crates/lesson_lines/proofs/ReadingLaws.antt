@@ -1,20 +1,19 @@
 -- The words of a line, by the tests of the code.
-use Prim.Native.Nat.{ℕ, ◌+◌, ◌-◌, ◌≤◌, ◌<◌}
+use Prim.Native.Nat.{ℕ, ◌-◌, ◌≤◌, ◌<◌}
 use native.Mathlib.Omega.{arith}
-use mathlib.Core.Path.{◌≡◌, refl, sym, ap, ◌∙◌}
+use mathlib.Core.Path.{◌≡◌}
 use mathlib.Core.Bool.{true, false}
-use mathlib.Core.List.{List, [], ◌∷◌, ◌++◌}
+use mathlib.Core.List.{List}
 use lib.Dec.{eqb, leb}
-use lib.ListN.{length, take, drop, get_or, length-drop}
+use lib.ListN.{length, drop, get_or, length-drop}
 use Rattle.arith.proofs.Cases.{by_test, by_le}
 use Rattle.rows.specs.Segments.{segment}
 use Rattle.decimal.specs.Decimal.{number_of, all_digits, decimal_from}
 use Rattle.decimal.specs.declared.OptionNumber.TheVariants as number
-use Rattle.lesson_words.specs.Words.{blanks_ahead, word_size, small}
-use Rattle.lesson_words.specs.Values.{plain_of, number_fault, value_of}
+use Rattle.lesson_words.specs.Words.{small}
+use Rattle.lesson_words.specs.Values.{plain_of, value_of}
 use Rattle.lesson_words.specs.declared.Kind.{Kind}
 use Rattle.lesson_words.specs.declared.Kind.TheVariants as kind
-use Rattle.lesson_words.specs.declared.Fault.{Fault}
 use Rattle.lesson_words.specs.declared.Fault.TheVariants as fault
 use Rattle.lesson_words.specs.declared.Value.{Value}
 use Rattle.lesson_words.specs.declared.Value.TheVariants as value

@@ -1,4 +1,6 @@
 // The lines of a lesson: what a line means, or what is wrong with it and where.
+#![tactic(auto)]
+
 ghost use Rattle.std.specs.Prelude.{◌≡◌, ◌≤◌, length};
 ghost use Rattle.desk_writer.specs.Writer.{field};
 ghost use Rattle.lesson_lines.specs.Lesson as Lesson;

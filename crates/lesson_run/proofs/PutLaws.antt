@@ -1,17 +1,16 @@
 -- What a writer left in the buffer.
-use Rattle.std.proofs.Common.{◌≡◌, ℕ, ◌+◌, ◌<◌, ◌≤◌, List, [], ◌∷◌, ◌++◌, length, take, drop, sym, refl, ap, ◌∙◌, zero-add, arith, length-append, le-leb}
-use lib.Seq.{sets, sets-eq, take-append_seam}
-use Rattle.rows.specs.Outcome.{Outcome, outcome}
+use Rattle.std.proofs.Common.{◌≡◌, ℕ, ◌<◌, ◌≤◌, List, [], ◌∷◌, ◌++◌, length, take, drop, ap, ◌∙◌, zero-add, arith, length-append, le-leb}
+use lib.Seq.{sets-eq, take-append_seam}
+use Rattle.rows.specs.Outcome.{outcome}
 use Rattle.rows.proofs.OutcomeLaws.{answer_is, after_is}
 use Rattle.decimal.specs.declared.OptionNumber.{OptionNumber}
 use Rattle.decimal.specs.declared.OptionNumber.TheVariants as number
-use Rattle.decimal.specs.Decimal.{digits_of}
 use Rattle.decimal.proofs.WriteLaws.{digits_count}
 use Rattle.desk_lines.specs.Printed.{written_over, line_feed}
 use Rattle.desk_writer.specs.declared.DeskCall.{DeskCall}
 use Rattle.desk_writer.specs.declared.DeskCall.TheVariants.{Try, Peek, Reserve, Refund, Remove}
 use Rattle.desk_writer.specs.declared.Written.{Written}
-use Rattle.desk_writer.specs.Writer.{field, spaced, request_numbers, bytes_of, written_line, written}
+use Rattle.desk_writer.specs.Writer.{spaced, request_numbers, written_line, written}
 use Rattle.desk_writer.proofs.SizeLaws.{spaced_none_size, spaced_size, spaced_append_size, line_size}
 use Rattle.desk_writer.proofs.ReadBackLaws.{buffer_begins_with_the_line}
 use Rattle.lesson_lines.specs.declared.Limits.{Limits}

@@ -1,14 +1,13 @@
 -- What is left of a lesson before a step and after it.
-use Rattle.std.proofs.Common.{◌≡◌, ℕ, zero, suc, ◌+◌, ◌-◌, ◌<◌, ◌≤◌, true, false, eqb, ltb, leb, List, [], ◌∷◌, ◌++◌, length, get_or, take, drop, sym, refl, ap, ◌∙◌, true≢false, add-one, arith, length-drop, drop_of_length-le, take_all, drop-drop, ne_eqb}
+use Rattle.std.proofs.Common.{◌≡◌, ℕ, suc, ◌+◌, ◌-◌, ◌<◌, ◌≤◌, false, eqb, ltb, leb, List, [], ◌∷◌, length, take, drop, refl, ap, ◌∙◌, add-one, arith, length-drop, drop_of_length-le, take_all, drop-drop, ne_eqb}
 use Rattle.arith.proofs.Cases.{by_test, by_le}
 use Rattle.scan.specs.Bytes.{index_of}
-use Rattle.desk_cutting.specs.Cutting.{cut, last_line, lines_of}
+use Rattle.desk_cutting.specs.Cutting.{cut, lines_of}
 use Rattle.desk_cutting.proofs.CutLaws.{no_feed, at_feed}
 use Rattle.desk_lines.specs.Printed.{line_feed}
 use Rattle.desk_writer.specs.declared.DeskCall.{DeskCall}
 use Rattle.desk_writer.specs.Writer.{written_line}
 use Rattle.exercise_lines.specs.Repeats.{call_on, within64}
-use Rattle.lesson_words.specs.declared.Fault.{Fault}
 use Rattle.lesson_lines.specs.declared.Limits.{Limits}
 use Rattle.lesson_lines.specs.declared.words.Rest.{Rest}
 use Rattle.lesson_lines.specs.declared.words.Rest.TheVariants.{Left, Wrong}
@@ -21,14 +20,12 @@ use Rattle.lesson_lines.specs.Written.{limits_bytes}
 use Rattle.lesson_words.specs.declared.Kind.TheVariants as kind
 use Rattle.lesson_lines.specs.Lesson.{taken, finished, taken_limits, call_of, call_read, village}
 use Rattle.lesson_lines.specs.Lesson.{meaning_of, moment_in, clock_after, village_of, set_up_by, by_letter, letter_read, words_mean, uncommented, taken_letter, word_from}
-use Rattle.lesson_writer.specs.Lines.{calls_from, limits_line}
-use Rattle.lesson_run.specs.declared.Note.{Note}
-use Rattle.lesson_run.specs.declared.Note.TheVariants as note
+use Rattle.lesson_writer.specs.Lines.{calls_from}
 use Rattle.lesson_run.specs.declared.Progress.{Progress}
 use Rattle.lesson_run.specs.declared.Step.{Step}
 use Rattle.lesson_run.specs.Run.{all_written, written, falls_to, told, next_number, Output, and_then, output_of, calls_left, left_of, at_line, Good, line_in}
 use Rattle.lesson_run.specs.Run.{notes_in}
-use Rattle.lesson_run.specs.Run.{Stepped, one_place_on, CallPut, quiet, falls_note, calls_begun, LimitsPut, CallsWithin, LineTaken}
+use Rattle.lesson_run.specs.Run.{one_place_on, CallPut, falls_note, calls_begun, CallsWithin, LineTaken}
 
 -- The calls of a line that is read are within 64 bits.
 village_within : (from count spacing : ℕ) (r : CallRead) → CallsWithin (village_of from count spacing r)

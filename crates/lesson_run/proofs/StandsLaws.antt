@@ -1,13 +1,11 @@
 -- A run from the start to the end: where it stands, step after step.
-use Rattle.std.proofs.Common.{◌≡◌, ℕ, ◌+◌, ◌≤◌, true, false, eqb, List, [], ◌∷◌, ◌++◌, length, take, drop, sym, refl, ap, ◌∙◌, append_assoc, append-nil, arith, length-append}
+use Rattle.std.proofs.Common.{◌≡◌, ℕ, ◌+◌, ◌≤◌, eqb, List, [], ◌∷◌, ◌++◌, length, sym, refl, ap, ◌∙◌, append_assoc, append-nil, arith, length-append}
 use Rattle.arith.proofs.Cases.{by_test}
-use Rattle.desk_cutting.specs.Cutting.{lines_of}
-use Rattle.lesson_writer.specs.Lines.{calls_from}
 use Rattle.lesson_run.specs.declared.Note.{Note}
 use Rattle.lesson_run.specs.declared.Note.TheVariants as note
 use Rattle.lesson_run.specs.declared.Progress.{Progress}
 use Rattle.lesson_run.specs.declared.Step.{Step}
-use Rattle.lesson_run.specs.Run.{all_written, Output, and_then, left_of, lesson_of, start_of, start_at, line_in, notes_in, wrong_one, wrong_in, lines_in, Stands}
+use Rattle.lesson_run.specs.Run.{and_then, left_of, lesson_of, start_of, start_at, line_in, notes_in, wrong_one, wrong_in, lines_in, Stands}
 use Rattle.lesson_run.specs.Run.{Stepped, Counted}
 use Rattle.lesson_run.proofs.RunLaws.{at_line_left}
 

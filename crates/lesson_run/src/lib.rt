@@ -1,4 +1,6 @@
 // A lesson, step by step: each step hands out at most one line for the desk and at most one note for a person.
+#![tactic(auto)]
+
 ghost use Rattle.std.specs.Prelude.{◌≡◌, ◌+◌, ◌-◌, ◌<◌, ◌≤◌, true, length};
 ghost use Rattle.exercise_lines.specs.Repeats.{within64, call_on};
 ghost use Rattle.lesson_lines.specs.Lesson as Lesson;

@@ -1,20 +1,18 @@
 -- Addresses, byte by byte.
-use Prim.Native.Nat.{ℕ, suc, ◌+◌, ◌*◌, ◌-◌, ◌≤◌, ◌<◌}
-use native.Mathlib.Omega.{arith}
+use Prim.Native.Nat.{ℕ, ◌+◌, ◌-◌, ◌≤◌, ◌<◌}
 use native.Mathlib.Numerals.{add-one}
-use mathlib.Core.Path.{◌≡◌, refl, sym, ◌∙◌}
+use mathlib.Core.Path.{◌≡◌, sym, ◌∙◌}
 use mathlib.Core.Bool.{true, false, true≢false}
-use mathlib.Core.List.{List, [], ◌∷◌}
-use lib.Dec.{eqb, leb}
+use mathlib.Core.List.{List}
+use lib.Dec.{leb}
 use lib.ListN.{length, drop, get_or, drop_of_length-le}
 use lib.Seq.{drop-cons}
-use Rattle.arith.proofs.Cases.{by_test, by_le}
-use Rattle.decimal.specs.declared.OptionNumber.{OptionNumber}
+use Rattle.arith.proofs.Cases.{by_test}
 use Rattle.decimal.specs.declared.OptionNumber.TheVariants as number
 use Rattle.decimal.specs.Decimal.{is_digit, all_digits}
 use Rattle.lesson_words.specs.Words.{small}
 use Rattle.lesson_words.specs.Addresses.{is_hex, hex_of, fits_at, all_fit, six_bytes, address_of}
-use borrow.Author.Tests.{le-leb, lt-leb, leb-true, leb-false, eq-eqb, ne_eqb}
+use borrow.Author.Tests.{leb-true, eq-eqb, ne_eqb}
 
 -- A hexadecimal digit is a digit or a letter up to `f`.
 pub digit_range : (b : ℕ) → is_digit b ≡ true → (48 ≤ b) × (b ≤ 57)

@@ -1,11 +1,10 @@
 -- Times, as the code comes to them.
-use Prim.Native.Nat.{ℕ, zero, suc, ◌+◌, ◌*◌, ◌-◌, ◌/◌, ◌%◌, ◌^◌, ◌≤◌, ◌<◌}
+use Prim.Native.Nat.{ℕ, zero, suc, ◌+◌, ◌*◌, ◌-◌, ◌/◌, ◌^◌, ◌≤◌, ◌<◌}
 use native.Mathlib.Omega.{arith}
-use native.Mathlib.Numerals.{add-one}
 use native.Mathlib.Nat.{add-zero, le-div_iff_mul-le, div-lt_iff_lt-mul, mul-le-mul_right, mul-le-mul_left, pow-le-pow_right}
-use lib.Pow.{pow-add, pow_pos}
+use lib.Pow.{pow-add}
 use mathlib.Core.Path.{◌≡◌, refl, sym, ap, ◌∙◌}
-use mathlib.Core.Bool.{true, false, true≢false}
+use mathlib.Core.Bool.{true, true≢false}
 use mathlib.Core.List.{List, [], ◌∷◌}
 use lib.Dec.{eqb, leb}
 use lib.ListN.{length, take, drop, get_or, length-drop}
@@ -15,7 +14,6 @@ use Rattle.decimal.specs.declared.Digits.{Digits}
 use Rattle.decimal.specs.Decimal.{is_digit, all_digits, front_of, digits_ahead, decimal_from}
 use Rattle.decimal.proofs.ReadLaws.{ahead_within, ahead_are_digits, one_digit_more_fits, front_inside}
 use Rattle.lesson_words.specs.declared.Fault.TheVariants as fault
-use Rattle.lesson_words.specs.declared.Value.{Value}
 use Rattle.lesson_words.specs.declared.Value.TheVariants.{Number, Wrong}
 use Rattle.lesson_words.specs.declared.times.Unit.{Unit}
 use Rattle.lesson_words.specs.declared.times.Fraction.{Fraction}

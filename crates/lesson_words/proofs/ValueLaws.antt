@@ -1,13 +1,12 @@
 -- Values of words, by the tests of the code.
 use Prim.Native.Nat.{ℕ, ◌+◌, ◌≤◌, ◌<◌}
 use native.Mathlib.Omega.{arith}
-use mathlib.Core.Path.{◌≡◌, refl, sym, ◌∙◌}
+use mathlib.Core.Path.{◌≡◌, refl}
 use mathlib.Core.Bool.{true, false}
 use mathlib.Core.List.{List, [], ◌∷◌}
 use lib.ListN.{length, drop, get_or}
 use Rattle.decimal.specs.Decimal.{all_digits}
 use Rattle.lesson_words.specs.declared.Fault.TheVariants as fault
-use Rattle.lesson_words.specs.declared.Value.{Value}
 use Rattle.lesson_words.specs.declared.Value.TheVariants.{Number, Wrong}
 use Rattle.lesson_words.specs.Times.{most64, time_of}
 use Rattle.lesson_words.specs.Values.{number_fault, later, moment_of}

@@ -1,4 +1,6 @@
 // The words of a lesson: where a line's next word is, and the number that a word stands for, or what is wrong with it.
+#![tactic(auto)]
+
 ghost use Rattle.std.specs.Prelude.{◌≡◌, ◌+◌, ◌≤◌, length, drop};
 ghost use Rattle.decimal.specs.Decimal.{all_digits};
 ghost use Rattle.lesson_words.specs.Words as Words;

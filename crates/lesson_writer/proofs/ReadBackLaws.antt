@@ -4,30 +4,25 @@ use native.Mathlib.Omega.{arith}
 use mathlib.Core.Path.{◌≡◌, refl, sym, ap, ◌∙◌}
 use mathlib.Core.Bool.{true, false, true≢false}
 use mathlib.Core.List.{List, [], ◌∷◌, ◌++◌, append_assoc, append-nil}
-use lib.Dec.{eqb, leb}
-use lib.ListN.{length, get_or}
-use Rattle.arith.proofs.Cases.{by_test}
-use Rattle.units.specs.Units.{nanos_of}
-use Rattle.units.specs.declared.OptionNanos.{OptionNanos}
-use Rattle.units.specs.declared.OptionNanos.TheVariants as nanos
+use lib.ListN.{length}
 use Rattle.decimal.specs.declared.OptionNumber.{OptionNumber}
 use Rattle.decimal.specs.declared.OptionNumber.TheVariants as number
 use Rattle.decimal.specs.Decimal.{is_digit, all_digits, digits_of}
 use Rattle.decimal.proofs.ReadBackLaws.{digits_are_digits}
-use Rattle.desk_lines.specs.Fields.{space, fields}
-use Rattle.desk_lines.specs.Lines.{left, Taken, taken, taken_idle, is_dash, most64, most32, most_rule, longest_line, line_of_letter, line_of}
+use Rattle.desk_lines.specs.Fields.{fields}
+use Rattle.desk_lines.specs.Lines.{left, taken_idle, is_dash, most64, most32, most_rule, longest_line, line_of_letter, line_of}
 use Rattle.desk_lines.specs.declared.Line.{Line}
 use Rattle.desk_lines.specs.declared.Line.TheVariants.{SetUp}
 use Rattle.desk_writer.specs.declared.DeskCall.{DeskCall}
-use Rattle.desk_writer.specs.Writer.{field, spaced, bytes_of, as_read, Fits}
+use Rattle.desk_writer.specs.Writer.{field, spaced, Fits}
 use Rattle.desk_writer.proofs.ReadBackLaws.{digits_are_a_field, number_is_taken, written_line_reads_back}
 use Rattle.exercise_lines.specs.Repeats.{call_on}
 use Rattle.lesson_lines.specs.declared.Limits.{Limits}
 use Rattle.lesson_lines.specs.declared.Meaning.{Meaning}
 use Rattle.lesson_lines.specs.declared.Meaning.TheVariants as meaning
-use Rattle.lesson_lines.specs.Written.{idle_field, six_numbers, limits_bytes, idle_time, settings_of}
+use Rattle.lesson_lines.specs.Written.{idle_field, limits_bytes, idle_time, settings_of}
 use Rattle.lesson_writer.specs.Lines.{calls_from, all_bytes, all_read, lines_of, named_by, IdleFits, LimitsFit}
-use borrow.Author.Tests.{le-leb, eq-eqb, ne_eqb}
+use borrow.Author.Tests.{le-leb, ne_eqb}
 
 -- A number with a space in front is a field more.
 field_is_more : (n : ℕ) (bs : List ℕ) (fs : List (List ℕ)) → fields bs ≡ [] ∷ fs → fields (field n ++ bs) ≡ [] ∷ digits_of n ∷ fs

@@ -1,12 +1,11 @@
 -- A settings line is put number by number, and what is put is the line of the definition.
-use Prim.Native.Nat.{ℕ, suc, ◌+◌, ◌≤◌}
+use Prim.Native.Nat.{ℕ, ◌+◌, ◌≤◌}
 use native.Mathlib.Omega.{arith}
 use native.Mathlib.Numerals.{add-one}
 use mathlib.Core.Path.{◌≡◌, refl, sym, ap, ◌∙◌}
-use mathlib.Core.List.{List, [], ◌∷◌, ◌++◌, append_assoc, append-nil}
+use mathlib.Core.List.{List, [], ◌∷◌, ◌++◌, append_assoc}
 use lib.ListN.{length, set, length-append}
-use lib.Seq.{sets}
-use Rattle.rows.specs.Outcome.{Outcome, outcome}
+use Rattle.rows.specs.Outcome.{outcome}
 use Rattle.decimal.specs.declared.OptionNumber.{OptionNumber}
 use Rattle.decimal.specs.declared.OptionNumber.TheVariants as number
 use Rattle.decimal.specs.Decimal.{digits_of}
@@ -15,7 +14,7 @@ use Rattle.desk_lines.specs.Printed.{line_feed, printed_field, written_over}
 use Rattle.desk_lines.proofs.PrintLaws.{field_short}
 use Rattle.desk_writer.specs.Writer.{field, spaced}
 use Rattle.lesson_lines.specs.declared.Limits.{Limits}
-use Rattle.lesson_lines.specs.Written.{idle_field, six_numbers, limits_bytes}
+use Rattle.lesson_lines.specs.Written.{idle_field, six_numbers}
 use Rattle.lesson_writer.specs.Lines.{idle_printed, four_printed, room_printed, limits_line}
 
 -- Two bytes put one after the other.

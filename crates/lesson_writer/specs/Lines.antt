@@ -1,5 +1,5 @@
 -- The desk's lines that a line of a lesson is written as, and the calls that they are.
-use Rattle.std.specs.Prelude.{ℕ, zero, suc, ◌≤◌, cond, List, [], ◌∷◌, ◌++◌}
+use Rattle.std.specs.Prelude.{ℕ, zero, suc, ◌≤◌, List, [], ◌∷◌, ◌++◌}
 use Rattle.decimal.specs.declared.OptionNumber.{OptionNumber}
 use Rattle.decimal.specs.declared.OptionNumber.TheVariants as number
 use Rattle.desk_lines.specs.Fields.{space}

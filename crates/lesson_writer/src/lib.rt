@@ -1,4 +1,6 @@
 // Settings lines written from what a lesson means: the bytes that the desk reads as these settings, LF at the end, in a lent buffer.
+#![tactic(auto)]
+
 ghost use Rattle.std.specs.Prelude.{◌≡◌, [], ◌∷◌, ◌+◌, ◌≤◌, length};
 ghost use Rattle.rows.specs.Outcome.{outcome};
 ghost use Rattle.desk_lines.specs.Printed.{written_over};

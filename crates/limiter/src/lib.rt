@@ -1,5 +1,7 @@
 // The limiter for callers in C and Rust: the ten operations on plain numbers and lent words, the number of words to lend, and a hash for keys.
 // Whatever a caller gives, a call ends and answers. What each operation does is the rule of `perkey` that its contract names; its reply is told as numbers.
+#![tactic(auto)]
+
 ghost use Rattle.std.specs.Prelude.{◌≡◌};
 ghost use Rattle.rows.specs.Outcome.{outcome};
 ghost use Rattle.units.specs.Units.{nanos_of};

@@ -1,6 +1,8 @@
 // The calls with a class table, for callers in C and Rust: the table is a lent slice of words, six a class, in C a pointer and a number of words. What each
 // call does is the rule that its contract names; its reply is told as numbers. It is a separate crate so that it becomes a separate object, as
 // `limiter_modems` is (docs/DECISIONS.md).
+#![tactic(auto)]
+
 ghost use Rattle.std.specs.Prelude.{◌≡◌};
 ghost use Rattle.rows.specs.Outcome.{outcome};
 ghost use Rattle.units.specs.Units.{nanos_of};

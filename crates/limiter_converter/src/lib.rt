@@ -1,6 +1,8 @@
 // The conversions between document 01's layout and the present one, for callers in C and Rust. Both memories are lent slices of words; the source is read only.
 // What each call does is the definition that its contract names; its reply is told as numbers. It is a separate crate so that it becomes a separate object, as
 // `limiter_modems` is (docs/DECISIONS.md).
+#![tactic(auto)]
+
 ghost use Rattle.std.specs.Prelude.{◌≡◌};
 ghost use Rattle.rows.specs.Outcome.{outcome};
 ghost use Rattle.rules.specs.Replies as Replies;

@@ -1,6 +1,8 @@
 // The list of a shard's debts for callers in C and Rust: the records are a lent slice, in C a pointer and a number of records. What the call does is the rule
 // that its contract names; its reply is told as numbers. It is a separate crate so that it becomes a separate object, as `limiter_modems` is
 // (docs/DECISIONS.md).
+#![tactic(auto)]
+
 ghost use Rattle.std.specs.Prelude.{◌≡◌};
 ghost use Rattle.rows.specs.Outcome.{outcome};
 ghost use Rattle.units.specs.Units.{nanos_of};

@@ -1,6 +1,8 @@
 // Desk lines for callers in C and Rust: a function for each kind of call, which writes its line into a lent buffer. The number told is the
 // line's length in bytes, LF counted. A buffer that is shorter is refused as 13, told as code 23, and no byte of it changes.
 // It is a separate crate so that it becomes a separate object: a program that writes no desk line links none of it.
+#![tactic(auto)]
+
 ghost use Rattle.std.specs.Prelude.{◌≡◌};
 ghost use Rattle.rows.specs.Outcome.{outcome};
 ghost use Rattle.units.specs.Units.{nanos_of};

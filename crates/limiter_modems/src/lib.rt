@@ -1,6 +1,8 @@
 // The limiter for modems that are known by hardware address, for callers in C and Rust: the address is a lent slice of bytes, in C a pointer and a length.
 // What each operation does is the rule of `modems` that its contract names; its reply is told as numbers. It is a separate crate so that it
 // becomes a separate object: in one object with the exports of `limiter` the calls by key were slower (docs/DECISIONS.md).
+#![tactic(auto)]
+
 ghost use Rattle.std.specs.Prelude.{◌≡◌};
 ghost use Rattle.rows.specs.Outcome.{outcome};
 ghost use Rattle.units.specs.Units.{nanos_of};

@@ -1,5 +1,7 @@
 // The limiter for modems that are known by hardware address: five of its operations, on the six bytes of an address as a lent slice, and on settings,
 // arguments and lent words of any kind. A call that is refused by number changes no word. `identify` gives an address's hash and key.
+#![tactic(auto)]
+
 ghost use Rattle.std.specs.Prelude.{◌≡◌, length};
 ghost use Rattle.rows.specs.Outcome.{outcome};
 ghost use Rattle.modems.specs.Address as Address;

@@ -1,4 +1,6 @@
 // The power comes back: a settings line and tries, each made again at the moment that it is told until it is up, as document 02 gives them.
+#![tactic(auto)]
+
 use desk_feed::MEMORY_WORDS;
 use libc::STDIN_FILENO;
 

@@ -1,4 +1,6 @@
 // The lines of standard input, taken turn by turn. What a turn prints is written before more is read.
+#![tactic(auto)]
+
 ghost use Rattle.std.specs.Prelude.{◌≡◌, false, ◌+◌, ◌*◌, ◌≤◌, ◌<◌, length};
 ghost use Rattle.desk_answers.specs.Desk.{has_ended};
 ghost use Rattle.desk_lines.specs.Lines.{longest_line};

@@ -1,4 +1,6 @@
 // The run of a village that comes up: every row is a line's try, made at its moment and made again at the moment that a denial tells, until it ends.
+#![tactic(auto)]
+
 ghost use Rattle.std.specs.Prelude.{◌≡◌, ◌++◌, ◌∷◌, [], ◌+◌, ◌*◌, ◌<◌, ◌≤◌, length, drop};
 ghost use Rattle.outage_rows.specs.Model as Model;
 ghost use Rattle.outage_rows.specs.Layout.{row_width, rows_in, state_in, state_of};

@@ -1,4 +1,6 @@
 // Turns of the program `outage`: the whole lines among the bytes that have been read are taken, and what is left of them is kept; and the end of the input.
+#![tactic(auto)]
+
 ghost use Rattle.std.specs.Prelude.{◌≡◌, ◌+◌, ◌*◌, ◌≤◌, false, length};
 ghost use Rattle.rows.specs.Outcome.{outcome};
 ghost use Rattle.desk_answers.specs.Desk.{in_store, has_ended};

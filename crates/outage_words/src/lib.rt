@@ -1,4 +1,6 @@
 // What the program tells a person, all of it on standard error: standard output has the answers and nothing else.
+#![tactic(auto)]
+
 use desk_answers::Stage;
 use desk_feed::Ending;
 use desk_words::say;

@@ -1,4 +1,6 @@
 // The limiter: its ten operations, on settings, arguments and lent words of any kind. A call that is refused by number changes no word.
+#![tactic(auto)]
+
 ghost use Rattle.std.specs.Prelude.{◌≡◌};
 ghost use Rattle.rows.specs.Outcome.{outcome};
 ghost use Rattle.settings.specs.Settings.{limit_refusal};

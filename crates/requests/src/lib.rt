@@ -1,6 +1,8 @@
 // A request, a try or a reservation, in two halves. The attempt answers every request on a closed limiter, cost 0, a cost over the burst, and a known key;
 // where there is a rate it leaves a refused request and a new key, and `finish` answers these. An operation calls the attempt, then `finish` if the attempt
 // left the request. An export calls both itself, so that a known key's call keeps nothing in registers that only `finish` needs (docs/DECISIONS.md).
+#![tactic(auto)]
+
 ghost use Rattle.std.specs.Prelude.{◌≡◌};
 ghost use Rattle.rows.specs.Outcome.{outcome};
 ghost use Rattle.bucket.specs.declared.Request.TheVariants.{Acquire, Reserve};

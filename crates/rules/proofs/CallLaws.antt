@@ -17,7 +17,7 @@ use Rattle.store.specs.Refusals.{len_refusal}
 use Rattle.rules.specs.declared.Reply.{Reply}
 use Rattle.rules.specs.declared.Reply.TheVariants.{Count, Refused}
 use Rattle.rules.specs.Replies.{numbered}
-use Rattle.rules.specs.Asks.{Look, Ask, looks, in_force, looked_in}
+use Rattle.rules.specs.Asks.{Look, Ask, requests, looks, undoes, passes, in_force, looked_in}
 use Rattle.rules.specs.Rules.{unless_refused, ask_refusal, keyed_outcome, keyed_rule_in, keyed_rule, len_in}
 use Rattle.rules.specs.Debts.{listed, shard_numbered, debts_refusal_in, debts_in}
 use Rattle.rules.specs.Calls.{Call, keyed, whole, Whole, len, debts, Terms, by_key, Answered, clock_after, kind_of, rules, accepted}
@@ -101,6 +101,9 @@ module _ {S N : Type 0} (terms : Terms S N) where
       let accepted = (ask_not_refused settings id (looks l) ws (keyed_not_refused s n (looks l) ws none).1).0 in
       let reply = looked_in l settings.limit id (shard_at settings id.hash ws) in
       ap (λ (o : Outcome Reply (List ℕ)). o.after) (in_shard_unchanged settings id.hash ws accepted reply)
+  looked_unchanged (keyed s n (requests _ _ _)) ws read none = elim read [ ]
+  looked_unchanged (keyed s n (undoes _)) ws read none = elim read [ ]
+  looked_unchanged (keyed s n (passes _ _ _ _)) ws read none = elim read [ ]
   looked_unchanged (whole s len) ws looks_at_all none = refl
   looked_unchanged (whole s (debts at i room)) ws looks_at_all none = refl
 

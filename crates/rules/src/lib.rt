@@ -1,4 +1,6 @@
 // What an operation answers, and what a closed limiter answers. The definitions of this crate are the rules of all operations.
+#![tactic(auto)]
+
 ghost use Rattle.std.specs.Prelude.{◌≡◌};
 ghost use Rattle.rows.specs.Outcome.{outcome};
 ghost use Rattle.settings.specs.Settings.{ShapeOfAccepted, first_refusal};

@@ -1,5 +1,7 @@
 // What a limiter is set to: the rate, the bounds on its memory, and what follows from them for the store: how many shards it has, how many keys
 // each holds, and after how long an idle key may go. A settings record may hold anything; `refusal` says whether it is accepted.
+#![tactic(auto)]
+
 ghost use Rattle.std.specs.Prelude.{◌≡◌, ◌≤◌, ◌^◌};
 ghost use Rattle.bucket.specs.Bucket.{Accepted};
 ghost use Rattle.settings.specs.Powers.{exponent_for};

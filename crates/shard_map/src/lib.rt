@@ -1,4 +1,6 @@
 // One shard over lent words: the slots of its keys place by place, the hand and the sweep that go round them, and the ledger.
+#![tactic(auto)]
+
 ghost use Rattle.std.specs.Prelude.{◌≡◌, ◌<◌, length};
 ghost use Rattle.bucket.specs.Bucket.{Accepted};
 ghost use Rattle.held.specs.Held.{with_added, without_item};

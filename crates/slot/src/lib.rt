@@ -1,4 +1,6 @@
 // One key's slot: what the store keeps of a key while it has a place. Rust's `Slot` and `Entry` in one record.
+#![tactic(auto)]
+
 ghost use Rattle.std.specs.Prelude.{◌≡◌};
 ghost use Rattle.bucket.specs.Bucket.{Accepted};
 ghost use Rattle.slot.specs.Slot as Model;

@@ -1,5 +1,7 @@
 // Prints what the settings and the bucket come to at the edges that document 01 names. The gate compares the lines with the file `stdout`,
 // which was worked out by hand.
+#![tactic(auto)]
+
 mod buckets;
 mod shapes;
 

@@ -1,6 +1,8 @@
 // Prints the hash of each published FNV-1a vector, in hexadecimal, and of a few keys, in decimal, and addresses, in hexadecimal.
 // The gate compares the lines with the file `stdout`. Its values for strings are those published with FNV-1a, written down from memory and confirmed by
 // another program; those for keys and addresses were computed by such a program.
+#![tactic(auto)]
+
 use libc::STDOUT_FILENO;
 
 fn main() {

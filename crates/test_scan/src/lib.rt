@@ -1,4 +1,5 @@
 // Decimal numbers, read from the text of recorded cases, in which any other bytes part them. For test programs alone.
+#![tactic(auto)]
 
 // A number, and where the reading stands after it and the bytes that part it from the next.
 #[derive(Clone, Copy)]

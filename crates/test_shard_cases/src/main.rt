@@ -2,6 +2,8 @@
 // those that it has not; after a load line come the words of the shard. Each operation prints a line: its code and number, or for a dump the
 // words. The gate compares the lines with the file `stdout`. Its answers and words are those of the Rust oracle (oracle/record-shard-cases),
 // but for `position`, which the oracle has not, and an eviction from an empty shard, which the program skips.
+#![tactic(auto)]
+
 use bucket::BucketConfig;
 use libc::STDIN_FILENO;
 use line::Line;

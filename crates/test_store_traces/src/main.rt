@@ -4,6 +4,8 @@
 // all words after it;
 // - anything that begins with no digit, as the name of an edge of document 01 with a call in words: printed ahead of the next reply.
 // The gate compares what is printed with the file `stdout`, whose replies and words are those of the Rust oracle (oracle/record-store-traces).
+#![tactic(auto)]
+
 use libc::{STDIN_FILENO, STDOUT_FILENO};
 use line::{Call, Store};
 use rules::codes::Told;

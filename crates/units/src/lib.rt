@@ -1,5 +1,7 @@
 // The two units of time, as types of their own, so that a count of nanoseconds is never taken for one of milliseconds.
 // Rust's `Duration` and `Option<Duration>` become these.
+#![tactic(auto)]
+
 ghost use Rattle.std.specs.Prelude.{◌≡◌};
 ghost use Rattle.units.specs.Units.{millis_of};
 

@@ -1,0 +1,6 @@
+-- `wait_to` has a case for each kind of request.
+use borrow.Author.Rules.{rules}
+use Rattle.bucket.proofs.Request.wait_to.Goals as goal
+
+pub returns-in-Through : goal.returns-in-Through
+returns-in-Through c = rw c.in-Through.is c.larger.ensures

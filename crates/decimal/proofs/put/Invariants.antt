@@ -1,0 +1,24 @@
+-- `decimal::put` stores one digit, or the digits, the last one first: at each test of the loop those of `rest` are still to be stored, before place i.
+use Prim.Native.Nat.{ℕ, ◌-◌, ◌≤◌}
+use native.Mathlib.Omega.{arith}
+use mathlib.Core.List.{List}
+use mathlib.Core.Path.{◌≡◌, refl, ◌∙◌}
+use lib.ListN.{length, length-set}
+use lib.Seq.{sets}
+use Rattle.decimal.specs.Decimal.{digits_of}
+use Rattle.decimal.proofs.WriteLaws.{last_digits, some_digits, one_digit_is_written, all_to_store, last_digit_first, all_is_written}
+use borrow.Author.Rules.{rules}
+use Rattle.decimal.proofs.put.Given as goal
+
+-- Storing the digits of `rest` in front of place i leaves what storing all digits leaves.
+pub record Writing (out₀ out : List ℕ) (place n i rest : ℕ) : Type 0 where
+  pub same : length out ≡ length out₀
+  pub begun : place ≤ i
+  pub inside : i ≤ length out₀
+  pub keeps : sets out place (last_digits (i - place) rest) ≡ sets out₀ place (digits_of n)
+
+abbrev pub invariant-loop-i : goal.invariant-loop-i
+invariant-loop-i l = Writing l.initial.out l.out l.at l.n l.i l.rest
+
+abbrev pub decreases-loop-i : goal.decreases-loop-i
+decreases-loop-i l = l.i

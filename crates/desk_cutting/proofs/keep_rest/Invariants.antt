@@ -1,0 +1,15 @@
+-- `keep_rest` copies byte after byte: those copied are the first of the rest, those further on are as they were.
+use Prim.Native.Nat.{ℕ, ◌+◌, ◌-◌, ◌≤◌, ◌<◌}
+use native.Mathlib.Omega.{arith}
+use mathlib.Core.Path.{refl, ap, ◌∙◌, ◌≡◌}
+use lib.ListN.{length}
+use Rattle.desk_cutting.proofs.KeptLaws.{copied_further, nothing_moved}
+use Rattle.desk_cutting.specs.Cutting.{moved_to_start}
+use borrow.Author.Rules.{rules}
+use Rattle.desk_cutting.proofs.keep_rest.Given as goal
+
+abbrev pub invariant-loop-i : goal.invariant-loop-i
+invariant-loop-i l = (length l.input ≡ length l.initial.input) × (l.from + l.kept ≤ l.end) × (l.i ≤ l.kept) × (l.input ≡ moved_to_start l.from l.i l.initial.input)
+
+abbrev pub decreases-loop-i : goal.decreases-loop-i
+decreases-loop-i l = l.kept - l.i

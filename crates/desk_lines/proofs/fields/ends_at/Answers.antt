@@ -1,0 +1,10 @@
+-- `fields::ends_at` looks for the end of the line, and for a space.
+use native.Mathlib.Omega.{arith}
+use Rattle.desk_lines.proofs.FieldLaws.{ends_at_end, ends_at_space}
+use Rattle.desk_lines.proofs.fields.ends_at.Goals as goal
+
+pub returns-then-place-line : goal.returns-then-place-line
+returns-then-place-line c = ends_at_end _ _ c.if-place-line.true
+
+pub returns : goal.returns
+returns c = ends_at_space _ _ (omega (arith, c.if-place-line.false))

@@ -1,0 +1,18 @@
+use Rattle.std.proofs.Common.{◌≡◌, ℕ, ◌-◌, ◌≤◌, List, length, drop, sym, refl, ◌∙◌, arith, rules}
+use Rattle.hash.specs.Fnv.{hash_from, fnv1a}
+use Rattle.hash.proofs.FnvLaws.{hash_mixes_next_byte, hash_ends_after_last_byte}
+use Rattle.hash.proofs.fnv1a.Goals as goal
+
+pub loop-i-init : goal.loop-i-init
+loop-i-init c = record { within = omega arith; keeps = refl }
+
+pub loop-i-preserved : goal.loop-i-preserved
+loop-i-preserved c = let turn = c.loop-i in
+    record {
+      within = omega arith;
+      keeps = rw c.mix-hash.ensures (sym (hash_mixes_next_byte turn.hash _ turn.i (omega arith)) ∙ turn.invariant.keeps);
+    }
+
+pub returns : goal.returns
+returns c = let end = c.loop-i in
+    sym (hash_ends_after_last_byte _ _ end.i (omega arith)) ∙ end.invariant.keeps

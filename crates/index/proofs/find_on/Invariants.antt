@@ -1,0 +1,22 @@
+-- `find_on` walks on from the home place. The loop holds that the lookup from here gives what it gives from the place after the home.
+use Rattle.std.proofs.Common.{◌≡◌, ℕ, ◌-◌, ◌<◌, List, refl, ◌∙◌, arith, rules}
+use Rattle.index.specs.declared.Index.{Index}
+use Rattle.index.specs.declared.Probed.{Probed}
+use Rattle.index.specs.Walk.{onward, find_from}
+use Rattle.index.specs.Layout.{places_of, keyed}
+use Rattle.index.proofs.LayoutLaws.{places_length}
+use Rattle.index.proofs.StepLaws.{after_look, find_turn, find_over, onward_below}
+use Rattle.index.proofs.find_on.Given as goal
+
+-- The place is one of the index, and the lookup from here gives what it gives from the place after the home.
+pub record Walking (ws : List ℕ) (index : Index) (n hash key home size q left : ℕ) : Type 0 where
+  pub below : q < size
+  pub sized : size ≡ index.size
+  pub same : find_from n (keyed index ws hash key) (places_of index ws) q left
+      ≡ find_from n (keyed index ws hash key) (places_of index ws) (onward index.size home) (index.size - 1)
+
+abbrev pub invariant-loop-left : goal.invariant-loop-left
+invariant-loop-left l = Walking l.ws l.index l.n l.hash l.key l.home l.size l.q l.left
+
+abbrev pub decreases-loop-left : goal.decreases-loop-left
+decreases-loop-left l = l.left

@@ -1,0 +1,20 @@
+-- src/lib.rt:333:19
+use native.Mathlib.Omega.{arith}
+use Rattle.ledger.proofs.ModelLaws.{intact_below, intact_cap}
+use borrow.Author.Rules.{rules}
+use Rattle.ledger.proofs.write.Reads as reads
+use Rattle.ledger.proofs.append.Reads as append-reads
+use Rattle.ledger.proofs.keep_later.Reads as keep-later-reads
+use Rattle.ledger.proofs.write.Goals as goal
+
+pub keep_later-requires : goal.keep_later-requires
+keep_later-requires c = (c.requires.0, intact_below c.requires.0 (rw c.in-At.is at c.requires.1))
+
+pub append-requires : goal.append-requires
+append-requires c = (c.requires.0, omega (arith, rw c.in-Nowhere.is at c.requires.1, intact_cap c.requires.0))
+
+pub returns-in-At : goal.returns-in-At
+returns-in-At c = rw (c.keep_later.ensures, c.in-At.is)
+
+pub returns-in-Nowhere : goal.returns-in-Nowhere
+returns-in-Nowhere c = rw (c.append.ensures, c.in-Nowhere.is)

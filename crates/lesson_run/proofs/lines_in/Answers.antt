@@ -1,0 +1,9 @@
+-- src/lib.rt:229:9
+use Rattle.std.proofs.Common.{eq-eqb, ne_eqb}
+use Rattle.lesson_run.proofs.lines_in.Goals as goal
+
+pub returns-then-size-eq0 : goal.returns-then-size-eq0
+returns-then-size-eq0 c = rw (eq-eqb _ _ c.if-size-eq0.true)
+
+pub returns : goal.returns
+returns c = rw (ne_eqb _ _ c.if-size-eq0.false)

@@ -1,0 +1,11 @@
+use Rattle.decimal.specs.Decimal.{all_digits}
+use mathlib.Core.Path.{◌≡◌}
+use lib.ListN.{length, drop}
+use Prim.Native.Nat.{◌-◌, ◌≤◌}
+use Rattle.lesson_words.proofs.all_digits.Given as goal
+
+abbrev pub invariant-loop-i : goal.invariant-loop-i
+invariant-loop-i l = (l.i ≤ length l.word) × (all_digits (drop l.i l.word) ≡ all_digits l.word)
+
+abbrev pub decreases-loop-i : goal.decreases-loop-i
+decreases-loop-i l = length l.word - l.i

@@ -1,0 +1,11 @@
+-- `limiter_line_try` tells what the writer gives for a try.
+use Rattle.desk_writer.specs.declared.DeskCall.TheVariants.{Try}
+use Rattle.limiter_lines.specs.Lines.{request_of}
+use Rattle.limiter_lines.proofs.LineLaws.{written_is_told}
+use borrow.Author.Rules.{rules}
+use Rattle.limiter_lines.proofs.limiter_line_try.Goals as goal
+
+pub returns : goal.returns
+returns c = let a = c.args in
+    let call = Try (request_of a.at a.key a.cost) in
+    written_is_told call a.out.now (rw c.request.ensures at c.write.ensures) c.tell.ensures

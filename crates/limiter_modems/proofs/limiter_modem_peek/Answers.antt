@@ -1,0 +1,7 @@
+-- `limiter_modem_peek` tells the outcome of the rule that the operation of `modems` gives.
+use Rattle.rules.proofs.RuleLaws.{outcome_is_told}
+use borrow.Author.Rules.{rules}
+use Rattle.limiter_modems.proofs.limiter_modem_peek.Goals as goal
+
+pub returns : goal.returns
+returns c = outcome_is_told (rw c.settings_of.ensures at c.peek.ensures) c.told.ensures

@@ -1,0 +1,36 @@
+use Rattle.outage_rows.proofs.TryLaws.{next_in_words}
+use Rattle.outage_rows.proofs.RunLaws.{tries_left, RunsTo, runs_from_start, runs_on, runs_out, takes_a_try}
+use Rattle.outage_rows.specs.Layout.{row_width, rows_in, state_in}
+use Rattle.outage_rows.specs.Model.{outage}
+use Rattle.settings.specs.declared.Settings.{Settings}
+use lib.ListN.{length}
+use mathlib.Core.List.{List}
+use mathlib.Core.Path.{◌≡◌, refl, sym, ◌∙◌}
+use Prim.Native.Nat.{ℕ, ◌*◌, ◌≤◌}
+use borrow.Author.Rules.{rules}
+use Rattle.outage_rows.proofs.run_rows.Goals as goal
+
+pub loop-p-init : goal.loop-p-init
+loop-p-init c = record { long = refl; wide = refl; room = c.requires; same = runs_from_start _ _ }
+
+pub next-requires : goal.next-requires
+next-requires c = c.loop-p.invariant.room
+
+pub returns-in_default : goal.returns-in_default
+returns-in_default c = runs_out _ _ _ (sym c.next.ensures ∙ c.in_default.is) c.loop-p.invariant.same
+
+pub try_at-requires : goal.try_at-requires
+try_at-requires c = (c.loop-p.invariant.room, next_in_words _ _ _ (sym c.next.ensures ∙ c.in-At.is))
+
+pub loop-p-smaller : goal.loop-p-smaller
+loop-p-smaller c = takes_a_try _ (state_in _ _ c.loop-p.ws) _ _ (sym c.next.ensures ∙ c.in-At.is) c.try_at.ensures
+
+pub loop-p-preserved : goal.loop-p-preserved
+loop-p-preserved c = let inv = c.loop-p.invariant in
+    let kept = c.try_at.auto in
+    record {
+      long = kept.1.0 ∙ inv.long;
+      wide = kept.1.1.1.1.0 ∙ inv.wide;
+      room = rw kept.1.0 inv.room;
+      same = runs_on _ _ _ _ _ (sym c.next.ensures ∙ c.in-At.is) c.try_at.ensures inv.same;
+    }

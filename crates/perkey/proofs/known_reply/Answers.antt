@@ -1,0 +1,8 @@
+-- `known_reply` has a case for each answer.
+use Rattle.perkey.proofs.known_reply.Goals as goal
+
+pub returns-then-known : goal.returns-then-known
+returns-then-known c = rw c.if-known.true
+
+pub returns-else-known : goal.returns-else-known
+returns-else-known c = rw c.if-known.false

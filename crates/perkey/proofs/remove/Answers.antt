@@ -1,0 +1,26 @@
+-- `remove` answers the refusal, else whether the store knew the key in its shard.
+use Rattle.rules.specs.Asks.{Ask, undoes, removes}
+use Rattle.rules.proofs.KeyedLaws.{unlent_is_told, lent_may_be_asked, lent_is_counted, lent_is_told}
+use Rattle.perkey.proofs.KnownLaws.{key_is_told}
+use mathlib.Core.Path.{refl}
+use borrow.Author.Rules.{rules}
+use Rattle.perkey.proofs.remove.Goals as goal
+
+-- What is asked; where the call began, as seen once `lend_for` has answered.
+abbrev ask : Ask
+ask = undoes removes
+
+pub remove-requires : goal.remove-requires
+remove-requires c = let a = c.args in
+    let lent = lent_may_be_asked a.settings a.id ask a.ws.now c.lend_for.ensures c.in-Lent.is in
+    let counted = lent_is_counted a.settings a.id ask a.ws.now c.lend_for.ensures c.in-Lent.is in
+    (lent.0, lent.1, counted)
+
+pub returns-in-Refused : goal.returns-in-Refused
+returns-in-Refused c = let a = c.args in
+    unlent_is_told a.settings a.id ask a.ws.now c.lend_for.ensures c.in-Refused.is
+
+pub returns-in-Lent : goal.returns-in-Lent
+returns-in-Lent c = let a = c.args in
+    let removed = key_is_told c.remove.ensures c.known_reply.ensures in
+    lent_is_told a.settings a.id ask a.ws.now c.lend_for.ensures c.in-Lent.is refl removed

@@ -1,0 +1,9 @@
+-- `try_reply` has a case for each decision.
+use borrow.Author.Rules.{rules}
+use Rattle.requests.proofs.try_reply.Goals as goal
+
+pub returns-in-Allowed : goal.returns-in-Allowed
+returns-in-Allowed c = rw c.in-Allowed.is
+
+pub returns-in-Denied : goal.returns-in-Denied
+returns-in-Denied c = rw c.in-Denied.is

@@ -1,0 +1,6 @@
+-- `Reply::code` has a case for each reply.
+use borrow.Author.Rules.{rules}
+use Rattle.rules.proofs.Reply.code.Goals as goal
+
+pub returns-in-Refused : goal.returns-in-Refused
+returns-in-Refused c = rw c.in-Refused.is

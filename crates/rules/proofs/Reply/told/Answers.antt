@@ -1,0 +1,6 @@
+-- `Reply::told` is the three numbers of the reply.
+use borrow.Author.Rules.{rules}
+use Rattle.rules.proofs.Reply.told.Goals as goal
+
+pub returns : goal.returns
+returns c = rw (c.code.ensures, c.number.ensures, c.moment.ensures)

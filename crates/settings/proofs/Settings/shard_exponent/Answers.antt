@@ -1,0 +1,11 @@
+-- `Settings::shard_exponent` is the exponent for the number asked for, raised to the fewest shards that hold the keys, or for 64 if that is less: what its
+-- calls ensure, in turn.
+use native.Mathlib.Omega.{arith}
+use borrow.Author.Rules.{rules}
+use Rattle.settings.proofs.Settings.shard_exponent.Goals as goal
+
+pub exponent_for-requires : goal.exponent_for-requires
+exponent_for-requires c = omega (arith, c.smaller.ensures)
+
+pub returns : goal.returns
+returns c = rw (c.exponent_for.ensures, c.smaller.ensures, c.larger.ensures, c.share-least.ensures)

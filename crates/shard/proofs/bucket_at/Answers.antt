@@ -1,0 +1,6 @@
+-- `bucket_at` reads the slot.
+use borrow.Author.Rules.{rules}
+use Rattle.shard.proofs.bucket_at.Goals as goal
+
+pub returns : goal.returns
+returns c = rw c.get-slot.ensures

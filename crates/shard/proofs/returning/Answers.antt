@@ -1,0 +1,9 @@
+-- `returning` goes by the debt that was taken out, as its definition does.
+use borrow.Author.Rules.{rules}
+use Rattle.shard.proofs.returning.Goals as goal
+
+pub returns-in-None : goal.returns-in-None
+returns-in-None c = rw (c.new.ensures, c.in-None.is)
+
+pub returns-in-Some : goal.returns-in-Some
+returns-in-Some c = rw (c.restore_debt.ensures, c.new-in-Some.ensures, c.in-Some.is)

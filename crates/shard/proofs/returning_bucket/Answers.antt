@@ -1,0 +1,6 @@
+-- `returning_bucket` asks the ledger what the hash owes.
+use borrow.Author.Rules.{rules}
+use Rattle.shard.proofs.returning_bucket.Goals as goal
+
+pub returns : goal.returns
+returns c = rw (c.returning.ensures, c.owed_by.ensures)

@@ -1,0 +1,19 @@
+-- `view` goes by the key's place, as its definition does. A place that lookup found stands below the cap.
+use mathlib.Core.Path.{sym, ◌∙◌}
+use Rattle.shard.proofs.OwnBucketLaws.{view_of_slot, view_without_slot}
+use Rattle.shard.proofs.ModelLaws.{found_below_cap}
+use borrow.Author.Rules.{rules}
+use Rattle.shard.proofs.view.Goals as goal
+
+pub bucket_at-requires : goal.bucket_at-requires
+bucket_at-requires c = let pre' = c.requires in
+    let found = sym c.position.ensures ∙ c.in-At.is in
+    (pre'.0, found_below_cap _ _ _ pre'.0 found)
+
+pub returns-in-At : goal.returns-in-At
+returns-in-At c = let found = sym c.position.ensures ∙ c.in-At.is in
+    rw c.bucket_at.ensures (sym (view_of_slot _ _ _ _ _ found))
+
+pub returns-in-Nowhere : goal.returns-in-Nowhere
+returns-in-Nowhere c = let missed = sym c.position.ensures ∙ c.in-Nowhere.is in
+    rw c.returning_bucket.ensures (sym (view_without_slot _ _ _ _ missed))

@@ -1,0 +1,13 @@
+-- `add_to_index` has the index add the slot, and the index lies in the words where `words::index` says.
+use native.Mathlib.Omega.{arith}
+use Rattle.shard_map.proofs.ModelLaws.{slots_fit, added_to_index}
+use borrow.Author.Rules.{rules}
+use Rattle.shard_map.proofs.add_to_index.Goals as goal
+
+pub add-requires : goal.add-requires
+add-requires c = let pre' = c.requires in
+    let fit = slots_fit pre'.0 in
+    rw c.index.ensures (fit.room, fit.inside, omega (arith, pre'.0.size))
+
+pub returns : goal.returns
+returns c = rw (c.add.ensures, c.index.ensures) (added_to_index c.requires.0 _ _)

@@ -1,0 +1,7 @@
+-- `words::set_hand` changes the hand alone: it stores the second word.
+use Rattle.shard_map.proofs.LayoutLaws.{hand_put}
+use borrow.Author.Rules.{rules}
+use Rattle.shard_map.proofs.words.set_hand.Goals as goal
+
+pub returns : goal.returns
+returns c = hand_put _ _ c.requires _

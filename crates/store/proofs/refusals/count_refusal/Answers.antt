@@ -1,0 +1,27 @@
+-- `count_refusal` compares the total with the slots, the slots with the cap, the total with the room, and the debts with the cap.
+use native.Mathlib.Omega.{arith}
+use mathlib.Core.Path.{sym, ◌∙◌}
+use Rattle.store.proofs.RefusalLaws.{slots_over_are_refused, debts_over_are_refused, total_under_is_refused, total_over_the_room_is_refused}
+use Rattle.store.proofs.RefusalLaws.{counts_are_accepted, total_not_refused}
+use borrow.Author.Rules.{rules}
+use Rattle.store.proofs.refusals.count_refusal.Goals as goal
+
+pub returns-then-total-slots : goal.returns-then-total-slots
+returns-then-total-slots c = sym (total_under_is_refused _ _ _ _ (omega (arith, c.if-total-slots.true, c.len-slots.ensures)))
+
+pub returns-then-cap-slots : goal.returns-then-cap-slots
+returns-then-cap-slots c = sym (slots_over_are_refused _ _ _ _ (omega (arith, c.if-cap-slots.true, c.len-slots.ensures)))
+
+pub returns-then-total_refusal-ne0 : goal.returns-then-total_refusal-ne0
+returns-then-total_refusal-ne0 c = sym (total_over_the_room_is_refused _ _ _ _ (λ none. c.if-total_refusal-ne0.true (c.total_refusal.ensures ∙ none)))
+
+pub returns-then-cap-len : goal.returns-then-cap-len
+returns-then-cap-len c = sym (debts_over_are_refused _ _ _ _ (omega (arith, c.if-cap-len.true, c.len.ensures)))
+
+pub returns : goal.returns
+returns c = sym (counts_are_accepted _ _ _ _ (record {
+      slots = omega (arith, c.if-cap-slots.false, c.len-slots.ensures);
+      debts = omega (arith, c.if-cap-len.false, c.len.ensures);
+      covers = omega (arith, c.if-total-slots.false, c.len-slots.ensures);
+      within = total_not_refused _ _ (sym c.total_refusal.ensures ∙ c.if-total_refusal-ne0.false);
+    }))

@@ -1,0 +1,13 @@
+-- `shard_start` multiplies: the word after the shard fits, so its first word does.
+use native.Mathlib.Omega.{arith}
+use borrow.Author.Rules.{rules}
+use Rattle.store.proofs.words.shard_start.Goals as goal
+
+pub overflow_mul-result : goal.overflow_mul-result
+overflow_mul-result c = record { fits = rw c.shard_words.ensures (omega (arith, c.requires)) }
+
+pub overflow_add-result : goal.overflow_add-result
+overflow_add-result c = record { fits = rw c.shard_words.ensures (omega (arith, c.requires)) }
+
+pub returns : goal.returns
+returns c = rw c.shard_words.ensures
