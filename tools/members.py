@@ -5,7 +5,8 @@ import sys
 
 crate, log = sys.argv[1], sys.argv[2]
 fixes = {}
-for line in open(log, encoding="utf-8", errors="replace"):
+said = re.sub(r"\n  the fields that can be named here are", " — the fields that can be named here are", open(log, encoding="utf-8", errors="replace").read())
+for line in said.split("\n"):
     line = re.sub(r"^so far: ", "", line)
     m = re.match(r"(?:\./)?(proofs/\S+?):(\d+):(\d+): error: .*record `[^`]*\.(?:Kept|Last|Typed|Learnt|Step)[^`]*` has no field `(\w+)`(?:.*?the fields that can be named here are (.*))?", line)
     if m:

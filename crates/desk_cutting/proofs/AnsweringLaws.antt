@@ -8,7 +8,7 @@ use Rattle.arith.proofs.Cases.{by_test}
 use Rattle.rows.specs.Outcome.{Outcome, outcome}
 use Rattle.desk_lines.specs.Lines.{longest_line, line_of}
 use Rattle.desk_lines.proofs.LineLaws.{kept_is_enough}
-use Rattle.desk_cutting.specs.Cutting.{Cut, cut, last_line, lines_of, kept_of, joined}
+use Rattle.desk_cutting.specs.Cutting.{cut, last_line, lines_of, kept_of, joined}
 use Rattle.desk_cutting.specs.Answering.{Machine, ByLine, and_then, lines_answered, Standing, turned, turned_over, printed_in_turns}
 use Rattle.desk_cutting.proofs.CutLaws.{NoFeed, no_feed_in_part, no_feed_in_rest, onto, cut_onto, lines_in_parts, turn_keeps_enough, rest_is_last}
 use Rattle.desk_cutting.proofs.CutLaws.{cut_in_parts}

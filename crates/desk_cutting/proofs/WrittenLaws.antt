@@ -5,7 +5,7 @@ use mathlib.Core.Path.{◌≡◌, sym, ap, ◌∙◌}
 use mathlib.Core.List.{List, ◌++◌}
 use lib.ListN.{length, take, drop, length-append}
 use lib.Seq.{drop-drop, sets-eq, take_at, drop_at, length-take-le}
-use Rattle.rows.specs.Outcome.{Outcome, outcome}
+use Rattle.rows.specs.Outcome.{outcome}
 use Rattle.rows.proofs.OutcomeLaws.{answer_is, after_is}
 use Rattle.desk_lines.specs.Printed.{written_over}
 use Rattle.desk_cutting.specs.Cutting.{SameFrom}

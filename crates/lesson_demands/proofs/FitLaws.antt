@@ -10,7 +10,6 @@ use lib.ListN.{length}
 use borrow.Author.Tests.{leb-true}
 use Rattle.arith.proofs.Cases.{by_test}
 use Rattle.units.specs.Units.{nanos_of}
-use Rattle.decimal.specs.declared.OptionNumber.TheVariants as number
 use Rattle.desk_lines.specs.declared.Request.{Request}
 use Rattle.desk_lines.specs.Lines.{most64, most32, most_rule, longest_line}
 use Rattle.desk_writer.specs.declared.DeskCall.{DeskCall}
@@ -30,7 +29,7 @@ use Rattle.lesson_lines.specs.declared.Meaning.{Meaning}
 use Rattle.lesson_lines.specs.declared.Meaning.TheVariants as meaning
 use Rattle.lesson_lines.specs.Written.{limits_bytes}
 use Rattle.lesson_lines.specs.Lesson.{taken, taken_request, taken_letter, taken_idle, idle_at, dash_at, finished, ended_by, try_of, peek_of, reserve_of}
-use Rattle.lesson_lines.specs.Lesson.{refund_of, remove_of, call_of, call_read, village_of, village, taken_limits, set_up_by, settings, by_letter, letter_read}
+use Rattle.lesson_lines.specs.Lesson.{refund_of, remove_of, call_of, call_read, village_of, village, taken_limits, set_up_by, by_letter, letter_read}
 use Rattle.lesson_lines.specs.Lesson.{words_mean, uncommented, meaning_of, word_from, word_end}
 use Rattle.lesson_lines.proofs.ReadingLaws.{number_within}
 use Rattle.lesson_writer.specs.Lines.{LimitsFit, IdleFits}

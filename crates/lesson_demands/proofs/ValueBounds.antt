@@ -14,7 +14,6 @@ use Rattle.decimal.specs.declared.Digits.{Digits}
 use Rattle.decimal.specs.Decimal.{number_of, all_digits, decimal_from, front_of}
 use Rattle.lesson_words.specs.declared.Fault.{Fault}
 use Rattle.lesson_words.specs.declared.Kind.{Kind}
-use Rattle.lesson_words.specs.declared.Kind.TheVariants as kind
 use Rattle.lesson_words.specs.declared.Value.{Value}
 use Rattle.lesson_words.specs.declared.Value.TheVariants as value
 use Rattle.lesson_words.specs.declared.times.Unit as times

@@ -1,11 +1,8 @@
 -- `keep_rest` copies byte after byte: those copied are the first of the rest, those further on are as they were.
-use Prim.Native.Nat.{ℕ, ◌+◌, ◌-◌, ◌≤◌, ◌<◌}
-use native.Mathlib.Omega.{arith}
-use mathlib.Core.Path.{refl, ap, ◌∙◌, ◌≡◌}
+use Prim.Native.Nat.{◌+◌, ◌-◌, ◌≤◌}
+use mathlib.Core.Path.{◌≡◌}
 use lib.ListN.{length}
-use Rattle.desk_cutting.proofs.KeptLaws.{copied_further, nothing_moved}
 use Rattle.desk_cutting.specs.Cutting.{moved_to_start}
-use borrow.Author.Rules.{rules}
 use Rattle.desk_cutting.proofs.keep_rest.Given as goal
 
 abbrev pub invariant-loop-i : goal.invariant-loop-i

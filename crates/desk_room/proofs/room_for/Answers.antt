@@ -14,12 +14,12 @@ loop-keys-init c = (omega arith, refl)
 pub returns-then-not-fits : goal.returns-then-not-fits
 returns-then-not-fits c = let a = c.args in
     let loop' = c.loop-keys in
-    one_too_many_lem loop'.keys a.words a.shards (omega arith) (sym c.fits2.ensures ∙ not-true _ c.if-not-fits.true) ∙ loop'.invariant.1
+    one_too_many_lem loop'.keys a.words a.shards (omega arith) (sym c.fits.ensures ∙ c.if-not-fits.true) ∙ loop'.invariant.1
 
 pub loop-keys-preserved : goal.loop-keys-preserved
 loop-keys-preserved c = let a = c.args in
     let loop' = c.loop-keys in
-    (omega arith, one_more loop'.keys a.words a.shards (omega arith) (sym c.fits2.ensures ∙ not-false _ c.if-not-fits.false) ∙ loop'.invariant.1)
+    (omega arith, one_more loop'.keys a.words a.shards (omega arith) (sym c.fits.ensures ∙ c.if-not-fits.false) ∙ loop'.invariant.1)
 
 pub returns : goal.returns
 returns c = let a = c.args in

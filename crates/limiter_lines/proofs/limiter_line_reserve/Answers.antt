@@ -8,5 +8,5 @@ use Rattle.limiter_lines.proofs.limiter_line_reserve.Goals as goal
 
 pub returns : goal.returns
 returns c = let a = c.args in
-    let call = Reserve (request_of a.at a.key a.cost) (nanos_of a.max-wait) in
+    let call = Reserve (request_of a.at a.key a.cost) (nanos_of a.max_wait) in
     written_is_told call a.out.now (rw c.request.ensures at c.write.ensures) c.tell.ensures

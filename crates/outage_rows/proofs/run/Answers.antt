@@ -8,4 +8,4 @@ run_rows-requires c = c.count-n.ensures.1
 
 pub returns : goal.returns
 returns c = let run-rows' = c.run_rows in
-    run_of_all _ _ _ _ _ _ run-rows'.auto.1.0 c.count-n.ensures.0 run-rows'.ensures
+    run_of_all _ _ _ _ _ _ run-rows'.auto.rs c.count-n.ensures.0 run-rows'.ensures

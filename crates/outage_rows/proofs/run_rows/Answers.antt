@@ -29,8 +29,8 @@ pub loop-p-preserved : goal.loop-p-preserved
 loop-p-preserved c = let inv = c.loop-p.invariant in
     let kept = c.try_at.auto in
     record {
-      long = kept.1.0 ∙ inv.long;
-      wide = kept.1.1.1.1.0 ∙ inv.wide;
-      room = rw kept.1.0 inv.room;
+      long = kept.rs ∙ inv.long;
+      wide = kept.ws ∙ inv.wide;
+      room = rw kept.rs inv.room;
       same = runs_on _ _ _ _ _ (sym c.next.ensures ∙ c.in-At.is) c.try_at.ensures inv.same;
     }

@@ -17,7 +17,7 @@ row-at-requires c = let loop' = c.loop-i in
     omega (arith, loop'.invariant.room, loop'.invariant.long, c.loop-i-test.true)
 
 pub loop-i-preserved : goal.loop-i-preserved
-loop-i-preserved c = one_printed _ _ c.loop-i.invariant c.loop-i-test.true (omega arith) c.load.ensures c.row-at.auto.0 c.row-at.ensures
+loop-i-preserved c = one_printed _ _ c.loop-i.invariant c.loop-i-test.true (omega arith) c.load.ensures c.row-at.auto.out c.row-at.ensures
 
 pub shape_of-out : goal.shape_of-out
 shape_of-out c = c.loop-i.invariant.long

@@ -9,7 +9,7 @@ use Rattle.outage_rows.proofs.print.row.Goals as goal
 
 pub line-requires : goal.line-requires
 line-requires c = let field' = c.field-second in
-    omega (arith, answer_is field'.ensures, field_short c.args.number space, field'.auto.0, c.requires)
+    omega (arith, answer_is field'.ensures, field_short c.args.number space, field'.auto.out, c.requires)
 
 pub returns : goal.returns
 returns c = row_written _ _ _ _ c.field-second.ensures c.line.ensures
