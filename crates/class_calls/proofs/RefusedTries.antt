@@ -15,7 +15,6 @@ use Rattle.classes.proofs.LayoutLaws.{class_count_lem}
 use Rattle.shard.specs.declared.Identity.{Identity}
 use Rattle.store.specs.declared.Part.{Part}
 use Rattle.store.specs.declared.lending.Lending.{Lending}
-use Rattle.store.specs.declared.lending.Lending.TheVariants as Lending
 use Rattle.store.specs.Lending.{lent_unless}
 use Rattle.store.specs.Memory.{part_in, part_of}
 use Rattle.store.specs.Refusals.{shape_refusal}

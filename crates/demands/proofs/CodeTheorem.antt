@@ -21,7 +21,7 @@ use Rattle.rules.proofs.CallLaws.{by_key_is_the_rule}
 use Rattle.rules.proofs.DebtLaws.{listing_is_the_call}
 use Rattle.modems.specs.Names.{Name, key, address, by_name}
 use Rattle.demands.specs.Demands.{Table, untabled, tabled, table_fits, Limiter, set_up_by, records_by, answering, Demand2, Demand3}
-use Rattle.demands.specs.Contracts.{KeyContracts, Contracts}
+use Rattle.demands.specs.CodeContracts.{KeyContracts, Contracts}
 use Rattle.demands.specs.Moments.{TellsMoments}
 use Rattle.demands.proofs.DebtCalls.{blank, blank_fits, records_as_told, room_as_told}
 use Rattle.demands.proofs.WidthLaws.{ask_is_offered, no_call_through_others, keys_fit}

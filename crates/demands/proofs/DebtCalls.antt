@@ -27,7 +27,7 @@ use Rattle.rules.proofs.DebtLaws.{listing_is_the_call}
 use Rattle.debt_calls.specs.contracts.list_debts as operation
 use Rattle.limiter.specs.declared.LimiterSettings.{LimiterSettings}
 use Rattle.limiter_debts.specs.contracts.limiter_debts as export
-use Rattle.demands.specs.Contracts.{lent_at, ListDebtsLearnt}
+use Rattle.demands.specs.CodeContracts.{lent_at, ListDebtsLearnt}
 use Rattle.demands.specs.Exports.{DebtsLearnt}
 
 -- The contracts of the operation and of the export, in every model of the logic, at any lifetimes and any place of what is lent: they ask nothing, and tell the

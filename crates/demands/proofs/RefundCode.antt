@@ -8,7 +8,7 @@ use Rattle.rules.specs.Calls.{by_key}
 use Rattle.modems.specs.Names.{Name, by_name}
 use Rattle.limiter.specs.Exported as Exported
 use Rattle.demands.specs.Demands.{Limiter}
-use Rattle.demands.specs.Contracts.{Contracts}
+use Rattle.demands.specs.CodeContracts.{Contracts}
 use Rattle.demands.specs.Exports.{Exports, numbers_fit, exported, called, ExportContracts}
 use Rattle.demands.specs.Refunds.{RefundWindow, SpanWindow}
 use Rattle.demands.proofs.WidthLaws.{keys_fit}

@@ -46,7 +46,7 @@ use Rattle.limiter_classes.proofs.limiter_table_set_up.Reads as ClassSetUp
 use Rattle.limiter_classes.proofs.limiter_table_clear.Reads as ClassClear
 use Rattle.limiter_classes.proofs.limiter_table_try.Reads as ClassTry
 use Rattle.demands.specs.Demands.{Table, untabled, tabled, table_fits, Limiter, set_up_by, records_by}
-use Rattle.demands.specs.Contracts.{lent_at}
+use Rattle.demands.specs.CodeContracts.{lent_at}
 
 -- What each export gives for its numbers, bytes and words: three numbers, and words. A list of debts gives them for a number of lent records, and leaves
 -- records, too.

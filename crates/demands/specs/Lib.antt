@@ -6,7 +6,7 @@ pub mod Isolation
 pub mod PlaceOrder
 pub mod MorningList
 pub mod TurnAways
-pub mod Contracts
+pub mod CodeContracts
 pub mod Exports
 pub mod Moments
 pub mod Refunds

@@ -23,7 +23,7 @@ use Rattle.converter.specs.declared.Layout.TheVariants.{Old}
 use Rattle.converter.specs.Conversion.{refusal_of, moved_words, forth}
 use Rattle.demands.specs.Demands.{untabled, Limiter, set_up_by, settings_by, answering, Demand2, WithinWindow}
 use Rattle.demands.specs.Refunds.{refunded_of, WithinRefundWindow, WithinSpanWindow}
-use Rattle.demands.specs.Contracts.{Contracts}
+use Rattle.demands.specs.CodeContracts.{Contracts}
 use Rattle.demands.specs.Exports.{Exports, numbers_fit, exported, reading, read_as, called, ExportContracts}
 use Rattle.demands.proofs.WidthLaws.{NamesFit}
 use Rattle.demands.proofs.NameLaws.{names_fit}

@@ -25,7 +25,7 @@ use Rattle.converter.proofs.convert_forth.Reads as Forth
 use Rattle.limiter_converter.proofs.limiter_convert_forth.Reads as ExportedForth
 use Rattle.demands.specs.Demands.{untabled, Limiter, set_up_by, settings_by, WithinWindow}
 use Rattle.demands.specs.Refunds.{refunded_of, WithinRefundWindow, WithinSpanWindow}
-use Rattle.demands.specs.Contracts.{lent_at}
+use Rattle.demands.specs.CodeContracts.{lent_at}
 use Rattle.demands.specs.Exports.{numbers_fit, read_as}
 use Rattle.demands_converter.specs.OldStore.{left_by, OldHolds, across_boxes}
 

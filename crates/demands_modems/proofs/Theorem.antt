@@ -24,7 +24,7 @@ use Rattle.limiter.specs.declared.LimiterSettings.{LimiterSettings}
 use Rattle.limiter.specs.Exported as Exported
 use Rattle.demands.specs.Demands as Demands
 use Rattle.demands.specs.Demands.{table_words, Limiter, set_up_by, settings_by, answering, Demand2}
-use Rattle.demands.specs.Contracts.{Contracts}
+use Rattle.demands.specs.CodeContracts.{Contracts}
 use Rattle.demands.specs.Exports.{Exports, numbers_fit, exported, called, ExportContracts}
 use Rattle.demands.proofs.LendableTheorem.{set_up_leaves_words_lendable}
 use Rattle.demands.proofs.NameLaws.{addresses_fit}

@@ -3,7 +3,6 @@ use mathlib.Core.Path.{sym, ap, ◌∙◌}
 use Rattle.shard.proofs.ModelLaws.{ask_with_slot, ask_without_slot}
 use Rattle.store.specs.Memory.{shard_in, in_part}
 use Rattle.store.proofs.LendingLaws.{found_place_below}
-use borrow.Author.Rules.{rules}
 use Rattle.class_calls.proofs.ask.Goals as goal
 
 pub position-requires : goal.position-requires

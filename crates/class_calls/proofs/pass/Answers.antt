@@ -1,7 +1,6 @@
 -- `pass` asks the chain, and goes by its answer.
 use mathlib.Core.Path.{refl}
 use Rattle.class_calls.proofs.PassLaws.{classes_fit, chain_may_be_asked, chain_has_answered, over_is_told}
-use borrow.Author.Rules.{rules}
 use Rattle.class_calls.proofs.pass.Goals as goal
 
 pub classes_at-first-requires : goal.classes_at-first-requires

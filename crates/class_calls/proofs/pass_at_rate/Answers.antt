@@ -1,6 +1,5 @@
 -- `pass_at_rate` goes by the cost, as the rule does.
 use Rattle.class_calls.proofs.PassLaws.{too_much_is_told, nothing_is_granted}
-use borrow.Author.Rules.{rules}
 use Rattle.class_calls.proofs.pass_at_rate.Goals as goal
 
 pub returns-then-capacity-cost : goal.returns-then-capacity-cost

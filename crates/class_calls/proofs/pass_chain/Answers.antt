@@ -1,6 +1,5 @@
 -- `pass_chain` goes by the limit: on a closed limiter it tells that limiter's answer.
 use Rattle.class_calls.proofs.PassLaws.{closed_is_told}
-use borrow.Author.Rules.{rules}
 use Rattle.class_calls.proofs.pass_chain.Goals as goal
 
 pub pass_at_rate-requires : goal.pass_at_rate-requires

@@ -1,6 +1,5 @@
 -- `call_refusal` tells the first refusal: that of set_up_lem, that of the moment, or that of the shard's number.
 use Rattle.store.proofs.RefusalLaws.{first_is_told, second_is_told}
-use borrow.Author.Rules.{rules}
 use Rattle.debt_calls.proofs.call_refusal.Goals as goal
 
 pub returns-then-refusal-ne0 : goal.returns-then-refusal-ne0

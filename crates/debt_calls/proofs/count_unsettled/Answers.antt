@@ -1,6 +1,5 @@
 -- `count_unsettled` counts a debt where it is listed, and passes one that has settled.
-use Rattle.std.proofs.Common.{◌≤◌, ◌<◌, ap, arith}
-use Rattle.std.proofs.Common.{length}
+use Rattle.std.proofs.Common.{◌≤◌, ◌<◌, length, ap, arith}
 use Rattle.debt_calls.specs.code.Listing.{ledger_in}
 use Rattle.debt_calls.proofs.ListingLaws.{listed_from_first, listed_past, listed_next, settled_passed}
 use Rattle.debt_calls.proofs.count_unsettled.Goals as goal
@@ -18,10 +17,10 @@ loop-i-preserved c =
     let i = c.loop-i.i in
     let below : i < (ledger_in a.part a.ws.now).debts.count = omega (arith, c.len-held.ensures) in
     elim c.if-at-settles.branch [
-      then-at-settles w ↦ omega
-      (arith, ap length (listed_next a.part a.ws.now a.at c.requires i below c.load.ensures w.if-at-settles.true))
-    | else-at-settles w ↦ omega
-      (arith, ap length (settled_passed a.part a.ws.now a.at c.requires i below c.load.ensures w.if-at-settles.false))
+      | then-at-settles w ↦ omega
+          (arith, ap length (listed_next a.part a.ws.now a.at c.requires i below c.load.ensures w.if-at-settles.true))
+      | else-at-settles w ↦ omega
+          (arith, ap length (settled_passed a.part a.ws.now a.at c.requires i below c.load.ensures w.if-at-settles.false))
     ]
 
 pub returns : goal.returns

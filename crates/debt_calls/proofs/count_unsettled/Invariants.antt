@@ -1,11 +1,8 @@
 -- `count_unsettled` has counted the debts before its place: with those listed from there on they are all that are listed.
-use Prim.Native.Nat.{◌-◌, ◌+◌, ◌≤◌, ◌<◌}
-use mathlib.Core.Path.{◌≡◌, ap}
-use mathlib.Core.Logic.{⊎_elim}
-use native.Mathlib.Omega.{arith}
+use Prim.Native.Nat.{◌-◌, ◌+◌, ◌≤◌}
+use mathlib.Core.Path.{◌≡◌}
 use lib.ListN.{length}
 use Rattle.debt_calls.specs.code.Listing.{ledger_in, listed_from}
-use Rattle.debt_calls.proofs.ListingLaws.{listed_from_first, listed_past, listed_next, settled_passed}
 use Rattle.debt_calls.proofs.count_unsettled.Given as goal
 
 abbrev pub invariant-loop-i : goal.invariant-loop-i

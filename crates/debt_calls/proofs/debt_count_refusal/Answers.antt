@@ -1,7 +1,6 @@
 -- `debt_count_refusal` compares the debt count with the room.
 use mathlib.Core.Path.{sym}
 use Rattle.rules.proofs.DebtLaws.{debt_count_over_is_refused, debt_count_is_accepted}
-use borrow.Author.Rules.{rules}
 use Rattle.debt_calls.proofs.debt_count_refusal.Goals as goal
 
 pub returns-then-part-len : goal.returns-then-part-len

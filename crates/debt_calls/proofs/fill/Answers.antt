@@ -1,6 +1,5 @@
 -- `fill` writes the first of the debts that are still to be written, and those after it are to be written next.
-use Rattle.std.proofs.Common.{ℕ, ◌≡◌, ◌≤◌, List, length, take, refl, sym, ap, ◌∙◌, arith}
-use Rattle.ledger.specs.declared.Debt.{Debt}
+use Rattle.std.proofs.Common.{◌≡◌, ◌≤◌, length, take, refl, sym, ap, ◌∙◌, arith}
 use Rattle.rules.specs.Debts.{listed}
 use Rattle.debt_calls.specs.code.Listing.{ledger_in, listed_from}
 use Rattle.debt_calls.proofs.ListingLaws.{listed_from_first, writes_first, writes_next, writes_none, writes_all}

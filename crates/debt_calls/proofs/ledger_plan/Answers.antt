@@ -3,7 +3,6 @@ use mathlib.Core.Path.{sym, ◌∙◌}
 use Rattle.store.proofs.RefusalLaws.{first_is_told, second_is_told}
 use Rattle.rules.proofs.DebtLaws.{debt_count_not_refused}
 use Rattle.debt_calls.proofs.PlanLaws.{plan_refused, plan_made}
-use borrow.Author.Rules.{rules}
 use Rattle.debt_calls.proofs.ledger_plan.Goals as goal
 
 pub returns-then-refusal-ne0 : goal.returns-then-refusal-ne0

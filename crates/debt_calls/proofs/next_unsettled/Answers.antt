@@ -1,8 +1,5 @@
-use Prim.Native.Nat.{◌-◌, ◌<◌}
-use mathlib.Core.Path.{◌≡◌, refl, ◌∙◌}
+use mathlib.Core.Path.{refl, ◌∙◌}
 use native.Mathlib.Omega.{arith}
-use lib.ListN.{length}
-use Rattle.debt_calls.specs.code.Listing.{ledger_in, listed_from}
 use Rattle.debt_calls.proofs.ListingLaws.{listed_inside, listed_below, listed_next, settled_passed}
 use Rattle.debt_calls.proofs.next_unsettled.Goals as goal
 

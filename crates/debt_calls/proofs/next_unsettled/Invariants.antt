@@ -1,10 +1,8 @@
 -- `next_unsettled` passes settled debts: what is listed from its place on stays the same.
 use Prim.Native.Nat.{◌-◌, ◌<◌}
-use mathlib.Core.Path.{◌≡◌, refl, ◌∙◌}
-use native.Mathlib.Omega.{arith}
+use mathlib.Core.Path.{◌≡◌}
 use lib.ListN.{length}
 use Rattle.debt_calls.specs.code.Listing.{ledger_in, listed_from}
-use Rattle.debt_calls.proofs.ListingLaws.{listed_inside, listed_below, listed_next, settled_passed}
 use Rattle.debt_calls.proofs.next_unsettled.Given as goal
 
 abbrev pub invariant-loop-part : goal.invariant-loop-part

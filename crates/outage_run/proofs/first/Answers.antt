@@ -7,4 +7,4 @@ use Rattle.outage_run.proofs.first.Goals as goal
 pub returns : goal.returns
 returns c = first_took c.args.feed c.args.number (line_of c.args.line.now) c.args.memory.now c.args.output.now
     c.requires (rw c.read.ensures at
-    c.«open».ensures) c.line-put.ensures
+    c.open-served.ensures) c.line-put.ensures

@@ -18,5 +18,5 @@ returns c = let start' =
     c in
     let run-and-print' = c.run_and_print-ran in
     past_took start'.args.settings start'.args.feed start'.args.rs.now start'.args.memory.now start'.args.output.now
-    run-and-print'.ensures start'.pre.1 run-and-print'.kept.1.0 start'.args.number
+    run-and-print'.ensures start'.requires.1 run-and-print'.auto.output start'.args.number
     (rw c.malformed.ensures at c.row-put.ensures)

@@ -9,5 +9,5 @@ slice_bounds-run-end c = rw c.store_size-size.ensures (size_fits _ _)
 
 pub returns : goal.returns
 returns c = let run' = c.run in
-    run_lent c.args.settings c.args.rs.now c.args.memory.now run'.new.1.0 _
+    run_lent c.args.settings c.args.rs.now c.args.memory.now run'.new.rs _
     c.store_size-size.ensures run'.ensures

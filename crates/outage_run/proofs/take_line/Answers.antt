@@ -6,7 +6,7 @@ use Rattle.outage_run.proofs.take_line.Goals as goal
 
 pub returns-in-First : goal.returns-in-First
 returns-in-First c = took_as (line_taken c.args.line.now) (first_is_line c.args.line.now _
-    c.wrapping_add_u64-number.ensures
+    c.wrapping_add_u64-number.ensures.value
     c.in-First.is) (c.first.ensures
     c.args.rs.now)
 
@@ -14,7 +14,7 @@ pub returns-in-Open : goal.returns-in-Open
 returns-in-Open c = let start' =
     c in
     took_as (line_taken start'.args.line.now) (further_is_line start'.args.line.now _
-    c.wrapping_add_u64-number.ensures _
+    c.wrapping_add_u64-number.ensures.value _
     c.in-Open.is)
     c.further.ensures
 
