@@ -1,7 +1,7 @@
 // What a compiled program finds around it in place of an operating system: ten functions, and a product that wasm32 has no instruction for. Standard input is
 // given as bytes, standard output and standard error are gathered as bytes. Reads and writes never fail here, so that no error is told: the number of the last
-// error says only that there is no argument. A program asks for the features of the processor before it begins, since its code for x86-64 needs some; here it is
-// told that it has all of them.
+// error says only that there is no argument. A program asks for the features of the processor before it begins, since its code for x86-64 needs some; here it
+// is told that it has all of them.
 
 // A program that writes more than this is stopped: `exercise` can be asked for billions of lines.
 export const MOST_WRITTEN = 4000000;
