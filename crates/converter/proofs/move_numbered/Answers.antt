@@ -32,15 +32,15 @@ slice_bounds-move_shard-end-2 c = rw (c.start_of-onto.ensures, c.shard_size-2.en
 
 pub move_shard-requires : goal.move_shard-requires
 move_shard-requires c = let start-of' = c.start_of-start in let shard-size' = c.shard_size in let other' = c.other-to in (
-      lent_long c.args.from c.args.cap c.args.i c.args.source.now start-of'.ensures shard-size'.ensures c.requires.0,
-      lent_long
-          (other c.args.from) c.args.cap c.args.i c.args.target.now (rw other'.ensures at c.start_of-onto.ensures)
-          (rw other'.ensures at c.shard_size-2.ensures) c.requires.1,
-      c.requires.2,
-      ap (damaged c.args.from c.args.cap)
-          (lent_shard c.args.from c.args.cap c.args.i c.args.source.now start-of'.ensures shard-size'.ensures) ∙
-          c.requires.3,
-    )
+  lent_long c.args.from c.args.cap c.args.i c.args.source.now start-of'.ensures shard-size'.ensures c.requires.0,
+  lent_long
+      (other c.args.from) c.args.cap c.args.i c.args.target.now (rw other'.ensures at c.start_of-onto.ensures)
+      (rw other'.ensures at c.shard_size-2.ensures) c.requires.1,
+  c.requires.2,
+  ap (damaged c.args.from c.args.cap)
+      (lent_shard c.args.from c.args.cap c.args.i c.args.source.now start-of'.ensures shard-size'.ensures) ∙
+      c.requires.3,
+)
 
 pub returns : goal.returns
 returns c = let other' = c.other-to in part_moved c.args.from c.args.cap c.args.i c.args.source.now

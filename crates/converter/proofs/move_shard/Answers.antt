@@ -4,10 +4,10 @@ use Rattle.converter.proofs.move_shard.Goals as goal
 
 pub forth-requires : goal.forth-requires
 forth-requires c = (
-      record { size = rw c.in-Old.is at c.requires.0; fits = rw c.in-Old.is at c.requires.3 },
-      rw c.in-Old.is at c.requires.1,
-      c.requires.2,
-    )
+  record { size = rw c.in-Old.is at c.requires.0; fits = rw c.in-Old.is at c.requires.3 },
+  rw c.in-Old.is at c.requires.1,
+  c.requires.2,
+)
 
 pub back-requires : goal.back-requires
 back-requires c = (rw c.in-Present.is at c.requires.0, rw c.in-Present.is at c.requires.1)

@@ -12,14 +12,14 @@ slot_count-slots-requires c = c.requires.size
 
 pub has_twins-requires : goal.has_twins-requires
 has_twins-requires c = rw c.slot_rows.ensures (record {
-      inside = omega (
-        arith,
-        c.requires.size,
-        slots_within c.requires
-            c.slot_count-slots.ensures,
-      );
-      within = lit< tt;
-    })
+  inside = omega (
+    arith,
+    c.requires.size,
+    slots_within c.requires
+        c.slot_count-slots.ensures,
+  );
+  within = lit< tt;
+})
 
 pub returns-then-has_twins : goal.returns-then-has_twins
 returns-then-has_twins c = let slot-count' = c.slot_count-slots in
@@ -34,14 +34,14 @@ debt_rows-requires c = omega (arith, c.requires.size)
 
 pub has_twins-requires-2 : goal.has_twins-requires-2
 has_twins-requires-2 c = rw c.debt_rows.ensures (record {
-      inside = omega (
-        arith,
-        c.requires.size,
-        debts_within c.requires
-            c.debt_count-debts.ensures,
-      );
-      within = lit< tt;
-    })
+  inside = omega (
+    arith,
+    c.requires.size,
+    debts_within c.requires
+        c.debt_count-debts.ensures,
+  );
+  within = lit< tt;
+})
 
 pub returns : goal.returns
 returns c = let slot-count' = c.slot_count-slots in

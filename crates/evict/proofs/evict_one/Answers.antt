@@ -59,8 +59,8 @@ walk-ended : (c : goal.After-slice_known-2-1) → let a = c.args in
     Ended a.ws.now a.cap a.config a.at c.if-left-eq0.ws c.if-left-eq0.ended c.loop-left.walk
 walk-ended c = let inv = c.loop-left.invariant in
     elim c.if-left-eq0.branch [
-      then-left-eq0 w ↦ rw (w.ws-is, w.ended-is) (record { long = inv.long; same = sym inv.same ∙ walk_end _ _ _ _ _ w.if-left-eq0.true })
-    | else-left-eq0+then-goes_at_once w ↦ rw (w.ws-is, w.ended-is) (record {
+      | then-left-eq0 w ↦ rw (w.ws-is, w.ended-is) (record { long = inv.long; same = sym inv.same ∙ walk_end _ _ _ _ _ w.if-left-eq0.true })
+      | else-left-eq0+then-goes_at_once w ↦ rw (w.ws-is, w.ended-is) (record {
         long = w.hand_look-slot.auto.ws ∙ inv.long;
         same = sym inv.same ∙ walk_ends_at_once _ _ _ _ _ (omega (arith, w.if-left-eq0.false)) w.hand-pos.ensures w.hand_look-slot.ensures w.goes_at_once.ensures w.if-goes_at_once.true;
       })
@@ -70,8 +70,8 @@ walk-ended_2 : (c : goal.After-choose) → let a = c.args in
     Ended a.ws.now a.cap a.config a.at c.if-left-eq0.ws c.if-left-eq0.ended c.loop-left.walk
 walk-ended_2 c = let inv = c.loop-left.invariant in
     elim c.if-left-eq0.branch [
-      then-left-eq0 w ↦ rw (w.ws-is, w.ended-is) (record { long = inv.long; same = sym inv.same ∙ walk_end _ _ _ _ _ w.if-left-eq0.true })
-    | else-left-eq0+then-goes_at_once w ↦ rw (w.ws-is, w.ended-is) (record {
+      | then-left-eq0 w ↦ rw (w.ws-is, w.ended-is) (record { long = inv.long; same = sym inv.same ∙ walk_end _ _ _ _ _ w.if-left-eq0.true })
+      | else-left-eq0+then-goes_at_once w ↦ rw (w.ws-is, w.ended-is) (record {
         long = w.hand_look-slot.auto.ws ∙ inv.long;
         same = sym inv.same ∙ walk_ends_at_once _ _ _ _ _ (omega (arith, w.if-left-eq0.false)) w.hand-pos.ensures w.hand_look-slot.ensures w.goes_at_once.ensures w.if-goes_at_once.true;
       })

@@ -12,15 +12,15 @@ loop-at-init c = none_yet _ _ _ _ _ c.requires.1 c.requires.2
 
 pub take_line-feed-requires : goal.take_line-feed-requires
 take_line-feed-requires c = let loop' = c.loop-at in (
-      omega (arith, loop'.invariant.rows, loop'.invariant.same_rs, c.requires.0),
-      omega (
-        arith,
-        loop'.invariant.fits,
-        loop'.invariant.same_output,
-        c.if-stop-bytes.false,
-        c.find-stop.ensures.range,
-      ),
-    )
+  omega (arith, loop'.invariant.rows, loop'.invariant.same_rs, c.requires.0),
+  omega (
+    arith,
+    loop'.invariant.fits,
+    loop'.invariant.same_output,
+    c.if-stop-bytes.false,
+    c.find-stop.ensures.range,
+  ),
+)
 
 pub loop-at-preserved : goal.loop-at-preserved
 loop-at-preserved c = let loop' = c.loop-at in

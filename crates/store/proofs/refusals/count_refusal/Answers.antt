@@ -20,8 +20,8 @@ returns-then-cap-len c = sym (debts_over_are_refused _ _ _ _ (omega (arith, c.if
 
 pub returns : goal.returns
 returns c = sym (counts_are_accepted _ _ _ _ (record {
-      slots = omega (arith, c.if-cap-slots.false, c.len-slots.ensures);
-      debts = omega (arith, c.if-cap-len.false, c.len.ensures);
-      covers = omega (arith, c.if-total-slots.false, c.len-slots.ensures);
-      within = total_not_refused _ _ (sym c.total_refusal.ensures ∙ c.if-total_refusal-ne0.false);
-    }))
+  slots = omega (arith, c.if-cap-slots.false, c.len-slots.ensures);
+  debts = omega (arith, c.if-cap-len.false, c.len.ensures);
+  covers = omega (arith, c.if-total-slots.false, c.len-slots.ensures);
+  within = total_not_refused _ _ (sym c.total_refusal.ensures ∙ c.if-total_refusal-ne0.false);
+}))
