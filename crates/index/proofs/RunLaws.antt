@@ -3,7 +3,7 @@
 use Rattle.std.proofs.Common.{◌≡◌, ℕ, zero, suc, ◌+◌, ◌-◌, ◌%◌, ◌<◌, ◌≤◌, ◌⊎◌, List, length, set, refl, ap, ◌∙◌, inl, inr, ⊎_elim, arith, length-set, ne_eqb, le-leb}
 use Rattle.arith.proofs.Cases.{by_le, by_eq}
 use Rattle.index.specs.Walk.{at, onward, walk, seek, add, add_again, rehome}
-use Rattle.index.specs.Exact.{copies, Before, mid, low, high, OnWalk}
+use Rattle.index.specs.Exact.{copies, Before, mid, high, OnWalk}
 use Rattle.index.proofs.CycleLaws.{Follows, on, back, onward_follows, follows_below, which_first, before_from_next, passes_arc_end, in_one_arc}
 use Rattle.index.proofs.CycleLaws.{not_in_both_arcs}
 use Rattle.index.proofs.CycleLaws.{not_before_itself, arc_gains_its_end, arc_grows, passes_other_arc, Reach, reach_none, reach_next, all_but_one}

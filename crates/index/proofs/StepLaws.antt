@@ -10,7 +10,6 @@ use Rattle.rows.specs.declared.Place.TheVariants.{At, Nowhere}
 use Rattle.index.specs.declared.Probed.{Probed}
 use Rattle.index.specs.declared.Probed.TheVariants.{Hit, Empty, Other}
 use Rattle.index.specs.Walk.{at, onward, walk_from, walk, hits, find_from, find, probed, seek, add, add_again, rehome, vacate, renumber, remove}
-use Rattle.index.proofs.Worked as Worked
 use Rattle.index.proofs.CycleLaws.{onward_follows, follows_below}
 
 -- The place one step on, by the test of the code.

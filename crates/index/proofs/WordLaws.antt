@@ -1,6 +1,6 @@
 -- What the words of an index are below. An item's number, plus 1, is at most the count, and every other word of a step stood there before: so a bound that is
 -- over all words and over the count stays over all words. On any words.
-use Rattle.std.proofs.Common.{◌≡◌, ℕ, zero, suc, ◌+◌, ◌-◌, ◌<◌, ◌≤◌, List, length, set, refl, ◌∙◌, arith}
+use Rattle.std.proofs.Common.{◌≡◌, ℕ, zero, suc, ◌+◌, ◌-◌, ◌<◌, List, length, set, refl, arith}
 use lib.Seq.{set_out}
 use Rattle.arith.proofs.Cases.{by_eq, by_le}
 use Rattle.index.specs.Walk.{at, onward, seek, add, add_again, rehome, vacate, renumber, remove}

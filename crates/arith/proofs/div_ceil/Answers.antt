@@ -1,7 +1,6 @@
 use Rattle.arith.proofs.DivisionLaws.{ceil_div_no_rest, ceil_div_rest, quotient_below}
 use mathlib.Core.Path.{sym}
 use native.Mathlib.Omega.{arith}
-use borrow.Author.Rules.{rules}
 use Rattle.arith.proofs.div_ceil.Goals as goal
 
 pub overflow_add-result : goal.overflow_add-result

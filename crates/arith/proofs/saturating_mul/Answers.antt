@@ -1,7 +1,6 @@
 use Rattle.arith.proofs.ProductLaws.{half_product_fits, half_product_saturated, product_too_wide, product_saturated}
 use mathlib.Core.Path.{◌∙◌}
 use native.Mathlib.Omega.{arith}
-use borrow.Author.Rules.{rules}
 use Rattle.arith.proofs.saturating_mul.Goals as goal
 
 pub overflow_mul-result : goal.overflow_mul-result

@@ -1,5 +1,5 @@
 -- `add_again` adds the item that the word names, and leaves all as it is where the word names none.
-use Rattle.std.proofs.Common.{sym, rules}
+use Rattle.std.proofs.Common.{sym}
 use Rattle.index.proofs.LayoutLaws.{same_places}
 use Rattle.index.proofs.StepLaws.{add_again_named, add_again_nothing}
 use Rattle.index.proofs.add_again.Goals as goal

@@ -1,6 +1,5 @@
 -- `empty` stores 0 at a place of the index.
 use Rattle.index.proofs.LayoutLaws.{place_set}
-use Rattle.std.proofs.Common.{rules}
 use Rattle.index.proofs.empty.Goals as goal
 
 pub returns : goal.returns

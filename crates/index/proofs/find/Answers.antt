@@ -1,5 +1,5 @@
 -- `find` looks at the home place and leaves the rest of the walk to `find_on`.
-use Rattle.std.proofs.Common.{mod-lt, rules}
+use Rattle.std.proofs.Common.{mod-lt}
 use Rattle.index.proofs.LayoutLaws.{places_length}
 use Rattle.index.proofs.StepLaws.{find_home}
 use Rattle.index.proofs.find.Goals as goal

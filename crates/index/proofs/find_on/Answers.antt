@@ -1,5 +1,4 @@
-use Rattle.std.proofs.Common.{◌≡◌, ℕ, ◌-◌, ◌<◌, List, refl, ◌∙◌, arith, rules}
-use Rattle.index.specs.declared.Index.{Index}
+use Rattle.std.proofs.Common.{◌≡◌, ◌-◌, refl, ◌∙◌, arith}
 use Rattle.index.specs.declared.Probed.{Probed}
 use Rattle.index.specs.Walk.{onward, find_from}
 use Rattle.index.specs.Layout.{places_of, keyed}

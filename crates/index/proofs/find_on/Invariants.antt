@@ -1,11 +1,8 @@
 -- `find_on` walks on from the home place. The loop holds that the lookup from here gives what it gives from the place after the home.
-use Rattle.std.proofs.Common.{◌≡◌, ℕ, ◌-◌, ◌<◌, List, refl, ◌∙◌, arith, rules}
+use Rattle.std.proofs.Common.{◌≡◌, ℕ, ◌-◌, ◌<◌, List}
 use Rattle.index.specs.declared.Index.{Index}
-use Rattle.index.specs.declared.Probed.{Probed}
 use Rattle.index.specs.Walk.{onward, find_from}
 use Rattle.index.specs.Layout.{places_of, keyed}
-use Rattle.index.proofs.LayoutLaws.{places_length}
-use Rattle.index.proofs.StepLaws.{after_look, find_turn, find_over, onward_below}
 use Rattle.index.proofs.find_on.Given as goal
 
 -- The place is one of the index, and the lookup from here gives what it gives from the place after the home.

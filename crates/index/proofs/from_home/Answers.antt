@@ -1,5 +1,5 @@
 -- `from_home` counts the steps from the home of the item that the word names, if it names one.
-use Rattle.std.proofs.Common.{mod-lt, rules}
+use Rattle.std.proofs.Common.{mod-lt}
 use Rattle.index.proofs.TrailLaws.{from_home_lem, from_no_home}
 use Rattle.index.proofs.from_home.Goals as goal
 

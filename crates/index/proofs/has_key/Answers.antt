@@ -1,5 +1,5 @@
 -- `has_key` tests the hash of an item first, then its key, as the definition does.
-use Rattle.std.proofs.Common.{sym, ◌∙◌, rules}
+use Rattle.std.proofs.Common.{sym, ◌∙◌}
 use Rattle.index.proofs.LayoutLaws.{keyed_by_key, keyed_not}
 use Rattle.index.proofs.has_key.Goals as goal
 

@@ -1,5 +1,5 @@
 -- `known_after` tells by the gap what a walk has shown.
-use Rattle.std.proofs.Common.{sym, ◌∙◌, rules}
+use Rattle.std.proofs.Common.{sym, ◌∙◌}
 use Rattle.index.proofs.TrailLaws.{known_left, known_filled}
 use Rattle.index.proofs.known_after.Goals as goal
 

@@ -1,5 +1,5 @@
 -- `move_word` stores at two places of the index.
-use Rattle.std.proofs.Common.{arith, length-set, rules}
+use Rattle.std.proofs.Common.{arith, length-set}
 use Rattle.index.proofs.LayoutLaws.{two_places_set}
 use Rattle.index.proofs.move_word.Goals as goal
 

@@ -1,5 +1,5 @@
 -- `pass_one` adds an item again. Where it makes no walk, the laws of the pass say what the walk would find; where it does, what the pass knows after it.
-use Rattle.std.proofs.Common.{arith, rules}
+use Rattle.std.proofs.Common.{arith}
 use Rattle.index.proofs.PassLaws.{run_fits, known_after_fits, picked_below, pass_moves, pass_walks}
 use Rattle.index.proofs.pass_one.Goals as goal
 

@@ -1,5 +1,5 @@
 -- `probe` makes of the word at a place what the definition makes of it. The word less 1 is below the count exactly where the word names an item.
-use Rattle.std.proofs.Common.{◌≡◌, ◌+◌, sym, ◌∙◌, arith, rules}
+use Rattle.std.proofs.Common.{◌≡◌, ◌+◌, sym, ◌∙◌, arith}
 use Rattle.index.specs.Walk.{at}
 use Rattle.index.specs.Layout.{places_of}
 use Rattle.index.proofs.StepLaws.{probed_hit, probed_miss, probed_empty, probed_no_item, less_one_names, less_one_over}

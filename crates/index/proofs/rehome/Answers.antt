@@ -1,9 +1,6 @@
-use Rattle.std.proofs.Common.{◌≡◌, sym, refl, ◌∙◌, arith, rules}
-use Rattle.index.specs.Walk.{onward}
-use Rattle.index.specs.Layout.{places_of}
-use Rattle.index.specs.code.Trail.{Trail}
+use Rattle.std.proofs.Common.{sym, refl, ◌∙◌, arith}
 use Rattle.index.proofs.StepLaws.{onward_below}
-use Rattle.index.proofs.LayoutLaws.{Rehoming, rehoming_start, rehoming_empty, rehoming_over, rehoming_on}
+use Rattle.index.proofs.LayoutLaws.{rehoming_start, rehoming_empty, rehoming_over, rehoming_on}
 use Rattle.index.proofs.TrailLaws.{trail_start}
 use Rattle.index.proofs.rehome.Goals as goal
 

@@ -1,12 +1,10 @@
 -- `rehome` is the pass over the places after an emptied one. The loop holds that the pass from here leaves what it leaves from the start, and what the pass
 -- knows at the place.
-use Rattle.std.proofs.Common.{◌≡◌, sym, refl, ◌∙◌, arith, rules}
+use Rattle.std.proofs.Common.{◌≡◌}
 use Rattle.index.specs.Walk.{onward}
 use Rattle.index.specs.Layout.{places_of}
 use Rattle.index.specs.code.Trail.{Trail}
-use Rattle.index.proofs.StepLaws.{onward_below}
-use Rattle.index.proofs.LayoutLaws.{Rehoming, rehoming_start, rehoming_empty, rehoming_over, rehoming_on}
-use Rattle.index.proofs.TrailLaws.{trail_start}
+use Rattle.index.proofs.LayoutLaws.{Rehoming}
 use Rattle.index.proofs.rehome.Given as goal
 
 abbrev pub invariant-loop-left : goal.invariant-loop-left

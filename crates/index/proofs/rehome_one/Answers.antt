@@ -1,6 +1,5 @@
 -- `rehome_one` empties a place and adds its item again: the second call goes on from the places that the first one left.
 use Rattle.index.proofs.LayoutLaws.{then_fits, then_add_again, set_length}
-use Rattle.std.proofs.Common.{rules}
 use Rattle.index.proofs.rehome_one.Goals as goal
 
 pub add_again-requires : goal.add_again-requires

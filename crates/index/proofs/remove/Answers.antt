@@ -1,6 +1,5 @@
 -- `remove` is the definition's removal: it finds the place of the item, vacates it, and renumbers the last item.
 use Rattle.index.proofs.LayoutLaws.{then_fits, vacated_length, removed_by_calls}
-use Rattle.std.proofs.Common.{rules}
 use Rattle.index.proofs.remove.Goals as goal
 
 pub renumber_last-requires : goal.renumber_last-requires

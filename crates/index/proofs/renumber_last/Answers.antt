@@ -1,6 +1,5 @@
 -- `renumber_last` lends the places to `places::renumber`, with the hash of the last item.
 use Rattle.index.proofs.LayoutLaws.{places_lent, places_back}
-use Rattle.std.proofs.Common.{rules}
 use Rattle.index.proofs.renumber_last.Goals as goal
 
 pub returns : goal.returns

@@ -1,5 +1,5 @@
 -- `vacate` empties a place in use and passes over the places after it. An empty place, and one past the last, it leaves as it is.
-use Rattle.std.proofs.Common.{sym, ◌∙◌, rules}
+use Rattle.std.proofs.Common.{sym, ◌∙◌}
 use Rattle.index.proofs.LayoutLaws.{then_fits, set_length, vacated_empty, vacated_past, vacated_used}
 use Rattle.index.proofs.PassLaws.{emptied_place}
 use Rattle.index.proofs.vacate.Goals as goal

@@ -1,6 +1,5 @@
 -- `word_at` reads a place of the index: the word lies as far past the first place as the place is.
 use Rattle.index.proofs.LayoutLaws.{place_read}
-use Rattle.std.proofs.Common.{rules}
 use Rattle.index.proofs.word_at.Goals as goal
 
 pub returns : goal.returns

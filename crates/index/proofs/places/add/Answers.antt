@@ -1,6 +1,5 @@
 -- `places::add` stores the number at the place that the walk gives. Past the last place it stores nothing, and neither does the definition.
 use Rattle.index.proofs.StepLaws.{add_in, add_past}
-use Rattle.std.proofs.Common.{rules}
 use Rattle.index.proofs.places.add.Goals as goal
 
 pub returns-then-z-ix : goal.returns-then-z-ix

@@ -1,6 +1,5 @@
 -- `places::onward` gives the place one step on, by the test of the definition.
 use Rattle.index.proofs.StepLaws.{onward_on, onward_back}
-use Rattle.std.proofs.Common.{rules}
 use Rattle.index.proofs.places.onward.Goals as goal
 
 pub returns-then-q-size : goal.returns-then-q-size

@@ -1,6 +1,5 @@
 -- `places::renumber` stores the number at the place that the walk gives, if the place is in use, as the definition does.
 use Rattle.index.proofs.StepLaws.{renumber_in, renumber_none, renumber_past}
-use Rattle.std.proofs.Common.{rules}
 use Rattle.index.proofs.places.renumber.Goals as goal
 
 pub returns-then-ix-z-ne0 : goal.returns-then-ix-z-ne0

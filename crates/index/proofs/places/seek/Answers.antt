@@ -1,5 +1,4 @@
-use Rattle.std.proofs.Common.{◌≡◌, ℕ, ◌<◌, eqb, List, length, sym, refl, ◌∙◌, mod-lt, arith, rules, eq-eqb, ne_eqb}
-use Rattle.index.specs.Walk.{walk_from, seek}
+use Rattle.std.proofs.Common.{sym, refl, ◌∙◌, mod-lt, arith, eq-eqb, ne_eqb}
 use Rattle.index.proofs.StepLaws.{walk_empty, walk_passing, walk_on, walk_over, seek_start, onward_below}
 use Rattle.index.proofs.places.seek.Goals as goal
 

@@ -1,7 +1,6 @@
 -- `places::seek` walks to the first place that holds the word. The loop holds that the walk from here stops where the whole walk stops.
-use Rattle.std.proofs.Common.{◌≡◌, ℕ, ◌<◌, eqb, List, length, sym, refl, ◌∙◌, mod-lt, arith, rules, eq-eqb, ne_eqb}
+use Rattle.std.proofs.Common.{◌≡◌, ℕ, ◌<◌, eqb, List, length}
 use Rattle.index.specs.Walk.{walk_from, seek}
-use Rattle.index.proofs.StepLaws.{walk_empty, walk_passing, walk_on, walk_over, seek_start, onward_below}
 use Rattle.index.proofs.places.seek.Given as goal
 
 -- The place is one of the index, and the walk from here stops where the whole walk stops.

@@ -1,6 +1,5 @@
 -- `places::steps` counts the steps straight on, or past the last place.
 use Rattle.index.proofs.WayLaws.{steps_on, steps_round}
-use Rattle.std.proofs.Common.{rules}
 use Rattle.index.proofs.places.steps.Goals as goal
 
 pub returns-then-from-to : goal.returns-then-from-to
