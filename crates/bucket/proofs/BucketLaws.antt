@@ -18,7 +18,6 @@ use Rattle.bucket.specs.declared.BucketDecision.TheVariants.{Allowed, Denied}
 use Rattle.bucket.specs.Bucket.{Accepted, parts_of, full_parts, most_shortfall, read_shortfall, shortfall_at, available_at, full_at, lack_for, grown, wait_at}
 use Rattle.bucket.specs.Bucket.{recovery_of, recovery_at, due_after, spent, longest_wait, wait_to, request_wait, request_due, does_turn_away, asked, refunded}
 use Rattle.bucket.specs.declared.Due.{Due}
-use Rattle.bucket.proofs.Worked as Worked
 
 -- At an accepted rate a full bucket has less than 2^62 parts, so the most shortfall is below 2^63: every sum of the bucket fits 64 bits.
 pub full_parts_most : {c : BucketConfig} → Accepted c → full_parts c ≤ 2 ^ 62 - 2 ^ 46

@@ -1,9 +1,8 @@
 -- What a lookup says. On any value, what it finds is below the count and passes. On a complete value it misses no item of the hash. So layers above know
 -- lookup by two laws. Then what each step keeps: that the value is complete, the kind of its finding, and a bound over the words of its index.
-use Prim.Native.Nat.{ℕ, ◌+◌, ◌-◌, ◌*◌, ◌<◌}
+use Prim.Native.Nat.{ℕ, ◌+◌, ◌<◌}
 use native.Mathlib.Omega.{arith}
 use mathlib.Core.Path.{◌≡◌, refl, ap, ◌∙◌}
-use mathlib.Core.List.{List}
 use mathlib.Core.Bool.{Bool, true, false}
 use lib.ListN.{length, length-set, replicate, length-replicate}
 use Rattle.arith.proofs.Cases.{by_test, by_eq}
@@ -11,7 +10,6 @@ use Rattle.rows.specs.declared.Place.TheVariants.{At, Nowhere}
 use Rattle.rows.proofs.LowestLaws as LowestLaws
 use Rattle.rows.proofs.LowestLaws.{Found}
 use Rattle.index.specs.Walk as Index
-use Rattle.index.specs.Exact.{Exact}
 use Rattle.index.specs.Layout.{places_for}
 use Rattle.index.proofs.StepLaws.{add_length, remove_length}
 use Rattle.index.proofs.ExactLaws.{exact_hash, add_exact, fresh_exact}

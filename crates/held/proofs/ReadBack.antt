@@ -1,9 +1,8 @@
 -- Items written as rows of words and read back: the table comes out as it was. Over any item and width.
 use Prim.Native.Nat.{ℕ, ◌+◌, ◌*◌}
 use native.Mathlib.Omega.{arith}
-use native.Mathlib.Nat.{mul-zero, mul-suc}
-use mathlib.Core.Path.{◌≡◌, refl, sym}
-use mathlib.Core.List.{List, [], ◌∷◌, ◌++◌, map}
+use mathlib.Core.Path.{◌≡◌}
+use mathlib.Core.List.{List, ◌++◌, map}
 use lib.ListN.{length, get_or, drop, length-append}
 use lib.Seq.{take_at, drop_at, drop-drop}
 use Rattle.rows.specs.Segments.{segment}

@@ -1,7 +1,6 @@
 -- `restore_debt` meets its contract: its cut and its charge are those of the definition, and missing tokens held to 64 bits make the same debt as all of them.
 use Rattle.bucket.proofs.DebtLaws.{restore_saturated, lacking_by_taking_out, restored_settled, restored_unsettled}
 use mathlib.Core.Path.{sym, ◌∙◌}
-use borrow.Author.Rules.{rules}
 use Rattle.bucket.proofs.restore_debt.Goals as goal
 
 pub returns-then-remaining-eq0 : goal.returns-then-remaining-eq0

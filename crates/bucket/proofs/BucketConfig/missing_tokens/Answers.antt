@@ -1,6 +1,5 @@
 -- `missing_tokens` meets its contract: whole periods come out of the round-up exactly, and the rest of a period times the amount fits.
 use Rattle.bucket.proofs.DebtLaws.{missing_saturated, rest_product_fits}
-use borrow.Author.Rules.{rules}
 use Rattle.bucket.proofs.BucketConfig.missing_tokens.Goals as goal
 
 pub overflow_mul-remaining : goal.overflow_mul-remaining

@@ -1,7 +1,6 @@
 -- `ask_at` meets its contract, by the two answers to a request.
 use Rattle.bucket.proofs.BucketLaws.{grant_is_told, denial_is_told}
 use native.Mathlib.Omega.{arith}
-use borrow.Author.Rules.{rules}
 use Rattle.bucket.proofs.BucketCore.ask_at.Goals as goal
 
 pub wait_for-own-requires : goal.wait_for-own-requires

@@ -1,6 +1,5 @@
 -- `available_at` meets its contract: it computes the definition, from what its callees ensure.
 use Rattle.bucket.proofs.BucketLaws.{available_by_parts}
-use borrow.Author.Rules.{rules}
 use Rattle.bucket.proofs.BucketCore.available_at.Goals as goal
 
 pub returns : goal.returns

@@ -2,7 +2,6 @@
 use Rattle.bucket.proofs.BucketLaws.{most_shortfall_fits}
 use Rattle.bucket.proofs.DebtLaws.{charge_beyond_most, charge_parts_most, charge_fits}
 use native.Mathlib.Omega.{arith}
-use borrow.Author.Rules.{rules}
 use Rattle.bucket.proofs.BucketCore.charge_at.Goals as goal
 
 pub returns-then-most-period : goal.returns-then-most-period

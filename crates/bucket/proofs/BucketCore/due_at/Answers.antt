@@ -1,7 +1,6 @@
 -- `due_at` meets its contract: due after the wait.
 use Rattle.bucket.proofs.BucketLaws.{due_by_number}
 use mathlib.Core.Path.{◌∙◌}
-use borrow.Author.Rules.{rules}
 use Rattle.bucket.proofs.BucketCore.due_at.Goals as goal
 
 pub returns : goal.returns

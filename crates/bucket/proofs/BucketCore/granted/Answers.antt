@@ -1,5 +1,4 @@
 -- `granted` meets its contract: its stamp is what `larger` ensures.
-use borrow.Author.Rules.{rules}
 use Rattle.bucket.proofs.BucketCore.granted.Goals as goal
 
 pub returns : goal.returns

@@ -1,6 +1,5 @@
 -- `grown_at` meets its contract: no wait stays none, another grows by the time until the stamp.
 use Rattle.bucket.proofs.BucketLaws.{no_wait_stays_none, wait_grows}
-use borrow.Author.Rules.{rules}
 use Rattle.bucket.proofs.BucketCore.grown_at.Goals as goal
 
 pub returns-then-wait-eq0 : goal.returns-then-wait-eq0

@@ -1,5 +1,4 @@
 -- `is_full_at` meets its contract: it tests the shortfall that `shortfall_at` ensures.
-use borrow.Author.Rules.{rules}
 use Rattle.bucket.proofs.BucketCore.is_full_at.Goals as goal
 
 pub returns : goal.returns

@@ -1,6 +1,5 @@
 -- `recovers_in` divides the shortfall: grown, that is the wait for as many tokens as the bucket can hold.
 use Rattle.bucket.proofs.BucketLaws.{recovery_of_shortfall}
-use borrow.Author.Rules.{rules}
 use Rattle.bucket.proofs.BucketCore.recovers_in.Goals as goal
 
 pub returns : goal.returns

@@ -1,6 +1,5 @@
 -- `refund` meets its contract: parts held to 64 bits lower a shortfall below 2^64 as all of them do.
 use Rattle.bucket.proofs.BucketLaws.{refund_by_saturated}
-use borrow.Author.Rules.{rules}
 use Rattle.bucket.proofs.BucketCore.refund.Goals as goal
 
 pub returns : goal.returns

@@ -1,6 +1,5 @@
 -- `shortfall_at` meets its contract: a fall held to 64 bits lowers a shortfall below 2^64 as the whole fall does.
 use Rattle.bucket.proofs.BucketLaws.{shortfall_by_saturated}
-use borrow.Author.Rules.{rules}
 use Rattle.bucket.proofs.BucketCore.shortfall_at.Goals as goal
 
 pub returns : goal.returns

@@ -1,5 +1,4 @@
 -- `spent_at` meets its contract: its shortfall is `wanted_at`'s.
-use borrow.Author.Rules.{rules}
 use Rattle.bucket.proofs.BucketCore.spent_at.Goals as goal
 
 pub returns : goal.returns

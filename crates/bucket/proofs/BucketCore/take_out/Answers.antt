@@ -1,7 +1,6 @@
 -- `take_out` meets its contract, by the two cases of its definition.
 use Rattle.bucket.proofs.DebtLaws.{none_taken_out, some_taken_out}
 use mathlib.Core.Path.{◌∙◌}
-use borrow.Author.Rules.{rules}
 use Rattle.bucket.proofs.BucketCore.take_out.Goals as goal
 
 pub returns-then-tokens-eq0 : goal.returns-then-tokens-eq0

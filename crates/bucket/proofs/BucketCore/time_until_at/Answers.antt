@@ -1,5 +1,4 @@
 -- `time_until_at` meets its contract: the wait by what a grant would store.
-use borrow.Author.Rules.{rules}
 use Rattle.bucket.proofs.BucketCore.time_until_at.Goals as goal
 
 pub wait_for-requires : goal.wait_for-requires

@@ -1,6 +1,5 @@
 -- `wait_for` meets its contract, by the three cases of a wait: no cost, nothing lacking, something lacking.
 use Rattle.bucket.proofs.BucketLaws.{no_cost_no_wait, enough_no_wait, wait_for_lack}
-use borrow.Author.Rules.{rules}
 use Rattle.bucket.proofs.BucketCore.wait_for.Goals as goal
 
 pub returns-then-cost-eq0 : goal.returns-then-cost-eq0

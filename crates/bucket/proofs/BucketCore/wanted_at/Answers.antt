@@ -1,7 +1,6 @@
 -- `wanted_at` meets its contract: a shortfall and the parts of a cost within the capacity are below 2^64 together.
 use Rattle.bucket.proofs.BucketLaws.{parts_fit, grant_fits}
 use native.Mathlib.Omega.{arith}
-use borrow.Author.Rules.{rules}
 use Rattle.bucket.proofs.BucketCore.wanted_at.Goals as goal
 
 pub overflow_mul-result : goal.overflow_mul-result

@@ -1,5 +1,4 @@
 -- `after` meets its contract: the moment is the sum, held to 64 bits.
-use borrow.Author.Rules.{rules}
 use Rattle.bucket.proofs.Due.after.Goals as goal
 
 pub returns : goal.returns

@@ -1,6 +1,5 @@
 -- `turns_away` is true of a try that this bucket makes wait.
 use mathlib.Core.Path.{sym, ◌∙◌}
-use borrow.Author.Rules.{rules}
 use Rattle.bucket.proofs.Request.turns_away.Goals as goal
 
 pub returns-then-is_try : goal.returns-then-is_try

@@ -1,5 +1,4 @@
 -- `wait_to` has a case for each kind of request.
-use borrow.Author.Rules.{rules}
 use Rattle.bucket.proofs.Request.wait_to.Goals as goal
 
 pub returns-in-Through : goal.returns-in-Through
