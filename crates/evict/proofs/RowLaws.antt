@@ -22,7 +22,7 @@ use Rattle.shard_map.proofs.ModelLaws.{intact_after, StillLent}
 use Rattle.evict.specs.declared.Row.{Row}
 use Rattle.evict.specs.declared.Walk.{Walk}
 use Rattle.evict.specs.Evict.{Notes, looked, goes_at_once, walk_from}
-use Rattle.evict.specs.code.Awaited.{awaiting, notes_of, walk_noted}
+use Rattle.evict.specs.code.Awaited.{notes_of, walk_noted}
 use Rattle.evict.specs.code.Row.{plainly_owed, along, with_least, Passed}
 use Rattle.evict.proofs.AwaitedLaws.{awaits_its_shortfall}
 use Rattle.evict.proofs.ModelLaws.{noted_unmarked, walk_turn}

@@ -22,7 +22,6 @@ use Rattle.evict.specs.declared.Victim.{Victim}
 use Rattle.evict.specs.declared.Victim.TheVariants.{Free, Owing}
 use Rattle.shard_map.specs.Model.{Shard, Sound, slot_items, cap_of, slot_at, hand_of}
 use Rattle.shard_map.proofs.StepLaws.{hand_below}
-use Rattle.evict.proofs.Worked as Worked
 use Rattle.evict.specs.Evict.{or_else, place_or, Notes, nothing_noted, noted, looked, goes_at_once, Walked, walk_from, walked, free_or, victim_of}
 
 -- A shard that is another but for the hand and the marks.

@@ -1,7 +1,7 @@
 -- A debt is recorded by making the ledger ready for it and writing it; and what each step is in each case that the code goes through.
 use Prim.Native.Nat.{ℕ, ◌≤◌, ◌<◌}
 use native.Mathlib.Omega.{arith}
-use mathlib.Core.Path.{◌≡◌, refl, sym, ◌∙◌}
+use mathlib.Core.Path.{◌≡◌, refl}
 use mathlib.Core.Bool.{Bool}
 use mathlib.Core.List.{List}
 use lib.Dec.{ltb}
@@ -11,13 +11,13 @@ use Rattle.arith.proofs.Cases.{by_test}
 use Rattle.units.specs.declared.Nanos.{Nanos}
 use Rattle.rows.specs.declared.Place.{Place}
 use Rattle.rows.specs.declared.Place.TheVariants.{At, Nowhere}
-use Rattle.rows.specs.Outcome.{Outcome, outcome}
+use Rattle.rows.specs.Outcome.{outcome}
 use Rattle.rows.proofs.OutcomeLaws.{answer_is, after_is}
 use Rattle.ledger.specs.declared.Debt.{Debt}
 use Rattle.ledger.specs.declared.Recorded.{Recorded}
 use Rattle.ledger.specs.declared.Recorded.TheVariants.{Done, NoRoom}
 use Rattle.ledger.specs.declared.Prepared.{Prepared}
-use Rattle.ledger.specs.declared.Prepared.TheVariants.{Ready, Full}
+use Rattle.ledger.specs.declared.Prepared.TheVariants.{Ready}
 use Rattle.ledger.specs.Model.{Ledger, Sound, cap_of, place_of, make_room, joined, recorded_at, recorded}
 use Rattle.ledger.specs.Layout.{ledger, Intact}
 use Rattle.ledger.specs.code.Prepared.{readied, prepared_at, prepared, finished, ReadyFor}

@@ -10,13 +10,11 @@ use Rattle.arith.proofs.Cases.{by_test, by_le, by_eq}
 use Rattle.units.specs.declared.Nanos.{Nanos}
 use Rattle.settings.specs.Eviction.{ledger_scan}
 use Rattle.held.specs.Round as Round
-use Rattle.rows.specs.Outcome.{Outcome, outcome}
-use Rattle.ledger.specs.declared.Choice.{Choice}
+use Rattle.rows.specs.Outcome.{outcome}
 use Rattle.ledger.specs.declared.Choice.TheVariants.{Soonest}
-use Rattle.ledger.specs.Model.{Ledger, settling_at, has_settled, cursor_of, with_cursor, look, sweep, sooner, scan_from, scan}
+use Rattle.ledger.specs.Model.{Ledger, settling_at, cursor_of, with_cursor, look, sweep, sooner, scan_from, scan}
 use Rattle.ledger.specs.Layout.{ledger, Intact}
 use Rattle.ledger.specs.code.Row.{unsettled_before, meets_unsettled, soonest_before}
-use Rattle.ledger.proofs.StepLaws.{cursor_below}
 use Rattle.ledger.proofs.RecordLaws.{sooner_is_either}
 use Rattle.ledger.proofs.ModelLaws.{look_unsettled, scan_start, scan_end, scan_turn, intact_cap}
 

@@ -25,7 +25,6 @@ use Rattle.rules.specs.Rules.{unless_refused}
 use Rattle.rules.specs.Debts.{unsettled, listed, written, shard_numbered, shard_refusal, debt_count_refusal, records_refusal, ledger_refusal, debts_refusal_in}
 use Rattle.rules.specs.Debts.{debts_in, Lent, lent, list_debts_in, list_debts}
 use Rattle.rules.proofs.RefusedLaws.{unless_refused_accepts, unless_refused_refuses}
-use Rattle.rules.proofs.Worked as Worked
 
 -- The list looks at the count and the places alone.
 pub listed_in_place_order : (at : Nanos) (l : Ledger) → listed at (Ledger.in_place_order l) ≡ listed at l

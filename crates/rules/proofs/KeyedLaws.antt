@@ -20,7 +20,6 @@ use Rattle.shard_map.specs.Model.{Sound}
 use Rattle.shard.specs.declared.Identity.{Identity}
 use Rattle.store.specs.declared.Part.{Part}
 use Rattle.store.specs.declared.lending.Lending.{Lending}
-use Rattle.store.specs.declared.lending.Lending.TheVariants as Lending
 use Rattle.store.specs.Lending.{lent_unless}
 use Rattle.store.specs.Memory.{Placed, Counted, part_of, shard_in, shard_at, in_part, in_shard, buckets_at, memory_words}
 use Rattle.store.specs.Refusals.{latest_moment, longest_max_wait, memory_refusal, counts_refusal, shape_refusal, keyed_refusal, moment_refusal, wait_refusal}

@@ -35,7 +35,6 @@ use Rattle.shard.proofs.OwnBucketLaws.{view_without_slot}
 use Rattle.rules.specs.Asks.{tokens_in}
 use Rattle.rules.specs.Debts.{unsettled, listed}
 use Rattle.rules.specs.MorningList.{of_hash, owed_after, tokens_left}
-use Rattle.rules.proofs.Worked as Worked
 
 -- A debt that settles after the moment is not left out, and one that settles by then is.
 module _ (at : Nanos) (d : Debt) where

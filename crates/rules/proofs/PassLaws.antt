@@ -21,7 +21,7 @@ use Rattle.shard_map.specs.Model.{Shard}
 use Rattle.shard.specs.declared.Identity.{Identity}
 use Rattle.shard.proofs.DueLaws.{TellsItsMoment, granted, denied, every_answer_tells_its_moment}
 use Rattle.rules.specs.Replies.{of_grant}
-use Rattle.rules.specs.Asks.{as_try, closed, reply_to, policy_of, asked_in, chain_of, through_chain, passed_in, grants_some}
+use Rattle.rules.specs.Asks.{as_try, closed, reply_to, policy_of, asked_in, chain_of, passed_in, grants_some}
 
 -- A request through others that is granted tokens: it has a cost, and the others have no wait.
 record Through' (others : Nanos) (cost : ℕ) : Type 0 where

@@ -1,6 +1,6 @@
 -- The two cases of a call: refused by number or not.
 use Prim.Native.Nat.{ℕ}
-use mathlib.Core.Path.{◌≡◌, refl, sym, ap, ◌∙◌}
+use mathlib.Core.Path.{◌≡◌, refl, sym, ◌∙◌}
 use mathlib.Core.List.{List, []}
 use lib.ListN.{length, replicate}
 use borrow.Author.Tests.{eq-eqb, ne_eqb}
@@ -14,7 +14,6 @@ use Rattle.classes.specs.Classes.{count_refusal, first_from, table_refusal}
 use Rattle.classes.specs.Layout.{classes_in}
 use Rattle.store.specs.declared.Part.{Part}
 use Rattle.store.specs.declared.lending.Lending.{Lending}
-use Rattle.store.specs.declared.lending.Lending.TheVariants as Lending
 use Rattle.store.specs.Lending.{lent_unless}
 use Rattle.store.specs.Memory.{memory_words}
 use Rattle.store.specs.Refusals.{set_up_refusal}

@@ -1,5 +1,5 @@
 -- One step of the search for a byte.
-use Rattle.std.proofs.Common.{ℕ, suc, List, [], ◌∷◌, length, get_or, take, drop, ◌≡◌, ◌+◌, ◌<◌, ◌≤◌, arith, add-one, ◌∙◌, ap, sym}
+use Rattle.std.proofs.Common.{ℕ, suc, List, [], ◌∷◌, length, get_or, take, drop, ◌≡◌, ◌+◌, ◌<◌, ◌≤◌, arith, add-one, ◌∙◌, ap}
 use Rattle.std.proofs.Math.Seq.{drop-cons}
 use Rattle.std.proofs.lemmas.List.{get_or-take}
 use lib.ListN.{drop_of_length-le}

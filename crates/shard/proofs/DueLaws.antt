@@ -1,6 +1,5 @@
 -- Every answer to a request tells the moment of the call plus its wait, on any shard.
 use Prim.Native.Nat.{ℕ, ◌≤◌}
-use mathlib.Core.Path.{◌≡◌, refl}
 use native.Mathlib.Omega.{arith}
 use borrow.Author.Tests.{lt-ltb, le-ltb}
 use Rattle.arith.proofs.Cases.{by_le}

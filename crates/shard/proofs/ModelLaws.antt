@@ -1,6 +1,6 @@
 -- Laws of the store's operations that their functions go by: what a definition is in each case that the code goes through, and that words which are
 -- lent stay so from step to step.
-use Prim.Native.Nat.{ℕ, ◌+◌, ◌≤◌, ◌<◌, ◌^◌}
+use Prim.Native.Nat.{ℕ, ◌≤◌, ◌<◌}
 use native.Mathlib.Omega.{arith}
 use mathlib.Core.Path.{◌≡◌, sym, ◌∙◌}
 use mathlib.Core.Bool.{true}

@@ -25,7 +25,7 @@ use Rattle.shard_map.proofs.KeptLaws.{Keeps, keeps_refl, keeps_trans, sweep_idle
 use Rattle.evict.specs.declared.Room.{Room}
 use Rattle.evict.specs.declared.Room.TheVariants.{Made, Refused}
 use Rattle.evict.specs.Evict.{min_refusal_wait, evicted}
-use Rattle.evict.proofs.CaseLaws.{made_is_no_refusal, never_refused_is_made, evict_sound, evict_made_leaves_room}
+use Rattle.evict.proofs.CaseLaws.{made_is_no_refusal, never_refused_is_made, evict_made_leaves_room}
 use Rattle.evict.proofs.RefusalLaws.{evict_refusal}
 use Rattle.evict.proofs.RoomLaws.{evict_same_room}
 use Rattle.evict.proofs.KeptLaws.{evict_keeps_shortage}

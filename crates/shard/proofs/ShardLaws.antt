@@ -1,6 +1,6 @@
 -- How a request, a refund and a removal end, by cases, and that each leaves a sound shard with the same room. Laws above go by these cases and open none of
 -- the operations.
-use Prim.Native.Nat.{ℕ, ◌+◌, ◌≤◌, ◌<◌}
+use Prim.Native.Nat.{ℕ, ◌≤◌, ◌<◌}
 use native.Mathlib.Omega.{arith}
 use mathlib.Core.Path.{◌≡◌, refl, sym, ◌∙◌, ap}
 use mathlib.Core.Bool.{Bool, true}

@@ -13,7 +13,7 @@ use Rattle.bucket.specs.declared.BucketCore.{BucketCore}
 use Rattle.settings.specs.declared.Settings.{Settings}
 use Rattle.settings.specs.Settings.{cap_of, shape_of, shard_of, shard_count}
 use Rattle.settings.proofs.SettingsLaws.{shard_below}
-use Rattle.classes.specs.Layout.{bucket_count, buckets_in, words_of_buckets}
+use Rattle.classes.specs.Layout.{buckets_in, words_of_buckets}
 use Rattle.classes.proofs.LayoutLaws.{bucket_count_lem}
 use Rattle.classes.proofs.WordLaws.{words_of_buckets_lem, words_of_buckets_length, buckets_of_words}
 use Rattle.shard_map.specs.Model as Shard

@@ -2,7 +2,7 @@
 -- call on a key is lent.
 use Prim.Native.Nat.{ℕ, ◌+◌, ◌-◌, ◌≤◌, ◌<◌}
 use native.Mathlib.Omega.{arith}
-use native.Mathlib.Nat.{le-add_right, le_trans}
+use native.Mathlib.Nat.{le-add_right}
 use mathlib.Core.Path.{◌≡◌, refl, sym, ap, ◌∙◌}
 use mathlib.Core.Bool.{Bool, true, false, true≢false}
 use mathlib.Core.List.{List}
@@ -16,8 +16,8 @@ use Rattle.rows.specs.Outcome.{Outcome, outcome}
 use Rattle.rows.proofs.SegmentLaws.{segment_length, segment_back, word_kept}
 use Rattle.settings.specs.declared.Settings.{Settings}
 use Rattle.settings.specs.declared.Shape.{Shape}
-use Rattle.settings.specs.Settings.{settings_refusal, first_refusal, ShapeOfAccepted, most_keys_in_shard, most_shards, cap_of, shape_of, most_counted}
-use Rattle.settings.proofs.SettingsLaws.{accepted_parts, shape_of_accepted, cap_most, shards_most, no_refusal_hands_on}
+use Rattle.settings.specs.Settings.{settings_refusal, first_refusal, ShapeOfAccepted, shape_of, most_counted}
+use Rattle.settings.proofs.SettingsLaws.{accepted_parts, shape_of_accepted, no_refusal_hands_on}
 use Rattle.rows.specs.declared.Place.{Place}
 use Rattle.rows.specs.declared.Place.TheVariants.{At, Nowhere}
 use Rattle.units.specs.declared.Nanos.{Nanos}
@@ -34,8 +34,8 @@ use Rattle.shard.proofs.ShardLaws.{remove_same_room}
 use Rattle.store.specs.declared.Part.{Part}
 use Rattle.store.specs.declared.lending.Lending.{Lending}
 use Rattle.store.specs.declared.lending.Lending.TheVariants.{Refused, Lent}
-use Rattle.store.specs.Memory.{with_segment, total_at, total_of, total_after, Placed, Counted, part_in, part_of, shard_in, shard_at, in_part, room_in}
-use Rattle.store.specs.Refusals.{memory_refusal, shape_refusal, count_refusal, counts_refusal, keyed_refusal}
+use Rattle.store.specs.Memory.{with_segment, total_at, total_of, total_after, Placed, Counted, part_in, part_of, shard_in, in_part, room_in}
+use Rattle.store.specs.Refusals.{shape_refusal, count_refusal, counts_refusal, keyed_refusal}
 use Rattle.store.specs.Lending.{lent_unless}
 use Rattle.store.proofs.MemoryLaws.{part_placed, room_small}
 use Rattle.store.proofs.RefusalLaws.{Accepted, length_is_accepted}

@@ -1,5 +1,4 @@
 -- `decimal::at_most` compares once.
-use native.Mathlib.Omega.{arith}
 use borrow.Author.Tests.{le-leb, lt-leb}
 use Rattle.decimal.proofs.at_most.Goals as goal
 

@@ -1,13 +1,12 @@
 use Prim.Native.Nat.{ℕ, suc, ◌+◌, ◌*◌, ◌-◌, ◌^◌, ◌≤◌, ◌<◌}
 use native.Mathlib.Omega.{arith}
 use mathlib.Core.List.{List}
-use mathlib.Core.Path.{◌≡◌, refl, sym, ◌∙◌}
-use lib.ListN.{length, drop, get_or}
+use mathlib.Core.Path.{◌≡◌, sym, ◌∙◌}
+use lib.ListN.{length, get_or}
 use Rattle.arith.proofs.Cases.{by_le}
-use Rattle.decimal.specs.Decimal.{front_from, front_of}
+use Rattle.decimal.specs.Decimal.{front_of}
 use Rattle.decimal.proofs.ReadLaws.{digit, below_is_no_digit, above_is_no_digit, front_full, front_of_all, front_ends, front_goes_on}
 use Rattle.decimal.proofs.ReadLaws.{one_digit_more_fits, fewer_digits_fit}
-use borrow.Author.Rules.{rules}
 use Rattle.decimal.proofs.front.Invariants.{Reading}
 use Rattle.decimal.proofs.front.Goals as goal
 

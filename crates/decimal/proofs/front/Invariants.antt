@@ -1,14 +1,9 @@
 -- `decimal::front` reads one digit more with each turn of its loop: the front from the place reached is the front from the start.
-use Prim.Native.Nat.{ℕ, suc, ◌+◌, ◌*◌, ◌-◌, ◌^◌, ◌≤◌, ◌<◌}
-use native.Mathlib.Omega.{arith}
+use Prim.Native.Nat.{ℕ, ◌+◌, ◌-◌, ◌^◌, ◌≤◌, ◌<◌}
 use mathlib.Core.List.{List}
-use mathlib.Core.Path.{◌≡◌, refl, sym, ◌∙◌}
-use lib.ListN.{length, drop, get_or}
-use Rattle.arith.proofs.Cases.{by_le}
+use mathlib.Core.Path.{◌≡◌}
+use lib.ListN.{length, drop}
 use Rattle.decimal.specs.Decimal.{front_from, front_of}
-use Rattle.decimal.proofs.ReadLaws.{digit, below_is_no_digit, above_is_no_digit, front_full, front_of_all, front_ends, front_goes_on}
-use Rattle.decimal.proofs.ReadLaws.{one_digit_more_fits, fewer_digits_fit}
-use borrow.Author.Rules.{rules}
 use Rattle.decimal.proofs.front.Given as goal
 
 pub record Reading (bytes : List ℕ) (from value end : ℕ) : Type 0 where

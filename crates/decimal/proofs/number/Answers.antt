@@ -7,7 +7,6 @@ use lib.ListN.{length, get_or}
 use Rattle.decimal.specs.Decimal.{is_digit}
 use Rattle.decimal.proofs.ReadLaws.{empty_is_no_number, long_is_no_number, digit, below_is_no_digit, above_is_no_digit}
 use Rattle.decimal.proofs.ReadLaws.{front_inside, front_is_the_field, no_digit_follows, too_much_follows, last_digit_follows}
-use borrow.Author.Rules.{rules}
 use Rattle.decimal.proofs.number.Goals as goal
 
 -- A byte follows the front.

@@ -1,12 +1,7 @@
-use Prim.Native.Nat.{ℕ, ◌-◌, ◌≤◌}
 use native.Mathlib.Omega.{arith}
-use mathlib.Core.List.{List}
-use mathlib.Core.Path.{◌≡◌, refl, ◌∙◌}
-use lib.ListN.{length, length-set}
-use lib.Seq.{sets}
-use Rattle.decimal.specs.Decimal.{digits_of}
-use Rattle.decimal.proofs.WriteLaws.{last_digits, some_digits, one_digit_is_written, all_to_store, last_digit_first, all_is_written}
-use borrow.Author.Rules.{rules}
+use mathlib.Core.Path.{refl, ◌∙◌}
+use lib.ListN.{length-set}
+use Rattle.decimal.proofs.WriteLaws.{some_digits, one_digit_is_written, all_to_store, last_digit_first, all_is_written}
 use Rattle.decimal.proofs.put.Goals as goal
 
 pub bounds-out-at : goal.bounds-out-at

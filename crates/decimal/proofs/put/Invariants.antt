@@ -1,13 +1,11 @@
 -- `decimal::put` stores one digit, or the digits, the last one first: at each test of the loop those of `rest` are still to be stored, before place i.
 use Prim.Native.Nat.{ℕ, ◌-◌, ◌≤◌}
-use native.Mathlib.Omega.{arith}
 use mathlib.Core.List.{List}
-use mathlib.Core.Path.{◌≡◌, refl, ◌∙◌}
-use lib.ListN.{length, length-set}
+use mathlib.Core.Path.{◌≡◌}
+use lib.ListN.{length}
 use lib.Seq.{sets}
 use Rattle.decimal.specs.Decimal.{digits_of}
-use Rattle.decimal.proofs.WriteLaws.{last_digits, some_digits, one_digit_is_written, all_to_store, last_digit_first, all_is_written}
-use borrow.Author.Rules.{rules}
+use Rattle.decimal.proofs.WriteLaws.{last_digits}
 use Rattle.decimal.proofs.put.Given as goal
 
 -- Storing the digits of `rest` in front of place i leaves what storing all digits leaves.

@@ -1,10 +1,6 @@
-use Prim.Native.Nat.{ℕ, ◌+◌, ◌-◌, ◌^◌, ◌<◌}
 use native.Mathlib.Omega.{arith}
-use mathlib.Core.Path.{◌≡◌, sym, ◌∙◌}
-use lib.ListN.{length}
-use Rattle.decimal.specs.Decimal.{digits_from, digits_of}
+use mathlib.Core.Path.{sym, ◌∙◌}
 use Rattle.decimal.proofs.WriteLaws.{some_left, hundredth_fits, two_more_counted, last_counted, last_two_counted}
-use borrow.Author.Rules.{rules}
 use Rattle.decimal.proofs.width.Goals as goal
 
 pub loop-rest-init : goal.loop-rest-init

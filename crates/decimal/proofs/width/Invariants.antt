@@ -1,11 +1,8 @@
 -- `decimal::width` counts the digits two at a time, the last ones first.
 use Prim.Native.Nat.{ℕ, ◌+◌, ◌-◌, ◌^◌, ◌<◌}
-use native.Mathlib.Omega.{arith}
-use mathlib.Core.Path.{◌≡◌, sym, ◌∙◌}
+use mathlib.Core.Path.{◌≡◌}
 use lib.ListN.{length}
 use Rattle.decimal.specs.Decimal.{digits_from, digits_of}
-use Rattle.decimal.proofs.WriteLaws.{some_left, hundredth_fits, two_more_counted, last_counted, last_two_counted}
-use borrow.Author.Rules.{rules}
 use Rattle.decimal.proofs.width.Given as goal
 
 -- The digits after those of `rest` have been counted, and for those of `rest` there is room.

@@ -1,7 +1,6 @@
 -- `evict_at` removes the slot and stores the hand, as the definition does.
 use native.Mathlib.Omega.{arith}
 use Rattle.shard_map.proofs.ModelLaws.{intact_below}
-use borrow.Author.Rules.{rules}
 use Rattle.evict.proofs.evict_at.Goals as goal
 
 pub overflow_add-pos : goal.overflow_add-pos

@@ -1,22 +1,13 @@
-use Prim.Native.Nat.{ℕ, ◌-◌, ◌<◌}
-use mathlib.Core.Path.{◌≡◌, refl, sym, ◌∙◌}
-use mathlib.Core.List.{List}
-use mathlib.Core.Logic.{⊎_elim}
+use Prim.Native.Nat.{◌-◌, ◌<◌}
+use mathlib.Core.Path.{refl, sym, ◌∙◌}
 use native.Mathlib.Omega.{arith}
-use lib.ListN.{length}
-use Rattle.units.specs.declared.Nanos.{Nanos}
-use Rattle.bucket.specs.declared.BucketConfig.{BucketConfig}
-use Rattle.rows.specs.declared.Place.{Place}
-use Rattle.shard_map.specs.Layout.{shard, Intact}
+use Rattle.shard_map.specs.Layout.{shard}
 use Rattle.shard_map.specs.Model.{hand_of}
 use Rattle.shard_map.proofs.ModelLaws.{intact_hand}
-use Rattle.evict.specs.declared.Walk.{Walk}
-use Rattle.evict.specs.Evict.{walk_from, walked, victim_of}
-use Rattle.evict.specs.code.Awaited.{notes_of}
+use Rattle.evict.specs.Evict.{victim_of}
 use Rattle.evict.proofs.ModelLaws.{walk_start, walk_end, walk_turn, walk_ends_at_once}
 use Rattle.evict.proofs.ModelLaws.{AfterWalk, after_look, after_walk, evicted_in_steps}
 use Rattle.evict.proofs.RowLaws.{after_row}
-use borrow.Author.Rules.{rules}
 use Rattle.evict.proofs.evict_one.Invariants.{Walking, Ended}
 use Rattle.evict.proofs.evict_one.Goals as goal
 use Rattle.evict.proofs.evict_one.Goals.{then-left-eq0, else-left-eq0+then-goes_at_once}

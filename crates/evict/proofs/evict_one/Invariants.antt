@@ -1,24 +1,16 @@
 -- `evict_one` is the walk and what follows from it. The loop holds that the looks left, made from here, give the walk from the start; where its two
 -- ways out meet, the place that it yields and the shard are the walk's own. Then the victim is chosen and what is to happen to it happens.
-use Prim.Native.Nat.{ℕ, ◌-◌, ◌<◌}
-use mathlib.Core.Path.{◌≡◌, refl, sym, ◌∙◌}
+use Prim.Native.Nat.{ℕ, ◌<◌}
+use mathlib.Core.Path.{◌≡◌}
 use mathlib.Core.List.{List}
-use mathlib.Core.Logic.{⊎_elim}
-use native.Mathlib.Omega.{arith}
 use lib.ListN.{length}
 use Rattle.units.specs.declared.Nanos.{Nanos}
 use Rattle.bucket.specs.declared.BucketConfig.{BucketConfig}
 use Rattle.rows.specs.declared.Place.{Place}
 use Rattle.shard_map.specs.Layout.{shard, Intact}
-use Rattle.shard_map.specs.Model.{hand_of}
-use Rattle.shard_map.proofs.ModelLaws.{intact_hand}
 use Rattle.evict.specs.declared.Walk.{Walk}
-use Rattle.evict.specs.Evict.{walk_from, walked, victim_of}
+use Rattle.evict.specs.Evict.{walk_from, walked}
 use Rattle.evict.specs.code.Awaited.{notes_of}
-use Rattle.evict.proofs.ModelLaws.{walk_start, walk_end, walk_turn, walk_ends_at_once}
-use Rattle.evict.proofs.ModelLaws.{AfterWalk, after_look, after_walk, evicted_in_steps}
-use Rattle.evict.proofs.RowLaws.{after_row}
-use borrow.Author.Rules.{rules}
 use Rattle.evict.proofs.evict_one.Given as goal
 
 -- The walk from here, with the looks that are left, is the walk from the start.

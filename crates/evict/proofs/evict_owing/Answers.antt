@@ -4,7 +4,6 @@ use Rattle.shard_map.proofs.ModelLaws.{intact_below}
 use Rattle.evict.specs.code.Awaited.{soonest_in}
 use Rattle.evict.proofs.ModelLaws.{after_record, after_prepare, may_be_written, written_is_recorded}
 use Rattle.evict.proofs.ModelLaws.{debt_recorded_lem, debt_not_recorded, owing_goes_out, owing_stays}
-use borrow.Author.Rules.{rules}
 use Rattle.evict.proofs.evict_owing.Goals as goal
 
 pub get-slot-requires : goal.get-slot-requires

@@ -1,7 +1,6 @@
 -- `evict_victim` goes by the victim, as its definition does.
 use mathlib.Core.Path.{ap}
 use Rattle.evict.specs.Evict.{place_of_victim}
-use borrow.Author.Rules.{rules}
 use Rattle.evict.proofs.evict_victim.Goals as goal
 
 pub evict_at-requires : goal.evict_at-requires

@@ -1,5 +1,4 @@
 -- `first_of` goes by the first place, as its definition does.
-use borrow.Author.Rules.{rules}
 use Rattle.evict.proofs.first_of.Goals as goal
 
 pub returns-in-At : goal.returns-in-At

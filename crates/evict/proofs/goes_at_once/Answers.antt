@@ -1,7 +1,6 @@
 -- `goes_at_once` asks whether the slot is full and then whether it lacks the mark, as the definition's own test goes.
 use mathlib.Core.Path.{sym, ◌∙◌}
 use mathlib.Core.Bool.{not-not}
-use borrow.Author.Rules.{rules}
 use Rattle.evict.proofs.goes_at_once.Goals as goal
 
 pub returns-then-is_lossless : goal.returns-then-is_lossless

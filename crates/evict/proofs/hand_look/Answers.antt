@@ -1,5 +1,4 @@
 -- `hand_look` gives the slot as it was and makes the two stores of a look.
-use borrow.Author.Rules.{rules}
 use Rattle.evict.proofs.hand_look.Goals as goal
 
 pub clear_mark-requires : goal.clear_mark-requires

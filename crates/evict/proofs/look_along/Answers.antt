@@ -1,13 +1,6 @@
-use Prim.Native.Nat.{ℕ, ◌≤◌}
-use mathlib.Core.Path.{◌≡◌, refl, sym, ◌∙◌}
-use mathlib.Core.List.{List}
+use mathlib.Core.Path.{refl, sym, ◌∙◌}
 use native.Mathlib.Omega.{arith}
-use Rattle.units.specs.declared.Nanos.{Nanos}
-use Rattle.bucket.specs.declared.BucketConfig.{BucketConfig}
-use Rattle.shard_map.specs.Layout.{shard}
-use Rattle.evict.specs.code.Row.{along}
 use Rattle.evict.proofs.RowLaws.{along_none, along_stops, along_turn}
-use borrow.Author.Rules.{rules}
 use Rattle.evict.proofs.look_along.Goals as goal
 
 pub loop-left-init : goal.loop-left-init

@@ -1,14 +1,11 @@
 -- `look_along` makes its looks one by one. The loop holds that the looks left, made from here, give what all of them give from the start.
 use Prim.Native.Nat.{ℕ, ◌≤◌}
-use mathlib.Core.Path.{◌≡◌, refl, sym, ◌∙◌}
+use mathlib.Core.Path.{◌≡◌}
 use mathlib.Core.List.{List}
-use native.Mathlib.Omega.{arith}
 use Rattle.units.specs.declared.Nanos.{Nanos}
 use Rattle.bucket.specs.declared.BucketConfig.{BucketConfig}
 use Rattle.shard_map.specs.Layout.{shard}
 use Rattle.evict.specs.code.Row.{along}
-use Rattle.evict.proofs.RowLaws.{along_none, along_stops, along_turn}
-use borrow.Author.Rules.{rules}
 use Rattle.evict.proofs.look_along.Given as goal
 
 pub record Looking (ws : List ℕ) (cap : ℕ) (c : BucketConfig) (at : Nanos) (end left₀ least₀ left least : ℕ) : Type 0 where

@@ -4,7 +4,6 @@ use native.Mathlib.Omega.{arith}
 use Rattle.shard_map.specs.Layout.{shard}
 use Rattle.shard_map.proofs.ModelLaws.{intact_cap}
 use Rattle.evict.proofs.RowLaws.{row_fewer, hand_at_slot, row_passed}
-use borrow.Author.Rules.{rules}
 use Rattle.evict.proofs.pass_owing.Goals as goal
 
 -- The hand stands at a slot, and the row leaves no more looks than it had.

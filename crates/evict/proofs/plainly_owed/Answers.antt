@@ -1,6 +1,5 @@
 -- `plainly_owed` has one return for each case of its definition: a slot with the mark, one whose stamp is after the moment, and any other.
 use native.Mathlib.Omega.{arith}
-use borrow.Author.Rules.{rules}
 use Rattle.evict.proofs.RowLaws.{marked_owes_none, ahead_owes_none, owes_its_shortfall}
 use Rattle.evict.proofs.plainly_owed.Goals as goal
 

@@ -1,5 +1,5 @@
 -- `hash::add_if_odd` adds the lowest bit times `doubled`: that bit is 1 where the test holds, and else 0, where the sum so far stays as it is.
-use Rattle.std.proofs.Common.{◌≡◌, ◌%◌, mul-zero, mul-one, arith, rules}
+use Rattle.std.proofs.Common.{◌≡◌, ◌%◌, mul-zero, mul-one, arith}
 use Rattle.hash.proofs.add_if_odd.Goals as goal
 
 pub returns-then-bits-eq1 : goal.returns-then-bits-eq1

@@ -1,5 +1,4 @@
-use Rattle.std.proofs.Common.{◌≡◌, ℕ, ◌-◌, ◌≤◌, List, length, drop, sym, refl, ◌∙◌, arith, rules}
-use Rattle.hash.specs.Fnv.{hash_from, fnv1a}
+use Rattle.std.proofs.Common.{sym, refl, ◌∙◌, arith}
 use Rattle.hash.proofs.FnvLaws.{hash_mixes_next_byte, hash_ends_after_last_byte}
 use Rattle.hash.proofs.fnv1a.Goals as goal
 

@@ -1,7 +1,6 @@
 -- `hash::fnv1a` is the hash of the bytes: at each test of the loop, hashing the bytes from place i on, from the hash so far, gives it.
-use Rattle.std.proofs.Common.{◌≡◌, ℕ, ◌-◌, ◌≤◌, List, length, drop, sym, refl, ◌∙◌, arith, rules}
+use Rattle.std.proofs.Common.{◌≡◌, ℕ, ◌-◌, ◌≤◌, List, length, drop}
 use Rattle.hash.specs.Fnv.{hash_from, fnv1a}
-use Rattle.hash.proofs.FnvLaws.{hash_mixes_next_byte, hash_ends_after_last_byte}
 use Rattle.hash.proofs.fnv1a.Given as goal
 
 pub record Hashing (bytes : List ℕ) (hash i : ℕ) : Type 0 where

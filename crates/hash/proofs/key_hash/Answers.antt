@@ -1,5 +1,4 @@
-use Rattle.std.proofs.Common.{◌≡◌, ℕ, ◌-◌, ◌≤◌, sym, refl, ◌∙◌, arith, rules}
-use Rattle.hash.specs.Fnv.{hash_from, lowest_first, key_hash}
+use Rattle.std.proofs.Common.{sym, refl, ◌∙◌, arith}
 use Rattle.hash.proofs.FnvLaws.{hash_mixes_lowest_byte, hash_ends_after_n_bytes}
 use Rattle.hash.proofs.key_hash.Goals as goal
 

@@ -1,7 +1,6 @@
 -- `hash::key_hash` is the hash of the key's eight bytes: at each test of the loop, hashing the bytes left in `rest`, from the hash so far, gives it.
-use Rattle.std.proofs.Common.{◌≡◌, ℕ, ◌-◌, ◌≤◌, sym, refl, ◌∙◌, arith, rules}
+use Rattle.std.proofs.Common.{◌≡◌, ℕ, ◌-◌, ◌≤◌}
 use Rattle.hash.specs.Fnv.{hash_from, lowest_first, key_hash}
-use Rattle.hash.proofs.FnvLaws.{hash_mixes_lowest_byte, hash_ends_after_n_bytes}
 use Rattle.hash.proofs.key_hash.Given as goal
 
 pub record Hashing (key hash rest counter : ℕ) : Type 0 where

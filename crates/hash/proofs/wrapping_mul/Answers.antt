@@ -1,4 +1,4 @@
-use Rattle.std.proofs.Common.{◌≡◌, ℕ, ◌+◌, ◌*◌, ◌%◌, ◌^◌, ◌<◌, ◌∙◌, mul-zero, zero-add, arith, rules}
+use Rattle.std.proofs.Common.{◌≡◌, ◌^◌, ◌∙◌, mul-zero, zero-add, arith}
 use Rattle.hash.proofs.ProductLaws.{turn_keeps_product}
 use Rattle.hash.proofs.wrapping_mul.Goals as goal
 

@@ -1,6 +1,5 @@
 -- `hash::wrapping_mul` is the product modulo 2^64: at each test of the loop, the sum so far and what the bits left over still add make that product.
-use Rattle.std.proofs.Common.{◌≡◌, ℕ, ◌+◌, ◌*◌, ◌%◌, ◌^◌, ◌<◌, ◌∙◌, mul-zero, zero-add, arith, rules}
-use Rattle.hash.proofs.ProductLaws.{turn_keeps_product}
+use Rattle.std.proofs.Common.{◌≡◌, ℕ, ◌+◌, ◌*◌, ◌%◌, ◌^◌, ◌<◌}
 use Rattle.hash.proofs.wrapping_mul.Given as goal
 
 pub record Multiplying (a b product doubled bits : ℕ) : Type 0 where

@@ -1,6 +1,5 @@
 -- `append` is the model's append: the index gets the debt, it is stored in the place after the last one, and the count is one more.
 use Rattle.ledger.proofs.ModelLaws.{append_by_stores}
-use borrow.Author.Rules.{rules}
 use Rattle.ledger.proofs.append.Goals as goal
 
 pub returns : goal.returns

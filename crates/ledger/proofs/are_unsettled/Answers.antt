@@ -1,12 +1,6 @@
-use Prim.Native.Nat.{ℕ, ◌≤◌}
-use mathlib.Core.Path.{◌≡◌, refl, sym, ◌∙◌}
-use mathlib.Core.List.{List}
+use mathlib.Core.Path.{refl, sym, ◌∙◌}
 use native.Mathlib.Omega.{arith}
-use Rattle.units.specs.declared.Nanos.{Nanos}
-use Rattle.ledger.specs.Layout.{ledger}
-use Rattle.ledger.specs.code.Row.{unsettled_before}
 use Rattle.ledger.proofs.RowLaws.{unsettled_none, settled_found, unsettled_turn}
-use borrow.Author.Rules.{rules}
 use Rattle.ledger.proofs.are_unsettled.Goals as goal
 
 pub loop-left-init : goal.loop-left-init

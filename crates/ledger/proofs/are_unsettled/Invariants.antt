@@ -1,13 +1,10 @@
 -- `are_unsettled` looks at the debts one by one. The loop holds that those left are unsettled just where all are.
 use Prim.Native.Nat.{ℕ, ◌≤◌}
-use mathlib.Core.Path.{◌≡◌, refl, sym, ◌∙◌}
+use mathlib.Core.Path.{◌≡◌}
 use mathlib.Core.List.{List}
-use native.Mathlib.Omega.{arith}
 use Rattle.units.specs.declared.Nanos.{Nanos}
 use Rattle.ledger.specs.Layout.{ledger}
 use Rattle.ledger.specs.code.Row.{unsettled_before}
-use Rattle.ledger.proofs.RowLaws.{unsettled_none, settled_found, unsettled_turn}
-use borrow.Author.Rules.{rules}
 use Rattle.ledger.proofs.are_unsettled.Given as goal
 
 pub record Looking (ws : List ℕ) (cap : ℕ) (at : Nanos) (end looks left : ℕ) : Type 0 where

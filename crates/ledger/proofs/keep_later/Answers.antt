@@ -1,5 +1,4 @@
 -- `keep_later` stores the debt that it loads with the later of the two moments.
-use borrow.Author.Rules.{rules}
 use Rattle.ledger.proofs.keep_later.Goals as goal
 
 pub returns : goal.returns

@@ -3,7 +3,6 @@ use Prim.Native.Nat.{◌<◌}
 use native.Mathlib.Omega.{arith}
 use Rattle.ledger.specs.Layout.{ledger}
 use Rattle.ledger.proofs.ModelLaws.{look_settled, look_unsettled, intact_cursor, intact_after}
-use borrow.Author.Rules.{rules}
 use Rattle.ledger.proofs.look.Goals as goal
 
 -- The cursor stands at a debt, below the cap.

@@ -2,7 +2,6 @@
 use Prim.Native.Nat.{◌<◌}
 use Rattle.ledger.specs.Layout.{ledger}
 use Rattle.ledger.proofs.ModelLaws.{AfterScan, after_scan, choice_held, settled_dropped, soonest_dropped, soonest_kept, intact_below}
-use borrow.Author.Rules.{rules}
 use Rattle.ledger.proofs.make_room.Goals as goal
 
 -- After the scan the words are still lent and the place that it chose holds a debt; so does the place of the soonest.

@@ -3,7 +3,6 @@ use native.Mathlib.Omega.{arith}
 use Rattle.ledger.specs.Layout.{ledger}
 use Rattle.ledger.proofs.ModelLaws.{intact_cap}
 use Rattle.ledger.proofs.RowLaws.{no_look_meets, going_round_meets, row_meets, cursor_fits}
-use borrow.Author.Rules.{rules}
 use Rattle.ledger.proofs.meets_unsettled.Goals as goal
 
 pub returns-then-looks-eq0 : goal.returns-then-looks-eq0

@@ -2,7 +2,6 @@
 use mathlib.Core.Path.{sym, ◌∙◌}
 use Rattle.ledger.proofs.StepLaws.{owed_where}
 use Rattle.ledger.proofs.ModelLaws.{found_below}
-use borrow.Author.Rules.{rules}
 use Rattle.ledger.proofs.owed_by.Goals as goal
 
 pub settles_at-requires : goal.settles_at-requires

@@ -4,7 +4,6 @@ use mathlib.Core.Path.{◌≡◌}
 use lib.ListN.{length}
 use Rattle.ledger.specs.Layout.{ledger_words}
 use Rattle.ledger.proofs.ModelLaws.{paid_where, found_below}
-use borrow.Author.Rules.{rules}
 use Rattle.ledger.proofs.pay_down.Goals as goal
 
 -- The words are as many as a ledger has, and the place found stands below the cap.

@@ -1,7 +1,6 @@
 -- `position` looks the hash up in the index: the debts lie before it, and a debt has its hash for a key. Where there are no debts it finds none.
 use mathlib.Core.Path.{sym, ◌∙◌}
 use Rattle.ledger.proofs.ModelLaws.{debts_fit, found_in_index, none_found}
-use borrow.Author.Rules.{rules}
 use Rattle.ledger.proofs.position.Goals as goal
 
 pub returns-then-count-eq0 : goal.returns-then-count-eq0

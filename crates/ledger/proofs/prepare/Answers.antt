@@ -1,10 +1,6 @@
 -- src/lib.rt:321:11
 use Rattle.ledger.proofs.PreparedLaws.{prepared_known, prepared_where}
 use mathlib.Core.Path.{◌∙◌}
-use borrow.Author.Rules.{rules}
-use Rattle.ledger.proofs.prepare.Reads as reads
-use Rattle.ledger.proofs.position.Reads as position-reads
-use Rattle.ledger.proofs.prepare_new.Reads as prepare-new-reads
 use Rattle.ledger.proofs.prepare.Goals as goal
 
 pub returns-in-At : goal.returns-in-At

@@ -5,7 +5,6 @@ use Rattle.ledger.specs.Layout.{ledger}
 use Rattle.ledger.specs.Model.{cap_of}
 use Rattle.ledger.proofs.ModelLaws.{intact_cap}
 use Rattle.ledger.proofs.PreparedLaws.{prepared_free, prepared_full}
-use borrow.Author.Rules.{rules}
 use Rattle.ledger.proofs.prepare_new.Goals as goal
 
 -- Past the test the ledger is full, so it holds a debt.

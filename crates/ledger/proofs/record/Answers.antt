@@ -1,10 +1,5 @@
 -- src/lib.rt:343:11
 use Rattle.ledger.proofs.PreparedLaws.{after_prepare, written_after, recorded_in_steps}
-use mathlib.Core.Path.{◌∙◌}
-use borrow.Author.Rules.{rules}
-use Rattle.ledger.proofs.record.Reads as reads
-use Rattle.ledger.proofs.prepare.Reads as prepare-reads
-use Rattle.ledger.proofs.write.Reads as write-reads
 use Rattle.ledger.proofs.record.Goals as goal
 
 pub write-requires : goal.write-requires

@@ -2,7 +2,6 @@
 use mathlib.Core.Path.{sym, ◌∙◌}
 use native.Mathlib.Omega.{arith}
 use Rattle.ledger.proofs.RowLaws.{RowFits, row_fits, unsettled_are_scanned}
-use borrow.Author.Rules.{rules}
 use Rattle.ledger.proofs.scan.Goals as goal
 
 -- Then the row lies below the cap.

@@ -1,13 +1,8 @@
-use mathlib.Core.Path.{◌≡◌, refl, sym, ◌∙◌}
-use mathlib.Core.List.{List}
-use lib.ListN.{length}
-use Prim.Native.Nat.{ℕ, ◌<◌}
+use mathlib.Core.Path.{refl, sym, ◌∙◌}
+use Prim.Native.Nat.{◌<◌}
 use native.Mathlib.Omega.{arith}
-use Rattle.units.specs.declared.Nanos.{Nanos}
 use Rattle.ledger.proofs.ModelLaws.{scan_start, scan_end, scan_settled, scan_turn, intact_below, intact_cursor, intact_sooner, intact_after}
-use Rattle.ledger.specs.Layout.{ledger, Intact}
-use Rattle.ledger.specs.Model.{scan, scan_from}
-use borrow.Author.Rules.{rules}
+use Rattle.ledger.specs.Layout.{ledger}
 use Rattle.ledger.proofs.scan_by_looks.Goals as goal
 
 -- The cursor stands at a debt, below the cap.

@@ -1,14 +1,11 @@
 -- `scan_by_looks` looks for a debt to drop. The loop holds that the looks left, made from here, choose and leave what all of them do from the start.
-use mathlib.Core.Path.{◌≡◌, refl, sym, ◌∙◌}
+use mathlib.Core.Path.{◌≡◌}
 use mathlib.Core.List.{List}
 use lib.ListN.{length}
 use Prim.Native.Nat.{ℕ, ◌<◌}
-use native.Mathlib.Omega.{arith}
 use Rattle.units.specs.declared.Nanos.{Nanos}
-use Rattle.ledger.proofs.ModelLaws.{scan_start, scan_end, scan_settled, scan_turn, intact_below, intact_cursor, intact_sooner, intact_after}
 use Rattle.ledger.specs.Layout.{ledger, Intact}
 use Rattle.ledger.specs.Model.{scan, scan_from}
-use borrow.Author.Rules.{rules}
 use Rattle.ledger.proofs.scan_by_looks.Given as goal
 
 -- The scan from here, with the looks that are left, is the scan from the start; the words are as long as then, and the soonest so far is a debt that is held.

@@ -1,6 +1,5 @@
 -- `sooner` makes the test of its definition, on the moments that it reads.
 use borrow.Author.Tests.{lt-ltb, le-ltb}
-use borrow.Author.Rules.{rules}
 use Rattle.ledger.proofs.sooner.Goals as goal
 
 pub returns-then-looked_settles-best_settles : goal.returns-then-looked_settles-best_settles

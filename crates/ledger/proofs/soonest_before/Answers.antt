@@ -1,11 +1,8 @@
-use Prim.Native.Nat.{ℕ, ◌-◌, ◌≤◌, ◌<◌}
-use mathlib.Core.Path.{◌≡◌, refl, sym, ◌∙◌}
-use mathlib.Core.List.{List}
+use Prim.Native.Nat.{◌-◌, ◌<◌}
+use mathlib.Core.Path.{refl, sym, ◌∙◌}
 use native.Mathlib.Omega.{arith}
 use Rattle.ledger.specs.Layout.{ledger}
-use Rattle.ledger.specs.code.Row.{soonest_before}
 use Rattle.ledger.proofs.RowLaws.{soonest_none, soonest_turn, sooner_below}
-use borrow.Author.Rules.{rules}
 use Rattle.ledger.proofs.soonest_before.Goals as goal
 
 pub loop-left-init : goal.loop-left-init

@@ -1,12 +1,9 @@
 -- `soonest_before` looks at the debts one by one. The loop holds that the soonest of those left and of the best so far is the soonest of all.
 use Prim.Native.Nat.{ℕ, ◌-◌, ◌≤◌, ◌<◌}
-use mathlib.Core.Path.{◌≡◌, refl, sym, ◌∙◌}
+use mathlib.Core.Path.{◌≡◌}
 use mathlib.Core.List.{List}
-use native.Mathlib.Omega.{arith}
 use Rattle.ledger.specs.Layout.{ledger}
 use Rattle.ledger.specs.code.Row.{soonest_before}
-use Rattle.ledger.proofs.RowLaws.{soonest_none, soonest_turn, sooner_below}
-use borrow.Author.Rules.{rules}
 use Rattle.ledger.proofs.soonest_before.Given as goal
 
 pub record Looking (ws : List ℕ) (cap end looks best left : ℕ) : Type 0 where

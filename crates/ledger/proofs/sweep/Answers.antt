@@ -2,7 +2,6 @@
 use mathlib.Core.Path.{sym, ◌∙◌}
 use native.Mathlib.Omega.{arith}
 use Rattle.ledger.proofs.RowLaws.{row_fits, unsettled_are_swept}
-use borrow.Author.Rules.{rules}
 use Rattle.ledger.proofs.sweep.Goals as goal
 
 pub overflow_add-first : goal.overflow_add-first

@@ -1,8 +1,6 @@
 use mathlib.Core.Path.{sym, ◌∙◌}
 use borrow.Author.Rules.{rules}
-use Rattle.held.proofs.RoundLaws.{Sweeping, sweep_begins, sweep_goes_on, sweep_ends, sweep_stops}
-use Rattle.ledger.specs.Model.{sweep}
-use Rattle.ledger.specs.Layout.{ledger, Intact}
+use Rattle.held.proofs.RoundLaws.{sweep_begins, sweep_goes_on, sweep_ends, sweep_stops}
 use Rattle.ledger.proofs.ModelLaws.{sweep_by_looks}
 use Rattle.ledger.proofs.sweep_by_looks.Goals as goal
 

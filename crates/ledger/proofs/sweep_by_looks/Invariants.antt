@@ -1,10 +1,7 @@
 -- `sweep_by_looks` makes its looks one by one. The loop holds that the looks left, made from here, give what all of them give from the start.
-use mathlib.Core.Path.{sym, ◌∙◌}
-use borrow.Author.Rules.{rules}
-use Rattle.held.proofs.RoundLaws.{Sweeping, sweep_begins, sweep_goes_on, sweep_ends, sweep_stops}
+use Rattle.held.proofs.RoundLaws.{Sweeping}
 use Rattle.ledger.specs.Model.{sweep}
 use Rattle.ledger.specs.Layout.{ledger, Intact}
-use Rattle.ledger.proofs.ModelLaws.{sweep_by_looks}
 use Rattle.ledger.proofs.sweep_by_looks.Given as goal
 
 abbrev pub invariant-loop-left : goal.invariant-loop-left

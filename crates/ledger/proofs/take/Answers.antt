@@ -1,6 +1,5 @@
 -- `take` goes by the place that `position` gives, as its definition does; a place that is given holds a debt, so it can be removed.
 use Rattle.ledger.proofs.ModelLaws.{taken_where, found_held, found_below}
-use borrow.Author.Rules.{rules}
 use Rattle.ledger.proofs.take.Goals as goal
 
 pub settles_at-settles-requires : goal.settles_at-settles-requires

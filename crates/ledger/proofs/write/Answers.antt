@@ -1,10 +1,6 @@
 -- src/lib.rt:333:19
 use native.Mathlib.Omega.{arith}
 use Rattle.ledger.proofs.ModelLaws.{intact_below, intact_cap}
-use borrow.Author.Rules.{rules}
-use Rattle.ledger.proofs.write.Reads as reads
-use Rattle.ledger.proofs.append.Reads as append-reads
-use Rattle.ledger.proofs.keep_later.Reads as keep-later-reads
 use Rattle.ledger.proofs.write.Goals as goal
 
 pub keep_later-requires : goal.keep_later-requires

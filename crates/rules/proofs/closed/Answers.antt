@@ -1,6 +1,5 @@
 -- `closed` grants cost 0 alone.
 use Rattle.rules.proofs.RuleLaws.{closed_grants_none, closed_grants_nothing_else}
-use borrow.Author.Rules.{rules}
 use Rattle.rules.proofs.closed.Goals as goal
 
 pub returns-then-cost-eq0 : goal.returns-then-cost-eq0

@@ -1,7 +1,6 @@
 -- `unless_refused` answers the first number that there is, else what it is given.
 use Rattle.store.proofs.LendingLaws.{lent_part, refused_number}
 use Rattle.rules.proofs.RefusedLaws.{first_number_is_told, second_number_is_told, neither_refuses_is_told}
-use borrow.Author.Rules.{rules}
 use Rattle.rules.proofs.unless_refused.Goals as goal
 
 pub returns-then-refusal-ne0 : goal.returns-then-refusal-ne0

@@ -3,7 +3,6 @@ use Prim.Native.Nat.{◌+◌, ◌*◌}
 use mathlib.Core.Path.{◌≡◌}
 use lib.Count.{count_leading_zeros}
 use native.Mathlib.Omega.{arith}
-use borrow.Author.Rules.{rules}
 use Rattle.settings.specs.Powers.{exponent_for}
 use Rattle.settings.proofs.PowerLaws.{leading_zeros_give_the_exponent}
 use Rattle.settings.proofs.exponent_for.Goals as goal

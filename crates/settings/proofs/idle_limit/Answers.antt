@@ -1,5 +1,4 @@
 -- `idle_limit` is the limit of the longer of the idle time and the time to be full: what its three calls ensure, in turn.
-use borrow.Author.Rules.{rules}
 use Rattle.settings.proofs.idle_limit.Goals as goal
 
 pub returns : goal.returns

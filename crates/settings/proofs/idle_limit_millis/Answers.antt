@@ -2,7 +2,6 @@
 use Rattle.settings.proofs.SettingsLaws.{no_span_limit, some_span_limit}
 use native.Mathlib.Omega.{arith}
 use mathlib.Core.Path.{sym}
-use borrow.Author.Rules.{rules}
 use Rattle.settings.proofs.idle_limit_millis.Goals as goal
 
 pub returns-then-span-eq0 : goal.returns-then-span-eq0

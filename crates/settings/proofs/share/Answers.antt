@@ -3,7 +3,6 @@ use Prim.Native.Nat.{◌^◌}
 use lib.Pow.{pow_pos}
 use native.Mathlib.Nat.{div-le_self}
 use native.Mathlib.Omega.{arith}
-use borrow.Author.Rules.{rules}
 use Rattle.settings.proofs.SettingsLaws.{share_of_one_less}
 use Rattle.settings.proofs.share.Goals as goal
 

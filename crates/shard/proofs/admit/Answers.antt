@@ -2,7 +2,6 @@
 use mathlib.Core.Path.{◌∙◌}
 use Rattle.shard_map.specs.Layout.{Intact}
 use Rattle.shard.proofs.ModelLaws.{intact_after_taking, room_made_fits_a_slot, new_joins, new_refused}
-use borrow.Author.Rules.{rules}
 use Rattle.shard.proofs.admit.Goals as goal
 
 still-intact : (c : goal.After-make_room-arg-1) → Intact c.args.cap c.take-owed.new.ws

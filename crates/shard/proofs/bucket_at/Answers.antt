@@ -1,5 +1,4 @@
 -- `bucket_at` reads the slot.
-use borrow.Author.Rules.{rules}
 use Rattle.shard.proofs.bucket_at.Goals as goal
 
 pub returns : goal.returns

@@ -1,5 +1,4 @@
 -- `join` makes the calls that the definition names, one after the other.
-use borrow.Author.Rules.{rules}
 use Rattle.shard.proofs.join.Goals as goal
 
 pub returns : goal.returns

@@ -4,7 +4,6 @@ use native.Mathlib.Omega.{arith}
 use Rattle.shard_map.specs.Layout.{Intact}
 use Rattle.shard_map.proofs.ModelLaws.{intact_cap}
 use Rattle.shard.proofs.ModelLaws.{intact_after_sweeps, room_is_left, room_by_eviction}
-use borrow.Author.Rules.{rules}
 use Rattle.shard.proofs.make_room.Goals as goal
 
 still-intact : (c : goal.After-slice_known-2-1) → Intact c.args.cap c.sweep.new.ws

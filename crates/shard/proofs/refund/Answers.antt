@@ -5,7 +5,6 @@ use Rattle.rows.specs.declared.Place.TheVariants.{At}
 use Rattle.shard_map.specs.Layout.{shard, Intact}
 use Rattle.shard_map.specs.Model.{place_of}
 use Rattle.shard.proofs.ModelLaws.{found_below_cap, refund_with_slot, refund_without_slot}
-use borrow.Author.Rules.{rules}
 use Rattle.shard.proofs.refund.Goals as goal
 
 found : (c : goal.After-slice_known-in-At-1) → let a = c.args in place_of (shard a.cap a.ws.now) a.id.hash a.id.key ≡ At c.in-At.pos

@@ -4,7 +4,6 @@ use Rattle.rows.specs.declared.Place.TheVariants.{At}
 use Rattle.shard_map.specs.Layout.{shard}
 use Rattle.shard_map.specs.Model.{place_of}
 use Rattle.shard.proofs.ModelLaws.{intact_after_taking, taking_keeps_held, remove_with_slot, remove_without_slot}
-use borrow.Author.Rules.{rules}
 use Rattle.shard.proofs.remove.Goals as goal
 
 found : (c : goal.After-remove_at-arg-1) → let a = c.args in

@@ -1,5 +1,4 @@
 -- `returning` goes by the debt that was taken out, as its definition does.
-use borrow.Author.Rules.{rules}
 use Rattle.shard.proofs.returning.Goals as goal
 
 pub returns-in-None : goal.returns-in-None

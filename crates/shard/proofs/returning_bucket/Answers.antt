@@ -1,5 +1,4 @@
 -- `returning_bucket` asks the ledger what the hash owes.
-use borrow.Author.Rules.{rules}
 use Rattle.shard.proofs.returning_bucket.Goals as goal
 
 pub returns : goal.returns

@@ -1,6 +1,5 @@
 -- `sweep` makes the two sweeps in the order of the definition. The idle sweep leaves the words lent.
 use Rattle.shard.proofs.ModelLaws.{intact_after_idle_sweep}
-use borrow.Author.Rules.{rules}
 use Rattle.shard.proofs.sweep.Goals as goal
 
 pub sweep-requires : goal.sweep-requires

@@ -1,5 +1,4 @@
 -- `sweep_idle` goes by the idle time, as its definition does.
-use borrow.Author.Rules.{rules}
 use Rattle.shard.proofs.sweep_idle.Goals as goal
 
 pub returns-in-None : goal.returns-in-None

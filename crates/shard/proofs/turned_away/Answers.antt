@@ -1,7 +1,6 @@
 -- `turned_away` goes by the key's place, as its definition does. A place that lookup found stands below the cap.
 use mathlib.Core.Path.{sym, ◌∙◌}
 use Rattle.shard.proofs.ModelLaws.{found_below_cap, count_with_slot, count_without_slot}
-use borrow.Author.Rules.{rules}
 use Rattle.shard.proofs.turned_away.Goals as goal
 
 pub get-slot-requires : goal.get-slot-requires

@@ -2,7 +2,6 @@
 use mathlib.Core.Path.{sym, ◌∙◌}
 use Rattle.shard.proofs.OwnBucketLaws.{view_of_slot, view_without_slot}
 use Rattle.shard.proofs.ModelLaws.{found_below_cap}
-use borrow.Author.Rules.{rules}
 use Rattle.shard.proofs.view.Goals as goal
 
 pub bucket_at-requires : goal.bucket_at-requires

@@ -5,7 +5,6 @@ use Rattle.shard_map.specs.Layout.{shard}
 use Rattle.shard_map.specs.Model.{slot_at}
 use Rattle.shard.specs.Model.{tracks}
 use Rattle.shard.proofs.ModelLaws.{known_by_store}
-use borrow.Author.Rules.{rules}
 use Rattle.shard.proofs.with_existing.Goals as goal
 
 is-touched : (c : goal.After-slice_known-2-1) → let a = c.args in

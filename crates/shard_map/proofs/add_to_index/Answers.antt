@@ -1,7 +1,6 @@
 -- `add_to_index` has the index add the slot, and the index lies in the words where `words::index` says.
 use native.Mathlib.Omega.{arith}
 use Rattle.shard_map.proofs.ModelLaws.{slots_fit, added_to_index}
-use borrow.Author.Rules.{rules}
 use Rattle.shard_map.proofs.add_to_index.Goals as goal
 
 pub add-requires : goal.add-requires

@@ -5,7 +5,6 @@ use native.Mathlib.Omega.{arith}
 use Rattle.shard_map.specs.Layout.{shard}
 use Rattle.shard_map.specs.Model.{slot_at, sweep_of, reclaimable}
 use Rattle.shard_map.proofs.ModelLaws.{intact_sweep, after_sweep, idle_look_goes, idle_look_stays}
-use borrow.Author.Rules.{rules}
 use Rattle.shard_map.proofs.idle_look.Goals as goal
 
 held : (c : goal.After-sweep-sweep) → let a = c.args in

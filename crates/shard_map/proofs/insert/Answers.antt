@@ -1,6 +1,5 @@
 -- `insert` is the model's insertion: its calls make the same stores, in the same order.
 use Rattle.shard_map.proofs.ModelLaws.{insert_by_stores}
-use borrow.Author.Rules.{rules}
 use Rattle.shard_map.proofs.insert.Goals as goal
 
 pub returns : goal.returns

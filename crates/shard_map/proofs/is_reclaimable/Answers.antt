@@ -1,6 +1,5 @@
 -- `is_reclaimable` asks whether the slot is idle and then whether it is full, as the definition's own test goes.
 use mathlib.Core.Path.{sym, ◌∙◌}
-use borrow.Author.Rules.{rules}
 use Rattle.shard_map.proofs.is_reclaimable.Goals as goal
 
 pub returns-then-is_expired : goal.returns-then-is_expired

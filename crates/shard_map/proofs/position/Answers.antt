@@ -1,6 +1,5 @@
 -- `position` looks the hash and the key up in the index: the slots lie before it, and a slot has its key in the second word.
 use Rattle.shard_map.proofs.ModelLaws.{slots_fit, found_in_index}
-use borrow.Author.Rules.{rules}
 use Rattle.shard_map.proofs.position.Goals as goal
 
 pub find-requires : goal.find-requires

@@ -1,6 +1,5 @@
 -- `remove_from_index` has the index remove the slot, and the index lies in the words where `words::index` says.
 use Rattle.shard_map.proofs.ModelLaws.{slots_fit, removed_from_index}
-use borrow.Author.Rules.{rules}
 use Rattle.shard_map.proofs.remove_from_index.Goals as goal
 
 pub remove-requires : goal.remove-requires

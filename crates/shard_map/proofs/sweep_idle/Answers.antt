@@ -1,8 +1,6 @@
 use mathlib.Core.Path.{sym, ◌∙◌}
 use borrow.Author.Rules.{rules}
-use Rattle.held.proofs.RoundLaws.{Sweeping, sweep_begins, sweep_goes_on, sweep_ends, sweep_stops}
-use Rattle.shard_map.specs.Model.{sweep_idle}
-use Rattle.shard_map.specs.Layout.{shard, Intact}
+use Rattle.held.proofs.RoundLaws.{sweep_begins, sweep_goes_on, sweep_ends, sweep_stops}
 use Rattle.shard_map.proofs.ModelLaws.{idle_sweep_by_looks}
 use Rattle.shard_map.proofs.sweep_idle.Goals as goal
 

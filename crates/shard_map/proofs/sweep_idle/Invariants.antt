@@ -1,10 +1,7 @@
 -- `sweep_idle` makes its looks one by one. The loop holds that the looks left, made from here, give what all of them give from the start.
-use mathlib.Core.Path.{sym, ◌∙◌}
-use borrow.Author.Rules.{rules}
-use Rattle.held.proofs.RoundLaws.{Sweeping, sweep_begins, sweep_goes_on, sweep_ends, sweep_stops}
+use Rattle.held.proofs.RoundLaws.{Sweeping}
 use Rattle.shard_map.specs.Model.{sweep_idle}
 use Rattle.shard_map.specs.Layout.{shard, Intact}
-use Rattle.shard_map.proofs.ModelLaws.{idle_sweep_by_looks}
 use Rattle.shard_map.proofs.sweep_idle.Given as goal
 
 abbrev pub invariant-loop-left : goal.invariant-loop-left

@@ -3,7 +3,6 @@ use Rattle.shard.proofs.ShardLaws.{admit_count_fits}
 use Rattle.store.proofs.LendingLaws.{lent_starts, intact_of_sound, lent_counted, back_placed, total_stays_small}
 use Rattle.shard.specs.Model as OneShard
 use native.Mathlib.Omega.{arith}
-use borrow.Author.Rules.{rules}
 use Rattle.store.proofs.admit.Goals as goal
 
 pub other_slots-others-requires : goal.other_slots-others-requires

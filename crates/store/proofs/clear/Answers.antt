@@ -1,10 +1,9 @@
-use Prim.Native.Nat.{ℕ, ◌+◌, ◌-◌, ◌<◌}
+use Prim.Native.Nat.{ℕ, ◌+◌, ◌<◌}
 use native.Mathlib.Omega.{arith}
 use mathlib.Core.List.{List}
-use mathlib.Core.Path.{◌≡◌, refl, ◌∙◌}
-use lib.ListN.{length, get_or, set, length-set}
+use mathlib.Core.Path.{refl, ◌∙◌}
+use lib.ListN.{length, set, length-set}
 use Rattle.rows.proofs.ZeroLaws.{next_word_zero, zeros_to_the_end}
-use borrow.Author.Rules.{rules}
 use Rattle.store.proofs.clear.Invariants.{Cleared}
 use Rattle.store.proofs.clear.Goals as goal
 

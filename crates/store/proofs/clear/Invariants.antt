@@ -1,11 +1,8 @@
 -- `clear` stores 0 from the first word to the last; the loop holds that the words before its place are 0.
-use Prim.Native.Nat.{ℕ, ◌+◌, ◌-◌, ◌<◌}
-use native.Mathlib.Omega.{arith}
+use Prim.Native.Nat.{ℕ, ◌-◌, ◌<◌}
 use mathlib.Core.List.{List}
-use mathlib.Core.Path.{◌≡◌, refl, ◌∙◌}
-use lib.ListN.{length, get_or, set, length-set}
-use Rattle.rows.proofs.ZeroLaws.{next_word_zero, zeros_to_the_end}
-use borrow.Author.Rules.{rules}
+use mathlib.Core.Path.{◌≡◌}
+use lib.ListN.{length, get_or}
 use Rattle.store.proofs.clear.Given as goal
 
 -- The words before i are 0.

@@ -1,7 +1,6 @@
 -- `move_total` adds the slots in the part, and stores the sum in the first word.
 use Rattle.store.proofs.LendingLaws.{lent_starts, lent_length, lent_shard}
 use native.Mathlib.Omega.{arith}
-use borrow.Author.Rules.{rules}
 use Rattle.store.proofs.move_total.Goals as goal
 
 pub offset_bounds-ws-start : goal.offset_bounds-ws-start

@@ -1,7 +1,6 @@
 -- `other_slots` takes the slots in the part from the total, which counts them.
 use Rattle.store.proofs.LendingLaws.{lent_starts, lent_length, lent_shard}
 use native.Mathlib.Omega.{arith}
-use borrow.Author.Rules.{rules}
 use Rattle.store.proofs.other_slots.Goals as goal
 
 pub bounds-ws-0 : goal.bounds-ws-0

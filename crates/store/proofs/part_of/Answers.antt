@@ -1,6 +1,5 @@
 -- `part_of` gives the part of the shard with the hash's number, which is that of a shard.
 use Rattle.store.proofs.MemoryLaws.{index_below}
-use borrow.Author.Rules.{rules}
 use Rattle.store.proofs.part_of.Goals as goal
 
 pub part_at-requires : goal.part_at-requires

@@ -2,7 +2,6 @@
 use Rattle.store.proofs.LendingLaws.{lent_starts, intact_of_sound, lent_counted, back_placed, total_stays_small, removed_count_fits}
 use Rattle.shard.specs.Model as OneShard
 use native.Mathlib.Omega.{arith}
-use borrow.Author.Rules.{rules}
 use Rattle.store.proofs.remove.Goals as goal
 
 pub other_slots-others-requires : goal.other_slots-others-requires

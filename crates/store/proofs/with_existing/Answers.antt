@@ -2,7 +2,6 @@
 use Rattle.store.proofs.LendingLaws.{lent_starts, intact_of_sound, lent_answered, existing_keeps_count}
 use Rattle.shard.specs.Model as OneShard
 use native.Mathlib.Omega.{arith}
-use borrow.Author.Rules.{rules}
 use Rattle.store.proofs.with_existing.Goals as goal
 
 pub offset_bounds-ws-start : goal.offset_bounds-ws-start

@@ -1,6 +1,5 @@
 -- `Awaited::soonest` divides only where a shortfall was noted, as its definition does.
 use Rattle.evict.proofs.AwaitedLaws.{soonest_of_the_later, soonest_of_both}
-use borrow.Author.Rules.{rules}
 use Rattle.evict.proofs.Awaited.soonest.Goals as goal
 
 pub returns-then-self-eq18446744073709551615 : goal.returns-then-self-eq18446744073709551615

@@ -1,7 +1,6 @@
 -- `Awaited::with` goes by the stamp, as its definition does.
 use Rattle.evict.proofs.AwaitedLaws.{awaits_its_shortfall, awaits_its_recovery}
 use native.Mathlib.Omega.{arith}
-use borrow.Author.Rules.{rules}
 use Rattle.evict.proofs.Awaited.with.Goals as goal
 
 pub returns-then-bucket-at : goal.returns-then-bucket-at

@@ -1,6 +1,5 @@
 -- `Walk::choose` goes by the first of the two places at which a full slot was seen, as its definition does.
 use mathlib.Core.Path.{sym, ◌∙◌}
-use borrow.Author.Rules.{rules}
 use Rattle.evict.proofs.Walk.choose.Goals as goal
 
 pub returns-in-At : goal.returns-in-At

@@ -1,6 +1,5 @@
 -- `Walk::noted` has one return for each case of its definition: a full slot, and one that is not full with and without the mark.
 use Rattle.evict.proofs.ModelLaws.{noted_full, noted_unmarked, noted_marked}
-use borrow.Author.Rules.{rules}
 use Rattle.evict.proofs.Walk.noted.Goals as goal
 
 pub returns-then-shortfall-eq0 : goal.returns-then-shortfall-eq0

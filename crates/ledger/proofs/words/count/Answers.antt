@@ -1,6 +1,5 @@
 -- `words::count` gives the ledger's count: it is the first word.
 use Rattle.ledger.proofs.LayoutLaws.{count_read}
-use borrow.Author.Rules.{rules}
 use Rattle.ledger.proofs.words.count.Goals as goal
 
 pub returns : goal.returns

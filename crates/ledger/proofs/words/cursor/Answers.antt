@@ -1,6 +1,5 @@
 -- `words::cursor` gives the cursor as it is read: the second word below the first, else 0, as the definition's own test goes.
 use Rattle.ledger.proofs.LayoutLaws.{cursor_read_below, cursor_read_past}
-use borrow.Author.Rules.{rules}
 use Rattle.ledger.proofs.words.cursor.Goals as goal
 
 pub returns-then-cursor-ws : goal.returns-then-cursor-ws

@@ -5,7 +5,6 @@ use mathlib.Core.Path.{◌≡◌, ap}
 use Rattle.index.specs.declared.Index.{Index}
 use Rattle.index.specs.Layout.{places_for}
 use Rattle.ledger.specs.Layout.{debts_at, debt_width, index_at}
-use borrow.Author.Rules.{rules}
 use Rattle.ledger.proofs.words.index.Goals as goal
 
 -- The words that each debt adds before the index, added up.

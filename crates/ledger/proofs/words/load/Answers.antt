@@ -1,6 +1,5 @@
 -- `words::load` gives debt i whole: the two words of its row.
 use Rattle.ledger.proofs.LayoutLaws.{debt_read}
-use borrow.Author.Rules.{rules}
 use Rattle.ledger.proofs.words.load.Goals as goal
 
 pub returns : goal.returns

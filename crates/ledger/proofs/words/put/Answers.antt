@@ -3,7 +3,6 @@ use native.Mathlib.Numerals.{add-one}
 use lib.ListN.{length-set}
 use native.Mathlib.Omega.{arith}
 use Rattle.ledger.proofs.LayoutLaws.{debt_put}
-use borrow.Author.Rules.{rules}
 use Rattle.ledger.proofs.words.put.Goals as goal
 
 pub bounds-ws-first-2 : goal.bounds-ws-first-2

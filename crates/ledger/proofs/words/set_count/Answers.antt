@@ -1,6 +1,5 @@
 -- `words::set_count` changes the ledger's count alone: it stores the first word.
 use Rattle.ledger.proofs.LayoutLaws.{count_put}
-use borrow.Author.Rules.{rules}
 use Rattle.ledger.proofs.words.set_count.Goals as goal
 
 pub returns : goal.returns

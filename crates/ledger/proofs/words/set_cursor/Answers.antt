@@ -1,6 +1,5 @@
 -- `words::set_cursor` changes the ledger's cursor alone: it stores the second word.
 use Rattle.ledger.proofs.LayoutLaws.{cursor_put}
-use borrow.Author.Rules.{rules}
 use Rattle.ledger.proofs.words.set_cursor.Goals as goal
 
 pub returns : goal.returns

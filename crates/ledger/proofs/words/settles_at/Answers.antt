@@ -1,7 +1,6 @@
 -- `words::settles_at` gives the moment of debt i: the second word of its row.
 use mathlib.Core.Path.{ap}
 use Rattle.ledger.proofs.LayoutLaws.{debt_read}
-use borrow.Author.Rules.{rules}
 use Rattle.ledger.proofs.words.settles_at.Goals as goal
 
 pub returns : goal.returns

@@ -1,5 +1,4 @@
 -- `Reply::code` has a case for each reply.
-use borrow.Author.Rules.{rules}
 use Rattle.rules.proofs.Reply.code.Goals as goal
 
 pub returns-in-Refused : goal.returns-in-Refused

@@ -1,5 +1,4 @@
 -- `Reply::told` is the three numbers of the reply.
-use borrow.Author.Rules.{rules}
 use Rattle.rules.proofs.Reply.told.Goals as goal
 
 pub returns : goal.returns

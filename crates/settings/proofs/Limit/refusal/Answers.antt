@@ -1,5 +1,4 @@
 -- `Limit::refusal` is 0 for a closed limiter, and else what the rate's own check says.
-use borrow.Author.Rules.{rules}
 use Rattle.settings.proofs.Limit.refusal.Goals as goal
 
 pub returns-in-Open : goal.returns-in-Open

@@ -1,7 +1,6 @@
 -- `Settings::refusal` is the first refusal of the two: the limit's if there is one, else the size's.
 use Rattle.settings.proofs.SettingsLaws.{first_refusal_stands, no_refusal_hands_on}
 use mathlib.Core.Path.{sym, ◌∙◌}
-use borrow.Author.Rules.{rules}
 use Rattle.settings.proofs.Settings.refusal.Goals as goal
 
 pub returns-then-refusal-ne0 : goal.returns-then-refusal-ne0

@@ -1,6 +1,5 @@
 -- `Settings::shape` is the shards and the share of each. The exponent is at most 6, so `share` takes it, and the shift is by less than 64 bits.
 use native.Mathlib.Omega.{arith}
-use borrow.Author.Rules.{rules}
 use Rattle.settings.proofs.SettingsLaws.{shard_exponent_most, shards_by_shift}
 use Rattle.settings.proofs.Settings.shape.Goals as goal
 

@@ -1,7 +1,6 @@
 -- `Shape::shard_index` masks the bits from the 40th on. There is at least one shard, so the mask is no wrapped difference.
 use Rattle.settings.proofs.SettingsLaws.{accepted_shards_least}
 use native.Mathlib.Omega.{arith}
-use borrow.Author.Rules.{rules}
 use Rattle.settings.proofs.Shape.shard_index.Goals as goal
 
 pub overflow_sub-result : goal.overflow_sub-result

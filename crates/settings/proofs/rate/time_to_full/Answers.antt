@@ -1,5 +1,4 @@
 -- `time_to_full` is the parts of a full bucket divided by the amount, rounded up: what its two calls ensure, in turn.
-use borrow.Author.Rules.{rules}
 use Rattle.settings.proofs.rate.time_to_full.Goals as goal
 
 pub returns : goal.returns

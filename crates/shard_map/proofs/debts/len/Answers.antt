@@ -1,7 +1,6 @@
 -- `debts::len` gives what the ledger's own function gives for its part of the words.
 use mathlib.Core.Path.{refl}
 use Rattle.shard_map.proofs.LayoutLaws.{ledger_long, ledger_tells}
-use borrow.Author.Rules.{rules}
 use Rattle.shard_map.proofs.debts.len.Goals as goal
 
 pub len-requires : goal.len-requires

@@ -2,7 +2,6 @@
 use mathlib.Core.Path.{refl}
 use Rattle.ledger.specs.Model as Ledger
 use Rattle.shard_map.proofs.LayoutLaws.{ledger_long, ledger_tells}
-use borrow.Author.Rules.{rules}
 use Rattle.shard_map.proofs.debts.load.Goals as goal
 
 pub load-requires : goal.load-requires

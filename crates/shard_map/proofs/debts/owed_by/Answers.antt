@@ -3,7 +3,6 @@ use Rattle.ledger.specs.Model as Ledger
 use Rattle.ledger.proofs.OthersLaws.{owed_with_others}
 use Rattle.shard_map.proofs.ModelLaws.{intact_ledger}
 use Rattle.shard_map.proofs.LayoutLaws.{ledger_tells}
-use borrow.Author.Rules.{rules}
 use Rattle.shard_map.proofs.debts.owed_by.Goals as goal
 
 pub owed_by-requires : goal.owed_by-requires

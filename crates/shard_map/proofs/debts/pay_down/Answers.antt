@@ -3,7 +3,6 @@ use Rattle.ledger.specs.Model as Ledger
 use Rattle.ledger.proofs.OthersLaws.{paid_with_others}
 use Rattle.shard_map.proofs.ModelLaws.{intact_ledger}
 use Rattle.shard_map.proofs.LayoutLaws.{ledger_answers}
-use borrow.Author.Rules.{rules}
 use Rattle.shard_map.proofs.debts.pay_down.Goals as goal
 
 pub pay_down-requires : goal.pay_down-requires

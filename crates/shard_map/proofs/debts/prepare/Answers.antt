@@ -3,7 +3,6 @@ use Rattle.ledger.specs.code.Prepared.{prepared}
 use Rattle.ledger.proofs.OthersLaws.{prepared_with_others}
 use Rattle.shard_map.proofs.ModelLaws.{intact_ledger}
 use Rattle.shard_map.proofs.LayoutLaws.{ledger_answers}
-use borrow.Author.Rules.{rules}
 use Rattle.shard_map.proofs.debts.prepare.Goals as goal
 
 pub prepare-requires : goal.prepare-requires

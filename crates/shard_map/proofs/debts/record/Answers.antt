@@ -3,7 +3,6 @@ use Rattle.ledger.specs.Model as Ledger
 use Rattle.ledger.proofs.OthersLaws.{recorded_with_others}
 use Rattle.shard_map.proofs.ModelLaws.{intact_ledger}
 use Rattle.shard_map.proofs.LayoutLaws.{ledger_answers}
-use borrow.Author.Rules.{rules}
 use Rattle.shard_map.proofs.debts.record.Goals as goal
 
 pub record-requires : goal.record-requires

@@ -3,7 +3,6 @@ use Rattle.ledger.specs.Model as Ledger
 use Rattle.ledger.proofs.OthersLaws.{sweep_with_others}
 use Rattle.shard_map.proofs.ModelLaws.{intact_ledger}
 use Rattle.shard_map.proofs.LayoutLaws.{ledger_leaves}
-use borrow.Author.Rules.{rules}
 use Rattle.shard_map.proofs.debts.sweep.Goals as goal
 
 pub sweep-requires : goal.sweep-requires

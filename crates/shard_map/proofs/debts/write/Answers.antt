@@ -5,7 +5,6 @@ use Rattle.held.specs.Layout.{index_words}
 use Rattle.shard_map.specs.Layout.{shard}
 use Rattle.shard_map.proofs.ModelLaws.{intact_ledger}
 use Rattle.shard_map.proofs.LayoutLaws.{ledger_leaves, ledger_lent}
-use borrow.Author.Rules.{rules}
 use Rattle.shard_map.proofs.debts.write.Goals as goal
 
 pub write-requires : goal.write-requires

@@ -1,6 +1,5 @@
 -- `words::clear_mark` changes the mark of slot i alone: it stores the fifth word of its row.
 use Rattle.shard_map.proofs.LayoutLaws.{mark_put}
-use borrow.Author.Rules.{rules}
 use Rattle.shard_map.proofs.words.clear_mark.Goals as goal
 
 pub returns : goal.returns

@@ -1,6 +1,5 @@
 -- `words::count` gives the shard's slot count: it is the first word.
 use Rattle.shard_map.proofs.LayoutLaws.{count_read}
-use borrow.Author.Rules.{rules}
 use Rattle.shard_map.proofs.words.count.Goals as goal
 
 pub returns : goal.returns

@@ -1,6 +1,5 @@
 -- `words::hand` gives the hand as it is read: the second word below the first, else 0, as the definition's own test goes.
 use Rattle.shard_map.proofs.LayoutLaws.{hand_read_below, hand_read_past}
-use borrow.Author.Rules.{rules}
 use Rattle.shard_map.proofs.words.hand.Goals as goal
 
 pub returns-then-hand-ws : goal.returns-then-hand-ws

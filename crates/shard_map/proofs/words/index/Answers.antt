@@ -6,7 +6,6 @@ use Rattle.index.specs.declared.Index.{Index}
 use Rattle.index.specs.Layout.{places_for}
 use Rattle.ledger.specs.Layout.{debts_at, debt_width}
 use Rattle.shard_map.specs.Layout.{slots_at, slot_width, key_in, slot_index}
-use borrow.Author.Rules.{rules}
 use Rattle.shard_map.proofs.words.index.Goals as goal
 
 -- The words before the index: the first words of the shard and of the ledger, and those that each place adds.

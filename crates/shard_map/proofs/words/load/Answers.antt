@@ -1,6 +1,5 @@
 -- `words::load` gives slot i whole: the seven words of its row.
 use Rattle.shard_map.proofs.LayoutLaws.{slot_read}
-use borrow.Author.Rules.{rules}
 use Rattle.shard_map.proofs.words.load.Goals as goal
 
 pub returns : goal.returns

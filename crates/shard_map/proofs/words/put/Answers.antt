@@ -2,7 +2,6 @@
 use native.Mathlib.Omega.{arith}
 use lib.ListN.{length-set}
 use Rattle.shard_map.proofs.LayoutLaws.{slot_put}
-use borrow.Author.Rules.{rules}
 use Rattle.shard_map.proofs.words.put.Goals as goal
 
 pub bounds-ws-first-2 : goal.bounds-ws-first-2

@@ -1,6 +1,5 @@
 -- `words::set_hand` changes the hand alone: it stores the second word.
 use Rattle.shard_map.proofs.LayoutLaws.{hand_put}
-use borrow.Author.Rules.{rules}
 use Rattle.shard_map.proofs.words.set_hand.Goals as goal
 
 pub returns : goal.returns

@@ -1,6 +1,5 @@
 -- `words::sweep` gives the sweep as it is read: the third word below the first, else 0, as the definition's own test goes.
 use Rattle.shard_map.proofs.LayoutLaws.{sweep_read_below, sweep_read_past}
-use borrow.Author.Rules.{rules}
 use Rattle.shard_map.proofs.words.sweep.Goals as goal
 
 pub returns-then-sweep-ws : goal.returns-then-sweep-ws

@@ -7,7 +7,6 @@ use Rattle.store.specs.Memory.{Placed}
 use Rattle.store.specs.Refusals.{shape_refusal}
 use Rattle.store.proofs.RefusalLaws.{first_is_told, length_not_refused}
 use Rattle.store.proofs.LendingLaws.{part_is_placed, counts_refuse, lent_starts, lent_length, refused_lends_nothing, not_refused_lends}
-use borrow.Author.Rules.{rules}
 use Rattle.store.specs.Memory.{words_in}
 use Rattle.store.proofs.lending.lend.Goals as goal
 

@@ -4,7 +4,6 @@ use Rattle.settings.specs.Settings.{settings_refusal}
 use Rattle.store.proofs.LendingLaws.{accepted_shape, lent_by_settings, refused_lends_nothing}
 use Rattle.store.proofs.RefusalLaws.{settings_refuse_keyed, first_is_told}
 use native.Mathlib.Omega.{arith}
-use borrow.Author.Rules.{rules}
 use Rattle.store.proofs.lending.lend_for.Goals as goal
 
 -- The settings are accepted.

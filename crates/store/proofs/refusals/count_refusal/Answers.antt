@@ -3,7 +3,6 @@ use native.Mathlib.Omega.{arith}
 use mathlib.Core.Path.{sym, ◌∙◌}
 use Rattle.store.proofs.RefusalLaws.{slots_over_are_refused, debts_over_are_refused, total_under_is_refused, total_over_the_room_is_refused}
 use Rattle.store.proofs.RefusalLaws.{counts_are_accepted, total_not_refused}
-use borrow.Author.Rules.{rules}
 use Rattle.store.proofs.refusals.count_refusal.Goals as goal
 
 pub returns-then-total-slots : goal.returns-then-total-slots

@@ -1,10 +1,9 @@
 -- `set_up_refusal` tells what the settings are refused as, which does not depend on the classes, else whether the length is wrong.
 use mathlib.Core.Path.{◌≡◌, sym, ap, ◌∙◌}
 use Rattle.settings.specs.Settings.{settings_refusal, with_classes, shape_with, shape_of}
-use Rattle.settings.proofs.SettingsLaws.{refused_with_any_classes, accepted_parts}
+use Rattle.settings.proofs.SettingsLaws.{refused_with_any_classes}
 use Rattle.store.proofs.RefusalLaws.{first_is_told, second_is_told}
 use Rattle.store.proofs.LendingLaws.{accepted_shape}
-use borrow.Author.Rules.{rules}
 use Rattle.store.proofs.refusals.set_up_refusal.Goals as goal
 
 -- What the settings are refused as, with the classes.

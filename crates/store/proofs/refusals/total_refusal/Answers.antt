@@ -1,7 +1,6 @@
 -- `total_refusal` compares the total with the room.
 use Rattle.store.proofs.RefusalLaws.{total_over_is_refused, total_is_accepted}
 use mathlib.Core.Path.{sym}
-use borrow.Author.Rules.{rules}
 use Rattle.store.proofs.refusals.total_refusal.Goals as goal
 
 pub returns-then-room-total : goal.returns-then-room-total

@@ -1,7 +1,6 @@
 -- `memory_words` are the words of the settings' shape.
 use Rattle.settings.proofs.SettingsLaws.{shape_of_accepted}
 use native.Mathlib.Omega.{arith}
-use borrow.Author.Rules.{rules}
 use Rattle.store.proofs.words.memory_words.Goals as goal
 
 pub words_in-requires : goal.words_in-requires

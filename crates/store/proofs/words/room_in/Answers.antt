@@ -1,7 +1,6 @@
 -- `room_in` multiplies small numbers: the shape is that of an accepted size.
 use Rattle.store.proofs.MemoryLaws.{accepted_room_small}
 use native.Mathlib.Omega.{arith}
-use borrow.Author.Rules.{rules}
 use Rattle.store.proofs.words.room_in.Goals as goal
 
 pub overflow_mul-result : goal.overflow_mul-result

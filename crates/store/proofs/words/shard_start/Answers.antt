@@ -1,6 +1,5 @@
 -- `shard_start` multiplies: the word after the shard fits, so its first word does.
 use native.Mathlib.Omega.{arith}
-use borrow.Author.Rules.{rules}
 use Rattle.store.proofs.words.shard_start.Goals as goal
 
 pub overflow_mul-result : goal.overflow_mul-result

@@ -1,5 +1,5 @@
 -- `words_in` adds small numbers: the shape is that of an accepted size.
-use Rattle.store.proofs.MemoryLaws.{accepted_shards_end_early, accepted_words_fit, shard_words_few}
+use Rattle.store.proofs.MemoryLaws.{accepted_shards_end_early, accepted_words_fit}
 use Rattle.settings.proofs.SettingsLaws.{accepted_cap_most, accepted_classes_few}
 use native.Mathlib.Omega.{arith}
 use Rattle.store.proofs.words.words_in.Goals as goal

@@ -1,5 +1,4 @@
 -- `Decision::retry_after` tells the wait of a retry: each arm knows its variant, and the definition computes at it.
-use borrow.Author.Rules.{rules}
 use Rattle.settings.proofs.decision.Decision.retry_after.Goals as goal
 
 pub returns-in-Acquired : goal.returns-in-Acquired

@@ -1,5 +1,4 @@
 -- `Rate::config` is the configuration of the definition, field by field from what its two calls ensure.
-use borrow.Author.Rules.{rules}
 use Rattle.settings.proofs.rate.Rate.config.Goals as goal
 
 pub returns : goal.returns

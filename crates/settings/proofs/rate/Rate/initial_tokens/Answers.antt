@@ -1,6 +1,5 @@
 -- `Rate::initial_tokens` is the smaller of the tokens that are set and the burst: one arm for each outcome of the comparison.
 use native.Mathlib.Omega.{arith}
-use borrow.Author.Rules.{rules}
 use Rattle.settings.proofs.rate.Rate.initial_tokens.Goals as goal
 
 pub returns-then-tokens-capacity : goal.returns-then-tokens-capacity

@@ -3,7 +3,6 @@ use Rattle.settings.proofs.RateLaws.{outside_amount_is_refused_1, outside_period
 use native.Mathlib.Omega.{arith}
 use mathlib.Core.Logic.{inl, inr}
 use mathlib.Core.Path.{sym}
-use borrow.Author.Rules.{rules}
 use Rattle.settings.proofs.rate.Rate.refusal.Goals as goal
 
 pub returns-then-self-lt1 : goal.returns-then-self-lt1
