@@ -108,7 +108,8 @@ enough_no_wait {c} b cost at a h =
     no_wait_stays_none b at _ none ∙ wait_for_lack c b cost at n)
 
 -- The recovery of a bucket is that of its shortfall, grown.
-pub recovery_of_shortfall : {c : BucketConfig} (b : BucketCore) (at : Nanos) → Accepted c → grown b at (recovery_of c (shortfall_at c b at)) ≡ recovery_at c b at
+pub recovery_of_shortfall : {c : BucketConfig} (b : BucketCore) (at : Nanos) → Accepted c
+    → grown b at (recovery_of c (shortfall_at c b at)) ≡ recovery_at c b at
 recovery_of_shortfall {c} b at a =
     let same : shortfall_at c b at ≡ lack_for c b c.capacity at = omega arith in
     ap (λ (n : ℕ). grown b at (recovery_of c n)) same ∙ wait_for_lack c b c.capacity at (λ e. omega (arith, a.capacity_least))

@@ -18,7 +18,8 @@ use Rattle.bucket.specs.declared.Request.TheVariants.{Acquire}
 use Rattle.bucket.specs.declared.BucketDecision.{BucketDecision}
 use Rattle.bucket.specs.declared.BucketDecision.TheVariants.{Allowed, Denied}
 use Rattle.bucket.specs.declared.Due.{Due}
-use Rattle.bucket.specs.Bucket.{Accepted, parts_of, full_parts, shortfall_at, lack_for, wait_at, due_after, due_at, spent, longest_wait, request_wait, request_due}
+use Rattle.bucket.specs.Bucket.{Accepted, parts_of, full_parts, shortfall_at, lack_for, wait_at, due_after, due_at, spent, longest_wait, request_wait}
+use Rattle.bucket.specs.Bucket.{request_due}
 use Rattle.bucket.specs.Bucket.{asked}
 use Rattle.bucket.proofs.BucketLaws.{parts_within, no_wait_stays_none, wait_grows, no_cost_no_wait, wait_for_lack, enough_no_wait}
 use Rattle.bucket.proofs.BucketLaws.{granted_within_longest, denied_beyond_longest}

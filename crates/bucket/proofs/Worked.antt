@@ -47,7 +47,8 @@ abbrev before_told : Nanos
 before_told = record { 0 = told.0 - 1 }
 
 pub denied_before_the_told_moment :
-    asked two_per_second Acquire empty 1 before_told ≡ record { decision = Denied (due_after before_told (record { 0 = 1 })); bucket = empty; turns_away = true }
+    asked two_per_second Acquire empty 1 before_told
+    ≡ record { decision = Denied (due_after before_told (record { 0 = 1 })); bucket = empty; turns_away = true }
 unfolding ceil_div shortfall_at grown wait_at asked
 denied_before_the_told_moment = refl
 

@@ -35,7 +35,8 @@ unfolding ceil_div rows unrow table_in removed Index.onward Index.walk_from Inde
     Layout.shard Layout.words_of Shard.place_of Shard.remove_at Shard.insert Shard.sweep_idle
     noted walk_from walked evicted OneShard.make_room OneShard.with_existing OneShard.admit OneShard.with_or_insert
     Refusals.memory_refusal Refusals.total_refusal Refusals.count_refusal Refusals.moment_refusal
-    ClassLayout.classes_in ClassLayout.buckets_in Classes.class_at Classes.ends Classes.count_refusal Classes.number_refusal Classes.chain_refusal Classes.refused_by
+    ClassLayout.classes_in ClassLayout.buckets_in Classes.class_at Classes.ends Classes.count_refusal Classes.number_refusal Classes.chain_refusal
+    Classes.refused_by
     Classes.first_from Chains.chain Chains.bucket_at Chains.least_burst Chains.chain_wait Chains.charged
     Asks.closed Asks.asked_in Asks.passed_in Rules.unless_refused Rules.set_up_in Rules.keyed_rule_in
 every_edge_holds = refl

@@ -47,7 +47,8 @@ use Rattle.store.proofs.LendingLaws.{accepted_part, accepted_count}
 use Rattle.store.proofs.RefusalLaws.{Accepted}
 use Rattle.rules.specs.declared.Reply.{Reply}
 use Rattle.rules.specs.declared.Reply.TheVariants.{Tried}
-use Rattle.rules.specs.Asks.{Ask, passes, chain_of, as_try, reply_to, replied_as, due_now, closed, policy_of, asked_in, through_chain, passed_in, grants_some, with_table}
+use Rattle.rules.specs.Asks.{Ask, passes, chain_of, as_try, reply_to, replied_as, due_now, closed, policy_of, asked_in, through_chain, passed_in, grants_some}
+use Rattle.rules.specs.Asks.{with_table}
 use Rattle.rules.specs.Rules.{shard_outcome, classes_stored, class_try}
 use Rattle.rules.proofs.KeyedLaws.{PassesInTime, ask_not_refused, pass_in_time, not_refused_is_asked, in_shard_unchanged}
 use Rattle.class_calls.specs.code.Passing.{Passing, UnderChain, AtRate, Asking}
@@ -142,7 +143,8 @@ module _ {wait : Nanos} {s : Settings} {table : List ℕ} {at : Nanos} {id : Ide
 
   through : through_chain (classes_in table) class at cost (buckets_at (shape_of (with_table table s)) ws) ≡ Through wait
   through =
-      let largest = wait_is_the_largest (classes_in table) cost at (buckets_at (shape_of (with_table table s)) ws) (chain_of (classes_in table) class) u.answers in
+      let largest =
+      wait_is_the_largest (classes_in table) cost at (buckets_at (shape_of (with_table table s)) ws) (chain_of (classes_in table) class) u.answers in
       sym (ap (λ (w : Nanos). Through w) largest)
 
   asks_key : passed u.passing ≡ asked_in (Through wait) s.limit (with_table table s) at id cost (own u.passing)

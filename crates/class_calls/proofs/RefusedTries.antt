@@ -38,7 +38,8 @@ module _ (s : Settings) (table : List ℕ) (at : Nanos) (id : Identity) (class c
       refusal_is_told given id (passes table class at cost) ws (first_is_told _ number some) some
 
   -- Accepted settings: the shape with the table's classes is that of the settings with them.
-  module _ (none : settings_refusal s ≡ 0) {before shape : Shape} {classes : ℕ} (is_before : before ≡ shape_of s) (counted : classes ≡ length (classes_in table))
+  module _ (none : settings_refusal s ≡ 0) {before shape : Shape} {classes : ℕ} (is_before : before ≡ shape_of s)
+      (counted : classes ≡ length (classes_in table))
       (is_shape : shape ≡ shape_with classes before) where
     shape_is_given : shape ≡ shape_of (with_table table s)
     shape_is_given = rw (is_before, counted, class_count_lem table) at is_shape

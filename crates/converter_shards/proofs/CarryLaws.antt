@@ -185,7 +185,8 @@ module _ (from to cap : ℕ) (source target : List ℕ) (room : slots_at + from 
   abbrev left : ℕ
   left = length target - onto
 
-  module _ {h m : List ℕ} (head : h ≡ carried slots_at (take slots_at source)) (slots : m ≡ carried_rows from to cap (segment slots_at (from * cap) source)) where
+  module _ {h m : List ℕ} (head : h ≡ carried slots_at (take slots_at source))
+      (slots : m ≡ carried_rows from to cap (segment slots_at (from * cap) source)) where
     head_is : h ≡ take slots_at source
     head_is =
         let long = length-take-le slots_at source (omega arith) in

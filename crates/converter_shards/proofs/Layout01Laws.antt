@@ -40,13 +40,15 @@ pub words_ledger01 : (cap : ℕ) (ws : List ℕ) → length ws ≡ ledger_words0
 unfolding ledger01 ledger_words_of01 table_in
 words_ledger01 cap ws size =
     rw (← drop_of_length-le ws {i = debts_at01 + debt_width01 * cap} (omega arith))
-    (table_words_lem debt_of01 debt_width01 cap debts_at01 ws (omega arith) debt_words01 (by_listed debt_width01 (λ r. debt_words01 (debt_of01 r) ≡ r) (λ f. refl)))
+    (table_words_lem debt_of01 debt_width01 cap debts_at01 ws (omega arith) debt_words01
+    (by_listed debt_width01 (λ r. debt_words01 (debt_of01 r) ≡ r) (λ f. refl)))
 
 pub words_shard01 : (cap : ℕ) (ws : List ℕ) → length ws ≡ shard_words01 cap → words01 (shard01 cap ws) ≡ ws
 unfolding shard01 words01 table_in
 words_shard01 cap ws size =
     rw (words_ledger01 cap (drop (ledger_start01 cap) ws) (omega (arith, length-drop (ledger_start01 cap) ws)))
-    (table_words_lem slot_of01 slot_width01 cap slots_at01 ws (omega arith) slot_words01 (by_listed slot_width01 (λ r. slot_words01 (slot_of01 r) ≡ r) (λ f. refl)))
+    (table_words_lem slot_of01 slot_width01 cap slots_at01 ws (omega arith) slot_words01
+    (by_listed slot_width01 (λ r. slot_words01 (slot_of01 r) ≡ r) (λ f. refl)))
 
 -- Items written as rows and read again, where reading need not give back all that was written.
 module _ {A : Type 0} (write : A → List ℕ) (w : ℕ) (long : (x : A) → length (write x) ≡ w) (read : List ℕ → A) where

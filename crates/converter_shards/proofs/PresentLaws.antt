@@ -43,7 +43,8 @@ module _ (cap : ℕ) (ws : List ℕ) where
       → (i : ℕ) → i < cap → item_word (debt_index_in_shard cap) f ws i ≡ field (item_at debt_items (shard cap ws).ledger.debts i)
   unfolding shard Ledger.ledger item_word table_in
   debt_field field f is within i below =
-      let place : ledger_start cap + (Ledger.debts_at + Ledger.debt_width * i + f) ≡ ledger_start cap + Ledger.debts_at + Ledger.debt_width * i + f = omega arith in
+      let place : ledger_start cap + (Ledger.debts_at + Ledger.debt_width * i + f) ≡ ledger_start cap + Ledger.debts_at + Ledger.debt_width * i + f =
+      omega arith in
       sym (item_field Ledger.debt_of Ledger.debt_width cap Ledger.debts_at (drop (ledger_start cap) ws) field f is within i below
       ∙ get_or-drop (ledger_start cap) ws (Ledger.debts_at + Ledger.debt_width * i + f) 0 ∙ ap (λ (k : ℕ). get_or ws k 0) place)
 
@@ -150,7 +151,8 @@ module _ {cap : ℕ} {ws : List ℕ} (intact : Intact cap ws) where
     debts_test = debts_exactly ∙ (rw (sym slots_exactly_lem ∙ slots_test) at exact)
 
     pub slots_stray : {n : ℕ} → n ≡ own.slots.count
-        → any_below n (strays (hash_of (slot_index cap) ws) (key_of (slot_index cap) ws) n (places_of (slot_index cap) ws)) ≡ has_twins slot_items slot_key own.slots
+        → any_below n (strays (hash_of (slot_index cap) ws) (key_of (slot_index cap) ws) n (places_of (slot_index cap) ws))
+        ≡ has_twins slot_items slot_key own.slots
     unfolding has_twins
     slots_stray is =
         rw is

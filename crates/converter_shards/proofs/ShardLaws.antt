@@ -159,7 +159,8 @@ module _ {cap : ℕ} {ws : List ℕ} (counted : Counted cap ws) where
   unfolding used_past shard01
   slots_past {n} is =
       rw (← is)
-      (sym (ap any_used (table_past slot_of01 slot_words01 slot_width01 (by_listed slot_width01 (λ r. slot_words01 (slot_of01 r) ≡ r) (λ f. refl)) cap slots_at01 n ws
+      (sym (ap any_used
+      (table_past slot_of01 slot_words01 slot_width01 (by_listed slot_width01 (λ r. slot_words01 (slot_of01 r) ≡ r) (λ f. refl)) cap slots_at01 n ws
       (slots_within is) (omega (arith, counted.size)))))
 
   pub debts_past : {n : ℕ} → n ≡ (shard01 cap ws).ledger.debts.count
@@ -168,7 +169,8 @@ module _ {cap : ℕ} {ws : List ℕ} (counted : Counted cap ws) where
   debts_past {n} is =
       let rest : List ℕ = drop (ledger_start01 cap) ws in
       rw (rest_past (ledger_start01 cap) debts_at01 debt_width01 cap n ws, ← is)
-      (sym (ap any_used (table_past debt_of01 debt_words01 debt_width01 (by_listed debt_width01 (λ r. debt_words01 (debt_of01 r) ≡ r) (λ f. refl)) cap debts_at01 n rest
+      (sym (ap any_used
+      (table_past debt_of01 debt_words01 debt_width01 (by_listed debt_width01 (λ r. debt_words01 (debt_of01 r) ≡ r) (λ f. refl)) cap debts_at01 n rest
       (debts_within is) (omega (arith, counted.size, length-drop (ledger_start01 cap) ws)))))
 
 -- Either, by the tests of the code.

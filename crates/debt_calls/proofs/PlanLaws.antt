@@ -75,7 +75,8 @@ module _ (s : Settings) (at : Nanos) (i : ℕ) (ws : List ℕ) where
     abbrev ledger : Ledger
     ledger = ledger_in (part_at (shape_of s) i) ws
 
-    pub refusals_of_the_call : debts_refusal_in (shape_of s) s at i room ws ≡ first_refusal (call_refusal s at i ws) (ledger_refusal (shape_of s).cap at room ledger)
+    pub refusals_of_the_call : debts_refusal_in (shape_of s) s at i room ws
+        ≡ first_refusal (call_refusal s at i ws) (ledger_refusal (shape_of s).cap at room ledger)
     refusals_of_the_call =
         let last : ℕ = ledger_refusal (shape_of s).cap at room ledger in
         sym

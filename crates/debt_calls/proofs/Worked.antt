@@ -61,13 +61,15 @@ the_list_worked : (lists 10 0 three 3 ≡ outcome (Count 2) (lent (words 3) (owi
     × (lists 10 0 two 3 ≡ outcome (Count 2) (lent (words 3) (owing 1 20 ∷ owing 3 11 ∷ [])))
     × refuses 17 10 0 one 3
     × (lists 20 0 [] 3 ≡ outcome (Count 0) (lent (words 3) []))
-unfolding ceil_div exponent_from exponent_for rows table_in size_refusal first_refusal Ledger.ledger Shard.shard memory_refusal moment_refusal unless_refused unsettled
+unfolding ceil_div exponent_from exponent_for rows table_in size_refusal first_refusal Ledger.ledger Shard.shard memory_refusal moment_refusal unless_refused
+    unsettled
     listed written shard_refusal debt_count_refusal records_refusal list_debts_in
 the_list_worked = (refl, refl, refl, refl)
 
 -- There is no shard 1, nor one of the largest number. A debt count of 4 is over the room for three, and told before the records are too few. A moment that is
 -- too late is told before the shard's number.
 the_refusals_worked : refuses 16 10 1 three 3 × refuses 16 10 (2 ^ 64 - 1) three 3 × refuses 5 10 0 [] 4 × refuses 6 (2 ^ 62 + 1) 1 [] 4
-unfolding ceil_div exponent_from exponent_for rows table_in size_refusal first_refusal Ledger.ledger Shard.shard memory_refusal moment_refusal unless_refused unsettled
+unfolding ceil_div exponent_from exponent_for rows table_in size_refusal first_refusal Ledger.ledger Shard.shard memory_refusal moment_refusal unless_refused
+    unsettled
     listed written shard_refusal debt_count_refusal records_refusal list_debts_in
 the_refusals_worked = (refl, refl, refl, refl)

@@ -66,7 +66,8 @@ ahead_are_digits (suc left) [] = refl
 ahead_are_digits (suc left) (b ∷ bs) = by_test (is_digit b) (λ t. rw (t, t) (ahead_are_digits left bs)) (λ t. rw t)
 
 -- Where fewer are in front than are asked for, the next byte is no digit.
-next_is_no_digit : (left : ℕ) (bs : List ℕ) → digits_ahead left bs < left → digits_ahead left bs < length bs → is_digit (get_or bs (digits_ahead left bs) 0) ≡ false
+next_is_no_digit : (left : ℕ) (bs : List ℕ) → digits_ahead left bs < left → digits_ahead left bs < length bs
+    → is_digit (get_or bs (digits_ahead left bs) 0) ≡ false
 unfolding digits_ahead
 next_is_no_digit zero bs fewer inside = absurd (omega arith)
 next_is_no_digit (suc left) [] fewer inside = absurd (omega arith)

@@ -179,8 +179,8 @@ module _ (s : Settings) (rate : Rate) (k : Identity) (B : BoundOf (config_of rat
         (λ hash key b. absurd (not_own hash key))
         (λ differs. other_removal c k.hash k.key (moment n) shard sound id differs))
 
-  -- What is asked of a key, where it is not refused: the settings are those of set_up_lem, time does not fall, the key shares no hash with the key in question, and
-  -- what that key spent is undone only as the bound allows.
+  -- What is asked of a key, where it is not refused: the settings are those of set_up_lem, time does not fall, the key shares no hash with the key in question,
+  -- and what that key spent is undone only as the bound allows.
   module _ (rated : s.limit ≡ Open rate) (id : Identity) (n : ℕ) (ws : List ℕ) (g : B.History) (v : Stands n ws g)
       (alone : id.hash ≡ k.hash → id.key ≡ k.key)
       (accepted : Store.Accepted s id.hash ws) where

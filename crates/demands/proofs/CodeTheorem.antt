@@ -118,7 +118,8 @@ module _ (κs : Lfts 1) (κs₂ : Lfts 2) (ptr other_ptr : ℕ × ℕ) (name : �
     pub key_contracts_meet_demand2 : Demand2 by_key on_keys
     key_contracts_meet_demand2 = record { sets_up_lem = set_up_as_told; clears = clear_as_told; answers = ruled; lists = records_as_the_rules }
       where
-        ruled : (call : Call Settings Identity) (ws : List ℕ) → fits by_key call ≡ true → lendable ws ≡ true → l.answers (as_named call) ws ≡ rules by_key call ws
+        ruled : (call : Call Settings Identity) (ws : List ℕ) → fits by_key call ≡ true → lendable ws ≡ true
+            → l.answers (as_named call) ws ≡ rules by_key call ws
         ruled (keyed s id ask) ws = λ fit lent. asked_by_key s id ask ws fit lent ∙ sym (by_key_is_the_rule s id ask ws)
         ruled (whole s len) ws = λ fit lent. c.tells_length s ws fit lent tt
         ruled (whole s (debts at i room)) ws = λ fit lent. debts_as_the_rules s at i room ws fit lent

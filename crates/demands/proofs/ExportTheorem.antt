@@ -233,7 +233,8 @@ module _ (κs : Lfts 1) (κs₂ : Lfts 2) (ptr other_ptr : ℕ × ℕ) (name : �
     pub callers_have_demand2 : Demand2 exported (called e)
     callers_have_demand2 = record {
       sets_up_lem = λ table n ws few fit lent.
-          ap (read_as knows) (exports_meet_demand2.sets_up_lem table n ws few fit lent) ∙ set_up_comes_back (settings_by exported table n) (table_words table) ws;
+          ap (read_as knows) (exports_meet_demand2.sets_up_lem table n ws few fit lent)
+          ∙ set_up_comes_back (settings_by exported table n) (table_words table) ws;
       clears = λ table n ws few fit lent.
           ap (read_as knows) (exports_meet_demand2.clears table n ws few fit lent) ∙ set_up_comes_back (settings_by exported table n) (table_words table) ws;
       answers = λ call ws fit lent. ap (read_as (kind_of call)) (exports_meet_demand2.answers call ws fit lent) ∙ reply_comes_back exported call ws;

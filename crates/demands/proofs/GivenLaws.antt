@@ -138,7 +138,8 @@ module _ (A P C : ℕ) (k : Identity) (t u : ℕ) (gs : List Grant) where
       (λ h. rw h (omega arith))
 
   request_within_lem : (r : Manner) (at : Nanos) (id : Identity) (cost : ℕ) (reply : Reply)
-      → within t u (if_own k id (granting window r at cost gs reply) gs) ≡ of_grant (λ wait. usable k t u id (usable_from r at wait) cost) 0 reply + within t u gs
+      → within t u (if_own k id (granting window r at cost gs reply) gs)
+      ≡ of_grant (λ wait. usable k t u id (usable_from r at wait) cost) 0 reply + within t u gs
   request_within_lem r at id cost (Tried (Acquired due)) = rw (← usable_after_the_wait r at 0) (granted_within id (at.0 + wait_told r 0) cost)
   request_within_lem r at id cost (Tried (Retry due)) = rw (same_either_way k id gs) (omega arith)
   request_within_lem r at id cost (Tried Impossible) = rw (same_either_way k id gs) (omega arith)

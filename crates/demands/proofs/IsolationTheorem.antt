@@ -54,7 +54,8 @@ ask_refused_alike : (s : Settings) (id : Identity) (ask : Ask) (ws vs : List ℕ
 unfolding memory_refusal
 ask_refused_alike s id ask ws vs size like =
     let counts : ℕ → Shard → ℕ = λ total own. count_refusal (cap_of s) (room_in (shape_of s)) total own in
-    λ j. first_refusal (first_refusal (first_refusal (settings_refusal s) (cond (eqb (size j) (memory_words s)) 0 5)) (counts (like.total j) (like.own.shard j)))
+    λ j. first_refusal
+    (first_refusal (first_refusal (settings_refusal s) (cond (eqb (size j) (memory_words s)) 0 5)) (counts (like.total j) (like.own.shard j)))
     (further_of ask)
 
 module _ {S N : Type 0} (terms : Terms S N) where

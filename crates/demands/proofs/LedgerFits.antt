@@ -16,7 +16,8 @@ use Rattle.ledger.specs.declared.Choice.{Choice}
 use Rattle.ledger.specs.declared.Choice.TheVariants.{Settled, Soonest}
 use Rattle.ledger.specs.declared.Recorded.{Recorded}
 use Rattle.ledger.specs.declared.Recorded.TheVariants.{Done, NoRoom}
-use Rattle.ledger.specs.Model.{Ledger, Sound, no_debt, debt_items, cap_of, debt_at, settled_by, has_settled, cursor_of, with_cursor, with_debt, place_of, remove_at}
+use Rattle.ledger.specs.Model.{Ledger, Sound, no_debt, debt_items, cap_of, debt_at, settled_by, has_settled, cursor_of, with_cursor, with_debt, place_of}
+use Rattle.ledger.specs.Model.{remove_at}
 use Rattle.ledger.specs.Model.{append, taken, round_of, sweep}
 use Rattle.ledger.specs.Model.{sooner, scan_from, scan, drop_chosen, make_room, joined, recorded_at, recorded, paid_down}
 use Rattle.ledger.proofs.StepLaws.{removal_count, found_owes, taken_cases, paid_cases}

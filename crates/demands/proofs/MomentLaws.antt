@@ -27,7 +27,8 @@ use Rattle.store.proofs.RefusalLaws.{moment_not_refused}
 use Rattle.rules.specs.declared.Reply.{Reply}
 use Rattle.rules.specs.declared.Reply.TheVariants.{Tried, Reserved, Nothing, Done, Count, Refused}
 use Rattle.rules.specs.Replies.{moment_of, of_grant, decides, knows}
-use Rattle.rules.specs.Asks.{peeks, tokens, turn_aways, Undo, Ask, requests, looks, undoes, passes, Manner, as_try, as_reservation, manner_of, further_of, policy_of}
+use Rattle.rules.specs.Asks.{peeks, tokens, turn_aways, Undo, Ask, requests, looks, undoes, passes, Manner, as_try, as_reservation, manner_of, further_of}
+use Rattle.rules.specs.Asks.{policy_of}
 use Rattle.rules.specs.Asks.{reply_to}
 use Rattle.rules.specs.Asks.{asked_in}
 use Rattle.rules.specs.Asks.{in_force, in_its_shard}

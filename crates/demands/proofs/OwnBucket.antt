@@ -24,7 +24,8 @@ use Rattle.shard.specs.Model.{with_or_insert, own_decision, holds}
 use Rattle.shard.proofs.OwnBucketLaws.{own_bucket_decides}
 use Rattle.store.specs.Memory.{shard_at, buckets_at}
 use Rattle.rules.specs.declared.Reply.{Reply}
-use Rattle.rules.specs.Asks.{requests, looks, undoes, passes, with_table, manner_of, reply_to, replied_as, policy_of, asked_in, chain_of, through_chain, passed_in}
+use Rattle.rules.specs.Asks.{requests, looks, undoes, passes, with_table, manner_of, reply_to, replied_as, policy_of, asked_in, chain_of, through_chain}
+use Rattle.rules.specs.Asks.{passed_in}
 use Rattle.rules.specs.Calls.{Call, keyed, whole, Terms, rules, Answered, replies, Every}
 use Rattle.rules.proofs.KeyedLaws.{ask_not_refused}
 use Rattle.rules.proofs.CallLaws.{refusal_of, not_refused_is_ruled, keyed_not_refused, accepted_not_refused}

@@ -252,8 +252,8 @@ module _ {S N : Type 0} (terms : Terms S N) where
   grown_is_a_run (cleared table ws own grown done) = one_turn_longer (grown_is_a_run grown) (clears (tabled table)) own
   grown_is_a_run (called c ws grown same taken) = one_turn_longer (grown_is_a_run grown) (calls c) same
 
--- So it is with every limiter that meets demand 2: code as the contracts tell, and the exports. In a turn by a limiter a clear writes the settings as set_up_lem
--- did.
+-- So it is with every limiter that meets demand 2: code as the contracts tell, and the exports. In a turn by a limiter a clear writes the settings as
+-- set_up_lem did.
 abbrev pub by_limiter : {S N : Type 0} → Limiter S N → S → Turn S N → List ℕ → Outcome Reply (List ℕ)
 by_limiter l written (calls c) ws = l.answers c ws
 by_limiter l written (clears table) ws = l.clears table written ws

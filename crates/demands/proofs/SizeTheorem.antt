@@ -16,7 +16,8 @@ use Rattle.rules.specs.Calls.{Call, keyed, whole, whole_rule_in, Terms, settings
 use Rattle.rules.specs.Widths.{lendable}
 use Rattle.demands.specs.Demands.{Limiter, Demand2}
 
--- Shards and cap, how many words the settings ask for, what set_up_lem makes of any words, and what every call answers and leaves: all as at the shape of before.
+-- Shards and cap, how many words the settings ask for, what set_up_lem makes of any words, and what every call answers and leaves: all as at the shape of
+-- before.
 pub record AsAtTheShapeOfBefore {S N : Type 0} (terms : Terms S N) (s : Settings) : Type 0 where
   pub shape : shape_of s ≡ Before.shape_of s
   pub words : memory_words s ≡ words_in (Before.shape_of s)

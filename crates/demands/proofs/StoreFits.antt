@@ -24,7 +24,8 @@ use Rattle.evict.specs.declared.Room.{Room}
 use Rattle.evict.specs.declared.Room.TheVariants.{Made, Refused}
 use Rattle.shard.specs.declared.Identity.{Identity}
 use Rattle.shard.specs.declared.Policy.{Policy}
-use Rattle.shard.specs.Model.{tracks, asked_at, with_existing, make_room, admitted, admit, asked_from, with_or_insert, returning, refunded_from, refunded, removed}
+use Rattle.shard.specs.Model.{tracks, asked_at, with_existing, make_room, admitted, admit, asked_from, with_or_insert, returning, refunded_from, refunded}
+use Rattle.shard.specs.Model.{removed}
 use Rattle.shard.proofs.RoomLaws.{room_keeps, room_made_leaves_room}
 use Rattle.shard.proofs.ShardLaws.{debt_taken, room_for, debt_taken_sound, refused_took_nothing, Removing, slot_removed, no_slot, remove_cases}
 use Rattle.demands.proofs.EveryLaws.{of_either}

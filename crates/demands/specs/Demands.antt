@@ -232,8 +232,8 @@ module _ {S N : Type 0} (terms : Terms S N) where
       (t u : ℕ) → t ≤ u →
       tokens_usable k t u answered * rate.period.0 ≤ burst_of rate * rate.period.0 + (u - t + added) * rate.amount
 
-  -- Every list does that starts from a fresh store, with a rate set, under RefuseNew: from the words that the limiter's set_up_lem leaves where the rules accept
-  -- it.
+  -- Every list does that starts from a fresh store, with a rate set, under RefuseNew: from the words that the limiter's set_up_lem leaves where the rules
+  -- accept it.
   abbrev pub WindowAdding : ℕ → Limiter S N → Type 0
   WindowAdding added l =
       (table : Table) (s : S) (rate : Rate) (ws : List ℕ) → table_fits table ≡ true → terms.settings_fit s ≡ true → lendable ws ≡ true →

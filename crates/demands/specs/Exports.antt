@@ -22,7 +22,8 @@ use Rattle.rules.specs.Asks.{requests, looks, undoes, passes, peeks, tokens, tur
 use Rattle.rules.specs.Widths.{fits64, fits32, lendable, records_fit}
 use Rattle.rules.specs.Debts as Debts
 use Rattle.rules.specs.Debts.{Lent}
-use Rattle.rules.specs.Calls.{Call, keyed, whole, len, debts, Terms, try, reserve, peek, available, times_turned_away, length, refund, remove, class_try, kind_of}
+use Rattle.rules.specs.Calls.{Call, keyed, whole, len, debts, Terms, try, reserve, peek, available, times_turned_away, length, refund, remove, class_try}
+use Rattle.rules.specs.Calls.{kind_of}
 use Rattle.rules.specs.Calls.{list_debts, rules, fits}
 use Rattle.modems.specs.Names.{Name, key, address, named_in}
 use Rattle.limiter.specs.declared.LimiterSettings.{LimiterSettings}

@@ -50,7 +50,8 @@ module _ {S N : Type 0} (terms : Terms S N) where
   abbrev pub IsolatedByTotal : CanBeMade → Implementation S N → Type 0
   IsolatedByTotal made f =
       (s : S) (n : N) (ask : Ask) (ws vs : List ℕ) → made (keyed s n ask) ws → made (keyed s n ask) vs → length ws ≡ length vs
-      → SameShardAndTotal (settings_in s ask) (hash_of n) ws vs → AlikeInShardAndTotal (settings_in s ask) (hash_of n) (f (keyed s n ask) ws) (f (keyed s n ask) vs)
+      → SameShardAndTotal (settings_in s ask) (hash_of n) ws vs
+      → AlikeInShardAndTotal (settings_in s ask) (hash_of n) (f (keyed s n ask) ws) (f (keyed s n ask) vs)
 
   -- On two stores that have grown from fresh with the settings of the call.
   abbrev pub IsolatedWhenGrown : CanBeMade → Implementation S N → Type 0

@@ -26,7 +26,8 @@ use Rattle.rules.specs.Debts.{listed, shard_refusal, records_refusal}
 use Rattle.rules.specs.Calls.{Call, keyed, whole, len, debts, Terms, settings_of}
 use Rattle.rules.proofs.DebtLaws.{of_such_a_shard, shard_not_refused}
 use Rattle.demands.specs.Demands.{Table, table_words}
-use Rattle.demands.specs.PlaceOrder.{Shards, asked_on_shards, refused_as, taken_on_shards, on_shards, cleared_on_shards, Turn, calls, clears, step_without_indexes, run}
+use Rattle.demands.specs.PlaceOrder.{Shards, asked_on_shards, refused_as, taken_on_shards, on_shards, cleared_on_shards, Turn, calls, clears}
+use Rattle.demands.specs.PlaceOrder.{step_without_indexes, run}
 use Rattle.demands.specs.PlaceOrder.{OfStore, AllOf}
 use Rattle.demands.specs.TurnAways.{reads_turn_aways, call_reads_turn_aways, turn_reads_turn_aways, SameReplies}
 use Rattle.demands.proofs.TurnAwayTheorem.{answer_decided_alike, leaves_alike, buckets_alike}

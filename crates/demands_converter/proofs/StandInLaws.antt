@@ -19,7 +19,8 @@ use Rattle.rules.specs.Calls.{Call, keyed, whole, Terms, Answered, rules, accept
 use Rattle.rules.proofs.CallLaws.{refusal_of, refused_is_told, numbered_is_refused, looks_change_nothing, looks_at_key}
 use Rattle.demands.specs.Demands.{SameSettings, clock, TimesNeverFall, Agree, NoSharedHash, NeverRefundedOrRemoved, usable_from, tokens_of, tokens_usable}
 use Rattle.demands.specs.Demands.{WithinWindow}
-use Rattle.demands.specs.Refunds.{Counting, tokens_counted, if_between, refunded_between, of_named, of_request, of_own, in_span, reserves_it, removes_it, called_of}
+use Rattle.demands.specs.Refunds.{Counting, tokens_counted, if_between, refunded_between, of_named, of_request, of_own, in_span, reserves_it, removes_it}
+use Rattle.demands.specs.Refunds.{called_of}
 use Rattle.demands.specs.Refunds.{spanned_of, refunded_of, named}
 use Rattle.demands.specs.Refunds.{FairTo, WithinRefunds, WithinRefundWindow, WithinSpanWindow}
 use Rattle.demands.specs.TurnAways.{call_reads_turn_aways}

@@ -26,7 +26,8 @@ use Rattle.limiter.specs.Exported as Exported
 use Rattle.demands.specs.Demands.{table_words, Limiter, set_up_by, settings_by, answering, Demand2}
 use Rattle.demands.specs.CodeContracts.{Contracts}
 use Rattle.demands.specs.Exports.{Exports, numbers_fit, called, ExportContracts}
-use Rattle.demands.specs.Refunds.{reserves_it, removes_it, ask_called, ask_refunded, tokens_counted, of_named, called_of, refunded_of, WithinRefunds, named, FairTo}
+use Rattle.demands.specs.Refunds.{reserves_it, removes_it, ask_called, ask_refunded, tokens_counted, of_named, called_of, refunded_of, WithinRefunds, named}
+use Rattle.demands.specs.Refunds.{FairTo}
 use Rattle.demands.specs.Refunds.{WithinRefundWindow}
 use Rattle.demands.proofs.EveryLaws.{every_implies}
 use Rattle.demands.proofs.WidthLaws.{both_true}

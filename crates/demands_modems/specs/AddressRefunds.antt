@@ -1,7 +1,7 @@
 -- The window with refunds (request 11 of document 02) as it reads for hardware addresses. `Refunds` of crate demands has it for identities, in lists that may
 -- mix calls by key and by address. Here every call names a modem by the bytes of its address. No two accepted calls name different addresses of one hash, and
--- the calls that count for k are those that name the bytes k (`same_bytes`). The counts and the bound are those of `Refunds`. The claim that allows reservations
--- (`SpanWindow` of `demands`) is not restated here.
+-- the calls that count for k are those that name the bytes k (`same_bytes`). The counts and the bound are those of `Refunds`. The claim that allows
+-- reservations (`SpanWindow` of `demands`) is not restated here.
 --
 -- Theorems, in proofs/: `rules_keep_the_address_refund_window`, `demand2_keeps_the_address_refund_window`, `contracts_keep_the_address_refund_window`,
 -- `exports_keep_the_address_refund_window`.

@@ -113,7 +113,8 @@ module _ {S : Type 0} (m : Machine S) (by_line : ByLine m) where
       → printed_in_turns m reads (record { pending = []; state = s }) ≡ (lines_answered m (lines_of (joined reads)) s).answer
   every_cutting_prints_the_same reads s = printed_from_lem [] tt reads s
 
-  stands_in_parts : (bs more : List ℕ) (s : S) → stands_after m ((cut bs).rest ++ more) (lines_answered m (cut bs).lines s).after ≡ stands_after m (bs ++ more) s
+  stands_in_parts : (bs more : List ℕ) (s : S)
+      → stands_after m ((cut bs).rest ++ more) (lines_answered m (cut bs).lines s).after ≡ stands_after m (bs ++ more) s
   stands_in_parts bs more s =
       let rest = cut ((cut bs).rest ++ more) in
       rw (cut_in_parts bs more)

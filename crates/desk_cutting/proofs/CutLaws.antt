@@ -45,7 +45,8 @@ unfolding index_after
 cut_further true b bs inside tail = refl
 cut_further false b bs inside tail = ap (λ (c : Cut). cut_byte false b c) (tail (omega (arith, inside)))
 
-pub at_feed : (bs : List ℕ) → index_of line_feed bs < length bs → cut bs ≡ line_then (take (index_of line_feed bs) bs) (cut (drop (suc (index_of line_feed bs)) bs))
+pub at_feed : (bs : List ℕ) → index_of line_feed bs < length bs
+    → cut bs ≡ line_then (take (index_of line_feed bs) bs) (cut (drop (suc (index_of line_feed bs)) bs))
 unfolding cut index_of
 at_feed [] inside = absurd (omega (arith, inside))
 at_feed (b ∷ bs) inside = cut_further (eqb b line_feed) b bs inside (at_feed bs)

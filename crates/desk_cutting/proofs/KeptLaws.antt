@@ -65,7 +65,8 @@ beyond_moved from n input inside =
 
 -- The bytes that have been read are the first of the input. What is left of their last line is kept; all bytes past what is kept are as they were.
 module _ (end : ℕ) (input : List ℕ) where
-  pub turn_keeps : (at : ℕ) {pending : ℕ} {input' : List ℕ} → at ≤ end → end ≤ length input → pending ≡ kept_from at end → input' ≡ moved_to_start at pending input
+  pub turn_keeps : (at : ℕ) {pending : ℕ} {input' : List ℕ} → at ≤ end → end ≤ length input → pending ≡ kept_from at end
+      → input' ≡ moved_to_start at pending input
       → drop at (take (end - 0) input) ≡ (cut (take (end - 0) input)).rest → take pending input' ≡ kept_of (cut (take end input)).rest
   turn_keeps at within inside few moved leaves =
       let same : end - 0 ≡ end = omega arith in

@@ -180,7 +180,8 @@ module _ (line : List ℕ) where
     unfolding line_of fields_from
     line_of_first =
         let whole : field_end line 0 - 0 ≡ field_end line 0 = omega arith in
-        rw (le-leb (length line) longest_line short) (ap line_of_fields (rw (le-leb 0 (length line) (omega arith), whole) at (first_field line 0 (omega arith))))
+        rw (le-leb (length line) longest_line short)
+        (ap line_of_fields (rw (le-leb 0 (length line) (omega arith), whole) at (first_field line 0 (omega arith))))
 
     first_length : length (segment 0 (field_end line 0) line) ≡ field_end line 0
     first_length = segment_length 0 (field_end line 0) line (omega (arith, field_ends_inside line 0 (omega arith)))

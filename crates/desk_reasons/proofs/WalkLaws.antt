@@ -49,7 +49,8 @@ module _ (line : List ℕ) where
     unfolding reason_of
     line_is_long long = rw (ne_eqb _ _ some, lt-leb _ _ long)
 
-    module _ (short : length line ≤ longest_line) {end : ℕ} (ends : end ≡ field_end line 0) {letter : ℕ} (is : letter ≡ letter_in (segment 0 (end - 0) line)) where
+    module _ (short : length line ≤ longest_line) {end : ℕ} (ends : end ≡ field_end line 0) {letter : ℕ}
+        (is : letter ≡ letter_in (segment 0 (end - 0) line)) where
       by_first : reason_of line ≡ reason_of_fields (segment 0 (end - 0) line ∷ fields_from line (end + 1))
       unfolding reason_of fields_from
       by_first =

@@ -1,7 +1,8 @@
 // What the fields of a line have to be, by its letter.
 ghost use Rattle.std.specs.Prelude.{◌≡◌, drop};
 ghost use Rattle.desk_lines.specs.Lines as Lines;
-ghost use Rattle.desk_reasons.specs.Reasons.{first_kind, kinds_of, request_kinds, reserve_kinds, refund_kinds, remove_kinds, set_up_kinds, letter_in, is_number};
+ghost use Rattle.desk_reasons.specs.Reasons.{first_kind, kinds_of, request_kinds, reserve_kinds, refund_kinds, remove_kinds, set_up_kinds, letter_in};
+ghost use Rattle.desk_reasons.specs.Reasons.{is_number};
 ghost use Rattle.desk_reasons.specs.Reasons as Reasons;
 
 use decimal::OptionNumber;

@@ -129,7 +129,8 @@ written_line_ends_at_its_first_lf call more =
 
 -- What a buffer holds after a call of the writer: the line, and the bytes past it as they were; where the buffer is too short, all bytes as they were.
 module _ (call : DeskCall) (buffer : List ℕ) where
-  pub buffer_begins_with_the_line : length (written_line call) ≤ length buffer → take (length (written_line call)) (written call buffer).after ≡ written_line call
+  pub buffer_begins_with_the_line : length (written_line call) ≤ length buffer
+      → take (length (written_line call)) (written call buffer).after ≡ written_line call
   unfolding written
   buffer_begins_with_the_line room =
       rw (le-leb (length (written_line call)) (length buffer) room) (take-append_seam (written_line call) (drop (length (written_line call)) buffer))

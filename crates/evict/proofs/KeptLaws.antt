@@ -29,7 +29,8 @@ use Rattle.evict.proofs.WalkLaws.{Remarked, remarked_slots}
 use Rattle.evict.proofs.CaseLaws.{debt_recorded, debt_recorded_sound, evict_cases, walk_remarks, walk_sound}
 
 -- What does not look at marks is the same after a walk.
-all_remarked : (h : ℕ) (slot_value : Slot → ℕ) (debt_value : ℕ → ℕ) → ((slot : Slot) (mark : ℕ) → slot_value (with_mark slot mark) ≡ slot_value slot) → (s t : Shard)
+all_remarked : (h : ℕ) (slot_value : Slot → ℕ) (debt_value : ℕ → ℕ) → ((slot : Slot) (mark : ℕ) → slot_value (with_mark slot mark) ≡ slot_value slot)
+    → (s t : Shard)
     → Remarked s t → over_all h slot_value debt_value t ≡ over_all h slot_value debt_value s
 all_remarked h slot_value debt_value blind s t r =
     let same : (i : ℕ) → i < s.slots.count → slot_value (slot_at t i) ≡ slot_value (slot_at s i) = λ i below. remarked_slots s t r slot_value blind i in

@@ -175,7 +175,8 @@ unfolding evicted
 evicted_in_steps c at forget s is hand chosen gave = rw (is, ← hand, ← chosen) gave
 
 -- The code makes the debt of the slot at p of the slot that it read and of when it is due to be full, by the recovery that it worked out.
-pub debt_recorded_lem : (c : BucketConfig) (at : Nanos) (forget : Bool) (p : ℕ) (s : Shard) {t : Shard} {r : Recorded} {slot : Slot} {takes : Nanos} {full : Due}
+pub debt_recorded_lem : (c : BucketConfig) (at : Nanos) (forget : Bool) (p : ℕ) (s : Shard) {t : Shard} {r : Recorded} {slot : Slot} {takes : Nanos}
+    {full : Due}
     → slot ≡ slot_at s p → takes.0 ≡ recovery c slot at → full ≡ due_after at takes
     → outcome r t ≡ in_ledger s (Ledger.recorded s.ledger (record { hash = slot.hash; settles = full.moment }) at forget)
     → outcome r t ≡ in_ledger s (debt_recorded c at forget s p)

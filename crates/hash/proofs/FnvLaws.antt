@@ -1,5 +1,6 @@
 -- The definitions step by step: the product inside `mixed`, and one turn and the end of each of the two loops that hash.
-use Rattle.std.proofs.Common.{◌≡◌, ℕ, suc, ◌+◌, ◌-◌, ◌*◌, ◌/◌, ◌%◌, ◌^◌, ◌<◌, ◌≤◌, List, length, get_or, drop, refl, add-one, arith, drop_of_length-le, drop-cons}
+use Rattle.std.proofs.Common.{◌≡◌, ℕ, suc, ◌+◌, ◌-◌, ◌*◌, ◌/◌, ◌%◌, ◌^◌, ◌<◌, ◌≤◌, List, length, get_or, drop, refl, add-one, arith, drop_of_length-le}
+use Rattle.std.proofs.Common.{drop-cons}
 use lib.Bits.{bit_xor}
 use Rattle.hash.specs.Fnv.{prime, mixed, hash_from, lowest_first}
 

@@ -51,7 +51,8 @@ module _ {A : Type 0} {items : Items A} {Same : A → A → Type 0} {Like : Held
   sweep_alike (suc n) like = sweep_alike n (look_alike like)
 
 -- The same items found otherwise are alike, where it does not matter whether the finding is changed before or after an item comes or leaves.
-pub found_otherwise_alike : {A : Type 0} (items : Items A) (f : Finding → Finding) → ((x : Finding) (key i : ℕ) → with_added (f x) key i ≡ f (with_added x key i))
+pub found_otherwise_alike : {A : Type 0} (items : Items A) (f : Finding → Finding)
+    → ((x : Finding) (key i : ℕ) → with_added (f x) key i ≡ f (with_added x key i))
     → ((x : Finding) (hash : ℕ → ℕ) (n p : ℕ) → with_removed (f x) hash n p ≡ f (with_removed x hash n p))
     → KeptByWays items ◌≡◌ (λ h g. g ≡ found_otherwise h (f h.finding))
 unfolding removed

@@ -21,7 +21,8 @@ use Rattle.held.proofs.LayoutLaws.{table_item, table_part_put}
 -- The index of a table lies in its rest, from word o of the rest on: other places in the index are other words there.
 pub table_with_places : {A : Type 0} (read : List ℕ → A) (w cap first o : ℕ) (index : Index) (ws ix : List ℕ) → index.base ≡ first + w * cap + o
     → index.base + index.size ≤ length ws → length ix ≡ index.size
-    → table_in read w cap first (with_places index ws ix) ≡ with_rest (table_in read w cap first ws) (put_mid o index.size (table_in read w cap first ws).rest ix)
+    → table_in read w cap first (with_places index ws ix)
+    ≡ with_rest (table_in read w cap first ws) (put_mid o index.size (table_in read w cap first ws).rest ix)
 table_with_places read w cap first o index ws ix lies inside same =
     rw (with_is_back index ws ix, lies) (table_part_put read w cap first ws (omega arith) o index.size ix (omega arith) same)
 

@@ -6,7 +6,8 @@ use mathlib.Core.List.{List, [], ◌++◌, map}
 use native.Mathlib.Omega.{arith}
 use lib.Dec.{eqb}
 use lib.ListN.{length, get_or, set, take, drop, length-map, take-append-drop, get_or-eq_default}
-use lib.Seq.{sets, get_or-set_same, get_or-set_other, get_or-take, get_or-drop, take-set-lt, take-set-le, drop-set-lt, length-take-le, take-add, drop-drop, drop_at}
+use lib.Seq.{sets, get_or-set_same, get_or-set_other, get_or-take, get_or-drop, take-set-lt, take-set-le, drop-set-lt, length-take-le, take-add, drop-drop}
+use lib.Seq.{drop_at}
 use lib.Seq.{drop-append-le}
 use borrow.Author.Tests.{lt-ltb, le-ltb, eq-eqb, ne_eqb}
 use borrow.Rule.Slice.PartMut.{put_mid}
@@ -50,7 +51,8 @@ module _ {A : Type 0} (read : List ℕ → A) (w cap first : ℕ) where
 
     -- Such a word, read as a place: where it is below another, the count, it stands for itself, and elsewhere for the first place.
     module _ (at k : ℕ) (a : at < first) (b : k < first) where
-      pub place_below : get_or ws k 0 < get_or ws at 0 → get_or ws k 0 ≡ wrapped ((table_in read w cap first ws).head k) ((table_in read w cap first ws).head at)
+      pub place_below : get_or ws k 0 < get_or ws at 0
+          → get_or ws k 0 ≡ wrapped ((table_in read w cap first ws).head k) ((table_in read w cap first ws).head at)
       place_below below = rw (table_word at a, table_word k b, lt-ltb _ _ below)
 
       pub place_past : get_or ws at 0 ≤ get_or ws k 0 → 0 ≡ wrapped ((table_in read w cap first ws).head k) ((table_in read w cap first ws).head at)
@@ -88,7 +90,8 @@ module _ {A : Type 0} (read : List ℕ → A) (w cap first : ℕ) where
           λ j. record { head = λ m. get_or (front_kept j) m 0; places = row_put j; rest = rest_kept j }
 
       pub table_put_word : (i f v : ℕ) → i < cap → f < w
-          → table_in read w cap first (set ws (first + (w * i + f)) v) ≡ with_item (table_in read w cap first ws) i (read (set (segment (first + w * i) w ws) f v))
+          → table_in read w cap first (set ws (first + (w * i + f)) v)
+          ≡ with_item (table_in read w cap first ws) i (read (set (segment (first + w * i) w ws) f v))
       unfolding table_in
       table_put_word i f v b c =
           let e = row_end w cap i b in
@@ -126,7 +129,8 @@ module _ {A : Type 0} (read : List ℕ → A) (w cap first : ℕ) where
 
       -- The words before the rows, the items written as rows, and the rest are the words again. `write` gives an item's row back.
       pub table_words_lem : (write : A → List ℕ) → ((row : List ℕ) → length row ≡ w → write (read row) ≡ row)
-          → tabulate first (table_in read w cap first ws).head ++ (unrow (map write (table_in read w cap first ws).places) ++ (table_in read w cap first ws).rest)
+          → tabulate first (table_in read w cap first ws).head ++
+          (unrow (map write (table_in read w cap first ws).places) ++ (table_in read w cap first ws).rest)
           ≡ ws
       unfolding table_in
       table_words_lem write round =

@@ -1,7 +1,8 @@
 -- Items held in the first places of a fixed number of places. What stands in the places past the count is part of the value, so that a definition
 -- over `Held` fixes every word. Three definitions change the held items: `appended` adds an item, `removed` takes one out, and `stored` puts one in the place
--- of another. Only set_up_lem and clear do otherwise: all words become 0. `position` finds an item and changes nothing. Only `position`, `appended` and `removed`
--- read or change an index. Definitions in higher crates are the same with an index and without. `mapped` stands in claims alone: no operation uses it.
+-- of another. Only set_up_lem and clear do otherwise: all words become 0. `position` finds an item and changes nothing. Only `position`, `appended` and
+-- `removed` read or change an index. Definitions in higher crates are the same with an index and without. `mapped` stands in claims alone: no operation uses
+-- it.
 use Rattle.std.specs.Prelude.{ℕ, ◌+◌, ◌-◌, ◌≤◌, ◌<◌, ◌≡◌, Bool, cond, List, map, ltb, length, get_or, set}
 use Rattle.rows.specs.declared.Place.{Place}
 use Rattle.rows.specs.Places.{lowest, sum}

@@ -1,5 +1,6 @@
 -- How many places hold a word: after a store, and where a word is moved.
-use Rattle.std.proofs.Common.{◌≡◌, ℕ, zero, suc, ◌+◌, ◌<◌, ◌≤◌, cond, eqb, List, [], ◌∷◌, length, set, replicate, refl, ◌∙◌, le_of_suc-le-suc, arith, length-set, get_or-set_other, get_or-set_same, eq-eqb, ne_eqb}
+use Rattle.std.proofs.Common.{◌≡◌, ℕ, zero, suc, ◌+◌, ◌<◌, ◌≤◌, cond, eqb, List, [], ◌∷◌, length, set, replicate, refl, ◌∙◌, le_of_suc-le-suc, arith}
+use Rattle.std.proofs.Common.{length-set, get_or-set_other, get_or-set_same, eq-eqb, ne_eqb}
 use Rattle.arith.proofs.Cases.{by_eq}
 use Rattle.index.specs.Walk.{at}
 use Rattle.index.specs.Exact.{copies}

@@ -1,5 +1,7 @@
 -- An index and its items in lent words: what a read gives, what a store or the lending of the places does, and how the calls of an operation come together.
-use Rattle.std.proofs.Common.{◌≡◌, ℕ, ◌+◌, ◌-◌, ◌*◌, ◌<◌, ◌≤◌, false, eqb, List, ◌++◌, length, get_or, take, drop, set, sym, refl, ap, ◌∙◌, mul-le-mul_left, arith, length-append, length-drop, length-set, take-append-drop, length-take-le, get_or-drop, get_or-take, take_at, drop-set-lt, drop_at, eq-eqb, ne_eqb}
+use Rattle.std.proofs.Common.{◌≡◌, ℕ, ◌+◌, ◌-◌, ◌*◌, ◌<◌, ◌≤◌, false, eqb, List, ◌++◌, length, get_or, take, drop, set, sym, refl, ap, ◌∙◌, mul-le-mul_left}
+use Rattle.std.proofs.Common.{arith, length-append, length-drop, length-set, take-append-drop, length-take-le, get_or-drop, get_or-take, take_at, drop-set-lt}
+use Rattle.std.proofs.Common.{drop_at, eq-eqb, ne_eqb}
 use lib.Seq.{take-set-lt, drop-set-add, take-set-le}
 use borrow.Rule.Slice.PartMut.{put_mid}
 use Rattle.rows.specs.Segments.{segment}

@@ -1,6 +1,7 @@
 -- A place is emptied, and the pass over the places after it adds their items again: then every place in use is on its walk, and every word that was left
 -- stands as often as before.
-use Rattle.std.proofs.Common.{◌≡◌, ℕ, zero, suc, ◌+◌, ◌-◌, ◌%◌, ◌<◌, ◌≤◌, ◌⊎◌, List, length, set, refl, ap, ◌∙◌, inl, inr, ⊎_elim, arith, length-set, ne_eqb, le-leb}
+use Rattle.std.proofs.Common.{◌≡◌, ℕ, zero, suc, ◌+◌, ◌-◌, ◌%◌, ◌<◌, ◌≤◌, ◌⊎◌, List, length, set, refl, ap, ◌∙◌, inl, inr, ⊎_elim, arith, length-set, ne_eqb}
+use Rattle.std.proofs.Common.{le-leb}
 use Rattle.arith.proofs.Cases.{by_le, by_eq}
 use Rattle.index.specs.Walk.{at, onward, walk, seek, add, add_again, rehome}
 use Rattle.index.specs.Exact.{copies, Before, mid, high, OnWalk}

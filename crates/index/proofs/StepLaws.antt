@@ -1,6 +1,7 @@
 -- What each definition makes of one place. Those that count the places left have a law for each turn of the loop that computes them.
 -- The worked examples are checked before these laws, which quote the definitions: a definition that says something else is refused there first.
-use Rattle.std.proofs.Common.{◌≡◌, ℕ, zero, suc, ◌+◌, ◌-◌, ◌%◌, ◌^◌, ◌<◌, ◌≤◌, Bool, true, false, eqb, List, length, set, sym, refl, ◌∙◌, arith, length-set, le-ltb, lt-ltb, eq-eqb, ne_eqb, le-leb}
+use Rattle.std.proofs.Common.{◌≡◌, ℕ, zero, suc, ◌+◌, ◌-◌, ◌%◌, ◌^◌, ◌<◌, ◌≤◌, Bool, true, false, eqb, List, length, set, sym, refl, ◌∙◌, arith, length-set}
+use Rattle.std.proofs.Common.{le-ltb, lt-ltb, eq-eqb, ne_eqb, le-leb}
 use lib.ListN.{get_or-eq_default}
 use lib.Seq.{set_out}
 use borrow.Author.Tests.{lt-leb}

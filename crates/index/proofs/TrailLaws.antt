@@ -1,5 +1,6 @@
 -- What the pass over the places after an emptied one knows on its way, and what follows for the item that it adds again.
-use Rattle.std.proofs.Common.{◌≡◌, ℕ, ◌+◌, ◌-◌, ◌%◌, ◌<◌, ◌≤◌, min, List, length, set, sym, refl, ap, ◌∙◌, ⊎_elim, mod-lt, arith, length-set, set-set, eq-eqb, ne_eqb, le-leb}
+use Rattle.std.proofs.Common.{◌≡◌, ℕ, ◌+◌, ◌-◌, ◌%◌, ◌<◌, ◌≤◌, min, List, length, set, sym, refl, ap, ◌∙◌, ⊎_elim, mod-lt, arith, length-set, set-set, eq-eqb}
+use Rattle.std.proofs.Common.{ne_eqb, le-leb}
 use lib.Seq.{set-get_or}
 use borrow.Author.Tests.{lt-leb}
 use Rattle.arith.proofs.Cases.{by_eq, by_le}

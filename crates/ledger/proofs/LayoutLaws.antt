@@ -18,7 +18,8 @@ use Rattle.held.proofs.LayoutLaws.{table_length, table_word, place_below, place_
 use Rattle.held.proofs.IndexLaws.{table_with_places, Indexed}
 use Rattle.ledger.specs.declared.Debt.{Debt}
 use Rattle.ledger.specs.Model.{debt_items, cap_of, debt_at, cursor_of, with_count, with_cursor, with_debt, with_finding, with_others}
-use Rattle.ledger.specs.Layout.{count_at, cursor_at, debts_at, debt_width, others_at, index_at, ledger_words, debt_index, debt_of, debt_words, ledger_of, ledger}
+use Rattle.ledger.specs.Layout.{count_at, cursor_at, debts_at, debt_width, others_at, index_at, ledger_words, debt_index, debt_of, debt_words, ledger_of}
+use Rattle.ledger.specs.Layout.{ledger}
 use Rattle.ledger.specs.Layout.{words_of, Intact}
 
 -- Whatever the words, the ledger in them has room for cap debts.
@@ -43,7 +44,8 @@ module _ (cap : ℕ) (t : Table Debt) where
         segment_kept_below half half t.rest ix (omega arith) long 0 half (omega arith),
       )
 
-rest_length : (cap : ℕ) (ws : List ℕ) → length ws ≡ ledger_words cap → length (table_in debt_of debt_width cap debts_at ws).rest ≡ places_for cap + places_for cap
+rest_length : (cap : ℕ) (ws : List ℕ) → length ws ≡ ledger_words cap
+    → length (table_in debt_of debt_width cap debts_at ws).rest ≡ places_for cap + places_for cap
 unfolding table_in
 rest_length cap ws size = omega (arith, length-drop (others_at cap) ws)
 
@@ -62,7 +64,8 @@ module _ (cap : ℕ) (ws : List ℕ) where
   unfolding ledger
   cursor_read_past past = place_past debt_of debt_width cap debts_at ws count_at cursor_at (lit< tt) (lit< tt) past
 
-  pub debt_read : (i : ℕ) → i < cap → debt_of (get_or ws (debts_at + debt_width * i) 0 ∷ get_or ws (debts_at + debt_width * i + 1) 0 ∷ []) ≡ debt_at (ledger cap ws) i
+  pub debt_read : (i : ℕ) → i < cap
+      → debt_of (get_or ws (debts_at + debt_width * i) 0 ∷ get_or ws (debts_at + debt_width * i + 1) 0 ∷ []) ≡ debt_at (ledger cap ws) i
   unfolding ledger
   debt_read i below =
       let hash_word = rw add-zero at (segment_word (debts_at + debt_width * i) debt_width ws 0 (lit< tt)) in
@@ -114,7 +117,8 @@ module _ (cap : ℕ) (ws : List ℕ) (size : length ws ≡ ledger_words cap) whe
 pub words_ledger : (cap : ℕ) (ws : List ℕ) → length ws ≡ ledger_words cap → words_of (ledger cap ws) ≡ ws
 unfolding ledger words_of
 words_ledger cap ws size =
-    rw take-append-drop (table_words_lem debt_of debt_width cap debts_at ws (omega arith) debt_words (by_listed debt_width (λ r. debt_words (debt_of r) ≡ r) (λ f. refl)))
+    rw take-append-drop
+    (table_words_lem debt_of debt_width cap debts_at ws (omega arith) debt_words (by_listed debt_width (λ r. debt_words (debt_of r) ≡ r) (λ f. refl)))
 
 -- So such words that have equal ledgers are equal: a contract that gives the ledger at exit gives every word at exit.
 pub same_words_lem : (cap : ℕ) (xs ys : List ℕ) → length xs ≡ ledger_words cap → length ys ≡ ledger_words cap → ledger cap xs ≡ ledger cap ys → xs ≡ ys

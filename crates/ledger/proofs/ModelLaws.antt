@@ -115,7 +115,8 @@ module _ (at : Nanos) (left : ℕ) (l : Ledger) (best : ℕ) where
   unfolding scan_from
   scan_end none = let e : left ≡ 0 = omega arith in rw e
 
-  pub scan_settled : 0 < left → (settling_at l (cursor_of l)).0 ≤ at.0 → scan_from at left l best ≡ outcome (Settled (cursor_of l)) (with_cursor l (cursor_of l))
+  pub scan_settled : 0 < left → (settling_at l (cursor_of l)).0 ≤ at.0
+      → scan_from at left l best ≡ outcome (Settled (cursor_of l)) (with_cursor l (cursor_of l))
   unfolding scan_from
   scan_settled some settled = let e : left ≡ suc (left - 1) = omega arith in rw (e, scan_from, le-leb _ _ settled)
 

@@ -62,7 +62,8 @@ pub record PlaceOrdered (l m : Ledger) : Type 0 where
   pub is : m ≡ in_place_order l
   pub each : FindsEach l
 
-ordered : {A : Type 0} (operation : Ledger → Outcome A Ledger) {l m : Ledger} → m ≡ in_place_order l → operation (in_place_order l) ≡ left_in_place_order (operation l)
+ordered : {A : Type 0} (operation : Ledger → Outcome A Ledger) {l m : Ledger} → m ≡ in_place_order l
+    → operation (in_place_order l) ≡ left_in_place_order (operation l)
     → FindsEach (operation l).after → SameOutcome PlaceOrdered (operation l) (operation m)
 ordered operation is same each = rw (is, same) (record { answer = refl; after = record { is = refl; each = each } })
 

@@ -143,7 +143,8 @@ taken_cases l h Q found none = go (place_of l h) refl
     go Nowhere e = none e
 
 pub paid_cases : (l : Ledger) (h cost : ℕ) (c : BucketConfig) (Q : Outcome Bool Ledger → Type 0)
-    → ((p : ℕ) → place_of l h ≡ At p → Q (outcome true (with_debt l p (sooner_by (credit c cost) (debt_at l p))))) → (place_of l h ≡ Nowhere → Q (outcome false l))
+    → ((p : ℕ) → place_of l h ≡ At p → Q (outcome true (with_debt l p (sooner_by (credit c cost) (debt_at l p)))))
+    → (place_of l h ≡ Nowhere → Q (outcome false l))
     → Q (paid_down l h cost c)
 unfolding paid_down
 paid_cases l h cost c Q found none = go (place_of l h) refl

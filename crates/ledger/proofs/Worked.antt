@@ -51,7 +51,8 @@ found_by_the_index = refl
 
 -- Once the debt is taken out, its place in the index is empty.
 taken_out_of_the_index : (taken indexed_five 5).after.debts.finding ≡ by_index (0 ∷ 0 ∷ [])
-unfolding taken place_of remove_at removed Index.find Index.find_from Index.walk_from Index.onward Index.remove Index.vacate Index.renumber Index.seek Index.walk
+unfolding taken place_of remove_at removed Index.find Index.find_from Index.walk_from Index.onward Index.remove Index.vacate Index.renumber Index.seek
+    Index.walk
     Index.rehome
 taken_out_of_the_index = refl
 
@@ -67,7 +68,8 @@ sweep_goes_round = refl
 
 -- A sweep takes its looks, and no more: of settled debts one more than there are looks, one is left.
 a_sweep_takes_its_looks :
-    sweep (moment 5) ledger_scan (holding (ledger_scan + 1) 0 (replicate (ledger_scan + 1) (owing 1 5))) ≡ holding 1 0 (owing 1 5 ∷ replicate ledger_scan no_debt)
+    sweep (moment 5) ledger_scan (holding (ledger_scan + 1) 0 (replicate (ledger_scan + 1) (owing 1 5)))
+    ≡ holding 1 0 (owing 1 5 ∷ replicate ledger_scan no_debt)
 unfolding sweep Round.sweep Round.look Round.look_at removed
 a_sweep_takes_its_looks = refl
 
@@ -135,7 +137,8 @@ taken_out = refl
 abbrev rate : ℕ → ℕ → BucketConfig
 rate amount period = record { capacity = 4; amount = amount; period = record { 0 = period }; initial = 4 }
 
-refund_takes_half_a_second_off : paid_down (holding 1 0 (owing 7 2000000000 ∷ [])) 7 1 (rate 2 1000000000) ≡ outcome true (holding 1 0 (owing 7 1500000000 ∷ []))
+refund_takes_half_a_second_off : paid_down (holding 1 0 (owing 7 2000000000 ∷ [])) 7 1 (rate 2 1000000000)
+    ≡ outcome true (holding 1 0 (owing 7 1500000000 ∷ []))
 unfolding paid_down place_of lowest_from
 refund_takes_half_a_second_off = refl
 

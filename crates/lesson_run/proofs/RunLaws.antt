@@ -1,5 +1,6 @@
 -- What is left of a lesson before a step and after it.
-use Rattle.std.proofs.Common.{◌≡◌, ℕ, suc, ◌+◌, ◌-◌, ◌<◌, ◌≤◌, false, eqb, ltb, leb, List, [], ◌∷◌, length, take, drop, refl, ap, ◌∙◌, add-one, arith, length-drop, drop_of_length-le, take_all, drop-drop, ne_eqb}
+use Rattle.std.proofs.Common.{◌≡◌, ℕ, suc, ◌+◌, ◌-◌, ◌<◌, ◌≤◌, false, eqb, ltb, leb, List, [], ◌∷◌, length, take, drop, refl, ap, ◌∙◌, add-one, arith}
+use Rattle.std.proofs.Common.{length-drop, drop_of_length-le, take_all, drop-drop, ne_eqb}
 use Rattle.arith.proofs.Cases.{by_test, by_le}
 use Rattle.scan.specs.Bytes.{index_of}
 use Rattle.desk_cutting.specs.Cutting.{cut, lines_of}
@@ -19,7 +20,8 @@ use Rattle.lesson_lines.specs.declared.Meaning.TheVariants as meaning
 use Rattle.lesson_lines.specs.Written.{limits_bytes}
 use Rattle.lesson_words.specs.declared.Kind.TheVariants as kind
 use Rattle.lesson_lines.specs.Lesson.{taken, finished, taken_limits, call_of, call_read, village}
-use Rattle.lesson_lines.specs.Lesson.{meaning_of, moment_in, clock_after, village_of, set_up_by, by_letter, letter_read, words_mean, uncommented, taken_letter, word_from}
+use Rattle.lesson_lines.specs.Lesson.{meaning_of, moment_in, clock_after, village_of, set_up_by, by_letter, letter_read, words_mean, uncommented, taken_letter}
+use Rattle.lesson_lines.specs.Lesson.{word_from}
 use Rattle.lesson_writer.specs.Lines.{calls_from}
 use Rattle.lesson_run.specs.declared.Progress.{Progress}
 use Rattle.lesson_run.specs.declared.Step.{Step}
@@ -133,7 +135,8 @@ module _ (text : List ℕ) (at number clock : ℕ) where
   falls_splits moment = by_test (ltb moment clock) (λ t. rw t) (λ t. rw t)
 
   calls_left_lem : (c : DeskCall) (count spacing : ℕ) → left_of text (calls_begun c count spacing at number clock).progress
-      ≡ and_then (all_written (calls_from c spacing 0 count)) [] (output_of number (clock_after clock (meaning.Calls c count spacing)) (lines_of (drop at text)))
+      ≡ and_then (all_written (calls_from c spacing 0 count)) []
+      (output_of number (clock_after clock (meaning.Calls c count spacing)) (lines_of (drop at text)))
   unfolding left_of
   calls_left_lem c count spacing = let all : count - 0 ≡ count = omega arith in rw all
 

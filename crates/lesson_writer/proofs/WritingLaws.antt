@@ -61,7 +61,8 @@ four_shifted a b c d bs =
     let second = printed_field b space ++ (printed_field c space ++ printed_field d space) in
     ap (λ (x : List ℕ). space ∷ x) (append_assoc (printed_field a space) second bs)
     ∙ shifted a (second ++ bs)
-    ∙ ap (λ (x : List ℕ). field a ++ x) (ap (λ (x : List ℕ). space ∷ x) (append_assoc (printed_field b space) (printed_field c space ++ printed_field d space) bs)
+    ∙ ap (λ (x : List ℕ). field a ++ x)
+    (ap (λ (x : List ℕ). space ∷ x) (append_assoc (printed_field b space) (printed_field c space ++ printed_field d space) bs)
     ∙ shifted b ((printed_field c space ++ printed_field d space) ++ bs)
     ∙ ap (λ (x : List ℕ). field b ++ x) (ap (λ (x : List ℕ). space ∷ x) (append_assoc (printed_field c space) (printed_field d space) bs)
     ∙ shifted c (printed_field d space ++ bs)

@@ -23,7 +23,8 @@ use Rattle.desk_lines.specs.declared.Line.{Line}
 use Rattle.desk_lines.specs.declared.Line.TheVariants.{SetUp, Try, Peek, Reserve, Refund, Remove, Malformed}
 use Rattle.desk_lines.specs.Fields.{fields}
 use Rattle.desk_lines.specs.Lines as Lines
-use Rattle.desk_lines.specs.Lines.{longest_line, Reading, left, taken, taken_idle, taken_rate, taken_request, is_finished, line_of_letter, line_of_fields, line_of}
+use Rattle.desk_lines.specs.Lines.{longest_line, Reading, left, taken, taken_idle, taken_rate, taken_request, is_finished, line_of_letter, line_of_fields}
+use Rattle.desk_lines.specs.Lines.{line_of}
 use Rattle.desk_lines.specs.Lines.{most64, most32, most_rule}
 use Rattle.desk_lines.specs.Printed.{printed}
 use Rattle.desk_answers.specs.declared.Stage.{Stage}
@@ -143,7 +144,8 @@ module _ (s : Settings) (memory : List ℕ) (accepted : (Desk.set_up s memory).a
     late_from_202 [] full = refl
     late_from_202 (line ∷ lines) full = rw (full (omega arith))
 
-    further_print : (and_then (lines_answered village further opened) finished).answer ≡ printed_rows (village_rows s memory further) ++ printed_past first_past late
+    further_print : (and_then (lines_answered village further opened) finished).answer
+        ≡ printed_rows (village_rows s memory further) ++ printed_past first_past late
     further_print =
         let parts : lines_answered village further opened ≡ and_then (lines_answered village early opened) (lines_answered village late) =
         ap (λ (lines : List (List ℕ)). lines_answered village lines opened) (sym (take-append-drop most_rows further))
@@ -181,7 +183,8 @@ refused_input_prints_one_line input memory first further lines ended =
     (append-nil _ ∙ append-nil (printed 1 o.answer.told.code o.answer.told.number))
 
 -- What is printed for an input whose line 1 is accepted.
-pub input_prints_its_village : (input memory first : List ℕ) (further : List (List ℕ)) (s : Settings) → lines_of input ≡ first ∷ further → line_of first ≡ SetUp s
+pub input_prints_its_village : (input memory first : List ℕ) (further : List (List ℕ)) (s : Settings) → lines_of input ≡ first ∷ further
+    → line_of first ≡ SetUp s
     → (Desk.set_up s memory).answer.told.code ≡ 0 → printed_for input memory ≡ printed_village s memory further
 unfolding lines_answered
 input_prints_its_village input memory first further s lines is accepted =

@@ -140,7 +140,8 @@ village_stays_within_the_window s rate ws plain rated refuses done' rows others 
     let v = fresh s ws rows others in
     let n : ℕ = most_tries * length rows in
     let window = window_from_set_up s rate ws plain rated refuses done' (calls s v) (run_same_settings s n v)
-    (run_never_goes_back s n v 0 (λ j b live. omega arith)) (run_shares_none s n v apart) (identity_of key) (run_undoes_nothing s (identity_of key) n v) t u le in
+    (run_never_goes_back s n v 0 (λ j b live. omega arith)) (run_shares_none s n v apart) (identity_of key)
+    (run_undoes_nothing s (identity_of key) n v) t u le in
     let counted : tokens_usable (identity_of key) t u (answered_in s n v) ≡ tokens_granted key t u (outage s v).rows =
     omega (arith, run_grants_what_its_calls_grant key t u s n v, none_granted key t u rows none) in
     rw (← counted) window

@@ -12,7 +12,7 @@
 --   not refused by number never fall; `run_grants_what_its_calls_grant`, the tokens of the rows are the tokens of the calls.
 -- * `contract_stays_within_the_window`: so it is with the rows of code that is as the contract of `outage_rows::run` says.
 -- * `every_input_stays_within_the_window`: the same of the program's whole inputs (`InputWindow`). Where line 1 is accepted, what is printed is the rows of
---   lines 2 to 201 as they end (`input_prints_its_village`), run on the words that the set_up_lem of line 1 left (`village_runs_fresh`), and they stay within the
+-- lines 2 to 201 as they end (`input_prints_its_village`), run on the words that the set_up_lem of line 1 left (`village_runs_fresh`), and they stay within the
 --   window. None of them was granted before (`lines_not_granted`).
 -- * `denied_line_made_all`: a line that is answered 1 has made 1,000 tries. After the run no row is live (`outage_ends_all` of `outage_rows`).
 use Rattle.std.specs.Prelude.{ℕ, zero, suc, ◌+◌, ◌*◌, ◌<◌, ◌≤◌, ◌≡◌, true, false, cond, List, [], ◌∷◌, ◌++◌, map, leb, eqb, length, take, drop}

@@ -171,7 +171,8 @@ unfoldable pub asked_in : Request → Limit → Settings → Nanos → Identity 
 asked_in r Closed s at id cost own = outcome (closed_to (manner_of r) at cost) own
 asked_in r (Open rate) s at id cost own =
     cond (ltb (config_of rate).capacity cost) (outcome (too_much (manner_of r)) own)
-    (cond (eqb cost 0) (outcome (at_once (manner_of r) at) own) (replied_as (reply_to (manner_of r)) (OneShard.with_or_insert (policy_of s rate) id r cost at own)))
+    (cond (eqb cost 0) (outcome (at_once (manner_of r) at) own)
+    (replied_as (reply_to (manner_of r)) (OneShard.with_or_insert (policy_of s rate) id r cost at own)))
 
 -- A peek: when the bucket that the key has, or would have if it came in now, has the cost.
 unfoldable pub due_reply : Due → Reply

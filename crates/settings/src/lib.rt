@@ -6,7 +6,8 @@ ghost use Rattle.std.specs.Prelude.{◌≡◌, ◌≤◌, ◌^◌};
 ghost use Rattle.bucket.specs.Bucket.{Accepted};
 ghost use Rattle.settings.specs.Powers.{exponent_for};
 ghost use Rattle.settings.specs.Rate.{time_to_full};
-ghost use Rattle.settings.specs.Settings.{limit_refusal, size_refusal, settings_refusal, share, shard_exponent, shape_of, shape_with, ShapeOfAccepted, index_in};
+ghost use Rattle.settings.specs.Settings.{limit_refusal, size_refusal, settings_refusal, share, shard_exponent, shape_of, shape_with, ShapeOfAccepted};
+ghost use Rattle.settings.specs.Settings.{index_in};
 ghost use Rattle.settings.specs.Settings.{idle_limit_for, idle_limit_millis};
 
 use crate::eviction::Eviction;

@@ -26,7 +26,8 @@ use Rattle.held.proofs.HeldLaws.{total_stored, total_appended, total_removed}
 use Rattle.slot.specs.declared.Slot.{Slot}
 use Rattle.ledger.specs.Model as Ledger
 use Rattle.ledger.proofs.KeptLaws.{weigh, owed, one, SettledIsNothing, sweep_never_adds, sweep_keeps_unsettled, owed_by_another_value, none_owed_nothing_owed}
-use Rattle.shard_map.specs.Model.{Shard, Sound, Complete, slot_items, cap_of, slot_at, with_slot, with_ledger, place_of, remove_at, insert, reclaimable, round_of}
+use Rattle.shard_map.specs.Model.{Shard, Sound, Complete, slot_items, cap_of, slot_at, with_slot, with_ledger, place_of, remove_at, insert, reclaimable}
+use Rattle.shard_map.specs.Model.{round_of}
 use Rattle.shard_map.specs.Model.{sweep_idle}
 use Rattle.shard_map.proofs.StepLaws.{Holding, nowhere_holds_none, slots_sound, removal_ledger, reclaimable_is_full}
 

@@ -25,7 +25,8 @@ use Rattle.ledger.specs.Model as Debts
 use Rattle.ledger.specs.Layout as Ledger
 use Rattle.ledger.proofs.LayoutLaws.{words_ledger, others_read, others_put}
 use Rattle.ledger.proofs.OthersLaws.{left_with_others}
-use Rattle.shard_map.specs.Model.{slot_items, cap_of, slot_at, with_count, with_finding, with_slot, with_hand, with_sweep, with_ledger, in_ledger, hand_of, sweep_of}
+use Rattle.shard_map.specs.Model.{slot_items, cap_of, slot_at, with_count, with_finding, with_slot, with_hand, with_sweep, with_ledger, in_ledger, hand_of}
+use Rattle.shard_map.specs.Model.{sweep_of}
 use Rattle.shard_map.specs.Layout.{count_at, hand_at, sweep_at, slots_at, slot_width, slot_start, mark_in}
 use Rattle.shard_map.specs.Layout.{slot_of, slot_words, ledger_start, shard_words, slot_index, shard_with, lent_ledger, shard_of, shard, words_of, Intact}
 
@@ -62,7 +63,8 @@ module _ (cap : ℕ) (ws : List ℕ) where
   slot_word i f below = segment_word (slot_start i) slot_width ws f below
 
   pub slot_read : (i : ℕ) → i < cap
-      → slot_of (get_or ws (slot_start i) 0 ∷ get_or ws (slot_start i + 1) 0 ∷ get_or ws (slot_start i + 2) 0 ∷ get_or ws (slot_start i + 3) 0 ∷ get_or ws (slot_start i + 4) 0
+      → slot_of (get_or ws (slot_start i) 0 ∷ get_or ws (slot_start i + 1) 0 ∷ get_or ws (slot_start i + 2) 0 ∷ get_or ws (slot_start i + 3) 0
+      ∷ get_or ws (slot_start i + 4) 0
       ∷ get_or ws (slot_start i + 5) 0 ∷ get_or ws (slot_start i + 6) 0 ∷ [])
       ≡ slot_at (shard cap ws) i
   unfolding shard
@@ -113,7 +115,8 @@ module _ (cap : ℕ) (ws : List ℕ) (size : length ws ≡ shard_words cap) wher
       rw (second, third, fourth, fifth, sixth, seventh) (run_put i slot below)
 
   -- The mark of a slot alone.
-  pub mark_put : (i mark : ℕ) → i < cap → shard cap (set ws (slot_start i + mark_in) mark) ≡ with_slot (shard cap ws) i (with_mark (slot_at (shard cap ws) i) mark)
+  pub mark_put : (i mark : ℕ) → i < cap
+      → shard cap (set ws (slot_start i + mark_in) mark) ≡ with_slot (shard cap ws) i (with_mark (slot_at (shard cap ws) i) mark)
   unfolding shard
   mark_put i mark below =
       let index : slot_start i + mark_in ≡ slots_at + (slot_width * i + mark_in) = omega arith in
@@ -134,7 +137,8 @@ module _ (cap : ℕ) (ws : List ℕ) (size : length ws ≡ shard_words cap) wher
 
   pub finding_read : (shard cap ws).slots.finding ≡ by_index (places_of (slot_index cap) ws)
   unfolding shard table_in places_of
-  finding_read = ap by_index (others_read cap (drop (ledger_start cap) ws) ∙ ap (take (places_for cap)) (drop-drop (Ledger.others_at cap) (ledger_start cap) ws))
+  finding_read =
+      ap by_index (others_read cap (drop (ledger_start cap) ws) ∙ ap (take (places_for cap)) (drop-drop (Ledger.others_at cap) (ledger_start cap) ws))
 
   pub index_put : (ix : List ℕ) → length ix ≡ places_for cap → shard cap (with_places (slot_index cap) ws ix) ≡ with_finding (shard cap ws) (by_index ix)
   unfolding shard table_in

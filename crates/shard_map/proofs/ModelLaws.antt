@@ -21,7 +21,8 @@ use Rattle.rows.proofs.OutcomeLaws.{after_is}
 use Rattle.slot.specs.declared.Slot.{Slot}
 use Rattle.slot.specs.Slot.{is_key}
 use Rattle.ledger.specs.Layout as LedgerLayout
-use Rattle.shard_map.specs.Model.{Shard, Sound, no_slot, slot_items, cap_of, slot_at, with_count, with_finding, with_slot, with_sweep, hand_of, sweep_of, place_of}
+use Rattle.shard_map.specs.Model.{Shard, Sound, no_slot, slot_items, cap_of, slot_at, with_count, with_finding, with_slot, with_sweep, hand_of, sweep_of}
+use Rattle.shard_map.specs.Model.{place_of}
 use Rattle.shard_map.specs.Model.{remove_at}
 use Rattle.shard_map.specs.Model.{insert, reclaimable, round_of, with_round, idle_look, sweep_idle}
 use Rattle.shard_map.specs.Layout.{ledger_start, slot_index, shard, Intact}

@@ -19,7 +19,8 @@ use Rattle.slot.specs.declared.Slot.{Slot}
 use Rattle.slot.specs.Slot.{is_key, expired}
 use Rattle.slot.proofs.SlotLaws.{is_key_iff}
 use Rattle.ledger.specs.Model as Ledger
-use Rattle.shard_map.specs.Model.{Shard, Sound, Complete, slot_items, cap_of, slot_at, with_slot, with_sweep, with_ledger, hand_of, sweep_of, place_of, remove_at}
+use Rattle.shard_map.specs.Model.{Shard, Sound, Complete, slot_items, cap_of, slot_at, with_slot, with_sweep, with_ledger, hand_of, sweep_of, place_of}
+use Rattle.shard_map.specs.Model.{remove_at}
 use Rattle.shard_map.specs.Model.{reclaimable, round_of, idle_look, sweep_idle}
 
 -- The hand and the sweep, as they are read, stand at a slot.

@@ -33,7 +33,8 @@ shard_ends_before cap i j below = omega (arith, mul-le-mul_right (shard_words ca
 
 -- The words of shard i replaced: those of every other shard are as they were.
 other_shard_kept : (cap i j : ℕ) (ws new : List ℕ) → shard_end cap i ≤ length ws → length new ≡ shard_words cap → (j ≡ i → ⊥)
-    → segment (shard_start cap j) (shard_words cap) (with_segment (shard_start cap i) (shard_words cap) ws new) ≡ segment (shard_start cap j) (shard_words cap) ws
+    → segment (shard_start cap j) (shard_words cap) (with_segment (shard_start cap i) (shard_words cap) ws new)
+    ≡ segment (shard_start cap j) (shard_words cap) ws
 other_shard_kept cap i j ws new fits same other =
     let w : ℕ = shard_words cap in
     by_le i j

@@ -1,4 +1,5 @@
-// The streams of a program: what it reads, what it writes, and where it tells a person something. The error of a call that fails is kept, to be told at the end.
+// The streams of a program: what it reads, what it writes, and where it tells a person something. The error of a call that fails is kept, to be told at the
+// end.
 #![tactic(auto)]
 
 ghost use Rattle.std.specs.Prelude.{◌≡◌, true, false, IsNone, IsSome};

@@ -44,4 +44,5 @@ move_shard-requires c = let start-of' = c.start_of-start in let shard-size' = c.
 
 pub returns : goal.returns
 returns c = let other' = c.other-to in part_moved c.args.from c.args.cap c.args.i c.args.source.now
-    c.args.target.now c.start_of-start.ensures c.shard_size.ensures (rw other'.ensures at c.start_of-onto.ensures) (rw other'.ensures at c.shard_size-2.ensures) c.move_shard.ensures
+    c.args.target.now c.start_of-start.ensures c.shard_size.ensures (rw other'.ensures at c.start_of-onto.ensures)
+    (rw other'.ensures at c.shard_size-2.ensures) c.move_shard.ensures

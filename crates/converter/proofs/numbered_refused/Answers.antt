@@ -11,7 +11,8 @@ shard_refused-requires c = let start-of' = c.start_of-start in let shard-size' =
   lent_long c.args.layout c.args.cap c.args.i c.args.ws.now start-of'.ensures shard-size'.ensures c.requires.0,
   c.requires.1,
   λ not-5. ap
-      (refused_by c.args.layout 5 c.args.cap) (lent_shard c.args.layout c.args.cap c.args.i c.args.ws.now start-of'.ensures shard-size'.ensures) ∙ c.requires.2 not-5,
+      (refused_by c.args.layout 5 c.args.cap) (lent_shard c.args.layout c.args.cap c.args.i c.args.ws.now start-of'.ensures shard-size'.ensures)
+      ∙ c.requires.2 not-5,
 )
 
 pub returns : goal.returns

@@ -22,7 +22,8 @@ words_for-requires-2 c = size_is_accepted c.args.settings
 
 pub returns-then-target-words_for : goal.returns-then-target-words_for
 returns-then-target-words_for c = target_length_is_told c.args.from c.args.settings c.args.source.now c.args.target.now
-    c.settings_refusal-refusal.ensures c.if-refusal-ne0.false c.words_for.ensures c.if-source-words_for.false (rw c.other.ensures at c.words_for-2.ensures) c.if-target-words_for.true
+    c.settings_refusal-refusal.ensures c.if-refusal-ne0.false c.words_for.ensures c.if-source-words_for.false
+    (rw c.other.ensures at c.words_for-2.ensures) c.if-target-words_for.true
 
 pub source_refusal-requires : goal.source_refusal-requires
 source_refusal-requires c = rw c.shape-shape.ensures (record { size = c.if-source-words_for.false ∙ c.words_for.ensures; room = cap_least c.args.settings })

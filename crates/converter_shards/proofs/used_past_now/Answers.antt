@@ -18,4 +18,5 @@ pub rows_past_used-requires-2 : goal.rows_past_used-requires-2
 rows_past_used-requires-2 c = rw c.debt_index-debts.ensures (omega (arith, c.requires.size), omega (arith, c.len-2.ensures, debts_within c.requires))
 
 pub returns : goal.returns
-returns c = past_debts slot_words _ ((rw c.index-slots.ensures at c.rows_past_used.ensures) ∙ slots_past_now c.requires c.len.ensures) c.if-rows_past_used.false ((rw c.debt_index-debts.ensures at c.rows_past_used-2.ensures) ∙ debts_past_now c.requires c.len-2.ensures)
+returns c = past_debts slot_words _ ((rw c.index-slots.ensures at c.rows_past_used.ensures) ∙ slots_past_now c.requires c.len.ensures) c.if-rows_past_used.false
+    ((rw c.debt_index-debts.ensures at c.rows_past_used-2.ensures) ∙ debts_past_now c.requires c.len-2.ensures)

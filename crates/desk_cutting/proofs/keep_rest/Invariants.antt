@@ -6,7 +6,8 @@ use Rattle.desk_cutting.specs.Cutting.{moved_to_start}
 use Rattle.desk_cutting.proofs.keep_rest.Given as goal
 
 abbrev pub invariant-loop-i : goal.invariant-loop-i
-invariant-loop-i l = (length l.input ≡ length l.initial.input) × (l.from + l.kept ≤ l.end) × (l.i ≤ l.kept) × (l.input ≡ moved_to_start l.from l.i l.initial.input)
+invariant-loop-i l =
+    (length l.input ≡ length l.initial.input) × (l.from + l.kept ≤ l.end) × (l.i ≤ l.kept) × (l.input ≡ moved_to_start l.from l.i l.initial.input)
 
 abbrev pub decreases-loop-i : goal.decreases-loop-i
 decreases-loop-i l = l.kept - l.i

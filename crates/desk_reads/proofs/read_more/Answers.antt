@@ -14,4 +14,8 @@ returns-clause-brings g c =
 
 pub returns-clause-failure : goal.returns-clause-failure
 returns-clause-failure g c = λ failed.
-    elim c.match-read.branch [ in-Err w ↦ rw w.source-is refl | in_default w ↦ absurd (no_count_fails _ _ _ (w.read-is ∙ w.in_default.is) (sym c.brought.ensures ∙ failed)) ]
+    elim c.match-read.branch [
+      | in-Err w ↦ rw w.source-is refl
+      | in_default w ↦ absurd
+          (no_count_fails _ _ _ (w.read-is ∙ w.in_default.is) (sym c.brought.ensures ∙ failed))
+    ]

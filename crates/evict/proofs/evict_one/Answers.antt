@@ -53,7 +53,8 @@ walk-ended c = let inv = c.loop-left.invariant in
       | then-left-eq0 w ↦ rw (w.ws-is, w.ended-is) (record { long = inv.long; same = sym inv.same ∙ walk_end _ _ _ _ _ w.if-left-eq0.true })
       | else-left-eq0+then-goes_at_once w ↦ rw (w.ws-is, w.ended-is) (record {
         long = w.hand_look-slot.auto.ws ∙ inv.long;
-        same = sym inv.same ∙ walk_ends_at_once _ _ _ _ _ (omega (arith, w.if-left-eq0.false)) w.hand-pos.ensures w.hand_look-slot.ensures w.goes_at_once.ensures w.if-goes_at_once.true;
+        same = sym inv.same ∙ walk_ends_at_once _ _ _ _ _
+            (omega (arith, w.if-left-eq0.false)) w.hand-pos.ensures w.hand_look-slot.ensures w.goes_at_once.ensures w.if-goes_at_once.true;
       })
     ]
 
@@ -64,7 +65,8 @@ walk-ended_2 c = let inv = c.loop-left.invariant in
       | then-left-eq0 w ↦ rw (w.ws-is, w.ended-is) (record { long = inv.long; same = sym inv.same ∙ walk_end _ _ _ _ _ w.if-left-eq0.true })
       | else-left-eq0+then-goes_at_once w ↦ rw (w.ws-is, w.ended-is) (record {
         long = w.hand_look-slot.auto.ws ∙ inv.long;
-        same = sym inv.same ∙ walk_ends_at_once _ _ _ _ _ (omega (arith, w.if-left-eq0.false)) w.hand-pos.ensures w.hand_look-slot.ensures w.goes_at_once.ensures w.if-goes_at_once.true;
+        same = sym inv.same ∙ walk_ends_at_once _ _ _ _ _
+            (omega (arith, w.if-left-eq0.false)) w.hand-pos.ensures w.hand_look-slot.ensures w.goes_at_once.ensures w.if-goes_at_once.true;
       })
     ]
 

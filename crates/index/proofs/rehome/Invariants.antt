@@ -8,7 +8,8 @@ use Rattle.index.proofs.LayoutLaws.{Rehoming}
 use Rattle.index.proofs.rehome.Given as goal
 
 abbrev pub invariant-loop-left : goal.invariant-loop-left
-invariant-loop-left l = (l.size ≡ l.index.size) × Rehoming l.index l.n l.initial.ws (onward l.index.size l.z) l.ws l.q l.left × Trail l.index.size (places_of l.index l.ws) l.q l.pass
+invariant-loop-left l = (l.size ≡ l.index.size) × Rehoming l.index l.n l.initial.ws (onward l.index.size l.z) l.ws l.q l.left
+    × Trail l.index.size (places_of l.index l.ws) l.q l.pass
 
 abbrev pub decreases-loop-left : goal.decreases-loop-left
 decreases-loop-left l = l.left

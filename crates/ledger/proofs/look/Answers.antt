@@ -14,7 +14,8 @@ held_2 : (c : goal.After-remove_at-arg-1) → let a = c.args in (c.cursor-cursor
 held_2 c = intact_cursor c.requires.0 c.requires.1 c.cursor-cursor.ensures
 
 -- The cursor stands at a debt, below the cap.
-held_3 : (c : goal.After-set_cursor-arg-else-settles-at-1) → let a = c.args in (c.cursor-cursor.result < (ledger a.cap a.ws.now).debts.count) × (c.cursor-cursor.result < a.cap)
+held_3 : (c : goal.After-set_cursor-arg-else-settles-at-1) → let a =
+    c.args in (c.cursor-cursor.result < (ledger a.cap a.ws.now).debts.count) × (c.cursor-cursor.result < a.cap)
 held_3 c = intact_cursor c.requires.0 c.requires.1 c.cursor-cursor.ensures
 
 pub settles_at-settles-requires : goal.settles_at-settles-requires

@@ -17,8 +17,11 @@ returns-then-count-first c = going_round_meets _ _ _ c.requires.1 c.count.ensure
 
 pub are_unsettled-requires : goal.are_unsettled-requires
 are_unsettled-requires c = let intact = c.requires.0 in
-    let count = c.count.ensures in
-    (intact, omega arith, omega (arith, c.if-count-first.false, count, intact.sound.count_fits, intact_cap intact, cursor_fits (ledger c.args.cap c.args.ws.now) c.requires.1))
+    let count = c.count.ensures in (
+      intact,
+      omega arith,
+      omega (arith, c.if-count-first.false, count, intact.sound.count_fits, intact_cap intact, cursor_fits (ledger c.args.cap c.args.ws.now) c.requires.1),
+    )
 
 pub returns : goal.returns
 returns c = rw c.are_unsettled.ensures

@@ -56,4 +56,5 @@ pub returns : goal.returns
 returns c = let args' = c.args in
     written_after (printed_field args'.a space) (printed_field args'.b space ++ (printed_field args'.c space ++ printed_field args'.d space))
     args'.at args'.out.now c.field-at.ensures (written_after
-    (printed_field args'.b space) (printed_field args'.c space ++ printed_field args'.d space) _ _ c.field-at-2.ensures (written_after (printed_field args'.c space) (printed_field args'.d space) _ _ c.field-at-3.ensures c.field.ensures))
+    (printed_field args'.b space) (printed_field args'.c space ++ printed_field args'.d space) _ _ c.field-at-2.ensures
+    (written_after (printed_field args'.c space) (printed_field args'.d space) _ _ c.field-at-3.ensures c.field.ensures))

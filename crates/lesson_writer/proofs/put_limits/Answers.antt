@@ -34,4 +34,5 @@ returns c = let args' = c.args in
     let l = args'.limits in
     let four = four_printed l.amount l.period l.burst l.initial in
     let room = room_printed l.modems l.shards l.idle l.when_full in
-    written_after (115 ∷ space ∷ []) (four ++ room) 0 args'.out.now c.put_letter-at.ensures (written_after four room _ _ c.put_four-at.ensures c.put_room.ensures) ∙ ap (λ (bs : List ℕ). written_over bs 0 args'.out.now) (put_is_the_line l)
+    written_after (115 ∷ space ∷ []) (four ++ room) 0 args'.out.now c.put_letter-at.ensures
+    (written_after four room _ _ c.put_four-at.ensures c.put_room.ensures) ∙ ap (λ (bs : List ℕ). written_over bs 0 args'.out.now) (put_is_the_line l)

@@ -14,5 +14,6 @@ loop-at-preserved c =
 pub returns-clause-first : goal.returns-clause-first
 returns-clause-first c =
     let end : c.loop-at.at ≡ c.args.to = omega arith in
-    let all : c.args.to ≡ c.args.to + index_of c.args.byte (slice c.args.to c.args.to c.args.bytes.now) = past c.args.byte c.args.to c.args.bytes.now c.requires.within in
+    let all : c.args.to ≡ c.args.to + index_of c.args.byte (slice c.args.to c.args.to c.args.bytes.now) =
+    past c.args.byte c.args.to c.args.bytes.now c.requires.within in
     end ∙ sym (rw (end, ← all) at (c.loop-at.invariant.1))

@@ -24,4 +24,5 @@ returns-then-letter-eq115 c = let a = c.args in
 
 pub returns : goal.returns
 returns c = let a = c.args in
-    kind_of_other a.letter a.i c.if-letter-eq97.false c.if-letter-eq112.false c.if-letter-eq114.false c.if-letter-eq102.false c.if-letter-eq100.false c.if-letter-eq115.false
+    kind_of_other a.letter a.i c.if-letter-eq97.false c.if-letter-eq112.false c.if-letter-eq114.false c.if-letter-eq102.false c.if-letter-eq100.false
+    c.if-letter-eq115.false

@@ -9,7 +9,8 @@ pub with-awaited-requires : goal.with-awaited-requires
 with-awaited-requires c = (c.requires, c.shortfall_at-shortfall.ensures)
 
 pub returns-then-slot-eq0 : goal.returns-then-slot-eq0
-returns-then-slot-eq0 c = rw c.first_of-then-slot-eq0.ensures (noted_unmarked _ _ _ _ _ c.shortfall_at-shortfall.ensures c.if-shortfall-eq0.false c.with-awaited.ensures c.if-slot-eq0.true)
+returns-then-slot-eq0 c = rw c.first_of-then-slot-eq0.ensures
+    (noted_unmarked _ _ _ _ _ c.shortfall_at-shortfall.ensures c.if-shortfall-eq0.false c.with-awaited.ensures c.if-slot-eq0.true)
 
 pub returns : goal.returns
 returns c = noted_marked _ _ _ _ _ c.shortfall_at-shortfall.ensures c.if-shortfall-eq0.false c.with-awaited.ensures c.if-slot-eq0.false

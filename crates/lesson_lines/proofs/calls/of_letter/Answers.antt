@@ -15,7 +15,8 @@ returns-then-letter-eq114 c = c.reserve_call.ensures ∙ letter_r _ _ c.args.let
     c.if-letter-eq97.false c.if-letter-eq112.false c.if-letter-eq114.true
 
 pub returns-then-letter-eq102 : goal.returns-then-letter-eq102
-returns-then-letter-eq102 c = c.refund_call.ensures ∙ letter_f _ _ c.args.letter c.if-letter-eq97.false c.if-letter-eq112.false c.if-letter-eq114.false c.if-letter-eq102.true
+returns-then-letter-eq102 c =
+    c.refund_call.ensures ∙ letter_f _ _ c.args.letter c.if-letter-eq97.false c.if-letter-eq112.false c.if-letter-eq114.false c.if-letter-eq102.true
 
 pub returns-then-letter-eq100 : goal.returns-then-letter-eq100
 returns-then-letter-eq100 c = c.remove_call.ensures ∙ letter_d _ _ c.args.letter

@@ -42,4 +42,5 @@ in_nanos-requires c = let args' = c.args in
 
 pub returns : goal.returns
 returns c = let args' = c.args in
-    rw c.power.ensures at c.in_nanos.ensures ∙ digits_in_nanos args'.whole args'.fraction args'.unit c.if-count-eq0.false c.if-unit-eq0.false c.if-count-gt-MOST_DIGITS.false
+    rw c.power.ensures at c.in_nanos.ensures
+    ∙ digits_in_nanos args'.whole args'.fraction args'.unit c.if-count-eq0.false c.if-unit-eq0.false c.if-count-gt-MOST_DIGITS.false
