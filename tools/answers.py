@@ -87,8 +87,8 @@ def convert(crate, fn, entry, say):
     rel = f"crates/{crate}/proofs/{fn}/Proof.antt"
     orig = subprocess.run(["git", "show", f"{BASE}:{rel}"], cwd=ROOT, capture_output=True, text=True).stdout
     orig_label = {}
-    for m in re.finditer(r"^(?:abbrev )?(" + WORD + r")\s*:\s*tie \.Need-(" + WORD + r")|^(?:abbrev )?(" + WORD + r")\s*:\s*tie\s*\.\s*Need-(" + WORD + r")", orig, re.M):
-        a, b = (m.group(1), m.group(2)) if m.group(1) else (m.group(3), m.group(4))
+    for m in re.finditer(r"^(?:abbrev )?(" + WORD + r")\s*:\s*tie\s*\.\s*Need-(" + WORD + r")", orig, re.M):
+        a, b = m.groups()
         orig_label[norm(a)] = norm(b)
     # the list of tie.spec
     whole = re.sub(r"\s+", " ", text)
@@ -237,7 +237,8 @@ def convert(crate, fn, entry, say):
             if len(params) != len(want):
                 raise Left(f"{local}: {len(params)} arguments and {len(want)} values: {params} / {want}")
             sub = {p: w for p, w in zip(params, want) if p != "_"}
-            body = re.sub(r"(?<![\w.'₀-₉-])(" + "|".join(sorted(map(re.escape, sub), key=len, reverse=True)) + r")(?![\w'₀-₉-])(?!\s*=\s)", lambda m: sub[m.group(1)], body)
+            names = "|".join(sorted(map(re.escape, sub), key=len, reverse=True))
+            body = re.sub(rf"(?<![\w.'₀-₉-])({names})(?![\w'₀-₉-])(?!\s*=\s)", lambda m: sub[m.group(1)], body)
             invariants.append((comment, [f"abbrev pub {kind}-{newname} : goal.{kind}-{newname}", f"{kind}-{newname} l = {body}"]))
             continue
         m = re.match(r"(?:abbrev )?(" + WORD + r")\s*:\s*tie\.Need-", first)
@@ -290,7 +291,8 @@ def convert(crate, fn, entry, say):
     plain = [o for k, o in others if k == "other"]
     rest = [o for k, o in others if k != "other"]
     if invariants:
-        inv_text = "\n".join([*head, *uses, f"use {mod}.Given as goal", ""]) + ("\n" + text_of(inv_records) + "\n" if inv_records else "") + "\n" + text_of(invariants) + "\n"
+        records = "\n" + text_of(inv_records) + "\n" if inv_records else ""
+        inv_text = "\n".join([*head, *uses, f"use {mod}.Given as goal", ""]) + records + "\n" + text_of(invariants) + "\n"
     elif inv_records:
         plain = [c + b for c, b in inv_records] + plain
     if answers:

@@ -8,7 +8,8 @@ fixes = {}
 said = re.sub(r"\n  the fields that can be named here are", " — the fields that can be named here are", open(log, encoding="utf-8", errors="replace").read())
 for line in said.split("\n"):
     line = re.sub(r"^so far: ", "", line)
-    m = re.match(r"(?:\./)?(proofs/\S+?):(\d+):(\d+): error: .*record `[^`]*\.(?:Kept|Last|Typed|Learnt|Step)[^`]*` has no field `(\w+)`(?:.*?the fields that can be named here are (.*))?", line)
+    at = r"(?:\./)?(proofs/\S+?):(\d+):(\d+): error: .*record `[^`]*\.(?:Kept|Last|Typed|Learnt|Step)[^`]*` has no field `(\w+)`"
+    m = re.match(at + r"(?:.*?the fields that can be named here are (.*))?", line)
     if m:
         fixes.setdefault(m.group(1), []).append((int(m.group(2)), m.group(4), re.findall(r"`([^`]+)`", m.group(5) or "")))
 near = {}
@@ -34,7 +35,9 @@ for path, items in fixes.items():
         if name == "0" and not fields:
             fields = ["ws"]
         if name.isdigit() and int(name) < len(fields):
-            t = re.sub(rf"\.(auto|kept|new|last|type_inv)\.{name}(?![\w-])", lambda k: f".{ {'kept': 'auto', 'last': 'new'}.get(k.group(1), k.group(1)) }.{fields[int(name)]}", t)
+            today = {"kept": "auto", "last": "new"}
+            member = lambda k: f".{today.get(k.group(1), k.group(1))}.{fields[int(name)]}"
+            t = re.sub(rf"\.(auto|kept|new|last|type_inv)\.{name}(?![\w-])", member, t)
         elif name == "kept":
             t = re.sub(r"\.kept(?![\w-])", ".auto", t)
         elif name == "last":

@@ -29,5 +29,7 @@ pub source_refusal-requires : goal.source_refusal-requires
 source_refusal-requires c = rw c.shape-shape.ensures (record { size = c.if-source-words_for.false ∙ c.words_for.ensures; room = cap_least c.args.settings })
 
 pub returns : goal.returns
-returns c = words_are_told c.args.from c.args.settings c.args.source.now c.args.target.now c.settings_refusal-refusal.ensures c.if-refusal-ne0.false c.words_for.ensures c.if-source-words_for.false (rw c.other.ensures at c.words_for-2.ensures)
+returns c = words_are_told c.args.from c.args.settings c.args.source.now c.args.target.now
+    c.settings_refusal-refusal.ensures c.if-refusal-ne0.false c.words_for.ensures c.if-source-words_for.false
+    (rw c.other.ensures at c.words_for-2.ensures)
     c.if-target-words_for.false (rw c.shape-shape.ensures at c.source_refusal.ensures)

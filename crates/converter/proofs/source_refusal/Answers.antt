@@ -20,7 +20,9 @@ pub any_refused-requires-2 : goal.any_refused-requires-2
 any_refused-requires-2 c = (c.requires, λ not-5. sym c.any_refused.ensures ∙ c.if-any_refused.false)
 
 pub returns-then-any_refused-2 : goal.returns-then-any_refused-2
-returns-then-any_refused-2 c = twins_are_told c.args.layout c.args.shards c.args.cap c.args.ws.now c.any_refused.ensures c.if-any_refused.false c.total_wrong.ensures c.if-total_wrong.false c.any_refused-2.ensures c.if-any_refused-2.true
+returns-then-any_refused-2 c = twins_are_told c.args.layout c.args.shards c.args.cap c.args.ws.now
+    c.any_refused.ensures c.if-any_refused.false c.total_wrong.ensures c.if-total_wrong.false
+    c.any_refused-2.ensures c.if-any_refused-2.true
 
 pub any_refused-requires-3 : goal.any_refused-requires-3
 any_refused-requires-3 c = (
@@ -29,7 +31,11 @@ any_refused-requires-3 c = (
 )
 
 pub returns-then-any_refused-3 : goal.returns-then-any_refused-3
-returns-then-any_refused-3 c = past_is_told c.args.layout c.args.shards c.args.cap c.args.ws.now c.any_refused.ensures c.if-any_refused.false c.total_wrong.ensures c.if-total_wrong.false c.any_refused-2.ensures c.if-any_refused-2.false c.any_refused-3.ensures c.if-any_refused-3.true
+returns-then-any_refused-3 c = past_is_told c.args.layout c.args.shards c.args.cap c.args.ws.now
+    c.any_refused.ensures c.if-any_refused.false c.total_wrong.ensures c.if-total_wrong.false
+    c.any_refused-2.ensures c.if-any_refused-2.false c.any_refused-3.ensures c.if-any_refused-3.true
 
 pub returns : goal.returns
-returns c = nothing_is_told c.args.layout c.args.shards c.args.cap c.args.ws.now c.any_refused.ensures c.if-any_refused.false c.total_wrong.ensures c.if-total_wrong.false c.any_refused-2.ensures c.if-any_refused-2.false c.any_refused-3.ensures c.if-any_refused-3.false
+returns c = nothing_is_told c.args.layout c.args.shards c.args.cap c.args.ws.now
+    c.any_refused.ensures c.if-any_refused.false c.total_wrong.ensures c.if-total_wrong.false
+    c.any_refused-2.ensures c.if-any_refused-2.false c.any_refused-3.ensures c.if-any_refused-3.false

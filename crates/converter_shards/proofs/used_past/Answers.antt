@@ -17,4 +17,7 @@ pub rows_past_used-requires-2 : goal.rows_past_used-requires-2
 rows_past_used-requires-2 c = rw c.debt_rows-debts.ensures (omega (arith, c.requires.size), debts_within c.requires c.debt_count.ensures)
 
 pub returns : goal.returns
-returns c = past_debts slot_words01 _ ((rw c.slot_rows-slots.ensures at c.rows_past_used.ensures) ∙ slots_past c.requires c.slot_count.ensures) c.if-rows_past_used.false ((rw c.debt_rows-debts.ensures at c.rows_past_used-2.ensures) ∙ debts_past c.requires c.debt_count.ensures)
+returns c = past_debts slot_words01 _
+    ((rw c.slot_rows-slots.ensures at c.rows_past_used.ensures) ∙ slots_past c.requires c.slot_count.ensures)
+    c.if-rows_past_used.false
+    ((rw c.debt_rows-debts.ensures at c.rows_past_used-2.ensures) ∙ debts_past c.requires c.debt_count.ensures)

@@ -27,4 +27,5 @@ returns-then-letter-eq115 c = let a = c.args in
     rw (after_letter a.line.now) at c.set_up_line.ensures ∙ letter_s _ _ c.if-letter-eq115.true
 
 pub returns : goal.returns
-returns c = other_letter _ _ c.if-letter-eq97.false c.if-letter-eq112.false c.if-letter-eq114.false c.if-letter-eq102.false c.if-letter-eq100.false c.if-letter-eq115.false
+returns c = other_letter _ _ c.if-letter-eq97.false c.if-letter-eq112.false
+    c.if-letter-eq114.false c.if-letter-eq102.false c.if-letter-eq100.false c.if-letter-eq115.false
