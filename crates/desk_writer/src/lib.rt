@@ -30,7 +30,7 @@ pub struct Written {
     pub size: usize,
 }
 
-// The most bytes that a line has, with its LF. A buffer of this length is never refused (`longest-buffer-is-not-refused`).
+// The most bytes that a line has, with its LF. A buffer of this length is never refused (`longest_buffer_is_not_refused`).
 pub const LONGEST_WRITTEN: usize = 76;
 
 // The refusal of a buffer that is shorter than the line.
