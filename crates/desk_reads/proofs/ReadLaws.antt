@@ -27,7 +27,8 @@ unfolding brought_by
 brings_none_yet (pos k) error pending count negative is = absurd (omega (arith, ltb-true k 0 negative))
 brings_none_yet (negsuc k) error pending count negative is = rw is
 
-pub has_failed : (answer error : ℤ) (pending count : ℕ) → lt_z answer (pos 0) ≡ true → is_interrupt error ≡ false → Failed ≡ brought_by answer error pending count
+pub has_failed : (answer error : ℤ) (pending count : ℕ) → lt_z answer (pos 0) ≡ true → is_interrupt error ≡ false
+    → Failed ≡ brought_by answer error pending count
 unfolding brought_by
 has_failed (pos k) error pending count negative other = absurd (omega (arith, ltb-true k 0 negative))
 has_failed (negsuc k) error pending count negative other = rw other

@@ -22,7 +22,8 @@ use Rattle.desk_writer.specs.declared.DeskCall.{DeskCall}
 use Rattle.desk_writer.specs.declared.DeskCall.TheVariants.{Try, Peek, Reserve, Refund, Remove}
 use Rattle.exercise_lines.specs.declared.Repeat.{Repeat}
 use Rattle.exercise_lines.specs.declared.Repeat.TheVariants.{Other}
-use Rattle.exercise_lines.specs.Repeats.{request_within, within64, of_call, of_line, of_parts, most_lines, spacing_at, of_bytes, begins_with_v, repeat_of, Within}
+use Rattle.exercise_lines.specs.Repeats.{request_within, within64, of_call, of_line, of_parts, most_lines, spacing_at, of_bytes}
+use Rattle.exercise_lines.specs.Repeats.{begins_with_v, repeat_of, Within}
 use borrow.Author.Tests.{leb-true, le-leb, lt-leb, eq-eqb, ne_eqb}
 
 -- The tests of the code, which make no number of more than 64 bits.
