@@ -1,7 +1,6 @@
 -- What a closed limiter grants, a reply by its numbers, and the idle limit by which the store sweeps.
 use Prim.Native.Nat.{ℕ}
 use mathlib.Core.Path.{◌≡◌, ap}
-use mathlib.Core.List.{List}
 use borrow.Author.Tests.{eq-eqb, ne_eqb}
 use Rattle.rows.specs.Outcome.{Outcome, outcome}
 use Rattle.units.specs.declared.Nanos.{Nanos}
@@ -18,11 +17,8 @@ use Rattle.rules.specs.Replies.{told_of, told}
 use Rattle.rules.specs.Asks.{due_now, closed, policy_of}
 
 -- An outcome, of words or of words and records, and the reply's numbers in its place.
-pub outcome_beside_is_told : {A : Type 0} {r : Reply} {t : Told} {left : A} {o : Outcome Reply A} → outcome r left ≡ o → t ≡ told_of r → outcome t left ≡ told o
-outcome_beside_is_told gave is = rw is (ap told gave)
-
-pub outcome_is_told : {r : Reply} {t : Told} {ws : List ℕ} {o : Outcome Reply (List ℕ)} → outcome r ws ≡ o → t ≡ told_of r → outcome t ws ≡ told o
-outcome_is_told gave is = outcome_beside_is_told gave is
+pub outcome_is_told : {A : Type 0} {r : Reply} {t : Told} {left : A} {o : Outcome Reply A} → outcome r left ≡ o → t ≡ told_of r → outcome t left ≡ told o
+outcome_is_told gave is = rw is (ap told gave)
 
 -- A limiter without a rate.
 module _ (at : Nanos) (cost : ℕ) where
