@@ -3,7 +3,7 @@
 // error says only that there is no argument. A program asks for the features of the processor before it begins, since its code for x86-64 needs some; here it
 // is told that it has all of them.
 
-// A program that writes more than this is stopped: `exercise` can be asked for billions of lines.
+// A program that writes more than this is stopped: `lesson` can be asked for billions of lines.
 export const MOST_WRITTEN = 4000000;
 
 export class Stopped extends Error {}

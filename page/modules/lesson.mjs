@@ -1,4 +1,4 @@
-// A lesson as the compiled `exercise` reads it: which lines of the desk each line of the lesson becomes, and what is said of it.
+// A lesson as the compiled program `lesson` reads it: which lines of the desk each line of the lesson becomes, and what is said of it.
 import { runOnText } from './host.mjs';
 import { Disagreement } from './engine.mjs';
 
@@ -9,27 +9,27 @@ export class TooLong extends Error {}
 
 // The lines of the lesson, each { number, text, first, count, notes }: the lines of the desk that it became are `count` lines from `first` on, counted from 1.
 // Beside them `desk`, all these lines, and `notes`, what is said of no line by its number.
-export async function readLesson(exercise, text) {
+export async function readLesson(program, text) {
   const texts = text.split('\n');
   if (texts.length > 1 && texts[texts.length - 1] === '') texts.pop();
   if (texts.length > MOST_LESSON_LINES) throw new TooLong(`The lesson has ${texts.length} lines. The page shows at most ${MOST_LESSON_LINES}.`);
-  const whole = await runOnText(exercise, text);
+  const whole = await runOnText(program, text);
   if (whole.lines.length > MOST_DESK_LINES) {
     throw new TooLong(`The lesson becomes ${whole.lines.length} lines of the desk. The page shows at most ${MOST_DESK_LINES}.`);
   }
   const lines = [];
   let before = 0;
-  // What a line becomes may depend on the lines before it, and on none after it: `exercise` is asked for the lesson up to each line.
+  // What a line becomes may depend on the lines before it, and on none after it: `lesson` is asked for the lesson up to each line.
   for (let i = 0; i < texts.length; i++) {
-    const begun = i + 1 === texts.length ? whole : await runOnText(exercise, `${texts.slice(0, i + 1).join('\n')}\n`);
+    const begun = i + 1 === texts.length ? whole : await runOnText(program, `${texts.slice(0, i + 1).join('\n')}\n`);
     const after = begun.lines.length;
     if (after < before || begun.lines.some((line, at) => line !== whole.lines[at])) {
-      throw new Disagreement(`exercise reads the first ${i + 1} lines of the lesson otherwise alone than with the others`);
+      throw new Disagreement(`lesson reads the first ${i + 1} lines of the lesson otherwise alone than with the others`);
     }
     lines.push({ number: i + 1, text: texts[i], first: before + 1, count: after - before, notes: [] });
     before = after;
   }
-  // `exercise` ends with how many lines it wrote and left out. That is shown where it left some out.
+  // `lesson` ends with how many lines it wrote and left out. That is shown where it left some out.
   const notes = placeNotes(whole.told.filter(said => !/; left out: 0$/.test(said)), number => lines[number - 1]);
   // The count of lines that were left out says which they are.
   const left = lines.filter(line => !line.count && line.notes.length).map(line => line.number);

@@ -16,8 +16,8 @@ const state = { programs: null, run: null, village: null, step: 1, view: 'ladder
 // The compiled programs, which page/assemble has put into the file as text.
 async function loadPrograms() {
   const bytes = name => Uint8Array.from(atob(at(`wasm-${name}`).textContent.trim()), sign => sign.charCodeAt(0));
-  const [exercise, desk, outage, library] = await Promise.all(['exercise', 'desk', 'outage', 'library'].map(name => WebAssembly.compile(bytes(name))));
-  return { exercise, desk, outage, library: await loadLibrary(library) };
+  const [lesson, desk, outage, library] = await Promise.all(['lesson', 'desk', 'outage', 'library'].map(name => WebAssembly.compile(bytes(name))));
+  return { lesson, desk, outage, library: await loadLibrary(library) };
 }
 
 // A whole run of the lesson that stands in the page. A later one overtakes it.

@@ -1,12 +1,12 @@
-// Runs a lesson: `exercise` reads it, `desk` answers it, and the library answers the same calls one by one, so that the store can be shown after each. The page
-// stops where the two answers differ.
+// Runs a lesson: the program `lesson` reads it, `desk` answers it, and the library answers the same calls one by one, so that the store can be shown after
+// each. The page stops where the two answers differ.
 import { runOnText } from './host.mjs';
 import { Disagreement } from './engine.mjs';
 import { readLesson, lessonLineOf, lineName, placeNotes } from './lesson.mjs';
 import { eventsOf } from './story.mjs';
 import { namesOf } from './text.mjs';
 
-// A line as `exercise` writes it, which is a line that the desk reads. Null for any other.
+// A line as `lesson` writes it, which is a line that the desk reads. Null for any other.
 export function readCall(line) {
   const [op, ...fields] = line.split(' '), count = { s: 8, a: 3, p: 3, r: 4, f: 2, d: 1 }[op];
   if (fields.length !== count || fields.some((field, i) => !(/^\d{1,20}$/.test(field) || op === 's' && i === 6 && field === '-'))) return null;
@@ -23,8 +23,8 @@ export function readCall(line) {
 
 // The steps of a run, one for each answered line of the desk: { number, line, call, answer, now, before, after, events, has }. `has` is what each modem with a
 // place has, as the library says it. `settings` is null where the desk does not accept line 1.
-export async function runLesson({ exercise, desk, library }, text) {
-  const lesson = await readLesson(exercise, text), names = namesOf(text);
+export async function runLesson({ lesson: reader, desk, library }, text) {
+  const lesson = await readLesson(reader, text), names = namesOf(text);
   const answered = await runOnText(desk, lesson.desk.map(line => `${line}\n`).join(''));
   const notes = [...lesson.notes, ...placeNotes(answered.told, number => lesson.desk.length ? lessonLineOf(lesson, number) : null)];
   const run = { lesson, names, notes, steps: [], settings: null, keys: new Map() };

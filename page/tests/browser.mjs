@@ -142,7 +142,7 @@ try {
     await ask(`(() => { const list = document.getElementById('exercise'); list.value = '${exercise.name}'; list.dispatchEvent(new Event('change')); })()`);
     await until(`document.querySelector('#picture svg title')?.textContent === ${JSON.stringify(exercise.title)}`, exercise.title);
     assert.deepEqual(texts(await picture()), texts(read('page/exercises', `${exercise.name}.svg`).toString()), exercise.name);
-    const answers = native('desk', native('exercise', lessonText(exercise)).output).output.toString().trimEnd();
+    const answers = native('desk', native('lesson', lessonText(exercise)).output).output.toString().trimEnd();
     assert.equal(await numbers(), answers, exercise.name);
     const wide = await ask('document.documentElement.scrollWidth <= innerWidth');
     assert.ok(wide, `${exercise.name}: the page is wider than the window`);
@@ -171,12 +171,12 @@ try {
   assert.equal(await ask("document.getElementById('step-number').textContent"), '4 of 8');
   assert.equal(await ask("document.getElementById('lesson').value"), lessonText(EXERCISES[1]));
 
-  // A lesson of one's own, typed: a full shard, a wrong line, and what exercise says of it at that line.
+  // A lesson of one's own, typed: a full shard, a wrong line, and what the program lesson says of it at that line.
   const lesson = 's 2 1000000000 4 4 1 1 - 0\na 0 112394521950 4\nnonsense\na 0 112394521951 1\na 0 112394521952 1\n';
   await ask(`(() => { const box = document.getElementById('lesson'); box.value = ${JSON.stringify(lesson)}; box.dispatchEvent(new Event('input')); })()`);
   await until("document.getElementById('step-number').textContent === '4 of 4'", 'the lesson that was typed');
   assert.equal(await numbers(), '1 0 0\n2 0 0\n3 0 0\n4 1 500000000');
-  const note = native('exercise', lesson).told.toString().split('\n').find(line => /\bline 3\b/.test(line));
+  const note = native('lesson', lesson).told.toString().split('\n').find(line => /\bline 3\b/.test(line));
   assert.ok((await ask("document.querySelectorAll('#answers tr')[2].textContent")).includes(note));
   assert.match(await ask("document.getElementById('now').textContent"), /No room for modem 112394521952/);
   await shot('typed');

@@ -67,7 +67,7 @@ test('long names fit: the boxes grow with them', async () => {
 
 test('a village on every input of oracle/outage: its tries end as outage says', async () => {
   for (const name of fs.readdirSync(inRoot('oracle/outage')).filter(file => file.endsWith('.in'))) {
-    const text = read('oracle/outage', name).toString(), lesson = await readLesson(programs.exercise, text);
+    const text = read('oracle/outage', name).toString(), lesson = await readLesson(programs.lesson, text);
     const village = await runVillage(programs, lesson, namesOf(text));
     if (village.settings) assert.ok(villageSentences(village).length > 0, name);
     wellFormed(villagePicture(village, { title: name }));
@@ -75,7 +75,7 @@ test('a village on every input of oracle/outage: its tries end as outage says', 
 });
 
 test('the sentences of a village', async () => {
-  const village = async text => runVillage(programs, await readLesson(programs.exercise, text), namesOf(text));
+  const village = async text => runVillage(programs, await readLesson(programs.lesson, text), namesOf(text));
   const found = await village('s 2 1000000000 4 4 2 1 - 0\nv 6 0 a 0 1001 4\n');
   assert.deepEqual(villageSentences(found), ['6 of 6 modems are up after 2 s. The last one is modem 1006. It tried 2 times.',
     "8 tries: 6 granted, 0 denied by the modem's own bucket, 2 denied for lack of room."]);

@@ -12,8 +12,8 @@ export const read = (...names) => fs.readFileSync(inRoot(...names));
 const compiled = name => WebAssembly.compile(read('target/page', `${name}.wasm`));
 
 export async function loadPrograms() {
-  const [exercise, desk, outage, library] = await Promise.all(['exercise', 'desk', 'outage', 'library'].map(compiled));
-  return { exercise, desk, outage, library: await loadLibrary(library) };
+  const [lesson, desk, outage, library] = await Promise.all(['lesson', 'desk', 'outage', 'library'].map(compiled));
+  return { lesson, desk, outage, library: await loadLibrary(library) };
 }
 
 // The proved program as it runs on this machine.

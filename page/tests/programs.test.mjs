@@ -27,17 +27,17 @@ test('the desk on every input of oracle/desk', () => asRecorded('desk', 'oracle/
 test('outage on every input of oracle/outage', () => asRecorded('outage', 'oracle/outage'));
 
 test('the examples of the crates', async () => {
-  for (const name of ['desk', 'exercise', 'outage']) {
+  for (const name of ['desk', 'lesson', 'outage']) {
     const input = read('crates', name, 'stdin'), found = await runProgram(programs[name], input);
     assert.equal(text(found.output), text(read('crates', name, 'stdout')), name);
     same(found, native(name, input), name);
   }
 });
 
-test('exercise on what oracle/run-exercise gives it', async () => {
+test('lesson on what oracle/run-lesson gives it', async () => {
   const inputs = ['s 2 1000000000 4 4 100 1 - 0\nv 200 1000000 a 0 1001 1\nv 200 0 a 199000000 1001 4\n', 'v 3 0 d 1\nv 3 0 d 2\n', '\n'.repeat(65536),
     '\n'.repeat(65535), ''];
-  for (const input of inputs) same(await runProgram(programs.exercise, bytes(input), { most: 1e8 }), native('exercise', input),
+  for (const input of inputs) same(await runProgram(programs.lesson, bytes(input), { most: 1e8 }), native('lesson', input),
     JSON.stringify(input.slice(0, 60)));
 });
 
@@ -56,19 +56,19 @@ test('random lessons, and random bytes', async () => {
   for (let i = 0; i < 60; i++) {
     let lesson = randomLesson(next, 60);
     if (i % 3 === 0) lesson = [...lesson].map(sign => next(40) === 0 ? String.fromCharCode(next(128)) : sign).join('');
-    for (const name of ['exercise', 'desk', 'outage']) same(await runProgram(programs[name], bytes(lesson)), native(name, lesson), `${name} on ${lesson}`);
+    for (const name of ['lesson', 'desk', 'outage']) same(await runProgram(programs[name], bytes(lesson)), native(name, lesson), `${name} on ${lesson}`);
   }
 });
 
 test('a program that writes too much is stopped', async () => {
   const lines = 'v 65536 1 a 0 1 1\n'.repeat(40);
-  await assert.rejects(runProgram(programs.exercise, bytes(lines)), Stopped);
+  await assert.rejects(runProgram(programs.lesson, bytes(lines)), Stopped);
   assert.ok(MOST_WRITTEN < 1e7);
 });
 
 test('a run leaves nothing to the next one, also where it was stopped, and runs that are begun together do not meet', async () => {
   const lesson = bytes('s 2 1000000000 4 4 2 1 - 0\na 0 7 4\na 0 7 1\nnonsense\n'), other = bytes('s 3 10 9 9 5 1 - 0\na 5 1 9\nd 1\n');
-  for (const name of ['desk', 'exercise', 'outage']) {
+  for (const name of ['desk', 'lesson', 'outage']) {
     const wanted = native(name, lesson), another = native(name, other);
     for (let i = 0; i < 60; i++) {
       same(await runProgram(programs[name], lesson), wanted, name);

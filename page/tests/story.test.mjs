@@ -46,22 +46,22 @@ test('a line of the desk', () => {
 });
 
 test('which lines of the desk a line becomes, and what is said of it', async () => {
-  const { lines, desk, notes } = await readLesson(programs.exercise, 's 2 1000000000 4 4 2 1 - 0\nv 3 5 a 0 7 1\nnonsense\nd 7');
+  const { lines, desk, notes } = await readLesson(programs.lesson, 's 2 1000000000 4 4 2 1 - 0\nv 3 5 a 0 7 1\nnonsense\nd 7');
   assert.deepEqual(lines.map(({ first, count }) => [first, count]), [[1, 1], [2, 3], [5, 0], [5, 1]]);
   assert.deepEqual(desk, ['s 2 1000000000 4 4 2 1 - 0', 'a 0 7 1', 'a 5 8 1', 'a 10 9 1', 'd 7']);
   assert.equal(lines[2].notes.length, 1);
   assert.match(lines[2].notes[0], /line 3/);
-  assert.deepEqual(notes, ['exercise: lines written: 5; left out: 1: line 3']);
-  await assert.rejects(readLesson(programs.exercise, 'd 7\n'.repeat(401)), TooLong);
-  await assert.rejects(readLesson(programs.exercise, 'v 5001 0 d 7\n'), TooLong);
+  assert.deepEqual(notes, ['lesson: lines written: 5; left out: 1: line 3']);
+  await assert.rejects(readLesson(programs.lesson, 'd 7\n'.repeat(401)), TooLong);
+  await assert.rejects(readLesson(programs.lesson, 'v 5001 0 d 7\n'), TooLong);
 });
 
 test('notes: at the line that they name, the lines that go on with them too', () => {
   const at = new Map([[1, { notes: [] }], [2, { notes: [] }]]);
-  const others = placeNotes(['exercise: line 2: field 3 is no time', '  a 5x 7 1', '    ^', 'exercise: 3 lines written, 1 left out',
-    'exercise: line 9 is far'], n => at.get(n));
-  assert.deepEqual(at.get(2).notes, ['exercise: line 2: field 3 is no time\n  a 5x 7 1\n    ^']);
-  assert.deepEqual(others, ['exercise: 3 lines written, 1 left out', 'exercise: line 9 is far']);
+  const others = placeNotes(['lesson: line 2: field 3 is no time', '  a 5x 7 1', '    ^', 'lesson: 3 lines written, 1 left out',
+    'lesson: line 9 is far'], n => at.get(n));
+  assert.deepEqual(at.get(2).notes, ['lesson: line 2: field 3 is no time\n  a 5x 7 1\n    ^']);
+  assert.deepEqual(others, ['lesson: 3 lines written, 1 left out', 'lesson: line 9 is far']);
 });
 
 test('a full shard: forgotten, no room, and why the wait is what it is', async () => {
@@ -146,7 +146,7 @@ test('the page stops where the desk and the library disagree', async () => {
   await assert.rejects(runLesson(other({ call: asked => ({ ...library.call(asked), code: 0 }) }), lesson), Disagreement);
   await assert.rejects(runLesson(other({ call: asked => { const reply = library.call(asked); return { ...reply, number: reply.number + 1n }; } }), lesson),
     Disagreement);
-  await assert.rejects(runLesson({ ...programs, desk: programs.exercise }, lesson), error => error instanceof Disagreement || error instanceof SyntaxError);
+  await assert.rejects(runLesson({ ...programs, desk: programs.lesson }, lesson), error => error instanceof Disagreement || error instanceof SyntaxError);
   const spoilt = () => {
     const store = library.look();
     for (const slot of store.shards[0].slots) slot.turnedAway += 1n;

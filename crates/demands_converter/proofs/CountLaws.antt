@@ -32,14 +32,14 @@ use Rattle.demands.specs.PlaceOrder.{OfStore, AllOf}
 use Rattle.demands.specs.TurnAways.{reads_turn_aways, call_reads_turn_aways, turn_reads_turn_aways, SameReplies}
 use Rattle.demands.proofs.TurnAwayTheorem.{answer_decided_alike, leaves_alike, buckets_alike}
 use Rattle.demands.proofs.GrownLaws.{of_every_shard}
-use Rattle.demands_converter.specs.OldStore.{StoresEqualButForTurnAways}
+use Rattle.demands_converter.specs.OldStore.{EqualButForCounts}
 
 -- A turn on two such stores: the same answer, unless it looks at a count, and two such stores after it.
 pub record AnsweredAlike (s : Settings) (o q : Outcome Reply Shards) (Reads : Type 0) : Type 0 where
   pub answer : Reads → o.answer ≡ q.answer
-  pub after : StoresEqualButForTurnAways s o.after q.after
+  pub after : EqualButForCounts s o.after q.after
 
-module _ (s : Settings) (id : Identity) (ask : Ask) (a b : Shards) (like : StoresEqualButForTurnAways s a b) where
+module _ (s : Settings) (id : Identity) (ask : Ask) (a b : Shards) (like : EqualButForCounts s a b) where
   asked_alike : AnsweredAlike s (asked_on_shards s id ask a) (asked_on_shards s id ask b) (reads_turn_aways ask ≡ false)
   asked_alike =
       let own : ℕ = shard_of s id.hash in
@@ -65,13 +65,13 @@ module _ (s : Settings) (id : Identity) (ask : Ask) (a b : Shards) (like : Store
       }
 
 -- The ledgers are the same, shard by shard: no count of tries turned away stands in a ledger.
-ledgers_alike : (s : Settings) (a b : Shards) → StoresEqualButForTurnAways s a b → (i : ℕ) → i < shard_count s → (a.numbered i).ledger ≡ (b.numbered i).ledger
+ledgers_alike : (s : Settings) (a b : Shards) → EqualButForCounts s a b → (i : ℕ) → i < shard_count s → (a.numbered i).ledger ≡ (b.numbered i).ledger
 ledgers_alike s a b like =
     of_every_shard s (λ i. (a.numbered i).ledger ≡ (b.numbered i).ledger) (λ hash. ap (λ (t : Shard). t.ledger) (like.shards hash))
 
 module _ {S N : Type 0} (terms : Terms S N) where
   -- A call that is not refused.
-  taken_alike : (c : Call S N) (a b : Shards) → StoresEqualButForTurnAways (settings_of terms c) a b → refused_as terms a.numbered c ≡ 0
+  taken_alike : (c : Call S N) (a b : Shards) → EqualButForCounts (settings_of terms c) a b → refused_as terms a.numbered c ≡ 0
       → AnsweredAlike (settings_of terms c) (taken_on_shards terms c a) (taken_on_shards terms c b) (call_reads_turn_aways c ≡ false)
   taken_alike (keyed s n ask) a b like none = asked_alike (in_force ask (terms.settings s)) (terms.identity n) ask a b like
   taken_alike (whole s len) a b like none =
@@ -86,7 +86,7 @@ module _ {S N : Type 0} (terms : Terms S N) where
       record { answer = λ blind. ap (λ (l : Ledger). Count (length (listed at l))) (ledgers_alike settings a b like i below); after = like }
 
   -- Both stores refuse a call by the same number.
-  refused_alike : (c : Call S N) (a b : Shards) → StoresEqualButForTurnAways (settings_of terms c) a b
+  refused_alike : (c : Call S N) (a b : Shards) → EqualButForCounts (settings_of terms c) a b
       → refused_as terms a.numbered c ≡ refused_as terms b.numbered c
   refused_alike (keyed s n ask) a b like = refl
   refused_alike (whole s len) a b like = refl
@@ -96,7 +96,7 @@ module _ {S N : Type 0} (terms : Terms S N) where
       (of_such_a_shard (shape_of settings) i _ _
       (λ below. ap (λ (l : Ledger). records_refusal room (length (listed at l))) (ledgers_alike settings a b like i below)))
 
-  call_alike : (c : Call S N) (a b : Shards) → StoresEqualButForTurnAways (settings_of terms c) a b
+  call_alike : (c : Call S N) (a b : Shards) → EqualButForCounts (settings_of terms c) a b
       → AnsweredAlike (settings_of terms c) (on_shards terms c a) (on_shards terms c b) (call_reads_turn_aways c ≡ false)
   unfolding on_shards
   call_alike c a b like =
@@ -106,7 +106,7 @@ module _ {S N : Type 0} (terms : Terms S N) where
       (λ some. rw (ne_eqb _ _ some, same) (rw (ne_eqb _ _ some) (record { answer = λ blind. refl; after = like })))
 
   module _ (s : Settings) where
-    clear_alike : (table : Table) (a b : Shards) → StoresEqualButForTurnAways s a b
+    clear_alike : (table : Table) (a b : Shards) → EqualButForCounts s a b
         → AnsweredAlike s (cleared_on_shards terms s table a) (cleared_on_shards terms s table b) (◌≡◌ {A = ℕ} 0 0)
     unfolding cleared_on_shards
     clear_alike table a b like =
@@ -114,14 +114,14 @@ module _ {S N : Type 0} (terms : Terms S N) where
         (λ sound. rw (eq-eqb _ _ sound) (record { answer = λ blind. refl; after = record { shards = λ hash. refl; buckets = refl } }))
         (λ unsound. rw (ne_eqb _ _ unsound) (record { answer = λ blind. refl; after = like }))
 
-    pub turn_alike : (t : Turn S N) (a b : Shards) → OfStore terms s t → StoresEqualButForTurnAways s a b
+    pub turn_alike : (t : Turn S N) (a b : Shards) → OfStore terms s t → EqualButForCounts s a b
         → AnsweredAlike s (step_without_indexes terms s t a) (step_without_indexes terms s t b) (turn_reads_turn_aways t ≡ false)
     turn_alike (calls c) a b same like = rw same at (call_alike c a b (rw same like))
     turn_alike (clears table) a b of_store like =
         let cleared = clear_alike table a b like in record { answer = λ blind. cleared.answer refl; after = cleared.after }
 
     -- A list.
-    pub run_alike : (ts : List (Turn S N)) (a b : Shards) → AllOf terms s ts → StoresEqualButForTurnAways s a b
+    pub run_alike : (ts : List (Turn S N)) (a b : Shards) → AllOf terms s ts → EqualButForCounts s a b
         → SameReplies ts (run (step_without_indexes terms s) ts a).answer (run (step_without_indexes terms s) ts b).answer
     unfolding run
     run_alike [] a b all like = tt

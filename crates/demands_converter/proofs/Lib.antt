@@ -3,4 +3,5 @@ pub mod StandInLaws
 pub mod Theorem
 pub mod ForthFits
 pub mod WindowTheorem
+pub mod OneListTheorem
 pub mod BoxTheorem

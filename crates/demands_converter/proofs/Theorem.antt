@@ -44,7 +44,7 @@ use Rattle.demands.specs.TurnAways.{SameReplies}
 use Rattle.demands.proofs.GrownLaws.{SoundMemory, of_every_shard, grown_memory_is_sound, sound_indexes_are_exact_by_number, sound_kept_by_calls}
 use Rattle.demands.proofs.PlaceOrderTheorem.{SamePlaces, SameOutcome, run_same, call_same, turn_keeps_sound, grown_store_is_as_without_indexes}
 use Rattle.demands.proofs.OwnBucket.{own_bucket_answers}
-use Rattle.demands_converter.specs.OldStore.{classless, old_store, StoresEqualButForTurnAways, OldHolds}
+use Rattle.demands_converter.specs.OldStore.{classless, old_store, EqualButForCounts, OldHolds}
 use Rattle.demands_converter.proofs.CountLaws.{run_alike}
 
 -- A store without classes has no class buckets.
@@ -113,7 +113,8 @@ module _ (s : Settings) (ws : List ℕ) (memory : SoundMemory (classless s) ws) 
 -- Words of document 01 that hold such a store go forth.
 module _ (s : Settings) (ws : List ℕ) (memory : SoundMemory (classless s) ws) (few : keys_refusal s ≡ 0) where
   pub sound_goes_forth : (old : List ℕ) → length old ≡ words_for Old s
-      → OldHolds s ws old → (target : List ℕ) → length target ≡ words_for Present s → (forth s old target).answer ≡ Done
+      → ((i : ℕ) → i < shard_count s → (old_store s old).numbered i ≡ in_place_order (uncounted (shard_numbered (classless s) i ws)))
+      → (target : List ℕ) → length target ≡ words_for Present s → (forth s old target).answer ≡ Done
   sound_goes_forth old long held target also =
       ap (λ (o : Outcome Reply (List ℕ)). o.answer)
       (accepted_is_done Old s old target (becoming_goes_forth s ws (found s ws memory few) old long held target also))
@@ -166,7 +167,8 @@ module _ (s : Settings) (source target : List ℕ) (done : (back s source target
   pub back_long : length (back s source target).after ≡ words_for Old s
   back_long = ap length back_leaves ∙ moved_words_long Present (shard_count s) (cap_of s) source (source_undamaged accepted_back)
 
-  pub back_shard : OldHolds s source (back s source target).after
+  pub back_shard : (i : ℕ) → i < shard_count s
+      → (old_store s (back s source target).after).numbered i ≡ in_place_order (uncounted (shard_numbered (classless s) i source))
   back_shard i below =
       ap (λ (w : List ℕ). (old_store s w).numbered i) back_leaves ∙ back_is_alike s source target accepted_back i below
 
@@ -186,7 +188,7 @@ module _ (s : Settings) (source target : List ℕ) (done : (back s source target
     present_places : SamePlaces (classless s) source present
     present_places = record { shards = λ hash. refl; buckets = no_buckets s source }
 
-    equal_but_for_counts : StoresEqualButForTurnAways (classless s) present (old_store s (back s source target).after)
+    equal_but_for_counts : EqualButForCounts (classless s) present (old_store s (back s source target).after)
     equal_but_for_counts = record {
       shards = λ hash. sym (ap uncounted (back_shard (shard_of s hash) (shard_below s hash))
           ∙ equal_but_for_turn_aways (uncounted_alike (in_place_order (shard_at (classless s) hash source))));

@@ -31,7 +31,7 @@ use Rattle.demands.proofs.GrownLaws.{SoundMemory, sound_kept_by_calls}
 use Rattle.demands.proofs.PlaceOrderTheorem.{SamePlaces, turn_same, turn_keeps_sound, grown_store_is_as_without_indexes}
 use Rattle.demands.proofs.Theorem.{rules_stay_within_the_window}
 use Rattle.demands.proofs.RefundTheorem.{rules_stay_within_the_refund_window, rules_stay_within_the_span_window}
-use Rattle.demands_converter.specs.OldStore.{classless, old_store, StoresEqualButForTurnAways, left_by, OldHolds, across_boxes}
+use Rattle.demands_converter.specs.OldStore.{classless, old_store, EqualButForCounts, left_by, OldHolds, across_boxes}
 use Rattle.demands_converter.proofs.CountLaws.{turn_alike}
 use Rattle.demands_converter.proofs.StandInLaws.{StandsIn, stands_in_for_itself, answered_in, one_more_stands_in, within_the_window_with_its_stand_in}
 use Rattle.demands_converter.proofs.StandInLaws.{within_the_refund_window_with_its_stand_in, within_the_span_window_with_its_stand_in}
@@ -48,7 +48,7 @@ module _ {S N : Type 0} (terms : Terms S N) (s : Settings) where
     pub second_store : Shards
     pub first_places : SamePlaces s x first_store
     pub second_places : SamePlaces s y second_store
-    pub stores : StoresEqualButForTurnAways s first_store second_store
+    pub stores : EqualButForCounts s first_store second_store
 
   -- A call of the store that looks at no count answers alike on both, and leaves two such memories.
   call_keeps_alike : (c : Call S N) (x y : List ℕ) → AlikeMemories x y → settings_of terms c ≡ s → call_reads_turn_aways c ≡ false
@@ -127,7 +127,7 @@ module _ {S N : Type 0} (terms : Terms S N) (s : Settings) where
       list_keeps_sound cs (rules terms c ws).after (turn_keeps_sound terms s (calls c) ws memory (same.0 (taken_is_accepted c reply ws taken))) same.1)
 
 -- One list after the other.
-replies_joined : {S N : Type 0} (terms : Terms S N) (cs ds : List (Call S N)) (ws : List ℕ)
+pub replies_joined : {S N : Type 0} (terms : Terms S N) (cs ds : List (Call S N)) (ws : List ℕ)
     → replies terms (rules terms) cs ws ws ++ replies terms (rules terms) ds (left_by terms cs ws) (left_by terms cs ws)
     ≡ replies terms (rules terms) (cs ++ ds) ws ws
 unfolding replies left_by

@@ -12,17 +12,20 @@
 -- * `forth_decides_by_the_old_debt`: the first call after a conversion, if it is a try or a reservation of a cost from 1 to the burst, of a key that holds a
 --   slot or a debt on the old store, is decided by it on the new one.
 -- * `converted_store_stays_within_the_window`: with a rate set, under RefuseNew, the rules stay within the window over a list of any calls that begins on a
--- fresh store and goes on, converted forth, on another box (`across_boxes`); so they do within the windows with refunds. `the_old_box_answers_so`: the first
--- part is what a box in document 01's words
+--   fresh store and goes on, converted forth, on another box (`across_boxes`); so they do within the windows with refunds. `the_old_box_answers_so`: the first
+--   part is what a box in document 01's words
 --   answers, if its calls have the settings of the store. `an_old_box_can_hold_it`: there is such a box, and its words go forth. For code: Boxes.
-use Rattle.std.specs.Prelude.{ℕ, ◌<◌, ◌≡◌, List, [], ◌∷◌, ◌++◌}
+-- * `converted_list_is_one_list` (proofs/OneListTheorem.antt): where all calls have the settings of the store, and after the conversion none looks at a count,
+--   the two parts are answered as one list on one box. There `converted_store_stays_within_the_window` says so of the window.
+use Rattle.std.specs.Prelude.{ℕ, ◌<◌, ◌≡◌, false, List, [], ◌∷◌, ◌++◌}
 use Rattle.settings.specs.declared.Settings.{Settings}
 use Rattle.settings.specs.Settings.{cap_of, shard_count, shard_of, with_classes}
 use Rattle.shard_map.specs.Model.{in_place_order, uncounted}
 use Rattle.converter.specs.declared.Layout.TheVariants.{Old}
 use Rattle.converter.specs.Layouts.{shard_at}
-use Rattle.rules.specs.Calls.{Call, Terms, Implementation, Answered, rules, replies}
+use Rattle.rules.specs.Calls.{Call, Terms, Implementation, Answered, rules, replies, settings_of}
 use Rattle.demands.specs.PlaceOrder.{shard_numbered, Shards}
+use Rattle.demands.specs.TurnAways.{call_reads_turn_aways}
 
 -- The settings of a store without classes.
 abbrev pub classless : Settings → Settings
@@ -33,7 +36,7 @@ abbrev pub old_store : Settings → List ℕ → Shards
 old_store s ws = record { numbered = λ i. shard_at Old (cap_of s) i ws; buckets = [] }
 
 -- Two stores are equal but for the counts of tries turned away.
-pub record StoresEqualButForTurnAways (s : Settings) (a b : Shards) : Type 0 where
+pub record EqualButForCounts (s : Settings) (a b : Shards) : Type 0 where
   pub shards : (hash : ℕ) → uncounted (a.numbered (shard_of s hash)) ≡ uncounted (b.numbered (shard_of s hash))
   pub buckets : a.buckets ≡ b.buckets
 
@@ -41,6 +44,10 @@ pub record StoresEqualButForTurnAways (s : Settings) (a b : Shards) : Type 0 whe
 unfoldable pub left_by : {S N : Type 0} → Terms S N → List (Call S N) → List ℕ → List ℕ
 left_by terms [] ws = ws
 left_by terms (c ∷ cs) ws = left_by terms cs (rules terms c ws).after
+
+-- A call of the store that looks at no count.
+abbrev pub Blind : {S N : Type 0} → Terms S N → Settings → Call S N → Type 0
+Blind terms s c = (settings_of terms c ≡ s) × (call_reads_turn_aways c ≡ false)
 
 -- Document 01's words hold the store that some present words hold: shard by shard, in place order and without counts of tries turned away.
 abbrev pub OldHolds : Settings → List ℕ → List ℕ → Type 0

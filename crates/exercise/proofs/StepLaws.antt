@@ -1,5 +1,5 @@
 -- The reading of a description stays within the buffer.
-use Rattle.std.proofs.Common.{◌≡◌, ℕ, ◌<◌, ◌≤◌, ltb, ltb-true, le-ltb, lt-ltb}
+use Rattle.std.proofs.Common.{◌≡◌, ℕ, ◌<◌, ◌≤◌, ltb, arith, ltb-true, le-ltb, lt-ltb}
 use Rattle.arith.proofs.Cases.{by_test}
 use Rattle.desk_reads.specs.declared.Got.{Got}
 use Rattle.desk_reads.specs.declared.Got.TheVariants as got

@@ -1,9 +1,7 @@
 -- What was read of a description.
-use Rattle.std.specs.Prelude.{◌≡◌, ℕ, ◌<◌, ◌≤◌, true, cond, List, nat_lt}
+use Rattle.std.specs.Prelude.{ℕ, ◌<◌, ◌≤◌, cond, nat_lt}
 use Rattle.desk_reads.specs.declared.Got.{Got}
 use Rattle.desk_reads.specs.declared.Got.TheVariants as got
-use Rattle.lesson_run.specs.Run.{Counted}
-use Rattle.exercise.specs.declared.Ran.{Ran}
 use Rattle.exercise.specs.declared.Described.{Described}
 use Rattle.exercise.specs.declared.Described.TheVariants.{Whole, TooLong, Failed}
 use Rattle.exercise.specs.declared.Step.{Step}
@@ -24,7 +22,3 @@ Inside room Failed = Unit {0}
 abbrev pub StepInside : ℕ → Step → Type 0
 StepInside room (More size) = size < room
 StepInside room (Over d) = Inside room d
-
--- Where all was handed out, the counts are those of the whole output of the lesson.
-abbrev pub Finished : List ℕ → Ran → Type 0
-Finished text r = r.whole ≡ true → Counted text r.written r.wrong

@@ -1,18 +1,17 @@
-// Exercises for the desk, from lessons as people write them: what `lesson_lines` reads is written as lines of the desk, and what is wrong with a line is told
-// on standard error, with its number, the place and its text. In the end it is told how many lines were written and how many were left out.
+// Exercises for the desk: a line that the desk reads is copied, and a line `v COUNT SPACING CALL` is written as COUNT lines of that call, for one modem after
+// another and at moments SPACING apart. What is wrong with another line is told on standard error, with its number, and nothing is written for it.
 #![tactic(auto)]
 
-ghost use Rattle.std.specs.Prelude.{◌≡◌, ◌<◌, ◌≤◌, true, length};
-ghost use Rattle.lesson_run.specs.Run.{Stands, Stepped, Counted};
-ghost use Rattle.exercise.specs.Described.{Inside, step_after, Finished};
+ghost use Rattle.std.specs.Prelude.{◌≡◌, ◌-◌, ◌<◌, true, length};
+ghost use Rattle.exercise_lines.specs.Repeats.{within64};
+ghost use Rattle.exercise.specs.Described.{Inside, step_after};
 
+use desk_lines::Line;
 use desk_reads::Got;
-use lesson_run::Progress;
-use lesson_writer::LIMITS_BYTES;
+use desk_writer::{DeskCall, LONGEST_WRITTEN};
+use exercise_lines::Repeat;
 use std::io::{Read, Write};
-use streams::{Stream, Streams, say};
-
-mod notes;
+use streams::{Stream, Streams, say, say_number};
 
 // A description has fewer bytes than these.
 const TEXT_BYTES: usize = 65536;
@@ -108,127 +107,142 @@ fn finish<R, W: Write, E: Print>(streams: &mut Streams<R, W, E>, text: &[u8], de
     }
 }
 
-// Writes all lines, and tells how many they are, up to a write that fails.
+// Goes through the lines up to a write that fails.
 fn all_lines<R, W: Write, E: Print>(streams: &mut Streams<R, W, E>, text: &[u8]) {
-    let mut out: [u8; LIMITS_BYTES] = [0; LIMITS_BYTES];
-    let ran = lines(streams, text, &mut out);
-    if ran.whole {
-        notes::summary(&streams.err, ran.written, ran.wrong);
-        return;
+    if !lines(streams, text) {
+        streams::fail(
+            &streams.err,
+            b"exercise: a write failed, and the run ends",
+            streams.sink.failure,
+        );
     }
-    streams::fail(
-        &streams.err,
-        b"exercise: a write failed, and the run ends",
-        streams.sink.failure,
-    );
 }
 
-// A run: whether all was written, how many lines were written, and how many were left out.
-#[derive(Clone, Copy)]
-struct Ran {
-    whole: bool,
-    written: u64,
-    wrong: u64,
-}
-
-// Hands out one step of the lesson after the other. The loop counts its turns since a proved loop has to end, up to a number that no run reaches.
-fn lines<R, W: Write, E: Print>(streams: &mut Streams<R, W, E>, text: &[u8], out: &mut [u8]) -> Ran
-    requires { 170 ≤ length out.old }
-    ensures { Finished text.now result }
-{
-    let mut progress = lesson_run::start(text);
-    let mut written: u64 = 0;
-    let mut wrong: u64 = 0;
-    let mut turns: u64 = 0;
-    while turns < u64::MAX {
-        let step = lesson_run::next(text, out, progress);
-        if step.over {
-            return Ran {
-                whole: true,
-                written,
-                wrong,
-            };
+// Writes what each line stands for. Whether all of it was written. The end of the input ends a line that has begun.
+fn lines<R, W: Write, E: Print>(streams: &mut Streams<R, W, E>, text: &[u8]) -> bool {
+    let mut at: usize = 0;
+    let mut number: u64 = 0;
+    while at < text.len() {
+        let stop = scan::find(text, at, text.len(), b'\n');
+        number = number.wrapping_add(1);
+        if !one_line(streams, &text[at..stop], number) {
+            return false;
         }
-        if !hand_out(streams, text, out, progress, step, written, wrong) {
-            break;
-        }
-        let note = step.note;
-        let after = step.progress;
-        written += lesson_run::lines_in(step.size);
-        wrong += lesson_run::wrong_in(note);
-        progress = after;
-        turns += 1;
+        at = stop + 1;
     }
-    Ran {
-        whole: false,
-        written,
-        wrong,
-    }
+    true
 }
 
-// Writes the line of a step, and tells its note. Whether the line was written. What is handed out is what comes next in the output of the lesson.
-fn hand_out<R, W: Write, E: Print>(
+// Copies a line of the desk. Another may be a `v` line.
+fn one_line<R, W: Write, E: Print>(
     streams: &mut Streams<R, W, E>,
-    text: &[u8],
-    out: &[u8],
-    before: Progress,
-    step: lesson_run::Step,
-    written: u64,
-    wrong: u64,
+    line: &[u8],
+    number: u64,
+) -> bool {
+    let read = desk_lines::read(line);
+    match read {
+        Line::Malformed => other_line(streams, line, number),
+        _ => copied(streams, line),
+    }
+}
+
+fn copied<R, W: Write, E: Print>(streams: &mut Streams<R, W, E>, line: &[u8]) -> bool {
+    if streams::write_all(&mut streams.sink, line) {
+        return streams::write_all(&mut streams.sink, b"\n");
+    }
+    false
+}
+
+// Writes the lines of a `v` line. Of any other line it tells what is wrong.
+fn other_line<R, W: Write, E: Print>(
+    streams: &mut Streams<R, W, E>,
+    line: &[u8],
+    number: u64,
+) -> bool {
+    let read = exercise_lines::read(line);
+    match read {
+        Repeat::Calls(call, count, spacing) => repeated(streams, call, count, spacing),
+        Repeat::Other => {
+            wrong(
+                &streams.err,
+                number,
+                b" is neither a line of the desk nor a v line\n",
+            );
+            true
+        }
+        Repeat::TooFar => {
+            wrong(
+                &streams.err,
+                number,
+                b" goes past 64 bits in a moment or a modem's number, and nothing is written for it\n",
+            );
+            true
+        }
+    }
+}
+
+// Writes the lines of a call, for one modem after another.
+fn repeated<R, W: Write, E: Print>(
+    streams: &mut Streams<R, W, E>,
+    call: DeskCall,
+    count: u64,
+    spacing: u64,
 ) -> bool
-    requires { Stands text.now before written wrong × Stepped text.now before step out.now }
+    requires { within64 spacing (count - 1) call ≡ true }
 {
-    let note = step.note;
-    let after = step.progress;
-    notes::tell(&streams.err, note, text, before.at, after.at);
-    let size = step.size;
+    let mut place: u64 = 0;
+    while place < count {
+        if !write_line(streams, exercise_lines::call_on(call, spacing, place)) {
+            return false;
+        }
+        place += 1;
+    }
+    true
+}
+
+// Writes a call's line. It has room, since no line has more bytes.
+fn write_line<R, W: Write, E: Print>(streams: &mut Streams<R, W, E>, call: DeskCall) -> bool {
+    let mut out: [u8; LONGEST_WRITTEN] = [0; LONGEST_WRITTEN];
+    let written = desk_writer::write(call, &mut out);
+    let size = written.size;
     streams::write_all(&mut streams.sink, &out[0..size])
+}
+
+// Tells what is wrong with a line.
+fn wrong(err: &impl Print, number: u64, words: &[u8]) {
+    say(err, b"exercise: line ");
+    say_number(err, number);
+    say(err, words);
 }
 
 // How to use the program.
 fn help(err: &impl Print) {
     say(
         err,
-        b"exercise reads a lesson from standard input, and writes lines for the desk.\n\n",
+        b"exercise reads lines from standard input, and writes lines for the desk.\n\n",
     );
     say(
         err,
-        b"  s amount period burst initial modems shards idle when-full\n",
+        b"  a line of the desk          is copied; desk --help tells these lines\n",
     );
     say(
         err,
-        b"                              the settings, as the desk has them\n",
+        b"  v count spacing call        is written as count lines of the call, for one modem after another,\n",
     );
     say(
         err,
-        b"  a moment modem cost         a try; p a peek; r moment modem cost max-wait a reservation\n",
+        b"                              at moments spacing nanoseconds apart; the call is a line of the desk, but not s\n\n",
     );
     say(
         err,
-        b"  f modem cost                a refund; d modem a removal\n",
+        b"For example v 3 1000000000 a 0 7 1 is written as a 0 7 1, a 1000000000 8 1 and a 2000000000 9 1.\n",
     );
     say(
         err,
-        b"  v count spacing call        count calls, for one modem after another, spacing apart\n\n",
+        b"The count is at most 65536. The input has at most 65535 bytes. What is wrong with a line is told here,\n",
     );
     say(
         err,
-        b"A time is 1500 (nanoseconds), 1.5us, 20ms, 0.5s, 2min or 1h. A moment may be +0.5s: that much after the last one written.\n",
-    );
-    say(
-        err,
-        b"A modem is a number or an address as 00:1a:2b:3c:4d:5e. A comment begins with #. Spaces, tabs, empty lines and capitals are free.\n",
-    );
-    say(
-        err,
-        b"For example v 3 1s a 0 7 1 is written as a 0 7 1, a 1000000000 8 1 and a 2000000000 9 1.\n",
-    );
-    say(
-        err,
-        b"The count is at most 65536. The input has at most 65535 bytes. What is wrong with a line is told here, and nothing is\n",
-    );
-    say(
-        err,
-        b"written for it. In the end it is told how many lines were written. A read or a write that fails ends the run.\n",
+        b"with its number, and nothing is written for it. A read or a write that fails ends the run.\n",
     );
 }

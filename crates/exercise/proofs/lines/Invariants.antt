@@ -1,10 +1,9 @@
-use Rattle.std.proofs.Common.{◌≡◌, ◌-◌, ◌^◌, ◌≤◌, length}
-use Rattle.lesson_run.specs.Run.{Stands}
+-- `lines` ends since each line begins after the one before.
+use Rattle.std.proofs.Common.{◌+◌, ◌-◌, ◌≤◌, length}
 use Rattle.exercise.proofs.lines.Given as goal
 
-abbrev pub invariant-loop-turns : goal.invariant-loop-turns
-invariant-loop-turns g l =
-    (length l.out ≡ length l.initial.out) × Stands l.text l.progress l.written l.wrong × (l.written ≤ l.turns) × (l.wrong ≤ l.turns)
+abbrev pub invariant-loop-at : goal.invariant-loop-at
+invariant-loop-at g l = l.at ≤ length l.text + 1
 
-abbrev pub decreases-loop-turns : goal.decreases-loop-turns
-decreases-loop-turns g l = 2 ^ 64 - 1 - l.turns
+abbrev pub decreases-loop-at : goal.decreases-loop-at
+decreases-loop-at g l = length l.text + 1 - l.at

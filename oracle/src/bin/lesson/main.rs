@@ -1,9 +1,9 @@
-//! Random lessons, as a trainer writes them, and what the program `exercise` has to make of them. The generator chooses what a line means and then how to
+//! Random lessons, as a trainer writes them, and what the program `lesson` has to make of them. The generator chooses what a line means and then how to
 //! write it, so it knows the desk lines without reading the lesson. It is written from what README says of lessons, and not from our code.
 //!
 //! ```text
 //! lesson SEED                           prints a random lesson, and on standard error what has to become of it
-//! lesson EXERCISE DESK LESSONS SEED     runs the program EXERCISE on random lessons and compares; DESK has to read every line that is written
+//! lesson LESSON DESK LESSONS SEED       runs the program LESSON on random lessons and compares; DESK has to read every line that is written
 //! ```
 
 mod forms;
@@ -26,8 +26,8 @@ fn main() -> ExitCode {
         .collect();
     let done = match (arguments.as_slice(), numbers.as_deref()) {
         ([_], Some([seed])) => show(*seed),
-        ([exercise, desk, _, _], Some([lessons, seed])) => compare(exercise, desk, *lessons, *seed),
-        _ => Err("lesson SEED, or lesson EXERCISE DESK LESSONS SEED".into()),
+        ([program, desk, _, _], Some([lessons, seed])) => compare(program, desk, *lessons, *seed),
+        _ => Err("lesson SEED, or lesson LESSON DESK LESSONS SEED".into()),
     };
     match done {
         Ok(()) => ExitCode::SUCCESS,
@@ -50,11 +50,11 @@ fn show(seed: u64) -> Result<(), String> {
 }
 
 /// Runs the programs on random lessons, up to the first that differs.
-fn compare(exercise: &str, desk: &str, lessons: u64, seed: u64) -> Result<(), String> {
+fn compare(program: &str, desk: &str, lessons: u64, seed: u64) -> Result<(), String> {
     let [mut lines, mut wrong, mut earlier] = [0; 3];
     for number in 0..lessons {
         let lesson = lines::lesson(seed.wrapping_add(number));
-        judge(exercise, desk, &lesson).map_err(|message| {
+        judge(program, desk, &lesson).map_err(|message| {
             let text = String::from_utf8_lossy(&lesson.text).into_owned();
             format!("seed {}: {message}\n{text}", seed.wrapping_add(number))
         })?;
@@ -72,8 +72,8 @@ fn compare(exercise: &str, desk: &str, lessons: u64, seed: u64) -> Result<(), St
 }
 
 /// One lesson: every line that is written, every line that is told, and no other; and the desk reads what was written.
-fn judge(exercise: &str, desk: &str, lesson: &Lesson) -> Result<(), String> {
-    let made = run(exercise, &lesson.text)?;
+fn judge(program: &str, desk: &str, lesson: &Lesson) -> Result<(), String> {
+    let made = run(program, &lesson.text)?;
     if made.stdout != lesson.written.as_bytes() {
         return Err(format!(
             "wanted:\n{}\nwritten:\n{}",
@@ -95,10 +95,10 @@ fn judge(exercise: &str, desk: &str, lesson: &Lesson) -> Result<(), String> {
     Ok(())
 }
 
-/// The numbers of the lines that are told of: `exercise: line N` begins what is told.
+/// The numbers of the lines that are told of: `lesson: line N` begins what is told.
 fn numbers_told(said: &str) -> BTreeSet<u64> {
     let of_line = |line: &str| {
-        let rest = line.strip_prefix("exercise: line ")?;
+        let rest = line.strip_prefix("lesson: line ")?;
         rest.split(|byte: char| !byte.is_ascii_digit())
             .next()?
             .parse()

@@ -1,7 +1,7 @@
 -- `lines` has handed out what comes next in the output of the lesson with each turn, and counts what it left out.
 use Rattle.std.proofs.Common.{refl, arith}
 use Rattle.lesson_run.proofs.StandsLaws.{stands_at_start, stands_after, lines_at_most, wrong_at_most}
-use Rattle.exercise.proofs.lines.Goals as goal
+use Rattle.lesson.proofs.lines.Goals as goal
 
 pub loop-turns-init : goal.loop-turns-init
 loop-turns-init g c = (refl, stands_at_start _ c.start-progress.ensures, omega arith, omega arith)

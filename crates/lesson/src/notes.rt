@@ -10,7 +10,7 @@ const SHOWN_BYTES: usize = 100;
 
 // How many lines were written, and how many were left out.
 pub(crate) fn summary(err: &impl Print, written: u64, wrong: u64) {
-    say(err, b"exercise: lines written: ");
+    say(err, b"lesson: lines written: ");
     say_number(err, written);
     say(err, b"; left out: ");
     say_number(err, wrong);
@@ -40,7 +40,7 @@ fn falls(err: &impl Print, number: u64, moment: u64, clock: u64) {
 }
 
 fn line(err: &impl Print, number: u64) {
-    say(err, b"exercise: line ");
+    say(err, b"lesson: line ");
     say_number(err, number);
 }
 

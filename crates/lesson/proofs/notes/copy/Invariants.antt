@@ -1,5 +1,5 @@
 use Rattle.std.proofs.Common.{◌≡◌, ◌-◌, ◌≤◌, length}
-use Rattle.exercise.proofs.notes.copy.Given as goal
+use Rattle.lesson.proofs.notes.copy.Given as goal
 
 abbrev pub invariant-loop-size : goal.invariant-loop-size
 invariant-loop-size l = (length l.shown ≡ length l.initial.shown) × (l.size ≤ length l.initial.shown)
