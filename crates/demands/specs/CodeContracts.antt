@@ -156,7 +156,7 @@ module _ (κs : Lfts 2) (ptr table_ptr : ℕ × ℕ) (name : ℕ) where
         ClassTry.Asked κs (with_table s table ws (at, (id, (class, (cost, tt))))) →
         ClassTry.Learnt κs (with_table s table ws (at, (id, (class, (cost, tt))))) o.answer (with_table s table o.after (at, (id, (class, (cost, tt)))))
 
--- The operation of `debt_calls` is lent records, too. The check makes no `Asked` and `Learnt` of such a function, so what its `ensures` tells is written out
+-- The operation of `debt_calls` is lent records, too. The older check made no `Asked` and `Learnt` of it, so what its `ensures` tells is written out
 -- here. `list_debts_is_read` and `list_debts_asks_nothing` (proofs/DebtCalls.antt) show by computation that its contract says this and asks nothing. Whatever
 -- records are lent, the answer and the words are those that the limiter has for how many they are. The records after are those of `lists`.
 abbrev pub ListDebtsLearnt : Settings → Nanos → ℕ → Lent → Reply → Lent → Type 0

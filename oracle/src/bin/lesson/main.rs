@@ -1,5 +1,5 @@
 //! Random lessons, as a trainer writes them, and what the program `lesson` has to make of them. The generator chooses what a line means and then how to
-//! write it, so it knows the desk lines without reading the lesson. It is written from what README says of lessons, and not from our code.
+//! write it, so it knows the desk lines without reading the lesson. It is written from what docs/DESK.md says of lessons, and not from our code.
 //!
 //! ```text
 //! lesson SEED                           prints a random lesson, and on standard error what has to become of it
