@@ -64,7 +64,7 @@ impl Due {
     {
         Due {
             wait,
-            moment: Nanos(arith::saturating_add(at.0, wait.0)),
+            moment: Nanos(at.0.saturating_add(wait.0)),
         }
     }
 }
@@ -91,7 +91,7 @@ impl BucketConfig {
         requires { Accepted self }
         ensures { result.0 ≡ recovery_of self shortfall }
     {
-        Nanos(arith::div_ceil(shortfall, self.amount as u64))
+        Nanos(shortfall.div_ceil(self.amount as u64))
     }
 
     // The tokens that come back in a span, rounded up and held to 64 bits. Whole periods and the rest are counted separately, so that nothing wraps.
@@ -101,8 +101,8 @@ impl BucketConfig {
     {
         let period = self.period.0;
         let whole = arith::saturating_mul(remaining.0 / period, self.amount);
-        let rest = arith::div_ceil((remaining.0 % period) * (self.amount as u64), period);
-        arith::saturating_add(whole, rest)
+        let rest = ((remaining.0 % period) * (self.amount as u64)).div_ceil(period);
+        whole.saturating_add(rest)
     }
 }
 
@@ -124,7 +124,7 @@ impl BucketCore {
         requires { Accepted config }
         ensures { result ≡ read_shortfall config self }
     {
-        arith::smaller(self.shortfall, config.most_shortfall())
+        self.shortfall.min(config.most_shortfall())
     }
 
     // The shortfall at a moment.
@@ -133,8 +133,8 @@ impl BucketCore {
         ensures { result ≡ shortfall_at config self at }
     {
         let shortfall = self.read_shortfall(config);
-        let elapsed = arith::saturating_sub(at.0, self.stamp.0);
-        arith::saturating_sub(shortfall, arith::saturating_mul(elapsed, config.amount))
+        let elapsed = at.0.saturating_sub(self.stamp.0);
+        shortfall.saturating_sub(arith::saturating_mul(elapsed, config.amount))
     }
 
     // The whole tokens that are there at a moment.
@@ -143,7 +143,8 @@ impl BucketCore {
         ensures { result ≡ available_at config self at }
     {
         let period = config.period.0;
-        arith::saturating_sub(config.full_parts(), self.shortfall_at(config, at)) / period
+        let full = config.full_parts();
+        full.saturating_sub(self.shortfall_at(config, at)) / period
     }
 
     // Whether nothing is missing.
@@ -182,7 +183,7 @@ impl BucketCore {
         if wanted <= full {
             return Nanos(0);
         }
-        self.grown_at(arith::div_ceil(wanted - full, config.amount as u64), at)
+        self.grown_at(config.recovery_of(wanted - full).0, at)
     }
 
     // A wait with the time until the stamp: before the stamp nothing comes back. A wait of 0 stays 0.
@@ -192,7 +193,7 @@ impl BucketCore {
         if wait == 0 {
             return Nanos(0);
         }
-        Nanos(arith::saturating_add(wait, arith::saturating_sub(self.stamp.0, at.0)))
+        Nanos(wait.saturating_add(self.stamp.0.saturating_sub(at.0)))
     }
 
     // How long until the bucket is full again.
@@ -226,7 +227,7 @@ impl BucketCore {
     {
         BucketCore {
             shortfall: wanted,
-            stamp: Nanos(arith::larger(self.stamp.0, at.0)),
+            stamp: Nanos(self.stamp.0.max(at.0)),
         }
     }
 
@@ -269,7 +270,7 @@ impl BucketCore {
         let returned = arith::saturating_mul(config.period.0, cost);
         let stamp = self.stamp;
         BucketCore {
-            shortfall: arith::saturating_sub(shortfall, returned),
+            shortfall: shortfall.saturating_sub(returned),
             stamp,
         }
     }
@@ -279,7 +280,7 @@ impl BucketCore {
         requires { Accepted config }
         ensures { result ≡ charged config self tokens at }
     {
-        let stamp = Nanos(arith::larger(self.stamp.0, at.0));
+        let stamp = Nanos(self.stamp.0.max(at.0));
         let most = config.most_shortfall();
         let period = config.period.0;
         if most / period < tokens {
@@ -290,7 +291,7 @@ impl BucketCore {
         }
         let shortfall = self.shortfall_at(config, at) + tokens * period;
         BucketCore {
-            shortfall: arith::smaller(shortfall, most),
+            shortfall: shortfall.min(most),
             stamp,
         }
     }
@@ -318,16 +319,16 @@ pub fn restore_debt(
     requires { Accepted config }
     ensures { result ≡ restored config bucket at settles_at }
 {
-    let remaining = arith::saturating_sub(settles_at.0, at.0);
+    let remaining = settles_at.0.saturating_sub(at.0);
     if remaining == 0 {
         return bucket;
     }
     let missing = config.missing_tokens(Nanos(remaining));
     let capacity = config.capacity as u64;
-    let keep = arith::saturating_sub(capacity, missing);
+    let keep = capacity.saturating_sub(missing);
     let available = bucket.available_at(config, at);
-    let cut = bucket.take_out(config, arith::saturating_sub(available, keep), at);
-    cut.take_out(config, arith::saturating_sub(missing, capacity), at)
+    let cut = bucket.take_out(config, available.saturating_sub(keep), at);
+    cut.take_out(config, missing.saturating_sub(capacity), at)
 }
 
 impl Request {
@@ -349,7 +350,7 @@ impl Request {
         match self {
             Request::Acquire => own,
             Request::Reserve(_) => own,
-            Request::Through(others) => Nanos(arith::larger(own.0, others.0)),
+            Request::Through(others) => Nanos(own.0.max(others.0)),
         }
     }
 

@@ -1,4 +1,5 @@
 -- A try through a class that is refused, as the code comes to it: by the settings, then by what it is lent.
+use Rattle.std.proofs.Common.{Result, Ok, Err}
 use Prim.Native.Nat.{ℕ, ◌≤◌, ◌<◌, ◌^◌}
 use native.Mathlib.Omega.{arith}
 use mathlib.Core.Path.{◌≡◌, sym, ◌∙◌}
@@ -14,8 +15,8 @@ use Rattle.classes.specs.Layout.{class_count, classes_in}
 use Rattle.classes.proofs.LayoutLaws.{class_count_lem}
 use Rattle.shard.specs.declared.Identity.{Identity}
 use Rattle.store.specs.declared.Part.{Part}
-use Rattle.store.specs.declared.lending.Lending.{Lending}
-use Rattle.store.specs.Lending.{lent_unless}
+use Rattle.settings.specs.declared.refusal.Refusal.{Refusal}
+use Rattle.settings.specs.Refusal.{number_of, GivenUnless}
 use Rattle.store.specs.Memory.{part_in, part_of}
 use Rattle.store.specs.Refusals.{shape_refusal}
 use Rattle.store.proofs.LendingLaws.{accepted_shape, lent_by_settings, lent_part}
@@ -50,14 +51,17 @@ module _ (s : Settings) (table : List ℕ) (at : Nanos) (id : Identity) (class c
     pub try_has_shape : length table < 2 ^ 64 → ShapeOfAccepted shape
     try_has_shape fits = accepted_shape (with_table table s) accepted (omega arith) shape_is_given
 
+    asked : {further : ℕ} (lending : Result Part Refusal) → further ≡ further_through (classes_in table) class at
+        → GivenUnless (first_refusal (shape_refusal shape id.hash ws) further) (part_in shape id.hash) lending
+        → GivenUnless (ask_refusal (with_table table s) id (passes table class at cost) ws) (part_of (with_table table s) id.hash) lending
+    asked {further = further} lending is_further is =
+        rw is_further at (lent_by_settings (with_table table s) id.hash ws accepted shape_is_given lending further is)
+
     -- What it is lent, given the number for its other arguments.
-    module _ {further : ℕ} {lending : Lending} (is_further : further ≡ further_through (classes_in table) class at)
-        (is : lending ≡ lent_unless (first_refusal (shape_refusal shape id.hash ws) further) (part_in shape id.hash)) where
-      lent : lending ≡ lent_unless (ask_refusal (with_table table s) id (passes table class at cost) ws) (part_of (with_table table s) id.hash)
-      lent = rw is_further at (lent_by_settings (with_table table s) id.hash ws accepted shape_is_given further is)
+    module _ {further : ℕ} {lending : Result Part Refusal} (is_further : further ≡ further_through (classes_in table) class at)
+        (is : GivenUnless (first_refusal (shape_refusal shape id.hash ws) further) (part_in shape id.hash) lending) where
+      pub unlent_try_is_told : {r : Refusal} → lending ≡ Err r → outcome (Refused (number_of r)) ws ≡ class_try s table at id class cost ws
+      unlent_try_is_told gave = unlent_is_told (with_table table s) id (passes table class at cost) ws (asked lending is_further is) gave
 
-      pub unlent_try_is_told : {told : ℕ} → lending ≡ Lending.Refused told → outcome (Refused told) ws ≡ class_try s table at id class cost ws
-      unlent_try_is_told gave = unlent_is_told (with_table table s) id (passes table class at cost) ws lent gave
-
-      pub lent_try_passes : {part : Part} → lending ≡ Lending.Lent part → Passing s table at id class cost ws part
-      lent_try_passes gave = let parts = lent_part _ _ lent gave in record { not_refused = parts.0; is_part = parts.1 }
+      pub lent_try_passes : {part : Part} → lending ≡ Ok part → Passing s table at id class cost ws part
+      lent_try_passes gave = let parts = lent_part _ _ (asked lending is_further is) gave in record { not_refused = parts.0; is_part = parts.1 }

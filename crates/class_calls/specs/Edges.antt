@@ -1,11 +1,10 @@
 -- Worked edges of the calls with a class table, as a table: a row has its settings, its class table, the words that it begins on, its calls, and what the last
 -- call answers and leaves. One test goes over all rows.
-use Rattle.std.specs.Prelude.{ℕ, zero, suc, ◌+◌, Bool, true, false, ◌&&◌, List, [], ◌∷◌, ◌++◌, eqb, replicate}
+use Rattle.std.specs.Prelude.{ℕ, zero, suc, ◌+◌, Bool, true, false, ◌&&◌, List, [], ◌∷◌, ◌++◌, eqb, replicate, Some, None}
 use Rattle.rows.specs.Outcome.{Outcome}
 use Rattle.settings.specs.declared.Limit.{Limit}
 use Rattle.settings.specs.declared.Limit.TheVariants.{Closed, Open}
 use Rattle.settings.specs.declared.Settings.{Settings}
-use Rattle.settings.specs.declared.rate.OptionTokens.TheVariants.{None, Some}
 use Rattle.settings.specs.Eviction.{capacity_of}
 use Rattle.shard.specs.declared.Identity.{Identity}
 use Rattle.store.specs.Memory.{memory_words}

@@ -6,23 +6,26 @@ ghost use Rattle.std.specs.Prelude.{◌≡◌, ◌+◌, ◌*◌, ◌≤◌, leng
 ghost use Rattle.rows.specs.Outcome.{outcome};
 ghost use Rattle.bucket.specs.Bucket.{Accepted};
 ghost use Rattle.settings.specs.Rate.{config_of};
+ghost use Rattle.settings.specs.Refusal.{numbered};
+ghost use Rattle.settings.specs.Settings.{first_refusal};
+ghost use Rattle.classes.specs.Classes.{table_refusal};
 ghost use Rattle.classes.specs.Layout.{class_count, classes_in, bucket_width};
 ghost use Rattle.shard_map.specs.Model.{Sound};
 ghost use Rattle.shard.specs.Model as OneShard;
 ghost use Rattle.store.specs.Memory.{Placed, Counted, shard_in, in_part};
-ghost use Rattle.rules.specs.Asks.{policy_of, further_through};
+ghost use Rattle.store.specs.Refusals.{set_up_refusal};
+ghost use Rattle.rules.specs.Asks.{policy_of, further_through, with_table};
 ghost use Rattle.rules.specs.Rules as Rules;
 ghost use Rattle.class_calls.specs.code.Passing.{Passing, UnderChain, AtRate, Asking};
 
 use bucket::{BucketDecision, Request};
 use classes::ChainAnswer;
-use rows::Place;
 use rules::Reply;
 use settings::decision::Decision;
 use settings::rate::Rate;
+use settings::refusal::Refusal;
 use settings::{Limit, Settings};
 use shard::Identity;
-use store::lending::Lending;
 use store::{Part, lending, refusals};
 use units::Nanos;
 
@@ -30,16 +33,19 @@ use units::Nanos;
 pub fn class_set_up(settings: Settings, table: &[u64], ws: &mut [u64]) -> Reply
     ensures { outcome result ws.new ≡ Rules.class_set_up settings table.now ws.old }
 {
-    let refusal = refusals::set_up_refusal(settings, classes::count(table), ws);
-    if refusal != 0 {
-        return Reply::Refused(refusal);
-    }
-    let refusal = classes::table_refusal(table);
-    if refusal != 0 {
-        return Reply::Refused(refusal);
+    if let Err(refusal) = check_set_up(settings, table, ws) {
+        return refusal.into();
     }
     store::clear(ws);
     Reply::Done
+}
+
+// The check of set-up with a table: the settings, then the length by the number of classes of the table, then the table.
+fn check_set_up(settings: Settings, table: &[u64], ws: &[u64]) -> Result<(), Refusal>
+    ensures { numbered result ≡ first_refusal (set_up_refusal (with_table table.now settings) ws.now) (table_refusal (classes_in table.now)) }
+{
+    refusals::check_set_up(settings, classes::count(table), ws)?;
+    classes::check_table(table)
 }
 
 // Forgets every key, and fills every class bucket.
@@ -61,26 +67,23 @@ pub fn class_try(
 ) -> Reply
     ensures { outcome result ws.new ≡ Rules.class_try settings table.now at id class cost ws.old }
 {
-    let refusal = settings.refusal();
-    if refusal != 0 {
-        return Reply::Refused(refusal);
+    if let Err(refusal) = settings.check() {
+        return refusal.into();
     }
-    let given = settings.shape();
-    let shape = given.with_classes(classes::count(table));
-    match lending::lend(shape, ws, id.hash, further_refusal(table, at, class)) {
-        Lending::Refused(number) => Reply::Refused(number),
-        Lending::Lent(part) => pass(settings, table, ws, part, at, id, class, cost),
+    let shape = settings.shape().with_classes(classes::count(table));
+    match lending::lend(shape, ws, id.hash, check_further(table, at, class)) {
+        Err(refusal) => refusal.into(),
+        Ok(part) => pass(settings, table, ws, part, at, id, class, cost),
     }
 }
 
-// The number for a late moment, else for the table, else for the named class; 0 for none.
-fn further_refusal(table: &[u64], at: Nanos, class: usize) -> u32
-    ensures { result ≡ further_through (classes_in table.now) class at }
+// Whether the moment is not too late, the table is sound, and the named class is in it.
+fn check_further(table: &[u64], at: Nanos, class: usize) -> Result<(), Refusal>
+    ensures { numbered result ≡ further_through (classes_in table.now) class at }
 {
-    let late = refusals::moment_refusal(at);
-    let unsound = classes::table_refusal(table);
-    let unknown = classes::number_refusal(table, class);
-    refusals::first_refusal(late, refusals::first_refusal(unsound, unknown))
+    refusals::check_moment(at)?;
+    classes::check_table(table)?;
+    classes::check_number(table, class)
 }
 
 // A try that is not refused. The code reads the waits of the chain first, and 02 decides the space first. Nobody can see the difference: the store neither
@@ -124,8 +127,7 @@ fn pass_chain(
     requires { UnderChain wait settings table.now at id class cost ws.old part }
     ensures { outcome result ws.new ≡ Rules.class_try settings table.now at id class cost ws.old }
 {
-    let limit = settings.limit;
-    match limit {
+    match settings.limit {
         Limit::Closed => Reply::Tried(rules::closed(at, cost)),
         Limit::Open(rate) => {
             pass_at_rate(settings, rate, table, ws, part, at, id, class, cost, wait)
@@ -220,7 +222,7 @@ fn ask(
 {
     let policy = requests::policy(settings, rate);
     match store::position(ws, part, id) {
-        Place::At(pos) => store::with_existing(ws, part, policy, pos, request, cost, at),
-        Place::Nowhere => store::admit(ws, part, policy, id, request, cost, at),
+        Some(pos) => store::with_existing(ws, part, policy, pos, request, cost, at),
+        None => store::admit(ws, part, policy, id, request, cost, at),
     }
 }

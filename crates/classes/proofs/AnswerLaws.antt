@@ -1,4 +1,5 @@
 -- What a chain answers to a cost, case by case as the code comes to them, and what an answer says of the bursts and the waits.
+use Rattle.std.proofs.Common.{Some, None}
 use Prim.Native.Nat.{ℕ, ◌-◌, ◌≤◌, ◌<◌, max}
 use mathlib.Core.Path.{◌≡◌, sym}
 use mathlib.Core.List.{List, [], ◌∷◌}
@@ -8,7 +9,6 @@ use Rattle.arith.proofs.Cases.{by_le}
 use Rattle.units.specs.declared.Nanos.{Nanos}
 use Rattle.bucket.specs.declared.BucketCore.{BucketCore}
 use Rattle.settings.proofs.RateLaws.{accepted_rate}
-use Rattle.classes.specs.declared.OptionClass.TheVariants.{None, Some}
 use Rattle.classes.specs.declared.Class.{Class}
 use Rattle.classes.specs.declared.ChainAnswer.TheVariants.{Over, Wait}
 use Rattle.classes.specs.Classes.{class_at}

@@ -1,4 +1,5 @@
 -- The lengths of chains that the check of a table keeps and finds, case by case as the code comes to them.
+use Rattle.std.proofs.Common.{Some, None}
 use Prim.Native.Nat.{ℕ, zero, suc, ◌+◌, ◌-◌, ◌≤◌, ◌<◌}
 use mathlib.Core.Path.{◌≡◌, refl, sym, ◌∙◌}
 use mathlib.Core.Bool.{true, false}
@@ -8,7 +9,6 @@ use lib.ListN.{length, get_or, set, replicate, length-set, length-replicate, get
 use lib.Seq.{get_or-set_same, get_or-set_other}
 use borrow.Author.Tests.{eq-eqb, ne_eqb, le-leb, lt-leb}
 use Rattle.arith.proofs.Cases.{by_test, by_le, by_eq}
-use Rattle.classes.specs.declared.OptionClass.TheVariants.{None, Some}
 use Rattle.classes.specs.declared.Class.{Class}
 use Rattle.classes.specs.Classes.{longest_chain, class_at, ends, chain_refusal}
 use Rattle.classes.specs.code.Lengths.{Long, Known, Kept, one_longer, Found}

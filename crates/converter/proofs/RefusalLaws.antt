@@ -6,18 +6,36 @@ use mathlib.Core.Bool.{Bool, true, false, cond, not}
 use mathlib.Core.List.{List}
 use lib.ListN.{length}
 use borrow.Author.Tests.{eq-eqb, ne_eqb, lt-ltb, le-ltb}
+use Rattle.std.specs.Result.{is_err}
+use Rattle.std.proofs.Common.{Result, Ok, Err}
+use lib.Dec.{eqb}
+use Rattle.arith.proofs.Cases.{by_test}
 use Rattle.settings.specs.declared.Settings.{Settings}
+use Rattle.settings.specs.declared.refusal.Refusal.{Refusal}
+use Rattle.settings.specs.declared.refusal.Refusal.TheVariants.{Memory}
+use Rattle.settings.specs.Refusal.{numbered}
+use Rattle.settings.proofs.RefusalLaws.{has_a_number, stands, second_decides}
+use Rattle.converter_shards.proofs.CheckLaws.{both_ways}
 use Rattle.settings.specs.Settings.{first_refusal, settings_refusal, size_refusal, shard_count, cap_of}
-use Rattle.settings.proofs.SettingsLaws.{neither_refuses, no_refusal_hands_on, first_refusal_stands, accepted_parts, cap_least}
+use Rattle.settings.proofs.SettingsLaws.{neither_refuses, no_refusal_hands_on, accepted_parts, cap_least}
 use Rattle.store.specs.Memory.{total_of}
 use Rattle.store.specs.Refusals.{memory_refusal}
-use Rattle.store.proofs.RefusalLaws.{length_not_refused, length_is_accepted, other_length_is_refused, first_is_told, second_is_told}
+use Rattle.store.proofs.RefusalLaws.{length_not_refused, length_is_accepted, other_length_is_refused}
 use Rattle.converter.specs.declared.Layout.{Layout}
 use Rattle.converter.specs.declared.Layout.TheVariants.{Old, Present}
 use Rattle.converter.specs.Layouts.{other, slots_of, total_wrong}
 use Rattle.converter.specs.Conversion.{any_refused_by, source_refusal, most_keys_moved, keys_refusal, old_words, words_for, lengths_refusal, refusal_of}
 use Rattle.converter.specs.code.Moving.{InShards}
 use Rattle.converter.specs.code.Moving.{Undamaged}
+
+-- A check that answers an error refuses, and no other does.
+pub refuses : {A : Type 0} (result : Result A Refusal) → is_err result ≡ true → numbered result ≡ 0 → ⊥
+refuses (Ok accepted) err none = both_ways err refl
+refuses (Err refusal) err none = has_a_number refusal none
+
+pub accepts : {A : Type 0} (result : Result A Refusal) → is_err result ≡ false → numbered result ≡ 0
+accepts (Ok accepted) fine = refl
+accepts (Err refusal) fine = both_ways refl fine
 
 -- Too many keys.
 module _ (s : Settings) where
@@ -30,8 +48,8 @@ module _ (s : Settings) where
   keys_are_accepted few = rw (le-ltb _ _ few)
 
   -- Settings that are not refused have an accepted size.
-  pub size_is_accepted : {told : ℕ} → told ≡ first_refusal (settings_refusal s) (keys_refusal s) → told ≡ 0 → size_refusal s ≡ 0
-  size_is_accepted is none = (accepted_parts s (neither_refuses (settings_refusal s) (keys_refusal s) (sym is ∙ none)).0).1
+  pub size_is_accepted : first_refusal (settings_refusal s) (keys_refusal s) ≡ 0 → size_refusal s ≡ 0
+  size_is_accepted none = (accepted_parts s (neither_refuses (settings_refusal s) (keys_refusal s) none).0).1
 
   -- The words to lend, by the tests of the code.
   module _ {told : ℕ} (is : told ≡ size_refusal s) where
@@ -49,11 +67,8 @@ module _ (s : Settings) where
 
 -- The total, by the tests of the code.
 module _ (shards cap : ℕ) (ws : List ℕ) {total slots : ℕ} (stored : total ≡ total_of ws) (counted : slots ≡ slots_of Present shards cap ws) where
-  pub total_is_right : total ≡ slots → false ≡ total_wrong Present shards cap ws
-  total_is_right same = rw (← stored, ← counted, eq-eqb total slots same)
-
-  pub total_is_wrong : (total ≡ slots → ⊥) → true ≡ total_wrong Present shards cap ws
-  total_is_wrong other = rw (← stored, ← counted, ne_eqb total slots other)
+  pub total_compared : not (eqb total slots) ≡ total_wrong Present shards cap ws
+  total_compared = rw (← stored, ← counted) (by_test (eqb total slots) (λ t. rw t) (λ t. rw t))
 
 -- The words of the source.
 module _ (layout : Layout) (shards cap : ℕ) (ws : List ℕ) {a : Bool} (damage : a ≡ any_refused_by layout 5 shards cap ws) where
@@ -147,33 +162,23 @@ module _ (from : Layout) (s : Settings) (source target : List ℕ) where
       ∙ no_refusal_hands_on (lengths_refusal from s source target) words (lengths_right a.source_size a.target_size)
       ∙ sound_is_not_refused from (shard_count s) (cap_of s) source a.sound
 
-  -- As the code comes to them.
-  module _ {told : ℕ} (is : told ≡ first) where
-    pub settings_are_told : (told ≡ 0 → ⊥) → told ≡ refusal_of from s source target
-    settings_are_told some = first_is_told _ is some
+  -- As the code comes to them, where the settings are accepted.
+  module _ (none : 0 ≡ first) where
+    pub source_length_is_told : {n : ℕ} → n ≡ words_for from s → (length source ≡ n → ⊥) → 5 ≡ refusal_of from s source target
+    source_length_is_told {n} long differs =
+        second_decides none (stands Memory words (stands Memory (memory_refusal (words_for (other from) s) target)
+        (sym (other_length_is_refused (words_for from s) source (λ same. differs (same ∙ sym long))))))
 
-    module _ (none : told ≡ 0) where
-      pub source_length_is_told : {n : ℕ} → n ≡ words_for from s → (length source ≡ n → ⊥) → 5 ≡ refusal_of from s source target
-      source_length_is_told {n} long differs =
-          let five : memory_refusal (words_for from s) source ≡ 5 = other_length_is_refused (words_for from s) source (λ same. differs (same ∙ sym long)) in
-          second_is_told is none
-          (first_is_told words
-          (sym (first_refusal_stands _ (memory_refusal (words_for (other from) s) target) (λ zero. absurd (omega (arith, sym five ∙ zero))) ∙ five))
-          (λ zero. absurd (omega (arith, zero))))
+    pub target_length_is_told : {n m : ℕ} → n ≡ words_for from s → length source ≡ n → m ≡ words_for (other from) s → (length target ≡ m → ⊥)
+        → 5 ≡ refusal_of from s source target
+    target_length_is_told {n} {m} long same also differs =
+        second_decides none (stands Memory words
+        (second_decides (sym (length_is_accepted (words_for from s) source (same ∙ long)))
+        (sym (other_length_is_refused (words_for (other from) s) target (λ e. differs (e ∙ sym also))))))
 
-      pub target_length_is_told : {n m : ℕ} → n ≡ words_for from s → length source ≡ n → m ≡ words_for (other from) s → (length target ≡ m → ⊥)
-          → 5 ≡ refusal_of from s source target
-      target_length_is_told {n} {m} long same also differs =
-          let five = other_length_is_refused (words_for (other from) s) target (λ e. differs (e ∙ sym also)) in
-          second_is_told is none
-          (first_is_told words
-          (sym (no_refusal_hands_on _ (memory_refusal (words_for (other from) s) target) (length_is_accepted (words_for from s) source (same ∙ long)) ∙ five))
-          (λ zero. absurd (omega (arith, zero))))
-
-      pub words_are_told : {n m r : ℕ} → n ≡ words_for from s → length source ≡ n → m ≡ words_for (other from) s → length target ≡ m → r ≡ words
-          → r ≡ refusal_of from s source target
-      words_are_told long same also same_too is_too =
-          second_is_told is none (second_is_told refl (lengths_right (same ∙ long) (same_too ∙ also)) is_too)
+    pub words_are_told : {n m r : ℕ} → n ≡ words_for from s → length source ≡ n → m ≡ words_for (other from) s → length target ≡ m → r ≡ words
+        → r ≡ refusal_of from s source target
+    words_are_told long same also same_too is = second_decides none (second_decides (sym (lengths_right (same ∙ long) (same_too ∙ also))) is)
 
 -- The source of a conversion that is not refused, and its target, as the loops need them.
 pub source_undamaged : {from : Layout} {s : Settings} {source target : List ℕ} → Accepted from s source target

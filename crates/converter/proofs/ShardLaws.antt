@@ -3,7 +3,7 @@ use Prim.Native.Nat.{ℕ, suc, ◌+◌, ◌-◌, ◌*◌, ◌≤◌, ◌<◌, �
 use native.Mathlib.Omega.{arith}
 use native.Mathlib.Nat.{mul-le-mul, mul-le-mul_right, mul-le-mul_left, add-sub_cancel_left}
 use mathlib.Core.Path.{◌≡◌, refl, ap, sym, ◌∙◌}
-use mathlib.Core.Bool.{Bool, true, false}
+use mathlib.Core.Bool.{Bool, true, false, not}
 use mathlib.Core.List.{List}
 use lib.ListN.{length, take, drop}
 use borrow.Author.Tests.{ne_eqb}
@@ -11,6 +11,10 @@ use Rattle.arith.proofs.Cases.{by_test}
 use Rattle.rows.specs.Places.{sum}
 use Rattle.rows.proofs.SegmentLaws.{segment_length}
 use Rattle.settings.specs.declared.Settings.{Settings}
+use Rattle.settings.specs.declared.refusal.Refusal.{Refusal}
+use Rattle.settings.specs.declared.refusal.Refusal.TheVariants.{Amount, Period, Burst, Sizes, Memory, Moment, MaxWait, AddressLength, GroupAddress, Buffer}
+use Rattle.settings.specs.declared.refusal.Refusal.TheVariants.{Class, Chain, Shard as NoShard, Records, Twins, UsedPast}
+use Rattle.settings.specs.Refusal.{number_of}
 use Rattle.settings.specs.Settings.{size_refusal, shard_count, cap_of, most_keys_in_shard}
 use Rattle.settings.proofs.SettingsLaws.{shards_most, cap_most}
 use Rattle.shard_map.specs.Model.{Shard}
@@ -77,6 +81,28 @@ module _ (layout : Layout) (cap : ℕ) (s : Shard) {number : ℕ} where
   unfolding refused_by
   refused_by_19 not_5 not_18 = rw (ne_eqb number 5 not_5, ne_eqb number 18 not_18)
 
+-- The tests by their refusals: twins are no damage, and a refusal that is neither has another number.
+pub no_damage_asked : {r : Refusal} → r ≡ Twins → number_of r ≡ 5 → ⊥
+no_damage_asked is five = omega (arith, ap number_of is, five)
+
+pub no_other_asked : (r : Refusal) → (r ≡ Memory → ⊥) → (r ≡ Twins → ⊥) → (number_of r ≡ 5 → ⊥) × (number_of r ≡ 18 → ⊥)
+no_other_asked Amount not_damage not_twins = (λ five. omega (arith, five), λ eighteen. omega (arith, eighteen))
+no_other_asked Period not_damage not_twins = (λ five. omega (arith, five), λ eighteen. omega (arith, eighteen))
+no_other_asked Burst not_damage not_twins = (λ five. omega (arith, five), λ eighteen. omega (arith, eighteen))
+no_other_asked Sizes not_damage not_twins = (λ five. omega (arith, five), λ eighteen. omega (arith, eighteen))
+no_other_asked Memory not_damage not_twins = absurd (not_damage refl)
+no_other_asked Moment not_damage not_twins = (λ five. omega (arith, five), λ eighteen. omega (arith, eighteen))
+no_other_asked MaxWait not_damage not_twins = (λ five. omega (arith, five), λ eighteen. omega (arith, eighteen))
+no_other_asked AddressLength not_damage not_twins = (λ five. omega (arith, five), λ eighteen. omega (arith, eighteen))
+no_other_asked GroupAddress not_damage not_twins = (λ five. omega (arith, five), λ eighteen. omega (arith, eighteen))
+no_other_asked Buffer not_damage not_twins = (λ five. omega (arith, five), λ eighteen. omega (arith, eighteen))
+no_other_asked Class not_damage not_twins = (λ five. omega (arith, five), λ eighteen. omega (arith, eighteen))
+no_other_asked Chain not_damage not_twins = (λ five. omega (arith, five), λ eighteen. omega (arith, eighteen))
+no_other_asked NoShard not_damage not_twins = (λ five. omega (arith, five), λ eighteen. omega (arith, eighteen))
+no_other_asked Records not_damage not_twins = (λ five. omega (arith, five), λ eighteen. omega (arith, eighteen))
+no_other_asked Twins not_damage not_twins = absurd (not_twins refl)
+no_other_asked UsedPast not_damage not_twins = (λ five. omega (arith, five), λ eighteen. omega (arith, eighteen))
+
 pub undamaged_shard : (layout : Layout) (cap : ℕ) (s : Shard) → refused_by layout 5 cap s ≡ false → damaged layout cap s ≡ false
 undamaged_shard layout cap s none = refused_by_5 layout cap s refl ∙ none
 
@@ -86,11 +112,8 @@ module _ (cap : ℕ) (s : Shard) {a : Bool} (over : a ≡ count_over cap s) wher
   over_is_damage is = rw (sym over ∙ is)
 
   module _ (fits : a ≡ false) {b : Bool} (exact : b ≡ indexes_exact s) where
-    pub exact_is_no_damage : b ≡ true → false ≡ damaged Present cap s
-    exact_is_no_damage is = rw (sym over ∙ fits, sym exact ∙ is)
-
-    pub inexact_is_damage : b ≡ false → true ≡ damaged Present cap s
-    inexact_is_damage is = rw (sym over ∙ fits, sym exact ∙ is)
+    pub damage_by_indexes : not b ≡ damaged Present cap s
+    damage_by_indexes = by_test b (λ t. rw (t, sym over ∙ fits, sym exact ∙ t)) (λ t. rw (t, sym over ∙ fits, sym exact ∙ t))
 
 -- A present shard without damage.
 pub counts_fit : (layout : Layout) (cap : ℕ) (s : Shard) → damaged layout cap s ≡ false → count_over cap s ≡ false

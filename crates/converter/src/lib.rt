@@ -4,6 +4,7 @@
 
 ghost use Rattle.std.specs.Prelude.{◌≡◌, ◌+◌, ◌*◌, ◌≤◌, ◌<◌, ◌^◌, true, false, cond, not, ◌++◌, length, take, set};
 ghost use Rattle.rows.specs.Outcome.{outcome};
+ghost use Rattle.settings.specs.Refusal.{number_of, numbered};
 ghost use Rattle.settings.specs.Settings.{settings_refusal, first_refusal, size_refusal};
 ghost use Rattle.shard_map.specs.Layout.{shard, shard_words};
 ghost use Rattle.store.specs.Memory.{total_at};
@@ -18,6 +19,7 @@ ghost use Rattle.converter.specs.code.Moving.{InShards, Undamaged};
 
 use rules::Reply;
 use settings::Settings;
+use settings::refusal::Refusal;
 
 // Document 01's layout, and the present one.
 #[derive(Clone, Copy)]
@@ -73,77 +75,65 @@ fn damaged_now(ws: &[u64], cap: usize) -> bool
     requires { (length ws.now ≡ shard_words cap) × (0 < cap) }
     ensures { result ≡ Layouts.damaged Present cap (shard cap ws.now) }
 {
-    if converter_shards::count_over_now(ws, cap) {
-        return true;
-    }
-    if converter_shards::indexes_exact(ws, cap) {
-        return false;
-    }
-    true
+    converter_shards::count_over_now(ws, cap) || !converter_shards::indexes_exact(ws, cap)
 }
 
-// Is a shard of document 01's layout refused by a number?
-fn refused_old(ws: &[u64], cap: usize, number: u32) -> bool
-    requires { (length ws.now ≡ shard_words01 cap) × ((number ≡ 5 → ⊥) → refused_by Old 5 cap (shard01 cap ws.now) ≡ false) }
-    ensures { result ≡ refused_by Old number cap (shard01 cap ws.now) }
+// Is a shard of document 01's layout refused as `refusal`: as Memory, as Twins or, for any other, as UsedPast?
+fn refused_old(ws: &[u64], cap: usize, refusal: Refusal) -> bool
+    requires { (length ws.now ≡ shard_words01 cap) × ((number_of refusal ≡ 5 → ⊥) → refused_by Old 5 cap (shard01 cap ws.now) ≡ false) }
+    ensures { result ≡ refused_by Old (number_of refusal) cap (shard01 cap ws.now) }
 {
-    if number == 5 {
-        return converter_shards::count_over(ws, cap);
+    match refusal {
+        Refusal::Memory => converter_shards::count_over(ws, cap),
+        Refusal::Twins => converter_shards::twins(ws, cap),
+        _ => converter_shards::used_past(ws, cap),
     }
-    if number == 18 {
-        return converter_shards::twins(ws, cap);
-    }
-    converter_shards::used_past(ws, cap)
 }
 
-// Is a shard of the present layout refused by a number?
-fn refused_now(ws: &[u64], cap: usize, number: u32) -> bool
-    requires { (length ws.now ≡ shard_words cap) × (0 < cap) × ((number ≡ 5 → ⊥) → refused_by Present 5 cap (shard cap ws.now) ≡ false) }
-    ensures { result ≡ refused_by Present number cap (shard cap ws.now) }
+// The same of a shard of the present layout.
+fn refused_now(ws: &[u64], cap: usize, refusal: Refusal) -> bool
+    requires { (length ws.now ≡ shard_words cap) × (0 < cap) × ((number_of refusal ≡ 5 → ⊥) → refused_by Present 5 cap (shard cap ws.now) ≡ false) }
+    ensures { result ≡ refused_by Present (number_of refusal) cap (shard cap ws.now) }
 {
-    if number == 5 {
-        return damaged_now(ws, cap);
+    match refusal {
+        Refusal::Memory => damaged_now(ws, cap),
+        Refusal::Twins => converter_shards::twins_by_lookup(ws, cap),
+        _ => converter_shards::used_past_now(ws, cap),
     }
-    if number == 18 {
-        return converter_shards::twins_by_lookup(ws, cap);
-    }
-    converter_shards::used_past_now(ws, cap)
 }
 
-// Is a shard of either layout refused by a number?
-fn shard_refused(ws: &[u64], layout: Layout, cap: usize, number: u32) -> bool
+// Is a shard of either layout refused as `refusal`?
+fn shard_refused(ws: &[u64], layout: Layout, cap: usize, refusal: Refusal) -> bool
     requires { (length ws.now ≡ shard_size layout cap) × (0 < cap)
-        × ((number ≡ 5 → ⊥) → refused_by layout 5 cap (shard_of layout cap ws.now) ≡ false) }
-    ensures { result ≡ refused_by layout number cap (shard_of layout cap ws.now) }
+        × ((number_of refusal ≡ 5 → ⊥) → refused_by layout 5 cap (shard_of layout cap ws.now) ≡ false) }
+    ensures { result ≡ refused_by layout (number_of refusal) cap (shard_of layout cap ws.now) }
 {
     match layout {
-        Layout::Old => refused_old(ws, cap, number),
-        Layout::Present => refused_now(ws, cap, number),
+        Layout::Old => refused_old(ws, cap, refusal),
+        Layout::Present => refused_now(ws, cap, refusal),
     }
 }
 
-// Is the shard of number i refused by a number?
-fn numbered_refused(ws: &[u64], layout: Layout, cap: usize, i: usize, number: u32) -> bool
+// Is the shard of number i refused as `refusal`?
+fn numbered_refused(ws: &[u64], layout: Layout, cap: usize, i: usize, refusal: Refusal) -> bool
     requires { (end_of layout cap i ≤ length ws.now) × (0 < cap)
-        × ((number ≡ 5 → ⊥) → refused_by layout 5 cap (shard_at layout cap i ws.now) ≡ false) }
-    ensures { result ≡ refused_by layout number cap (shard_at layout cap i ws.now) }
+        × ((number_of refusal ≡ 5 → ⊥) → refused_by layout 5 cap (shard_at layout cap i ws.now) ≡ false) }
+    ensures { result ≡ refused_by layout (number_of refusal) cap (shard_at layout cap i ws.now) }
 {
     let start = start_of(layout, cap, i);
     let end = start + shard_size(layout, cap);
-    shard_refused(&ws[start..end], layout, cap, number)
+    shard_refused(&ws[start..end], layout, cap, refusal)
 }
 
-// Is any shard refused by a number?
-fn any_refused(ws: &[u64], layout: Layout, shards: usize, cap: usize, number: u32) -> bool
-    requires { InShards layout shards cap ws.now × ((number ≡ 5 → ⊥) → any_refused_by layout 5 shards cap ws.now ≡ false) }
-    ensures { result ≡ any_refused_by layout number shards cap ws.now }
+// Is any shard refused as `refusal`?
+fn any_refused(ws: &[u64], layout: Layout, shards: usize, cap: usize, refusal: Refusal) -> bool
+    requires { InShards layout shards cap ws.now × ((number_of refusal ≡ 5 → ⊥) → any_refused_by layout 5 shards cap ws.now ≡ false) }
+    ensures { result ≡ any_refused_by layout (number_of refusal) shards cap ws.now }
 {
-    let mut i: usize = 0;
-    while i < shards {
-        if numbered_refused(ws, layout, cap, i, number) {
+    for i in 0..shards {
+        if numbered_refused(ws, layout, cap, i, refusal) {
             return true;
         }
-        i += 1;
     }
     false
 }
@@ -174,11 +164,9 @@ fn all_slots(ws: &[u64], layout: Layout, shards: usize, cap: usize) -> usize
     requires { Undamaged layout shards cap ws.now }
     ensures { result ≡ Layouts.slots_of layout shards cap ws.now }
 {
-    let mut slots: usize = 0;
-    let mut i: usize = 0;
-    while i < shards {
+    let mut slots = 0;
+    for i in 0..shards {
         slots += slots_numbered(ws, layout, cap, i);
-        i += 1;
     }
     slots
 }
@@ -190,54 +178,46 @@ fn total_wrong(ws: &[u64], layout: Layout, shards: usize, cap: usize) -> bool
 {
     match layout {
         Layout::Old => false,
-        Layout::Present => {
-            if store::len(ws) == all_slots(ws, Layout::Present, shards, cap) as u64 {
-                return false;
-            }
-            true
-        }
+        Layout::Present => store::len(ws) != all_slots(ws, Layout::Present, shards, cap) as u64,
     }
 }
 
-// The number by which the words of the source are refused, 0 if they are not.
-fn source_refusal(ws: &[u64], layout: Layout, shards: usize, cap: usize) -> u32
+// What is wrong with the words of the source.
+fn check_source(ws: &[u64], layout: Layout, shards: usize, cap: usize) -> Result<(), Refusal>
     requires { InShards layout shards cap ws.now }
-    ensures { result ≡ Conversion.source_refusal layout shards cap ws.now }
+    ensures { numbered result ≡ Conversion.source_refusal layout shards cap ws.now }
 {
-    if any_refused(ws, layout, shards, cap, 5) {
-        return 5;
+    if any_refused(ws, layout, shards, cap, Refusal::Memory) {
+        return Err(Refusal::Memory);
     }
     if total_wrong(ws, layout, shards, cap) {
-        return 5;
+        return Err(Refusal::Memory);
     }
-    if any_refused(ws, layout, shards, cap, 18) {
-        return 18;
+    if any_refused(ws, layout, shards, cap, Refusal::Twins) {
+        return Err(Refusal::Twins);
     }
-    if any_refused(ws, layout, shards, cap, 19) {
-        return 19;
+    if any_refused(ws, layout, shards, cap, Refusal::UsedPast) {
+        return Err(Refusal::UsedPast);
     }
-    0
+    Ok(())
 }
 
-// The number for the settings: as every call has it, and 4 for too many keys.
-fn settings_refusal(settings: Settings) -> u32
-    ensures { result ≡ first_refusal (settings_refusal settings) (Conversion.keys_refusal settings) }
+// What is wrong with the settings: what every call checks, and then whether there are too many keys.
+fn check_settings(settings: Settings) -> Result<(), Refusal>
+    ensures { numbered result ≡ first_refusal (settings_refusal settings) (Conversion.keys_refusal settings) }
 {
-    let refusal = settings.refusal();
-    if refusal != 0 {
-        return refusal;
-    }
+    settings.check()?;
     if MOST_KEYS < settings.eviction.max_keys {
-        return 4;
+        return Err(Refusal::Sizes);
     }
-    0
+    Ok(())
 }
 
 // How many words to lend for document 01's layout, 0 where it has no store of this size.
 pub fn old_words(settings: Settings) -> usize
     ensures { result ≡ Conversion.old_words settings }
 {
-    if settings.size_refusal() != 0 {
+    if settings.check_sizes().is_err() {
         return 0;
     }
     if MOST_KEYS < settings.eviction.max_keys {
@@ -255,22 +235,19 @@ fn words_for(layout: Layout, settings: Settings) -> usize
     start_of(layout, shape.cap, shape.shards)
 }
 
-// The number by which a conversion is refused, 0 if it is not. Of the target only the length is looked at.
-fn refusal_of(settings: Settings, from: Layout, source: &[u64], target: &[u64]) -> u32
-    ensures { result ≡ Conversion.refusal_of from settings source.now target.now }
+// What is wrong with a conversion. Of the target only the length is looked at.
+fn check(settings: Settings, from: Layout, source: &[u64], target: &[u64]) -> Result<(), Refusal>
+    ensures { numbered result ≡ Conversion.refusal_of from settings source.now target.now }
 {
-    let refusal = settings_refusal(settings);
-    if refusal != 0 {
-        return refusal;
-    }
+    check_settings(settings)?;
     if source.len() != words_for(from, settings) {
-        return 5;
+        return Err(Refusal::Memory);
     }
     if target.len() != words_for(other(from), settings) {
-        return 5;
+        return Err(Refusal::Memory);
     }
     let shape = settings.shape();
-    source_refusal(source, from, shape.shards, shape.cap)
+    check_source(source, from, shape.shards, shape.cap)
 }
 
 // The words of a shard in the other layout.
@@ -309,10 +286,8 @@ fn move_all(source: &[u64], target: &mut [u64], from: Layout, shards: usize, cap
     ensures { target.new
         ≡ take (Layouts.first_word (Layouts.other from)) target.old ++ Conversion.moved_up_to from shards cap source.now }
 {
-    let mut i: usize = 0;
-    while i < shards {
+    for i in 0..shards {
         move_numbered(source, target, from, cap, i);
-        i += 1;
     }
 }
 
@@ -334,9 +309,8 @@ fn store_total(source: &[u64], target: &mut [u64], from: Layout, shards: usize, 
 fn convert(settings: Settings, from: Layout, source: &[u64], target: &mut [u64]) -> Reply
     ensures { outcome result target.new ≡ Conversion.converted from settings source.now target.old }
 {
-    let refusal = refusal_of(settings, from, source, target);
-    if refusal != 0 {
-        return Reply::Refused(refusal);
+    if let Err(refusal) = check(settings, from, source, target) {
+        return refusal.into();
     }
     let shape = settings.shape();
     store_total(source, target, from, shape.shards, shape.cap);

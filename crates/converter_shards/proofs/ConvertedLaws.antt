@@ -1,6 +1,6 @@
 -- What holds of a shard that went forth: read in place order and without counts it is the shard that it was, its indexes are exact, lookup finds each slot and
 -- debt where no two are alike, it passes the checks of the way back, and back it is the first words again.
-use Prim.Native.Nat.{ℕ, zero, suc, ◌+◌, ◌*◌, ◌≤◌, ◌<◌}
+use Prim.Native.Nat.{ℕ, zero, suc, ◌*◌, ◌≤◌, ◌<◌}
 use native.Mathlib.Omega.{arith}
 use mathlib.Core.Path.{◌≡◌, refl, sym, ap, ◌∙◌}
 use mathlib.Core.Bool.{Bool, true, false}

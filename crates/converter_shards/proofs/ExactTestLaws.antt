@@ -4,10 +4,10 @@ use Prim.Native.Nat.{ℕ, zero, suc, ◌+◌, ◌-◌, ◌%◌, ◌≤◌, ◌<�
 use native.Mathlib.Omega.{arith}
 use mathlib.Core.Path.{◌≡◌, refl, sym, ◌∙◌}
 use mathlib.Core.List.{List, [], ◌∷◌}
-use mathlib.Core.Bool.{Bool, true, false, cond}
-use lib.Dec.{eqb, ltb}
+use mathlib.Core.Bool.{Bool, true, false, cond, not}
+use lib.Dec.{eqb, ltb, leb}
 use lib.ListN.{length, set, length-set}
-use borrow.Author.Tests.{eq-eqb, ne_eqb, lt-ltb, le-ltb}
+use borrow.Author.Tests.{eq-eqb, ne_eqb, lt-ltb, le-ltb, le-leb}
 use Rattle.arith.proofs.Cases.{by_test, by_eq, by_le}
 use Rattle.index.specs.Walk.{at, seek}
 use Rattle.index.specs.Exact.{copies, Before, OnWalk, Exact}
@@ -128,8 +128,13 @@ module _ (hash : ℕ → ℕ) (ix : List ℕ) (i : ℕ) where
   unfolding unplaced
   unplaced_is place word differ = rw (ne_eqb (at ix (seek ix (hash i) (i + 1))) (i + 1) (λ e. differ (word ∙ rw place e)))
 
-  pub unplaced_past : {q size : ℕ} → length ix ≡ size → q ≡ seek ix (hash i) (i + 1) → size ≤ q → true ≡ unplaced hash ix i
-  unplaced_past {q} long place past = unplaced_is place refl (λ e. omega (arith, at_past ix q (omega arith)))
+  pub unplaced_by_word : {q w : ℕ} → q ≡ seek ix (hash i) (i + 1) → w ≡ at ix q → not (eqb w (i + 1)) ≡ unplaced hash ix i
+  unplaced_by_word {q} {w} place word =
+      by_eq w (i + 1) (λ is. rw (eq-eqb _ _ is) (placed_is place word is)) (λ differ. rw (ne_eqb _ _ differ) (unplaced_is place word differ))
+
+  pub unplaced_by_place : {q size : ℕ} → length ix ≡ size → q ≡ seek ix (hash i) (i + 1) → size ≤ q → leb size q ≡ unplaced hash ix i
+  unplaced_by_place {q} {size} long place past =
+      le-leb size q past ∙ unplaced_is place refl (λ e. omega (arith, at_past ix q (omega arith)))
 
 -- The test, by its three parts.
 module _ (hash : ℕ → ℕ) (n : ℕ) (ix : List ℕ) where
@@ -176,11 +181,8 @@ module _ (hash : ℕ → ℕ) (n : ℕ) (ix : List ℕ) {size : ℕ} (long : len
     by_walks : cond (any_below n (unplaced hash ix)) false true ≡ exactly hash n ix
     by_walks = exactly_by_walks hash n ix (omega arith) (sym counted ∙ empty ∙ rw (← long))
 
-    pub test_missed : b ≡ true → false ≡ exactly hash n ix
-    test_missed missed = rw (sym walks ∙ missed) at by_walks
-
-    pub test_met : b ≡ false → true ≡ exactly hash n ix
-    test_met met = rw (sym walks ∙ met) at by_walks
+    pub test_by_walks : not b ≡ exactly hash n ix
+    test_by_walks = by_test b (λ missed. rw missed (rw (sym walks ∙ missed) at by_walks)) (λ met. rw met (rw (sym walks ∙ met) at by_walks))
 
 -- The test for other hashes that are the same on the items.
 pub exactly_agrees : (hash hash' : ℕ → ℕ) (n : ℕ) (ix : List ℕ) → ((i : ℕ) → i < n → hash i ≡ hash' i) → exactly hash n ix ≡ exactly hash' n ix

@@ -20,7 +20,6 @@ use Rattle.index.proofs.LayoutLaws.{same_places, places_length, then_fits, then_
 use Rattle.held.specs.Held.{by_index, hash_at, found_otherwise}
 use Rattle.held.specs.Layout.{table_in, index_words}
 use Rattle.held.proofs.FindingLaws.{indexed}
-use Rattle.slot.specs.Slot as Slot
 use Rattle.ledger.specs.Model.{debt_items, with_debts}
 use Rattle.ledger.specs.Layout as Ledger
 use Rattle.ledger.proofs.LayoutLaws.{words_ledger}

@@ -5,7 +5,7 @@ use native.Mathlib.Nat.{add-zero, add_comm, mul-zero, mul-suc, mul-le-mul_left}
 use mathlib.Core.Path.{◌≡◌, refl, ap, sym, ◌∙◌}
 use mathlib.Core.Bool.{Bool, true, false}
 use mathlib.Core.List.{List, [], ◌∷◌, map}
-use lib.Dec.{lit<}
+use lib.Dec.{lit<, ltb}
 use lib.ListN.{length, get_or, take, drop, length-drop}
 use lib.Seq.{get_or-drop, drop-drop, take-nil}
 use borrow.Author.Tests.{lt-ltb, le-ltb}
@@ -104,6 +104,13 @@ module _ (cap : ℕ) (s : Shard) where
   pub none_over_cap : {n m : ℕ} → n ≡ s.slots.count → n ≤ cap → m ≡ s.ledger.debts.count → m ≤ cap → false ≡ count_over cap s
   unfolding count_over
   none_over_cap {n} {m} slots within is below = rw (← slots, ← is, le-ltb cap n within, le-ltb cap m below)
+
+  pub over_by_slots : {n : ℕ} → n ≡ s.slots.count → cap < n → ltb cap n ≡ count_over cap s
+  over_by_slots {n} is over = lt-ltb cap n over ∙ over_slots_lem is over
+
+  pub over_by_debts : {n m : ℕ} → n ≡ s.slots.count → n ≤ cap → m ≡ s.ledger.debts.count → ltb cap m ≡ count_over cap s
+  unfolding count_over
+  over_by_debts {n} {m} slots within is = rw (← slots, ← is, le-ltb cap n within)
 
   -- Where none is over both fit.
   pub slots_fit_cap : count_over cap s ≡ false → s.slots.count ≤ cap

@@ -1,13 +1,13 @@
 -- With an exact index some item strays just where two items are alike.
+use Rattle.std.proofs.Common.{Option, Some, None}
 use Prim.Native.Nat.{ℕ, ◌<◌}
 use native.Mathlib.Omega.{arith}
 use mathlib.Core.Path.{◌≡◌, refl, sym, ◌∙◌}
-use mathlib.Core.Bool.{Bool, true, false}
+use mathlib.Core.Bool.{Bool, true, false, not}
+use lib.Dec.{eqb}
 use mathlib.Core.List.{List}
 use borrow.Author.Tests.{eq-eqb, ne_eqb}
 use Rattle.arith.proofs.Cases.{by_test, by_eq, by_le}
-use Rattle.rows.specs.declared.Place.{Place}
-use Rattle.rows.specs.declared.Place.TheVariants.{At, Nowhere}
 use Rattle.index.specs.Walk.{find}
 use Rattle.index.specs.Exact.{Exact}
 use Rattle.index.specs.declared.Index.{Index}
@@ -17,28 +17,31 @@ use Rattle.converter_shards.specs.Checks.{any_below, both_same, twinned}
 use Rattle.converter_shards.specs.code.RowChecks.{strayed, strays}
 use Rattle.converter_shards.proofs.CheckLaws.{both_ways, any_passes, none_of, by_some, none_twinned, same_both, same_hashes, same_keys}
 
-by_place : {Q : Type 0} (p : Place) → ((i : ℕ) → p ≡ At i → Q) → (p ≡ Nowhere → Q) → Q
-by_place (At i) found none = found i refl
-by_place Nowhere found none = none refl
+by_place : {Q : Type 0} (p : Option ℕ) → ((i : ℕ) → p ≡ Some i → Q) → (p ≡ None → Q) → Q
+by_place (Some i) found none = found i refl
+by_place None found none = none refl
 
 -- What a lookup that gave a place says of the item that was looked up.
-pub strayed_own : (i j : ℕ) → j ≡ i → false ≡ strayed i (At j)
+pub strayed_to : (i j : ℕ) → not (eqb j i) ≡ strayed i (Some j)
+strayed_to i j = by_test (eqb j i) (λ t. rw t) (λ t. rw t)
+
+strayed_own : (i j : ℕ) → j ≡ i → false ≡ strayed i (Some j)
 strayed_own i j e = rw (eq-eqb j i e)
 
-pub strayed_other : (i j : ℕ) → (j ≡ i → ⊥) → true ≡ strayed i (At j)
+strayed_other : (i j : ℕ) → (j ≡ i → ⊥) → true ≡ strayed i (Some j)
 strayed_other i j n = rw (ne_eqb j i n)
 
 module _ (hash key : ℕ → ℕ) (n : ℕ) (ix : List ℕ) (E : Exact hash n ix) where
   abbrev alike : ℕ → ℕ → Bool
   alike i j = both_same (hash i) (key i) (hash j) (key j)
 
-  abbrev lookup : ℕ → Place
+  abbrev lookup : ℕ → Option ℕ
   lookup i = find n (λ j. alike j i) ix (hash i)
 
   abbrev stray : ℕ → Bool
   stray i = strayed i (lookup i)
 
-  stray_at : (i p : ℕ) → lookup i ≡ At p → (p ≡ i → ⊥) → stray i ≡ true
+  stray_at : (i p : ℕ) → lookup i ≡ Some p → (p ≡ i → ⊥) → stray i ≡ true
   stray_at i p e other = rw e (sym (strayed_other i p other))
 
   -- Two are alike, so both are looked up at one place, and one of them strays.
@@ -81,8 +84,8 @@ module _ (hash key : ℕ → ℕ) (n : ℕ) (ix : List ℕ) (E : Exact hash n ix
       (λ none. none_of n stray (none_strays none) ∙ sym none)
 
 -- A look at one item, by the tests of the code.
-module _ (index : Index) (ws : List ℕ) (n i : ℕ) {h k : ℕ} (hash : h ≡ hash_of index ws i) (key : k ≡ key_of index ws i) {p : Place}
+module _ (index : Index) (ws : List ℕ) (n i : ℕ) {h k : ℕ} (hash : h ≡ hash_of index ws i) (key : k ≡ key_of index ws i) {p : Option ℕ}
     (found : p ≡ find n (keyed index ws h k) (places_of index ws) h) where
-  pub looked_up : {p' : Place} → p ≡ p' → strayed i p' ≡ strays (hash_of index ws) (key_of index ws) n (places_of index ws) i
+  pub looked_up : {p' : Option ℕ} → p ≡ p' → strayed i p' ≡ strays (hash_of index ws) (key_of index ws) n (places_of index ws) i
   unfolding strays keyed
   looked_up is = rw (← is, found, hash, key)

@@ -13,7 +13,6 @@ ghost use Rattle.converter_shards.specs.code.RowChecks as RowChecks;
 ghost use Rattle.converter_shards.specs.code.Carried as Carried;
 
 use index::Index;
-use rows::Place;
 
 pub mod words;
 
@@ -42,10 +41,8 @@ fn alike(ws: &[u64], rows: Rows, n: usize, i: usize, j: usize) -> bool
     requires { RowsFit rows n ws.now × (i < n) × (j < n) }
     ensures { result ≡ RowChecks.alike_rows rows ws.now i j }
 {
-    if row_word(ws, rows, n, i, HASH) == row_word(ws, rows, n, j, HASH) {
-        return row_word(ws, rows, n, i, rows.key) == row_word(ws, rows, n, j, rows.key);
-    }
-    false
+    row_word(ws, rows, n, i, HASH) == row_word(ws, rows, n, j, HASH)
+        && row_word(ws, rows, n, i, rows.key) == row_word(ws, rows, n, j, rows.key)
 }
 
 // Is an item before item i like it?
@@ -53,12 +50,10 @@ fn has_twin(ws: &[u64], rows: Rows, n: usize, i: usize) -> bool
     requires { RowsFit rows n ws.now × (i < n) }
     ensures { result ≡ Checks.any_below i (RowChecks.alike_rows rows ws.now i) }
 {
-    let mut j: usize = 0;
-    while j < i {
+    for j in 0..i {
         if alike(ws, rows, n, i, j) {
             return true;
         }
-        j += 1;
     }
     false
 }
@@ -68,12 +63,10 @@ pub fn has_twins(ws: &[u64], rows: Rows, n: usize) -> bool
     requires { RowsFit rows n ws.now }
     ensures { result ≡ Checks.twinned (RowChecks.alike_rows rows ws.now) n }
 {
-    let mut i: usize = 0;
-    while i < n {
+    for i in 0..n {
         if has_twin(ws, rows, n, i) {
             return true;
         }
-        i += 1;
     }
     false
 }
@@ -82,12 +75,10 @@ pub fn has_twins(ws: &[u64], rows: Rows, n: usize) -> bool
 pub fn any_used(ws: &[u64]) -> bool
     ensures { result ≡ Checks.any_used ws.now }
 {
-    let mut k: usize = 0;
-    while k < ws.len() {
-        if ws[k] != 0 {
+    for word in ws {
+        if *word != 0 {
             return true;
         }
-        k += 1;
     }
     false
 }
@@ -114,12 +105,9 @@ fn empty_places(ws: &[u64], index: Index) -> usize
     requires { index.base + index.size ≤ length ws.now }
     ensures { result ≡ copies 0 (places_of index ws.now) }
 {
-    let size = index.size;
-    let mut empty: usize = 0;
-    let mut q: usize = 0;
-    while q < size {
+    let mut empty = 0;
+    for q in 0..index.size {
         empty += one_if_empty(index::word_at(ws, index, q));
-        q += 1;
     }
     empty
 }
@@ -130,12 +118,7 @@ fn unplaced(ws: &[u64], index: Index, n: usize, i: usize) -> bool
     ensures { result ≡ Checks.unplaced (hash_of index ws.now) (places_of index ws.now) i }
 {
     let q = index::place_of(ws, index, n, i);
-    if q < index.size {
-        if index::word_at(ws, index, q) == i as u64 + 1 {
-            return false;
-        }
-    }
-    true
+    index.size <= q || index::word_at(ws, index, q) != i as u64 + 1
 }
 
 // Does the walk of any of n items miss its number?
@@ -143,12 +126,10 @@ fn any_unplaced(ws: &[u64], index: Index, n: usize) -> bool
     requires { Fits index n ws.now }
     ensures { result ≡ Checks.any_below n (Checks.unplaced (hash_of index ws.now) (places_of index ws.now)) }
 {
-    let mut i: usize = 0;
-    while i < n {
+    for i in 0..n {
         if unplaced(ws, index, n, i) {
             return true;
         }
-        i += 1;
     }
     false
 }
@@ -161,13 +142,7 @@ pub fn is_exact(ws: &[u64], index: Index, n: usize) -> bool
     if index.size <= n {
         return false;
     }
-    if empty_places(ws, index) != index.size - n {
-        return false;
-    }
-    if any_unplaced(ws, index, n) {
-        return false;
-    }
-    true
+    empty_places(ws, index) == index.size - n && !any_unplaced(ws, index, n)
 }
 
 // Does the lookup of an item's own hash and key give another place than the item's, or none?
@@ -178,13 +153,8 @@ fn strays(ws: &[u64], index: Index, n: usize, i: usize) -> bool
     let hash = index::item_word(ws, index, n, i, HASH);
     let key = index::item_word(ws, index, n, i, index.key);
     match index::find(ws, index, n, hash, key) {
-        Place::At(j) => {
-            if j == i {
-                return false;
-            }
-            true
-        }
-        Place::Nowhere => true,
+        Some(j) => j != i,
+        None => true,
     }
 }
 
@@ -194,12 +164,10 @@ fn any_strays(ws: &[u64], index: Index, n: usize) -> bool
     ensures { result
         ≡ Checks.any_below n (RowChecks.strays (hash_of index ws.now) (key_of index ws.now) n (places_of index ws.now)) }
 {
-    let mut i: usize = 0;
-    while i < n {
+    for i in 0..n {
         if strays(ws, index, n, i) {
             return true;
         }
-        i += 1;
     }
     false
 }
@@ -218,10 +186,8 @@ fn word_or_zero(ws: &[u64], k: usize) -> u64
 fn carry(source: &[u64], target: &mut [u64])
     ensures { target.new ≡ Carried.carried (length target.old) source.now }
 {
-    let mut k: usize = 0;
-    while k < target.len() {
-        target[k] = word_or_zero(source, k);
-        k += 1;
+    for (k, word) in target.iter_mut().enumerate() {
+        *word = word_or_zero(source, k);
     }
 }
 
@@ -230,14 +196,12 @@ fn carry_rows(source: &[u64], target: &mut [u64], from: usize, to: usize, n: usi
     requires { (length source.now ≡ from * n) × (length target.old ≡ to * n) }
     ensures { target.new ≡ Carried.carried_rows from to n source.now }
 {
-    let mut i: usize = 0;
-    while i < n {
+    for i in 0..n {
         let at = from * i;
         let at_end = at + from;
         let onto = to * i;
         let onto_end = onto + to;
         carry(&source[at..at_end], &mut target[onto..onto_end]);
-        i += 1;
     }
 }
 
@@ -262,11 +226,9 @@ fn add_items(ws: &mut [u64], index: Index, n: usize)
     ensures { ws.new
         ≡ with_places index ws.old (Forth.added_up_to (hash_of index ws.old) n (places_of index ws.old)) }
 {
-    let mut i: usize = 0;
-    while i < n {
+    for i in 0..n {
         let hash = index::item_word(ws, index, n, i, HASH);
         index::add(ws, index, hash, i);
-        i += 1;
     }
 }
 
@@ -275,13 +237,7 @@ pub fn count_over(ws: &[u64], cap: usize) -> bool
     requires { length ws.now ≡ shard_words01 cap }
     ensures { result ≡ Checks.count_over cap (shard01 cap ws.now) }
 {
-    if cap < words::slot_count(ws, cap) {
-        return true;
-    }
-    if cap < words::debt_count(ws, cap) {
-        return true;
-    }
-    false
+    cap < words::slot_count(ws, cap) || cap < words::debt_count(ws, cap)
 }
 
 // Has the shard two slots of one hash and key, or two debts of one hash?
@@ -290,11 +246,8 @@ pub fn twins(ws: &[u64], cap: usize) -> bool
     ensures { result ≡ Checks.shard_twins (shard01 cap ws.now) }
 {
     let slots = words::slot_count(ws, cap);
-    if has_twins(ws, words::slot_rows(), slots) {
-        return true;
-    }
-    let debts = words::debt_count(ws, cap);
-    has_twins(ws, words::debt_rows(cap), debts)
+    has_twins(ws, words::slot_rows(), slots)
+        || has_twins(ws, words::debt_rows(cap), words::debt_count(ws, cap))
 }
 
 // Is a word past a count not 0?
@@ -303,17 +256,14 @@ pub fn used_past(ws: &[u64], cap: usize) -> bool
     ensures { result ≡ Checks.shard_used_past01 (shard01 cap ws.now) }
 {
     let slots = words::slot_rows();
-    if rows_past_used(
+    let debts = words::debt_rows(cap);
+    rows_past_used(
         ws,
         slots.first,
         slots.width,
         cap,
         words::slot_count(ws, cap),
-    ) {
-        return true;
-    }
-    let debts = words::debt_rows(cap);
-    rows_past_used(
+    ) || rows_past_used(
         ws,
         debts.first,
         debts.width,
@@ -345,13 +295,7 @@ pub fn count_over_now(ws: &[u64], cap: usize) -> bool
     requires { length ws.now ≡ shard_words cap }
     ensures { result ≡ Checks.count_over cap (shard cap ws.now) }
 {
-    if cap < shard_map::len(ws, cap) {
-        return true;
-    }
-    if cap < shard_map::debts::len(ws, cap) {
-        return true;
-    }
-    false
+    cap < shard_map::len(ws, cap) || cap < shard_map::debts::len(ws, cap)
 }
 
 // Are both indexes of a present shard exact?
@@ -360,11 +304,8 @@ pub fn indexes_exact(ws: &[u64], cap: usize) -> bool
     ensures { result ≡ Checks.indexes_exact (shard cap ws.now) }
 {
     let slots = shard_map::len(ws, cap);
-    if is_exact(ws, shard_map::words::index(cap), slots) {
-        let debts = shard_map::debts::len(ws, cap);
-        return is_exact(ws, words::debt_index(cap), debts);
-    }
-    false
+    is_exact(ws, shard_map::words::index(cap), slots)
+        && is_exact(ws, words::debt_index(cap), shard_map::debts::len(ws, cap))
 }
 
 // Has a present shard with exact indexes two slots of one hash and key, or two debts of one hash? Each item is looked up, so that no pairs are compared.
@@ -373,11 +314,8 @@ pub fn twins_by_lookup(ws: &[u64], cap: usize) -> bool
     ensures { result ≡ Checks.shard_twins (shard cap ws.now) }
 {
     let slots = shard_map::len(ws, cap);
-    if any_strays(ws, shard_map::words::index(cap), slots) {
-        return true;
-    }
-    let debts = shard_map::debts::len(ws, cap);
-    any_strays(ws, words::debt_index(cap), debts)
+    any_strays(ws, shard_map::words::index(cap), slots)
+        || any_strays(ws, words::debt_index(cap), shard_map::debts::len(ws, cap))
 }
 
 // Is a word past a count of a present shard not 0?
@@ -386,17 +324,15 @@ pub fn used_past_now(ws: &[u64], cap: usize) -> bool
     ensures { result ≡ Checks.shard_used_past (shard cap ws.now) }
 {
     let slots = shard_map::words::index(cap);
-    if rows_past_used(ws, slots.first, slots.width, cap, shard_map::len(ws, cap)) {
-        return true;
-    }
     let debts = words::debt_index(cap);
-    rows_past_used(
-        ws,
-        debts.first,
-        debts.width,
-        cap,
-        shard_map::debts::len(ws, cap),
-    )
+    rows_past_used(ws, slots.first, slots.width, cap, shard_map::len(ws, cap))
+        || rows_past_used(
+            ws,
+            debts.first,
+            debts.width,
+            cap,
+            shard_map::debts::len(ws, cap),
+        )
 }
 
 // Back: the target becomes document 01's words of the shard.

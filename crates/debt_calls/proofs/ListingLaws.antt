@@ -4,7 +4,7 @@ use native.Mathlib.Omega.{arith}
 use native.Mathlib.Nat.{zero-add, sub-zero}
 use native.Mathlib.Numerals.{add-one}
 use mathlib.Core.Path.{◌≡◌, refl, ap, ◌∙◌}
-use mathlib.Core.List.{List, [], ◌∷◌}
+use mathlib.Core.List.{List, [], ◌∷◌, ◌++◌, append-nil}
 use lib.ListN.{length, set, take, drop, drop_of_length-le}
 use lib.Seq.{length-take-le, drop-cons, get_or-take, sets, sets-eq}
 use borrow.Author.Tests.{le-leb, lt-leb}
@@ -99,7 +99,13 @@ writes_next n i records below is = let one : n - i ≡ suc (n - (i + 1)) = omega
 pub writes_none : (n : ℕ) (records ds : List Debt) → to_write n n records ds ≡ records
 writes_none n records ds = let none : n - n ≡ 0 = omega arith in rw none
 
--- All of them written one by one stand over the first records.
-pub writes_all : (ds records : List Debt) → length ds ≤ length records → sets records 0 ds ≡ written ds records
+-- All of them, written one by one over the first n records, with the records past them.
+pub writes_all : (n : ℕ) (records ds : List Debt) {first : List Debt} → n ≤ length ds → n ≤ length records
+    → first ≡ sets (take n records) 0 (take n ds) → first ++ drop n records ≡ written (take n ds) records
 unfolding written
-writes_all ds records fits = simp zero-add at (sets-eq ds records 0 (omega (arith, fits)))
+writes_all n records ds enough fits wrote =
+    let long = length-take-le n ds enough in
+    let room = length-take-le n records fits in
+    let whole : sets (take n records) 0 (take n ds) ≡ take n ds ++ drop (length (take n ds)) (take n records) =
+    simp zero-add at (sets-eq (take n ds) (take n records) 0 (omega (arith, long, room))) in
+    rw (wrote, whole, long, drop_of_length-le (take n records) {i = n} (omega (arith, room)), append-nil)

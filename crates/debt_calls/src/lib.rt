@@ -4,12 +4,15 @@
 
 ghost use Rattle.std.specs.Prelude.{◌≡◌, ◌<◌, ◌≤◌, ◌∷◌, length, take};
 ghost use Rattle.rows.specs.Outcome.{outcome};
+ghost use Rattle.settings.specs.Refusal.{numbered, GivenUnless};
+ghost use Rattle.settings.specs.Settings.{shape_of};
 ghost use Rattle.store.specs.Memory.{Placed};
 ghost use Rattle.rules.specs.Debts as Debts;
-ghost use Rattle.debt_calls.specs.code.Listing.{ledger_in, listed_from, Readable, Fillable, call_refusal, refused_plan, ledger_plan, plan_of, reply_to};
+ghost use Rattle.debt_calls.specs.code.Listing.{ledger_in, listed_from, Readable, Fillable, call_refusal, plan_in, plan_of};
 
 use ledger::Debt;
 use rules::Reply;
+use settings::refusal::Refusal;
 use settings::{Settings, Shape};
 use store::{Part, debts, refusals};
 use units::Nanos;
@@ -21,12 +24,11 @@ pub struct Unsettled {
     pub next: usize,
 }
 
-// What is to be written: so many debts of a part. A call that is refused by a number writes none.
+// What is to be written: so many debts of a part.
 #[derive(Clone, Copy)]
 pub struct Plan {
     pub part: Part,
     pub count: usize,
-    pub refusal: u32,
 }
 
 // How many debts of the part settle after the moment.
@@ -35,14 +37,12 @@ fn count_unsettled(ws: &[u64], part: Part, at: Nanos) -> usize
     ensures { result ≡ length (Debts.listed at (ledger_in part ws.now)) }
 {
     let held = debts::len(ws, part);
-    let mut count: usize = 0;
-    let mut i: usize = 0;
-    while i < held {
+    let mut count = 0;
+    for i in 0..held {
         let settles = debts::load(ws, part, i).settles;
         if at.0 < settles.0 {
             count += 1;
         }
-        i += 1;
     }
     count
 }
@@ -68,113 +68,81 @@ fn fill(records: &mut [Debt], ws: &[u64], part: Part, at: Nanos, n: usize)
     requires { Fillable part ws.now at n × (n ≤ length records.old) }
     ensures { records.new ≡ Debts.written (take n (Debts.listed at (ledger_in part ws.now))) records.old }
 {
-    let mut from: usize = 0;
-    let mut i: usize = 0;
-    while i < n {
+    let mut from = 0;
+    for record in &mut records[..n] {
         let unsettled = next_unsettled(ws, part, at, from);
-        records[i] = unsettled.debt;
+        *record = unsettled.debt;
         from = unsettled.next;
-        i += 1;
     }
 }
 
-// 16 where no shard has the number. It is a number of 64 bits: nothing is multiplied by it before this test.
-fn shard_refusal(shape: Shape, shard: u64) -> u32
-    ensures { result ≡ Debts.shard_refusal shape shard }
+// Whether a shard has the number. It is a number of 64 bits: nothing is multiplied by it before this test.
+fn check_shard(shape: Shape, shard: u64) -> Result<(), Refusal>
+    ensures { numbered result ≡ Debts.shard_refusal shape shard }
 {
-    if shard < shape.shards as u64 { 0 } else { 16 }
+    if shard < shape.shards as u64 {
+        Ok(())
+    } else {
+        Err(Refusal::Shard)
+    }
 }
 
-// 5 where the ledger counts more debts than it has room for.
-fn debt_count_refusal(ws: &[u64], part: Part) -> u32
+// Whether the ledger has room for the debts that it counts.
+fn check_debt_count(ws: &[u64], part: Part) -> Result<(), Refusal>
     requires { Placed part ws.now }
-    ensures { result ≡ Debts.debt_count_refusal part.cap (ledger_in part ws.now) }
+    ensures { numbered result ≡ Debts.debt_count_refusal part.cap (ledger_in part ws.now) }
 {
     if part.cap < debts::len(ws, part) {
-        5
+        Err(Refusal::Memory)
     } else {
-        0
+        Ok(())
     }
 }
 
-// 17 where fewer records are lent than are to be written.
-fn records_refusal(room: usize, needed: usize) -> u32
-    ensures { result ≡ Debts.records_refusal room needed }
+// Whether as many records are lent as are to be written.
+fn check_records(room: usize, needed: usize) -> Result<(), Refusal>
+    ensures { numbered result ≡ Debts.records_refusal room needed }
 {
-    if room < needed { 17 } else { 0 }
+    if room < needed {
+        Err(Refusal::Records)
+    } else {
+        Ok(())
+    }
 }
 
-// The refusal before the ledger is looked at: the settings, the length, the moment, then the shard's number.
-fn call_refusal(settings: Settings, ws: &[u64], at: Nanos, shard: u64) -> u32
-    ensures { result ≡ call_refusal settings at shard ws.now }
+// What is checked before the ledger is looked at: the settings, the length, the moment, then the shard's number.
+fn check_call(settings: Settings, ws: &[u64], at: Nanos, shard: u64) -> Result<(), Refusal>
+    ensures { numbered result ≡ call_refusal settings at shard ws.now }
 {
-    let refusal = refusals::set_up_refusal(settings, settings.classes as usize, ws);
-    if refusal != 0 {
-        return refusal;
-    }
-    let refusal = refusals::moment_refusal(at);
-    if refusal != 0 {
-        return refusal;
-    }
-    shard_refusal(settings.shape(), shard)
-}
-
-// The plan of a refused call: nothing to write, and the number of the refusal.
-fn refused(refusal: u32) -> Plan
-    ensures { result ≡ refused_plan refusal }
-{
-    Plan {
-        part: Part {
-            start: 0,
-            end: 0,
-            cap: 0,
-        },
-        count: 0,
-        refusal,
-    }
+    refusals::check_set_up(settings, settings.classes as usize, ws)?;
+    refusals::check_moment(at)?;
+    check_shard(settings.shape(), shard)
 }
 
 // The plan for the ledger of a part, where `room` records are lent.
-fn ledger_plan(ws: &[u64], part: Part, at: Nanos, room: usize) -> Plan
+fn ledger_plan(ws: &[u64], part: Part, at: Nanos, room: usize) -> Result<Plan, Refusal>
     requires { Placed part ws.now }
-    ensures { result ≡ ledger_plan part at room (ledger_in part ws.now) }
+    ensures { GivenUnless (Debts.ledger_refusal part.cap at room (ledger_in part ws.now)) (plan_in part at ws.now) result }
 {
-    let refusal = debt_count_refusal(ws, part);
-    if refusal != 0 {
-        return refused(refusal);
-    }
+    check_debt_count(ws, part)?;
     let count = count_unsettled(ws, part, at);
-    let refusal = records_refusal(room, count);
-    if refusal != 0 {
-        return refused(refusal);
-    }
-    Plan {
-        part,
-        count,
-        refusal: 0,
-    }
+    check_records(room, count)?;
+    Ok(Plan { part, count })
 }
 
 // All that the call decides, where `room` records are lent.
-fn planned(settings: Settings, ws: &[u64], at: Nanos, shard: u64, room: usize) -> Plan
-    ensures { result ≡ plan_of settings at shard room ws.now }
+fn planned(
+    settings: Settings,
+    ws: &[u64],
+    at: Nanos,
+    shard: u64,
+    room: usize,
+) -> Result<Plan, Refusal>
+    ensures { GivenUnless (Debts.debts_refusal_in (shape_of settings) settings at shard room ws.now) (plan_of settings at shard ws.now) result }
 {
-    let refusal = call_refusal(settings, ws, at, shard);
-    if refusal != 0 {
-        return refused(refusal);
-    }
+    check_call(settings, ws, at, shard)?;
     let part = store::part_at(settings.shape(), shard as usize);
     ledger_plan(ws, part, at, room)
-}
-
-// The reply to a call that is refused by a number, or wrote so many records.
-fn reply_to(refusal: u32, count: usize) -> Reply
-    ensures { result ≡ reply_to refusal count }
-{
-    if refusal != 0 {
-        return Reply::Refused(refusal);
-    }
-    Reply::Count(count as u64)
 }
 
 // Writes the debts of a shard that settle after the moment over the first records, and tells how many they are.
@@ -188,7 +156,11 @@ pub fn list_debts(
     ensures { outcome result (Debts.lent ws.exit.now records.new)
         ≡ Debts.list_debts settings at shard (Debts.lent ws.now records.old) }
 {
-    let plan = planned(settings, ws, at, shard, records.len());
-    fill(records, ws, plan.part, at, plan.count);
-    reply_to(plan.refusal, plan.count)
+    match planned(settings, ws, at, shard, records.len()) {
+        Err(refusal) => refusal.into(),
+        Ok(plan) => {
+            fill(records, ws, plan.part, at, plan.count);
+            Reply::Count(plan.count as u64)
+        }
+    }
 }

@@ -1,4 +1,5 @@
 -- The digits of a number are digits and that number, so what was written is read back.
+use Rattle.std.proofs.Common.{Some}
 use Prim.Native.Nat.{ℕ, zero, suc, ◌+◌, ◌/◌, ◌%◌, ◌^◌, ◌≤◌, ◌<◌}
 use native.Mathlib.Omega.{arith}
 use mathlib.Core.Bool.{true}
@@ -6,7 +7,6 @@ use mathlib.Core.List.{[], ◌∷◌}
 use mathlib.Core.Path.{◌≡◌, refl}
 use lib.ListN.{length, get_or, get_or-append}
 use Rattle.arith.proofs.Cases.{by_le}
-use Rattle.decimal.specs.declared.OptionNumber.TheVariants.{Some}
 use Rattle.decimal.specs.Decimal.{all_digits, decimal_from, number_of, digits_from, digits_of}
 use borrow.Author.Tests.{le-leb}
 use Rattle.decimal.proofs.ReadLaws.{digits_are_a_number, digit, all_digits_but_last, decimal_with_last}

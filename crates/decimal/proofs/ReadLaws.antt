@@ -1,16 +1,18 @@
 -- What is read of a field byte by byte.
+use Rattle.std.proofs.Common.{Some, None}
+use Rattle.std.specs.Char.{is_ascii_digit}
 use Prim.Native.Nat.{ℕ, zero, suc, ◌+◌, ◌*◌, ◌-◌, ◌^◌, ◌≤◌, ◌<◌}
 use native.Mathlib.Numerals.{add-one}
 use native.Mathlib.Nat.{add-zero, pow-suc, pow-le-pow_right}
 use native.Mathlib.Omega.{arith}
-use mathlib.Core.Bool.{true, false, true≢false}
+use mathlib.Core.Bool.{Bool, cond, ◌&&◌, true, false, true≢false}
 use mathlib.Core.List.{List, [], ◌∷◌, ◌++◌}
 use mathlib.Core.Path.{◌≡◌, refl, ap, sym, ◌∙◌}
+use lib.Dec.{leb}
 use lib.ListN.{length, take, drop, get_or, drop_of_length-le, length-drop}
 use lib.Seq.{take_all, take-suc, drop-cons}
 use Rattle.arith.proofs.Cases.{by_test, by_le}
 use Rattle.decimal.specs.declared.Digits.{Digits}
-use Rattle.decimal.specs.declared.OptionNumber.TheVariants.{None, Some}
 use Rattle.decimal.specs.Decimal.{is_digit, all_digits, decimal_from, digits_ahead, front_from, front_of, at_most, number_of}
 use borrow.Author.Tests.{le-leb, lt-leb}
 
@@ -40,15 +42,14 @@ pub digit : (b : ℕ) → 48 ≤ b → b ≤ 57 → is_digit b ≡ true
 unfolding is_digit
 digit b low high = rw (le-leb 48 b low, le-leb b 57 high)
 
-pub below_is_no_digit : (b : ℕ) → b < 48 → is_digit b ≡ false
-unfolding is_digit
-below_is_no_digit b below = rw (lt-leb 48 b below)
+-- std's digits are the same bytes.
+both : (a b : Bool) → (a && b) ≡ cond a b false
+both true b = refl
+both false b = refl
 
-pub above_is_no_digit : (b : ℕ) → 57 < b → is_digit b ≡ false
+pub digit_as_std : (b : ℕ) {answer verdict : Bool} → answer ≡ is_ascii_digit b → answer ≡ verdict → is_digit b ≡ verdict
 unfolding is_digit
-above_is_no_digit b above =
-    let low : 48 ≤ b = omega arith in
-    rw (le-leb 48 b low, lt-leb b 57 above)
+digit_as_std b is so = sym (both (leb 48 b) (leb b 57)) ∙ sym is ∙ so
 
 -- Digits in front: no more than are asked for and than there are bytes; and all of them digits.
 pub ahead_within : (left : ℕ) (bs : List ℕ) → (digits_ahead left bs ≤ left) × (digits_ahead left bs ≤ length bs)

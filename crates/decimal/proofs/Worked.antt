@@ -1,8 +1,8 @@
 -- Fields read and numbers written, computed from the definitions.
+use Rattle.std.proofs.Common.{Some, None}
 use Prim.Native.Nat.{◌-◌, ◌^◌}
 use mathlib.Core.Path.{◌≡◌, refl}
 use mathlib.Core.List.{[], ◌∷◌}
-use Rattle.decimal.specs.declared.OptionNumber.TheVariants.{None, Some}
 use Rattle.decimal.specs.Decimal.{is_digit, all_digits, decimal_from, digits_ahead, front_of, number_of, digits_from, digits_of}
 
 -- "007"

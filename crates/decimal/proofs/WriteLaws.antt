@@ -1,6 +1,6 @@
 -- What is written of a number digit by digit, and how many digits it has.
-use Prim.Native.Nat.{ℕ, zero, suc, ◌+◌, ◌-◌, ◌/◌, ◌%◌, ◌^◌, ◌≤◌, ◌<◌}
-use native.Mathlib.Nat.{le_refl, add-zero, pow-suc}
+use Prim.Native.Nat.{ℕ, zero, suc, max, ◌+◌, ◌*◌, ◌-◌, ◌/◌, ◌%◌, ◌^◌, ◌≤◌, ◌<◌}
+use native.Mathlib.Nat.{le_refl, add-zero, pow-suc, pow-le-pow_right}
 use native.Mathlib.Omega.{arith}
 use mathlib.Core.List.{List, [], ◌∷◌, ◌++◌}
 use mathlib.Core.Path.{◌≡◌, refl, ap, sym, ◌∙◌}
@@ -106,46 +106,25 @@ pub some_left : (left n : ℕ) → n < 10 ^ left → 1 ≤ n → 1 ≤ left
 some_left zero n fits some = absurd (omega arith)
 some_left (suc left) n fits some = omega arith
 
--- Of `all` digits, `more` are counted, and the number n in front of those fits the others. Of 10 or more, its last digit is counted next.
-module _ (all more n : ℕ) (fits : n < 10 ^ (all - more)) where
-  one_less : 1 ≤ n → all - more ≡ suc (all - (more + 1))
-  one_less some = omega (arith, some_left (all - more) n fits some)
+-- A number from a power of ten on and below the next has one digit more than that power has zeros.
+digits_by_power : (left n k : ℕ) → k < left → 10 ^ k ≤ n → n < 10 * 10 ^ k → length (digits_from left n) ≡ k + 1
+digits_by_power zero n k room low high = absurd (omega arith)
+digits_by_power (suc left) n zero room low high = rw (one_digit left n (omega arith))
+digits_by_power (suc left) n (suc k) room low high =
+    let power = pow-suc 10 k in
+    let some : 1 ≤ 10 ^ k = pow-le-pow_right {n = 10} (omega arith) {i = 0} {j = k} (omega arith) in
+    let front = digits_by_power left (n / 10) k (omega arith) (omega (arith, power)) (omega (arith, power)) in
+    rw (more_digits left n (omega (arith, power)), length_snoc (digits_from left (n / 10)) (48 + n % 10), front) (omega arith)
 
-  pub tenth_fits_after : 10 ≤ n → n / 10 < 10 ^ (all - (more + 1))
-  tenth_fits_after many = tenth_fits (all - (more + 1)) n (rw (one_less (omega arith)) at fits)
-
-  pub one_more_counted : 10 ≤ n → more + 1 + length (digits_from (all - (more + 1)) (n / 10)) ≡ more + length (digits_from (all - more) n)
-  one_more_counted many =
-      rw (one_less (omega arith), more_digits (all - (more + 1)) n many)
-      (omega (arith, length_snoc (digits_from (all - (more + 1)) (n / 10)) (48 + n % 10)))
-
--- Of 100 or more, its last two digits are counted next.
-module _ (all more n : ℕ) (fits : n < 10 ^ (all - more)) (many : 100 ≤ n) where
-  hundredth : n / 10 / 10 ≡ n / 100
-  hundredth = omega arith
-
-  two : more + 1 + 1 ≡ more + 2
-  two = omega arith
-
-  tenth : n / 10 < 10 ^ (all - (more + 1))
-  tenth = tenth_fits_after all more n fits (omega arith)
-
-  pub hundredth_fits : n / 100 < 10 ^ (all - (more + 2))
-  hundredth_fits = rw (← hundredth, ← two) (tenth_fits_after all (more + 1) (n / 10) tenth (omega arith))
-
-  pub two_more_counted : more + 2 + length (digits_from (all - (more + 2)) (n / 100)) ≡ more + length (digits_from (all - more) n)
-  two_more_counted = rw (← hundredth, ← two) (one_more_counted all (more + 1) (n / 10) tenth (omega arith) ∙ one_more_counted all more n fits (omega arith))
-
--- Below 10 it is one digit more, and that is the last to count; below 100 and not below 10 it is two.
-pub last_counted : (all more n : ℕ) → more < all → n < 10 → more + length (digits_from (all - more) n) ≡ more + 1
-last_counted all more n inside few =
-    let e : all - more ≡ suc (all - (more + 1)) = omega arith in
-    rw (e, one_digit (all - (more + 1)) n few)
-
-pub last_two_counted : (all more n : ℕ) → n < 10 ^ (all - more) → 10 ≤ n → n < 100 → more + length (digits_from (all - more) n) ≡ more + 2
-last_two_counted all more n fits many few =
-    let front = some_left (all - (more + 1)) (n / 10) (tenth_fits_after all more n fits many) (omega arith) in
-    sym (one_more_counted all more n fits many) ∙ last_counted all (more + 1) (n / 10) (omega arith) (omega arith) ∙ (omega arith)
+-- So the digits of a number are counted, 0 as 1.
+pub digits_counted : (n k : ℕ) → k < 20 → 10 ^ k ≤ max n 1 → max n 1 < 10 * 10 ^ k → k + 1 ≡ length (digits_of n)
+digits_counted n k room low high =
+    by_le 1 n
+    (λ some. let same : max n 1 ≡ n = omega arith in sym (digits_by_power 20 n k room (rw same at low) (rw same at high)))
+    (λ none.
+    let one : max n 1 ≡ 1 = omega arith in
+    let as_one = digits_by_power 20 1 k room (rw one at low) (rw one at high) in
+    sym as_one ∙ rw (one_digit 19 1 (omega arith), one_digit 19 n (omega arith)))
 
 -- A number of one digit is written as that digit.
 pub one_digit_is_written : (out : List ℕ) (place n : ℕ) → n < 10 → outcome (place + 1) (set out place (48 + n)) ≡ written place n out

@@ -1,10 +1,9 @@
 -- Numbers as decimal digits. Lists of numbers below 256 stand for strings of bytes.
-use Rattle.std.specs.Prelude.{ℕ, zero, suc, ◌+◌, ◌*◌, ◌-◌, ◌/◌, ◌%◌, Bool, true, false, cond, List, [], ◌∷◌, ◌++◌, leb, ltb, length, take, drop}
+use Rattle.std.specs.Prelude.{ℕ, zero, suc, ◌+◌, ◌*◌, ◌-◌, ◌/◌, ◌%◌, Bool, true, false, cond, List, [], ◌∷◌, ◌++◌, leb, ltb, length, take, drop, Option, Some}
+use Rattle.std.specs.Prelude.{None}
 use Rattle.std.proofs.lemmas.List.Edits.{sets}
 use Rattle.rows.specs.Outcome.{Outcome, outcome}
 use Rattle.decimal.specs.declared.Digits.{Digits}
-use Rattle.decimal.specs.declared.OptionNumber.{OptionNumber}
-use Rattle.decimal.specs.declared.OptionNumber.TheVariants.{None, Some}
 
 -- A decimal digit: a byte from `0` (48) to `9` (57).
 unfoldable pub is_digit : ℕ → Bool
@@ -34,11 +33,11 @@ abbrev pub front_of : List ℕ → ℕ → Digits
 front_of bytes from = front_from 0 from 19 (drop from bytes)
 
 -- A value that is at most `most` as a number. Any other is no number.
-abbrev pub at_most : ℕ → ℕ → OptionNumber
+abbrev pub at_most : ℕ → ℕ → Option ℕ
 at_most most n = cond (leb n most) (Some n) None
 
 -- The number that a field is: 1 to 20 digits, zeros in front allowed, that make no more than `most`. Anything else is no number.
-unfoldable pub number_of : ℕ → List ℕ → OptionNumber
+unfoldable pub number_of : ℕ → List ℕ → Option ℕ
 number_of most bs =
     cond (leb 1 (length bs))
     (cond (leb (length bs) 20) (cond (all_digits bs) (at_most most (decimal_from 0 bs)) None) None)

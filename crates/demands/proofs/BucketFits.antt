@@ -1,10 +1,9 @@
 -- What a bucket stores fits 64 bits, at an accepted rate and at a moment that is not too late.
+use Rattle.std.proofs.Common.{Option, Some, None}
 use Prim.Native.Nat.{ℕ, ◌-◌, ◌≤◌, ◌^◌}
 use native.Mathlib.Omega.{arith}
 use lib.Dec.{leb, eqb}
 use Rattle.units.specs.declared.Nanos.{Nanos}
-use Rattle.units.specs.declared.OptionNanos.{OptionNanos}
-use Rattle.units.specs.declared.OptionNanos.TheVariants.{None, Some}
 use Rattle.bucket.specs.declared.BucketConfig.{BucketConfig}
 use Rattle.bucket.specs.declared.BucketCore.{BucketCore}
 use Rattle.bucket.specs.declared.BucketOutcome.{BucketOutcome}
@@ -48,7 +47,7 @@ module _ (c : BucketConfig) (at : Nanos) (a : Accepted c) (early : at.0 ≤ 2 ^ 
       of_either BucketFits (eqb (settles.0 - at.0) 0) b (lacking c b missing at) f (lacking_fits b missing f)
 
   -- The bucket of a key without a slot.
-  pub returning_fits : (owed : OptionNanos) → BucketFits (returning c at owed)
+  pub returning_fits : (owed : Option Nanos) → BucketFits (returning c at owed)
   returning_fits None = fresh_fits
   returning_fits (Some settles) = restored_fits (fresh c at) settles fresh_fits
 

@@ -1,5 +1,6 @@
 -- Three wrong ways to deal with tries through classes, each refuted by a short list of tries: classes are never charged, a try asks the class that it names
 -- alone, and classes are charged though the modem's side denies.
+use Rattle.std.proofs.Common.{Option, Some, None}
 use Prim.Native.Nat.{ℕ, ◌+◌, ◌*◌, ◌≤◌}
 use mathlib.Core.Path.{◌≡◌, refl, ap}
 use mathlib.Core.Bool.{Bool, true, false, cond, ◌&&◌}
@@ -9,12 +10,9 @@ use lib.Dec.{eqb}
 use Rattle.arith.specs.Arith.{ceil_div}
 use Rattle.bucket.specs.declared.BucketCore.{BucketCore}
 use Rattle.bucket.specs.Bucket.{shortfall_at, grown, wait_at}
-use Rattle.settings.specs.declared.rate.OptionTokens.TheVariants as tokens
 use Rattle.settings.specs.Rate.{unless_within, rate_refusal}
 use Rattle.settings.specs.Settings.{first_refusal}
 use Rattle.classes.specs.declared.Class.{Class}
-use Rattle.classes.specs.declared.OptionClass.{OptionClass}
-use Rattle.classes.specs.declared.OptionClass.TheVariants.{None, Some}
 use Rattle.classes.specs.Classes.{class_at, ends, count_refusal, number_refusal, chain_refusal, refused_by, first_from, table_refusal}
 use Rattle.classes.specs.Chains.{chain, among, full_bucket, bucket_at, least_burst, own_wait, chain_wait, charged}
 use Rattle.demands.specs.Passings.{Passing, Way, lets_pass, charged_for, buckets_after, by_the_rules, tokens_passed, tokens_through}
@@ -36,9 +34,9 @@ abbrev pub charges_the_denied : List Class → Way
 charges_the_denied cs = record { lets = lets_pass cs; leaves = λ bs p. charged_for cs p bs }
 
 -- A hub (class 0) with a burst of 10, and two nodes (1 and 2) under it with bursts of 8; one token a second each.
-abbrev rated : ℕ → OptionClass → Class
+abbrev rated : ℕ → Option ℕ → Class
 rated burst parent =
-    record { rate = record { amount = 1; period = record { 0 = 1000000000 }; burst = tokens.Some burst; initial = tokens.None }; parent = parent }
+    record { rate = record { amount = 1; period = record { 0 = 1000000000 }; burst = Some burst; initial = None }; parent = parent }
 
 abbrev town : List Class
 town = rated 10 None ∷ rated 8 (Some 0) ∷ rated 8 (Some 0) ∷ []

@@ -1,4 +1,5 @@
 -- What every operation of the ledger leaves fits 64 bits, free places too, where what it is given fits.
+use Rattle.std.proofs.Common.{Option, Some, None, Ok, Err}
 use Prim.Native.Nat.{ℕ, zero, suc, ◌+◌, ◌≤◌, ◌<◌}
 use mathlib.Core.Path.{◌≡◌, refl, sym}
 use mathlib.Core.Bool.{Bool}
@@ -8,14 +9,11 @@ use borrow.Author.Tests.{ltb-true, ltb-false}
 use Rattle.arith.proofs.Cases.{by_test}
 use Rattle.units.specs.declared.Nanos.{Nanos}
 use Rattle.bucket.specs.declared.BucketConfig.{BucketConfig}
-use Rattle.rows.specs.declared.Place.{Place}
-use Rattle.rows.specs.declared.Place.TheVariants.{At, Nowhere}
 use Rattle.rows.specs.Outcome.{Outcome}
 use Rattle.ledger.specs.declared.Debt.{Debt}
 use Rattle.ledger.specs.declared.Choice.{Choice}
 use Rattle.ledger.specs.declared.Choice.TheVariants.{Settled, Soonest}
-use Rattle.ledger.specs.declared.Recorded.{Recorded}
-use Rattle.ledger.specs.declared.Recorded.TheVariants.{Done, NoRoom}
+use Rattle.ledger.specs.Model.{Recorded}
 use Rattle.ledger.specs.Model.{Ledger, Sound, no_debt, debt_items, cap_of, debt_at, settled_by, has_settled, cursor_of, with_cursor, with_debt, place_of}
 use Rattle.ledger.specs.Model.{remove_at}
 use Rattle.ledger.specs.Model.{append, taken, round_of, sweep}
@@ -98,14 +96,14 @@ scan_from_fits at (suc left) l best f =
 
 record RoomFits (o : Outcome Recorded Ledger) : Type 0 where
   after : LedgerFits o.after
-  next : o.answer ≡ Done → Word (o.after.debts.count + 1)
+  next : o.answer ≡ Ok tt → Word (o.after.debts.count + 1)
 
 dropped_fits : (at : Nanos) (forget : Bool) (l : Ledger) (choice : Choice) → chosen choice < l.debts.count → LedgerFits l
     → RoomFits (drop_chosen at forget l choice)
 unfolding drop_chosen
 dropped_fits at forget l choice held f = go choice held
   where
-    leaves : (p : ℕ) → p < l.debts.count → RoomFits (record { answer = Done; after = remove_at l p })
+    leaves : (p : ℕ) → p < l.debts.count → RoomFits (record { answer = Ok tt; after = remove_at l p })
     leaves p below = record { after = debt_removed_fits l f p below; next = λ done. omega (arith, removal_count l p, f.debts.count) }
 
     go : (choice : Choice) → chosen choice < l.debts.count → RoomFits (drop_chosen at forget l choice)
@@ -117,10 +115,10 @@ unfolding make_room scan
 make_room_fits at forget l some f =
     dropped_fits at forget (scan at l).after (scan at l).answer (scan_chooses_held at l some) (scan_from_fits at _ l (cursor_of l) f)
 
-joined_fits : (d : Debt) (l : Ledger) (answer : Recorded) → DebtFits d → LedgerFits l → (answer ≡ Done → Word (l.debts.count + 1))
+joined_fits : (d : Debt) (l : Ledger) (answer : Recorded) → DebtFits d → LedgerFits l → (answer ≡ Ok tt → Word (l.debts.count + 1))
     → LedgerFits (joined d l answer).after
-joined_fits d l Done fits f next = debt_appended_fits l f d fits (next refl)
-joined_fits d l (NoRoom wait) fits f next = f
+joined_fits d l (Ok _) fits f next = debt_appended_fits l f d fits (next refl)
+joined_fits d l (Err full) fits f next = f
 
 -- A recording.
 pub recorded_fits : (l : Ledger) (d : Debt) (at : Nanos) (forget : Bool) → Sound l → DebtFits d → LedgerFits l → LedgerFits (recorded l d at forget).after
@@ -130,11 +128,11 @@ recorded_fits l d at forget s fits f = go (place_of l d.hash)
     made : cap_of l ≤ l.debts.count → RoomFits (make_room at forget l)
     made full = make_room_fits at forget l (omega (arith, s.room)) f
 
-    go : (place : Place) → LedgerFits (recorded_at l d at forget place).after
-    go (At p) =
+    go : (place : Option ℕ) → LedgerFits (recorded_at l d at forget place).after
+    go (Some p) =
         let old : DebtFits (debt_at l p) = debt_at_fits l f p in
         changed_debt_fits l f p _ (record { hash = old.hash; settles = omega (arith, old.settles, fits.settles) })
-    go Nowhere =
+    go None =
         by_test (ltb l.debts.count (cap_of l))
-        (λ t. rw (t, recorded_at) (joined_fits d l Done fits f (λ done. omega (arith, ltb-true l.debts.count (cap_of l) t, f.debts.room))))
+        (λ t. rw (t, recorded_at) (joined_fits d l (Ok tt) fits f (λ done. omega (arith, ltb-true l.debts.count (cap_of l) t, f.debts.room))))
         (λ t. let room = made (ltb-false _ _ t) in rw (t, recorded_at) (joined_fits d _ _ fits room.after room.next))

@@ -1,4 +1,5 @@
 -- The list of a shard's debts is true of every store that has grown from fresh: the claim of specs/MorningList.antt.
+use Rattle.std.proofs.Common.{None}
 use Prim.Native.Nat.{ℕ, ◌<◌}
 use mathlib.Core.Path.{◌≡◌, refl, sym, ap, subst, ◌∙◌}
 use mathlib.Core.List.{List, [], ◌∷◌}
@@ -17,7 +18,6 @@ use Rattle.ledger.specs.declared.Debt.{Debt}
 use Rattle.shard_map.specs.Model.{Shard, place_of}
 use Rattle.shard_map.proofs.PlaceOrderLaws.{FindsEach}
 use Rattle.shard.specs.declared.Identity.{Identity}
-use Rattle.rows.specs.declared.Place.TheVariants.{Nowhere}
 use Rattle.store.specs.Memory.{shard_at}
 use Rattle.store.specs.Refusals.{moment_refusal}
 use Rattle.rules.specs.declared.Reply.{Reply}
@@ -56,7 +56,7 @@ module _ (s : Settings) (ws : List ℕ) (memory : SoundMemory s ws) where
 
   -- So its answer is what the listed record leaves the key.
   listed_key_is_told : (rate : Rate) → s.limit ≡ Open rate → (at : Nanos) → moment_refusal at ≡ 0 → (id : Identity)
-      → place_of (shard_at s id.hash ws) id.hash id.key ≡ Nowhere → (d : Debt) → records_of s ws at id ≡ d ∷ []
+      → place_of (shard_at s id.hash ws) id.hash id.key ≡ None → (d : Debt) → records_of s ws at id ≡ d ∷ []
       → ((available s at id ws).answer ≡ Count (tokens_left (config_of rate) at d)) × (tokens_left (config_of rate) at d < (config_of rate).capacity)
   listed_key_is_told rate rated at early id new d is =
       let own = shard_at s id.hash ws in
@@ -67,7 +67,7 @@ module _ (s : Settings) (ws : List ℕ) (memory : SoundMemory s ws) where
       (tokens_are_told at early id ∙ ap (λ (limit : Limit). Count (tokens_in limit at id own)) rated ∙ ap Count has, rw has at fewer)
 
   unlisted_key_is_told : (rate : Rate) → s.limit ≡ Open rate → (at : Nanos) → moment_refusal at ≡ 0 → (id : Identity)
-      → place_of (shard_at s id.hash ws) id.hash id.key ≡ Nowhere → records_of s ws at id ≡ []
+      → place_of (shard_at s id.hash ws) id.hash id.key ≡ None → records_of s ws at id ≡ []
       → (available s at id ws).answer ≡ Count (config_of rate).initial
   unlisted_key_is_told rate rated at early id new none =
       let own = shard_at s id.hash ws in

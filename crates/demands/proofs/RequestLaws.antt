@@ -1,17 +1,16 @@
 -- What one call does to what is held against one key (h, k). The key's own request keeps the invariant: the shard has at most one slot or debt of hash h,
 -- and a bound by the line of what that lacks holds of what happened to the key so far. A request, a refund or a removal for another hash loses nothing that
 -- is held.
+use Rattle.std.proofs.Common.{Option, None, Ok}
 use Prim.Native.Nat.{ℕ, ◌≤◌, ◌<◌, ◌^◌}
 use mathlib.Core.Path.{◌≡◌, refl, sym, ◌∙◌}
 use mathlib.Core.Bool.{Bool, false}
 use native.Mathlib.Omega.{arith}
 use Rattle.units.specs.declared.Nanos.{Nanos}
-use Rattle.units.specs.declared.OptionNanos.{OptionNanos}
 use Rattle.bucket.specs.declared.BucketConfig.{BucketConfig}
 use Rattle.bucket.specs.declared.BucketCore.{BucketCore}
 use Rattle.bucket.specs.declared.Request.{Request}
 use Rattle.bucket.specs.Bucket.{Accepted, shortfall_at, longest_wait, asked}
-use Rattle.rows.specs.declared.Place.TheVariants.{Nowhere}
 use Rattle.rows.specs.Outcome.{Outcome}
 use Rattle.slot.specs.declared.Slot.{Slot}
 use Rattle.ledger.specs.Model as Ledger
@@ -21,7 +20,6 @@ use Rattle.shard_map.proofs.StepLaws.{Holding}
 use Rattle.shard_map.proofs.KeptLaws.{weight, unpaid, count, shortage, weight_own, weight_other, short_own, short_other, empty_has_nothing, count_removed}
 use Rattle.shard_map.proofs.KeptLaws.{shortage_removed, count_inserted, shortage_inserted, count_stored, shortage_stored, Keeps, keeps_trans, later_keeps_line}
 use Rattle.shard_map.proofs.KeptLaws.{nowhere_weighs_nothing, nowhere_holds_the_debt, OneSlot, one_slot_is_all}
-use Rattle.evict.specs.declared.Room.TheVariants.{Made}
 use Rattle.bucket.specs.declared.BucketDecision.{BucketDecision}
 use Rattle.shard.specs.declared.Identity.{Identity}
 use Rattle.shard.specs.declared.Policy.{Policy}
@@ -120,11 +118,11 @@ module _ (c : BucketConfig) (h k : ℕ) (at : Nanos) (s : Shard) (u : Sound s) w
   }
 
   -- The key without a slot takes its own debt out: nothing of the hash is left in the shard, and what was held is what that debt lacks.
-  record OwnDebtTaken (debt : Outcome OptionNanos Ledger.Ledger) : Type 0 where
+  record OwnDebtTaken (debt : Outcome (Option Nanos) Ledger.Ledger) : Type 0 where
     none : count h k (with_ledger s debt.after) ≡ 0
     all : shortage c h at s ≡ Debts.worth (unpaid c at) debt.answer
 
-  own_debt_taken : Complete s → place_of s h k ≡ Nowhere → count h k s ≤ 1 → OwnDebtTaken (Ledger.taken s.ledger h)
+  own_debt_taken : Complete s → place_of s h k ≡ None → count h k s ≤ 1 → OwnDebtTaken (Ledger.taken s.ledger h)
   own_debt_taken complete new single =
       let l : Ledger.Ledger = s.ledger in
       let empty : Debts.owed h Debts.one (Ledger.taken l h).after ≡ 0 = Debts.taking_leaves_none l h u.ledger complete.ledger (omega (arith, single)) in
@@ -142,7 +140,7 @@ module _ (c : BucketConfig) (h k : ℕ) (at : Nanos) (s : Shard) (u : Sound s) w
 module _ (p : Policy) (id : Identity) (request : Request) (cost : ℕ) (at : Nanos) (s : Shard) (a : Accepted p.config) (early : at.0 ≤ 2 ^ 62)
     (never : p.forget_debt ≡ false) (u : Sound s) where
   -- Room that was made for a new key: there is place for its slot, and no debt was lost for it.
-  room_for_slot : (room_for p id at s).answer ≡ Made → (room_for p id at s).after.slots.count < cap_of (room_for p id at s).after
+  room_for_slot : (room_for p id at s).answer ≡ Ok tt → (room_for p id at s).after.slots.count < cap_of (room_for p id at s).after
   room_for_slot = room_made_leaves_room p at (debt_taken id s) (debt_taken_sound id s u)
 
   room_loses_nothing : (h k : ℕ) → Keeps p.config h k at (debt_taken id s) (room_for p id at s).after
@@ -182,7 +180,7 @@ module _ (p : Policy) (id : Identity) (request : Request) (cost : ℕ) (at : Nan
       k : ℕ
       k = id.key
 
-      debt : Outcome OptionNanos Ledger.Ledger
+      debt : Outcome (Option Nanos) Ledger.Ledger
       debt = Ledger.taken s.ledger h
 
       asked_bounds : (b : BucketCore) → b.stamp.0 ≤ at.0 → shortage c h at s ≤ shortfall_at c b at

@@ -1,5 +1,6 @@
 -- While time never falls no slot has a stamp after the moment, so no wait has grown. A stamp comes from a call: a slot that comes in has the moment of its
 -- call, a grant raises a stamp to the moment of its call, and no other step makes a stamp.
+use Rattle.std.proofs.Common.{Option, Some, None}
 use Prim.Native.Nat.{ℕ, ◌≤◌, ◌<◌}
 use mathlib.Core.Path.{ap}
 use mathlib.Core.Bool.{Bool}
@@ -7,8 +8,6 @@ use native.Mathlib.Omega.{arith}
 use Rattle.arith.proofs.Cases.{by_le, by_eq}
 use Rattle.units.specs.declared.Nanos.{Nanos}
 use Rattle.units.specs.declared.Millis.{Millis}
-use Rattle.units.specs.declared.OptionNanos.{OptionNanos}
-use Rattle.units.specs.declared.OptionNanos.TheVariants.{None, Some}
 use Rattle.units.specs.Units.{millis_of}
 use Rattle.bucket.specs.declared.BucketConfig.{BucketConfig}
 use Rattle.bucket.specs.declared.BucketCore.{BucketCore}
@@ -105,7 +104,7 @@ asked_stamp c request b cost at past =
     (λ soon. rw (granted_within_longest c request b cost at soon) (omega arith))
     (λ late. rw (denied_beyond_longest c request b cost at late) past)
 
-pub returning_stamp : (c : BucketConfig) (at : Nanos) (owed : OptionNanos) → Accepted c → (returning c at owed).stamp.0 ≤ at.0
+pub returning_stamp : (c : BucketConfig) (at : Nanos) (owed : Option Nanos) → Accepted c → (returning c at owed).stamp.0 ≤ at.0
 returning_stamp c at None a = omega arith
 returning_stamp c at (Some settles) a = rw (restored_fresh at settles a) (omega arith)
 
@@ -123,7 +122,7 @@ ask_keeps_stamps p id request cost at s a u past = go (ask_cases p id request co
         change_keeps_stamps at.0 s i slot (omega (arith, f.below, u.count_fits)) (rw r.bucket new) past
     go (key_joins e made) =
         let v : Sound (debt_taken id s) = debt_taken_sound id s u in
-        let owed : OptionNanos = (Ledger.taken s.ledger id.hash).answer in
+        let owed : Option Nanos = (Ledger.taken s.ledger id.hash).answer in
         insert_keeps_stamps at.0 (room_for p id at s).after
         (with_asked (new_slot id.hash id.key (returning c at owed) (millis_of at)) (asked c request (returning c at owed) cost at))
         (room_made_leaves_room p at (debt_taken id s) v made)

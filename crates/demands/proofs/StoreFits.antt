@@ -1,27 +1,24 @@
 -- What a request, a refund and a removal leave of a shard that fits 64 bits fits.
+use Rattle.std.proofs.Common.{Option, Some, None, Ok, Err}
 use Prim.Native.Nat.{ℕ, ◌≤◌, ◌^◌}
 use mathlib.Core.Path.{◌≡◌, refl}
 use mathlib.Core.Bool.{Bool}
 use native.Mathlib.Nat.{div-le_self}
 use native.Mathlib.Omega.{arith}
 use Rattle.units.specs.declared.Nanos.{Nanos}
-use Rattle.units.specs.declared.OptionNanos.{OptionNanos}
 use Rattle.units.specs.Units.{nanos_per_milli, millis_of}
 use Rattle.bucket.specs.declared.BucketConfig.{BucketConfig}
 use Rattle.bucket.specs.declared.BucketCore.{BucketCore}
 use Rattle.bucket.specs.declared.BucketOutcome.{BucketOutcome}
 use Rattle.bucket.specs.declared.Request.{Request}
 use Rattle.bucket.specs.Bucket.{Accepted, asked}
-use Rattle.rows.specs.declared.Place.{Place}
-use Rattle.rows.specs.declared.Place.TheVariants.{At, Nowhere}
 use Rattle.rows.specs.Outcome.{Outcome}
 use Rattle.settings.specs.Eviction.{ttl_sweep, ledger_scan}
 use Rattle.slot.specs.declared.Slot.{Slot}
 use Rattle.slot.specs.Slot.{touched, with_bucket, with_asked, new_slot}
 use Rattle.ledger.specs.Model as Ledger
 use Rattle.shard_map.specs.Model.{Shard, Sound, slot_at, place_of}
-use Rattle.evict.specs.declared.Room.{Room}
-use Rattle.evict.specs.declared.Room.TheVariants.{Made, Refused}
+use Rattle.evict.specs.Evict.{Room}
 use Rattle.shard.specs.declared.Identity.{Identity}
 use Rattle.shard.specs.declared.Policy.{Policy}
 use Rattle.shard.specs.Model.{tracks, asked_at, with_existing, make_room, admitted, admit, asked_from, with_or_insert, returning, refunded_from, refunded}
@@ -98,7 +95,7 @@ module _ (p : Policy) (id : Identity) (request : Request) (cost : ℕ) (at : Nan
   unfolding admit
   new_fits s u f = go (room_for p id at s).answer refl
     where
-      debt : Outcome OptionNanos Ledger.Ledger
+      debt : Outcome (Option Nanos) Ledger.Ledger
       debt = Ledger.taken s.ledger id.hash
 
       returned : BucketFits (returning p.config at debt.answer)
@@ -109,32 +106,32 @@ module _ (p : Policy) (id : Identity) (request : Request) (cost : ℕ) (at : Nan
 
       go : (answer : Room) → (room_for p id at s).answer ≡ answer
           → ShardFits (admitted p id request cost at debt.answer (room_for p id at s).after answer).after
-      go Made made =
+      go (Ok _) made =
           let free = room_made_leaves_room p at (debt_taken id s) (debt_taken_sound id s u) made in
           inserted_slot_fits _ made_fits _
           (asked_slot_fits _ (asked p.config request (returning p.config at debt.answer) cost at) (new_slot_fits _ returned)
           (asked_fits p.config at a early request _ cost within returned))
           (omega (arith, free, made_fits.slots.room))
-      go (Refused wait) told = rw (refused_took_nothing p id at s wait u told) (room_fits s u f)
+      go (Err wait) told = rw (refused_took_nothing p id at s wait u told) (room_fits s u f)
 
   pub ask_fits_lem : (s : Shard) → Sound s → ShardFits s → ShardFits (with_or_insert p id request cost at s).after
   unfolding with_or_insert
   ask_fits_lem s u f = go (place_of s id.hash id.key)
     where
-      go : (place : Place) → ShardFits (asked_from p id request cost at s place).after
-      go (At i) = known_fits s i f
-      go Nowhere = new_fits s u f
+      go : (place : Option ℕ) → ShardFits (asked_from p id request cost at s place).after
+      go (Some i) = known_fits s i f
+      go None = new_fits s u f
 
 -- A refund and a removal.
 pub refund_fits : (c : BucketConfig) (id : Identity) (cost : ℕ) (s : Shard) → ShardFits s → ShardFits (refunded c id cost s).after
 unfolding refunded
 refund_fits c id cost s f = go (place_of s id.hash id.key)
   where
-    go : (place : Place) → ShardFits (refunded_from c id cost s place).after
-    go (At i) =
+    go : (place : Option ℕ) → ShardFits (refunded_from c id cost s place).after
+    go (Some i) =
         let old : SlotFits (slot_at s i) = slot_at_fits s f i in
         changed_slot_fits s f i _ (rebucketed_fits _ _ old (Bucket.refunded_fits c _ cost old.bucket))
-    go Nowhere = changed_ledger_fits s f _ (paid_fits s.ledger id.hash cost c f.ledger)
+    go None = changed_ledger_fits s f _ (paid_fits s.ledger id.hash cost c f.ledger)
 
 pub removal_fits : (id : Identity) (s : Shard) → ShardFits s → ShardFits (removed id s).after
 removal_fits id s f = go (remove_cases id s)

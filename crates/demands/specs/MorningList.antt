@@ -1,13 +1,12 @@
 -- What the morning shift reads is what the server will do (request 12 of document 02): of the rules, on a store that has grown from fresh. That the shard of a
 -- debt is the shard of its hash is not among the claims (docs/DECISIONS.md).
-use Rattle.std.specs.Prelude.{ℕ, ◌<◌, ◌≡◌, List, [], ◌∷◌}
+use Rattle.std.specs.Prelude.{ℕ, ◌<◌, ◌≡◌, List, [], ◌∷◌, None}
 use Rattle.units.specs.declared.Nanos.{Nanos}
 use Rattle.settings.specs.declared.Limit.TheVariants.{Open}
 use Rattle.settings.specs.declared.Settings.{Settings}
 use Rattle.settings.specs.declared.rate.Rate.{Rate}
 use Rattle.settings.specs.Rate.{burst_of, config_of}
 use Rattle.settings.specs.Settings.{shard_count}
-use Rattle.rows.specs.declared.Place.TheVariants.{Nowhere}
 use Rattle.ledger.specs.declared.Debt.{Debt}
 use Rattle.ledger.specs.Model.{Ledger, debt_at, owed_by}
 use Rattle.shard_map.specs.Model.{place_of}
@@ -41,9 +40,9 @@ module _ (s : Settings) (ws : List ℕ) where
     -- A look at the tokens of a key without a slot, at the moment of the list, answers what the listed record of its hash leaves it. That is less than the
     -- burst.
     pub lacks : (rate : Rate) → s.limit ≡ Open rate → (at : Nanos) → moment_refusal at ≡ 0 → (id : Identity)
-        → place_of (shard_at s id.hash ws) id.hash id.key ≡ Nowhere → (d : Debt) → records_of at id ≡ d ∷ []
+        → place_of (shard_at s id.hash ws) id.hash id.key ≡ None → (d : Debt) → records_of at id ≡ d ∷ []
         → ((available s at id ws).answer ≡ Count (tokens_left (config_of rate) at d)) × (tokens_left (config_of rate) at d < burst_of rate)
     -- If no record has its hash, the look answers the tokens of a fresh bucket.
     pub is_fresh : (rate : Rate) → s.limit ≡ Open rate → (at : Nanos) → moment_refusal at ≡ 0 → (id : Identity)
-        → place_of (shard_at s id.hash ws) id.hash id.key ≡ Nowhere → records_of at id ≡ []
+        → place_of (shard_at s id.hash ws) id.hash id.key ≡ None → records_of at id ≡ []
         → (available s at id ws).answer ≡ Count (config_of rate).initial

@@ -96,10 +96,10 @@ fn stage_after(settings: Settings, code: u64) -> Stage
 pub fn store_size(settings: Settings, words: usize) -> usize
     ensures { result ≡ Desk.store_size settings words }
 {
-    if settings.size_refusal() != 0 {
+    if settings.check_sizes().is_err() {
         return 0;
     }
-    arith::fewer(store::words::memory_words(settings), words)
+    store::words::memory_words(settings).min(words)
 }
 
 // Answers a line after the first in the store's part of the memory.

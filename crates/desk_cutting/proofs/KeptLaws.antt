@@ -1,35 +1,13 @@
 -- What is kept of a line that has not ended, at the start of the input.
-use Prim.Native.Nat.{ℕ, zero, suc, ◌+◌, ◌-◌, ◌≤◌, ◌<◌}
+use Prim.Native.Nat.{ℕ, zero, suc, ◌+◌, ◌-◌, ◌≤◌}
 use native.Mathlib.Omega.{arith}
 use mathlib.Core.Path.{◌≡◌, sym, ap, subst, ◌∙◌}
 use mathlib.Core.List.{List, [], ◌∷◌}
-use lib.ListN.{length, get_or, set, take, drop, length-take, length-drop}
-use lib.Seq.{paste-zero, paste-suc, take-paste, drop-paste, get_or-drop, take-take, take_all, take-nil}
+use lib.ListN.{length, take, drop, length-take, length-drop}
+use lib.Seq.{take-paste, drop-paste, take-take, take_all, take-nil}
 use Rattle.arith.proofs.Cases.{by_le}
 use Rattle.desk_lines.specs.Lines.{longest_line}
 use Rattle.desk_cutting.specs.Cutting.{cut, kept_of, kept_from, moved_to_start, SameFrom}
-
--- Byte after byte is copied to the start, each from its place further on, which no copy has reached.
-pub copied_further : (input : List ℕ) (from n : ℕ) → from + n < length input
-    → set (moved_to_start from n input) n (get_or (moved_to_start from n input) (from + n) 0) ≡ moved_to_start from (n + 1) input
-copied_further input from n inside =
-    let rest = drop from input in
-    let moved = moved_to_start from n input in
-    let front : 0 + n ≡ n = omega arith in
-    let flip : from + n ≡ n + from = omega arith in
-    let next : suc n ≡ n + 1 = omega arith in
-    let unmoved : drop n moved ≡ drop n input =
-    subst (λ (k : ℕ). drop k moved ≡ drop k input) front (drop-paste input 0 rest n (omega arith) (omega (arith, inside, length-drop from input))) in
-    let read : get_or moved (from + n) 0 ≡ get_or rest n 0 =
-    ap (λ (k : ℕ). get_or moved k 0) flip ∙ sym (get_or-drop n moved from 0) ∙ ap (λ (l : List ℕ). get_or l from 0) unmoved
-    ∙ get_or-drop n input from 0 ∙ ap (λ (k : ℕ). get_or input k 0) (sym flip) ∙ sym (get_or-drop from input n 0) in
-    ap (set moved n) read
-    ∙ subst (λ (k : ℕ). set moved k (get_or rest n 0) ≡ moved_to_start from (suc n) input) front
-    (paste-suc input 0 rest n 0 (omega (arith, inside)) (omega (arith, inside, length-drop from input)))
-    ∙ ap (λ (k : ℕ). moved_to_start from k input) next
-
-pub nothing_moved : (input : List ℕ) (from : ℕ) → input ≡ moved_to_start from 0 input
-nothing_moved input from = paste-zero input 0 (drop from input)
 
 -- The bytes between two places, taken from either end.
 pub drop_take : (from end : ℕ) (l : List ℕ) → from ≤ end → drop from (take end l) ≡ take (end - from) (drop from l)

@@ -1,13 +1,12 @@
 -- Worked examples: lines of 01's example and others of every kind, and two printed lines.
+use Rattle.std.proofs.Common.{Some, None}
 use Prim.Native.Nat.{ℕ}
 use mathlib.Core.Path.{◌≡◌, refl}
 use mathlib.Core.List.{[], ◌∷◌}
-use Rattle.units.specs.declared.OptionNanos.TheVariants as nanos
 use Rattle.settings.specs.declared.Limit.TheVariants.{Open}
 use Rattle.settings.specs.declared.Settings.{Settings}
 use Rattle.settings.specs.declared.eviction.WhenFull.TheVariants.{RefuseNew}
 use Rattle.settings.specs.Eviction.{when_full_of}
-use Rattle.settings.specs.declared.rate.OptionTokens.TheVariants as tokens
 use Rattle.decimal.specs.Decimal.{is_digit, all_digits, decimal_from, number_of, digits_from}
 use Rattle.desk_lines.specs.declared.Request.{Request}
 use Rattle.desk_lines.specs.declared.Line.TheVariants.{SetUp, Try, Peek, Reserve, Refund, Remove, Malformed}
@@ -22,8 +21,8 @@ request at key cost = record { at = nanos_of at; key = key; cost = cost }
 -- Two tokens a second, up to four, for two keys in one shard.
 abbrev two_keys : Settings
 two_keys = record {
-  limit = Open (record { amount = 2; period = nanos_of 1000000000; burst = tokens.Some 4; initial = tokens.Some 4 });
-  eviction = record { max_keys = 2; idle_ttl = nanos.None; when_full = RefuseNew };
+  limit = Open (record { amount = 2; period = nanos_of 1000000000; burst = Some 4; initial = Some 4 });
+  eviction = record { max_keys = 2; idle_ttl = None; when_full = RefuseNew };
   shards = 1;
   classes = 0;
 }

@@ -1,4 +1,4 @@
 pub mod Fields
 pub mod Lines
-pub mod Places
+pub mod Parts
 pub mod Printed

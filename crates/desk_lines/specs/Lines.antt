@@ -1,13 +1,9 @@
 -- The lines of the desk program: which call a line's bytes are, or that they are malformed, whichever line it is. That `s` is the first line and no other is
 -- the rule of `desk_answers` (`opened` of `desk_answers`, `answered` of `desk_answers`).
-use Rattle.std.specs.Prelude.{ℕ, ◌-◌, ◌^◌, Bool, true, false, cond, List, [], ◌∷◌, eqb, leb, length, get_or}
+use Rattle.std.specs.Prelude.{ℕ, ◌-◌, ◌^◌, Bool, true, false, cond, List, [], ◌∷◌, eqb, leb, length, get_or, Option, Some, None}
+use Rattle.units.specs.declared.Nanos.{Nanos}
 use Rattle.units.specs.Units.{nanos_of}
-use Rattle.units.specs.declared.OptionNanos.{OptionNanos}
-use Rattle.units.specs.declared.OptionNanos.TheVariants as nanos
 use Rattle.settings.specs.declared.Limit.TheVariants.{Open}
-use Rattle.settings.specs.declared.rate.OptionTokens.TheVariants as tokens
-use Rattle.decimal.specs.declared.OptionNumber.{OptionNumber}
-use Rattle.decimal.specs.declared.OptionNumber.TheVariants as number
 use Rattle.decimal.specs.Decimal.{number_of}
 use Rattle.settings.specs.declared.rate.Rate.{Rate}
 use Rattle.settings.specs.Eviction.{bounds, when_full_of}
@@ -40,9 +36,9 @@ pub record Taken (A : Type 0) : Type 0 where
   pub value : A
   pub rest : Reading
 
-abbrev pub taken_number : List (List ℕ) → OptionNumber → Taken ℕ
-taken_number fs number.None = record { value = 0; rest = failed }
-taken_number fs (number.Some n) = record { value = n; rest = left fs }
+abbrev pub taken_number : List (List ℕ) → Option ℕ → Taken ℕ
+taken_number fs None = record { value = 0; rest = failed }
+taken_number fs (Some n) = record { value = n; rest = left fs }
 
 -- The next field as a number of at most `most`.
 unfoldable pub taken : ℕ → Reading → Taken ℕ
@@ -64,11 +60,11 @@ skipped failed = failed
 skipped (left []) = failed
 skipped (left (f ∷ fs)) = left fs
 
-abbrev pub idle_time : Taken ℕ → Taken OptionNanos
-idle_time t = record { value = nanos.Some (nanos_of t.value); rest = t.rest }
+abbrev pub idle_time : Taken ℕ → Taken (Option Nanos)
+idle_time t = record { value = Some (nanos_of t.value); rest = t.rest }
 
-abbrev pub taken_idle : Reading → Taken OptionNanos
-taken_idle r = cond (dash_next r) (record { value = nanos.None; rest = skipped r }) (idle_time (taken most64 r))
+abbrev pub taken_idle : Reading → Taken (Option Nanos)
+taken_idle r = cond (dash_next r) (record { value = None; rest = skipped r }) (idle_time (taken most64 r))
 
 -- A line is what its fields say once none is left; with fields left, or after a failure, it is malformed.
 abbrev pub is_finished : Reading → Bool
@@ -120,8 +116,8 @@ taken_rate r =
     let rate : Rate = record {
       amount = amount.value;
       period = nanos_of period.value;
-      burst = tokens.Some burst.value;
-      initial = tokens.Some initial.value;
+      burst = Some burst.value;
+      initial = Some initial.value;
     } in
     record { value = rate; rest = initial.rest }
 

@@ -1,32 +1,34 @@
 // The fields of a line, taken one after the other.
-ghost use Rattle.std.specs.Prelude.{◌≡◌, ◌+◌, ◌≤◌, eqb, length};
-ghost use Rattle.decimal.specs.Decimal.{number_of};
-ghost use Rattle.desk_lines.specs.Fields.{field_end, field_at};
+ghost use Rattle.std.specs.Prelude.{◌≡◌, ◌+◌, ◌≤◌, eqb, is_some, length};
+ghost use Rattle.desk_lines.specs.Fields.{field_end, fields_from};
+ghost use Rattle.desk_lines.specs.Lines.{left, most32};
 ghost use Rattle.desk_lines.specs.Lines as Lines;
-ghost use Rattle.desk_lines.specs.Places.{reading_at, number_read, number_at, idle_at};
+ghost use Rattle.desk_lines.specs.Parts.{Tells};
 
-use decimal::OptionNumber;
-use units::{Nanos, OptionNanos};
+use std::marker::Model;
+use units::Nanos;
 
-// How far a line has been read: the place at which the next field begins, one past the end of the line if none is left; or that it failed.
-#[derive(Clone, Copy)]
-pub struct Rest {
-    pub at: usize,
-    pub good: bool,
+// The largest number of 32 bits.
+const MOST_32: u64 = 0xffff_ffff;
+
+// The one byte that stands for no idle time.
+const DASH: u8 = b'-';
+
+// The fields of a line that are still to be taken: the next one begins at the place, which is one past the end of the line if none is left.
+// A clause sees the fields. A field that is not what was asked for ends the reading: the caller returns at once, and takes no other field.
+#[derive(Drop)]
+pub(crate) struct Fields<'a> {
+    line: &'a [u8],
+    at: usize,
 }
 
-// A number that was read, and what is left.
-#[derive(Clone, Copy)]
-pub struct NumberRead {
-    pub value: u64,
-    pub rest: Rest,
-}
+impl<'a> Model for Fields<'a> {
+    ghost use Rattle.std.specs.Prelude.{List, ℕ};
+    ghost use Rattle.desk_lines.specs.Fields.{fields_from};
 
-// An idle time that was read, and what is left.
-#[derive(Clone, Copy)]
-pub struct IdleRead {
-    pub value: OptionNanos,
-    pub rest: Rest,
+    ghost Value = { List (List ℕ) };
+
+    ghost view = { λ f. fields_from f.line.now f.at };
 }
 
 // Where the field that begins at a place ends: at the first space from there on, or at the end of the line.
@@ -37,110 +39,75 @@ pub(crate) fn end(line: &[u8], from: usize) -> usize
     scan::find(line, from, line.len(), b' ')
 }
 
-// A field's number, if it was one, and the place of the next field.
-fn number_read(number: OptionNumber, next: usize) -> NumberRead
-    ensures { result ≡ number_read next number }
-{
-    match number {
-        OptionNumber::None => NumberRead {
-            value: 0,
-            rest: Rest { at: 0, good: false },
-        },
-        OptionNumber::Some(value) => NumberRead {
-            value,
-            rest: Rest {
-                at: next,
-                good: true,
-            },
-        },
-    }
-}
-
 // Whether a field ends at a place: at a space, or at the end of the line.
 fn ends_at(line: &[u8], place: usize) -> bool
     requires { place ≤ length line.now }
     ensures { result ≡ eqb (field_end line.now place) place }
 {
-    if place == line.len() {
-        return true;
-    }
-    line[place] == b' '
+    place == line.len() || line[place] == b' '
 }
 
-// The field that begins at a place as a number of at most `most`. Up to 19 digits are read in one pass.
-fn number_at(line: &[u8], at: usize, most: u64) -> NumberRead
-    requires { at ≤ length line.now }
-    ensures { result ≡ number_read (field_end line.now at + 1) (number_of most (field_at line.now at)) }
-{
-    let front = decimal::front(line, at);
-    let stop = front.end;
-    if at < stop {
-        if ends_at(line, stop) {
-            return number_read(decimal::at_most(front.value, most), stop + 1);
+impl<'a> Fields<'a> {
+    // The fields of a line from a place on.
+    pub(crate) fn new(line: &'a [u8], at: usize) -> Fields<'a>
+        ensures { result ≡ fields_from line.now at }
+    {
+        Fields { line, at }
+    }
+
+    // The next field as a number of at most `most`. Up to 19 digits are read in one pass. It is inlined to keep the place in a register.
+    #[inline]
+    pub(crate) fn number(&mut self, most: u64) -> Option<u64>
+        ensures { Tells result self.new (Lines.taken most (left self.old)) }
+    {
+        let line = self.line;
+        let at = self.at;
+        if line.len() < at {
+            return None;
         }
+        let front = decimal::front(line, at);
+        if at < front.end && ends_at(line, front.end) {
+            self.at = front.end + 1;
+            return decimal::at_most(front.value, most);
+        }
+        let end = end(line, at);
+        self.at = end + 1;
+        decimal::number(&line[at..end], most)
     }
-    let end = end(line, at);
-    number_read(decimal::number(&line[at..end], most), end + 1)
-}
 
-// The next field as a number of at most `most`.
-pub(crate) fn number(line: &[u8], rest: Rest, most: u64) -> NumberRead
-    ensures { number_at line.now result ≡ Lines.taken most (reading_at line.now rest) }
-{
-    let at = rest.at;
-    if line.len() < at {
-        return number_read(OptionNumber::None, 0);
+    // The next field as a number of 32 bits.
+    pub(crate) fn number_u32(&mut self) -> Option<u32>
+        ensures { Tells result self.new (Lines.taken most32 (left self.old)) }
+    {
+        let number = self.number(MOST_32)?;
+        Some(number as u32)
     }
-    if rest.good {
-        return number_at(line, at, most);
-    }
-    number_read(OptionNumber::None, 0)
-}
 
-// Whether the next field is the one byte `-`.
-fn is_dash(line: &[u8], rest: Rest) -> bool
-    ensures { result ≡ Lines.dash_next (reading_at line.now rest) }
-{
-    let at = rest.at;
-    if line.len() <= at {
-        return false;
+    // Whether the next field is the one byte `-`.
+    fn is_dash(&self) -> bool
+        ensures { result ≡ Lines.dash_next (left self.now) }
+    {
+        let line = self.line;
+        let at = self.at;
+        at < line.len() && line[at] == DASH && end(line, at) == at + 1
     }
-    if line[at] != b'-' {
-        return false;
-    }
-    if rest.good {
-        return end(line, at) == at + 1;
-    }
-    false
-}
 
-// The next field as an idle time.
-pub(crate) fn idle(line: &[u8], rest: Rest) -> IdleRead
-    ensures { idle_at line.now result ≡ Lines.taken_idle (reading_at line.now rest) }
-{
-    if is_dash(line, rest) {
-        return IdleRead {
-            value: OptionNanos::None,
-            rest: Rest {
-                at: rest.at + 2,
-                good: true,
-            },
-        };
+    // The next field as an idle time.
+    pub(crate) fn idle(&mut self) -> Option<Option<Nanos>>
+        ensures { Tells result self.new (Lines.taken_idle (left self.old)) }
+    {
+        if self.is_dash() {
+            self.at += 2;
+            return Some(None);
+        }
+        let nanos = self.number(u64::MAX)?;
+        Some(Some(Nanos(nanos)))
     }
-    let number = number(line, rest, u64::MAX);
-    let rest = number.rest;
-    IdleRead {
-        value: OptionNanos::Some(Nanos(number.value)),
-        rest,
-    }
-}
 
-// Whether no field is left, and none failed.
-pub(crate) fn is_finished(line: &[u8], rest: Rest) -> bool
-    ensures { result ≡ Lines.is_finished (reading_at line.now rest) }
-{
-    if rest.good {
-        return line.len() < rest.at;
+    // The end of the reading, if no field is left.
+    pub(crate) fn finish(self) -> Option<()>
+        ensures { is_some result ≡ Lines.is_finished (left self.entry) }
+    {
+        (self.line.len() < self.at).then_some(())
     }
-    false
 }

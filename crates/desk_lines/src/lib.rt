@@ -1,17 +1,15 @@
 // Lines of the desk program: which call a line's bytes are, and the bytes of what is printed for it.
 #![tactic(auto)]
 
-ghost use Rattle.std.specs.Prelude.{◌≡◌};
+ghost use Rattle.std.specs.Prelude.{◌≡◌, unwrap_or};
 ghost use Rattle.settings.specs.Eviction.{bounds, when_full_of};
-ghost use Rattle.desk_lines.specs.Fields.{fields_from};
 ghost use Rattle.desk_lines.specs.Lines.{left};
 ghost use Rattle.desk_lines.specs.Lines as Lines;
-ghost use Rattle.desk_lines.specs.Places.{reading_at};
 
-use fields::Rest;
+use fields::Fields;
 use settings::eviction::{Eviction, WhenFull};
 use settings::{Limit, Settings};
-use units::{Nanos, OptionNanos};
+use units::Nanos;
 
 mod fields;
 mod parts;
@@ -53,129 +51,100 @@ pub fn read(line: &[u8]) -> Line
     if fields::end(line, 0) != 1 {
         return Line::Malformed;
     }
-    of_letter(line, line[0])
+    of_letter(line[0], Fields::new(line, 2)).unwrap_or(Line::Malformed)
 }
 
-// The line of a letter that is the first field, by the fields after it.
-fn of_letter(line: &[u8], letter: u8) -> Line
-    ensures { result ≡ Lines.line_of_letter letter (left (fields_from line.now 2)) }
+// The line of a letter that is the first field, by the fields after it, if it is one.
+#[tactic(auto, unfolding(crate::specs::Lines::line_of_letter))]
+fn of_letter(letter: u8, fields: Fields) -> Option<Line>
+    ensures { unwrap_or result Line.Malformed ≡ Lines.line_of_letter letter (left fields.entry) }
 {
-    let rest = Rest { at: 2, good: true };
-    if letter == b'a' {
-        return try_line(line, rest);
+    match letter {
+        b'a' => try_line(fields),
+        b'p' => peek_line(fields),
+        b'r' => reserve_line(fields),
+        b'f' => refund_line(fields),
+        b'd' => remove_line(fields),
+        b's' => set_up_line(fields),
+        _ => None,
     }
-    if letter == b'p' {
-        return peek_line(line, rest);
-    }
-    if letter == b'r' {
-        return reserve_line(line, rest);
-    }
-    if letter == b'f' {
-        return refund_line(line, rest);
-    }
-    if letter == b'd' {
-        return remove_line(line, rest);
-    }
-    if letter == b's' {
-        return set_up_line(line, rest);
-    }
-    Line::Malformed
 }
 
 // `a`: a try.
-fn try_line(line: &[u8], rest: Rest) -> Line
-    ensures { result ≡ Lines.try (reading_at line.now rest) }
+fn try_line(mut fields: Fields) -> Option<Line>
+    ensures { unwrap_or result Line.Malformed ≡ Lines.try (left fields.entry) }
 {
-    let request = parts::request(line, rest);
-    let value = request.value;
-    if fields::is_finished(line, request.rest) {
-        Line::Try(value)
-    } else {
-        Line::Malformed
-    }
+    let request = fields.request()?;
+    fields.finish()?;
+    Some(Line::Try(request))
 }
 
 // `p`: a peek.
-fn peek_line(line: &[u8], rest: Rest) -> Line
-    ensures { result ≡ Lines.peek (reading_at line.now rest) }
+fn peek_line(mut fields: Fields) -> Option<Line>
+    ensures { unwrap_or result Line.Malformed ≡ Lines.peek (left fields.entry) }
 {
-    let request = parts::request(line, rest);
-    let value = request.value;
-    if fields::is_finished(line, request.rest) {
-        Line::Peek(value)
-    } else {
-        Line::Malformed
-    }
+    let request = fields.request()?;
+    fields.finish()?;
+    Some(Line::Peek(request))
 }
 
 // `r`: a reservation.
-fn reserve_line(line: &[u8], rest: Rest) -> Line
-    ensures { result ≡ Lines.reserve (reading_at line.now rest) }
+#[tactic(auto, using(crate::proofs::ReadingLaws::no_number))]
+fn reserve_line(mut fields: Fields) -> Option<Line>
+    ensures { unwrap_or result Line.Malformed ≡ Lines.reserve (left fields.entry) }
 {
-    let request = parts::request(line, rest);
-    let value = request.value;
-    let longest = fields::number(line, request.rest, u64::MAX);
-    if fields::is_finished(line, longest.rest) {
-        Line::Reserve(value, Nanos(longest.value))
-    } else {
-        Line::Malformed
-    }
+    let request = fields.request()?;
+    let longest = fields.number(u64::MAX)?;
+    fields.finish()?;
+    Some(Line::Reserve(request, Nanos(longest)))
 }
 
 // `f`: a refund.
-fn refund_line(line: &[u8], rest: Rest) -> Line
-    ensures { result ≡ Lines.refund (reading_at line.now rest) }
+#[tactic(auto, using(crate::proofs::ReadingLaws::no_number))]
+fn refund_line(mut fields: Fields) -> Option<Line>
+    ensures { unwrap_or result Line.Malformed ≡ Lines.refund (left fields.entry) }
 {
-    let key = fields::number(line, rest, u64::MAX);
-    let cost = fields::number(line, key.rest, parts::MOST_32);
-    if fields::is_finished(line, cost.rest) {
-        Line::Refund(key.value, cost.value as u32)
-    } else {
-        Line::Malformed
-    }
+    let key = fields.number(u64::MAX)?;
+    let cost = fields.number_u32()?;
+    fields.finish()?;
+    Some(Line::Refund(key, cost))
 }
 
 // `d`: a removal.
-fn remove_line(line: &[u8], rest: Rest) -> Line
-    ensures { result ≡ Lines.remove (reading_at line.now rest) }
+fn remove_line(mut fields: Fields) -> Option<Line>
+    ensures { unwrap_or result Line.Malformed ≡ Lines.remove (left fields.entry) }
 {
-    let key = fields::number(line, rest, u64::MAX);
-    if fields::is_finished(line, key.rest) {
-        Line::Remove(key.value)
-    } else {
-        Line::Malformed
-    }
+    let key = fields.number(u64::MAX)?;
+    fields.finish()?;
+    Some(Line::Remove(key))
 }
 
 // `s`: a set-up.
-fn set_up_line(line: &[u8], rest: Rest) -> Line
-    ensures { result ≡ Lines.set_up (reading_at line.now rest) }
+#[tactic(auto, using(crate::proofs::ReadingLaws::stays_failed))]
+fn set_up_line(mut fields: Fields) -> Option<Line>
+    ensures { unwrap_or result Line.Malformed ≡ Lines.set_up (left fields.entry) }
 {
-    let rate = parts::rate(line, rest);
-    let keys = fields::number(line, rate.rest, u64::MAX);
-    let shards = fields::number(line, keys.rest, u64::MAX);
-    let idle = fields::idle(line, shards.rest);
-    let rule = fields::number(line, idle.rest, 1);
-    if fields::is_finished(line, rule.rest) {
-        let value = rate.value;
-        let idle_ttl = idle.value;
-        return Line::SetUp(Settings {
-            limit: Limit::Open(value),
-            eviction: eviction(keys.value as usize, idle_ttl, rule.value),
-            shards: shards.value as usize,
-            classes: 0,
-        });
-    }
-    Line::Malformed
+    let rate = fields.rate()?;
+    let keys = fields.number(u64::MAX)?;
+    let shards = fields.number(u64::MAX)?;
+    let idle = fields.idle()?;
+    let rule = fields.number(1)?;
+    fields.finish()?;
+    Some(Line::SetUp(Settings {
+        limit: Limit::Open(rate),
+        eviction: eviction(keys as usize, idle, rule),
+        shards: shards as usize,
+        classes: 0,
+    }))
 }
 
 // The bounds of a set-up line: its cap on keys, its idle time and its rule when full.
-fn eviction(max_keys: usize, idle: OptionNanos, rule: u64) -> Eviction
+fn eviction(max_keys: usize, idle: Option<Nanos>, rule: u64) -> Eviction
     ensures { result ≡ bounds max_keys idle (when_full_of rule) }
 {
     let when_full = WhenFull::numbered(rule);
     match idle {
-        OptionNanos::None => Eviction::capacity(max_keys).with_when_full(when_full),
-        OptionNanos::Some(ttl) => Eviction::new(max_keys, ttl).with_when_full(when_full),
+        None => Eviction::capacity(max_keys).with_when_full(when_full),
+        Some(ttl) => Eviction::new(max_keys, ttl).with_when_full(when_full),
     }
 }

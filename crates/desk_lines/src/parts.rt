@@ -1,64 +1,43 @@
 // The parts of a line that are more than a number.
-ghost use Rattle.std.specs.Prelude.{◌≡◌};
+ghost use Rattle.desk_lines.specs.Lines.{left};
 ghost use Rattle.desk_lines.specs.Lines as Lines;
-ghost use Rattle.desk_lines.specs.Places.{reading_at, request_at, rate_at};
+ghost use Rattle.desk_lines.specs.Parts.{Tells};
 
-use crate::fields::Rest;
-use crate::{Request, fields};
-use settings::rate::{OptionTokens, Rate};
+use crate::Request;
+use crate::fields::Fields;
+use settings::rate::Rate;
 use units::Nanos;
 
-// A request that was read, and what is left.
-#[derive(Clone, Copy)]
-pub struct RequestRead {
-    pub value: Request,
-    pub rest: Rest,
-}
-
-// A rate that was read, and what is left.
-#[derive(Clone, Copy)]
-pub struct RateRead {
-    pub value: Rate,
-    pub rest: Rest,
-}
-
-// The largest number of 32 bits.
-pub(crate) const MOST_32: u64 = 0xffff_ffff;
-
-// The moment, the key and the cost.
-pub(crate) fn request(line: &[u8], rest: Rest) -> RequestRead
-    ensures { request_at line.now result ≡ Lines.taken_request (reading_at line.now rest) }
-{
-    let at = fields::number(line, rest, u64::MAX);
-    let key = fields::number(line, at.rest, u64::MAX);
-    let cost = fields::number(line, key.rest, MOST_32);
-    let rest = cost.rest;
-    RequestRead {
-        value: Request {
-            at: Nanos(at.value),
-            key: key.value,
-            cost: cost.value as u32,
-        },
-        rest,
+impl<'a> Fields<'a> {
+    // The moment, the key and the cost.
+    #[tactic(auto, using(crate::proofs::ReadingLaws::no_number))]
+    pub(crate) fn request(&mut self) -> Option<Request>
+        ensures { Tells result self.new (Lines.taken_request (left self.old)) }
+    {
+        let at = self.number(u64::MAX)?;
+        let key = self.number(u64::MAX)?;
+        let cost = self.number_u32()?;
+        Some(Request {
+            at: Nanos(at),
+            key,
+            cost,
+        })
     }
-}
 
-// The amount, the period, the burst and the initial tokens.
-pub(crate) fn rate(line: &[u8], rest: Rest) -> RateRead
-    ensures { rate_at line.now result ≡ Lines.taken_rate (reading_at line.now rest) }
-{
-    let amount = fields::number(line, rest, MOST_32);
-    let period = fields::number(line, amount.rest, u64::MAX);
-    let burst = fields::number(line, period.rest, MOST_32);
-    let initial = fields::number(line, burst.rest, MOST_32);
-    let rest = initial.rest;
-    RateRead {
-        value: Rate {
-            amount: amount.value as u32,
-            period: Nanos(period.value),
-            burst: OptionTokens::Some(burst.value as u32),
-            initial: OptionTokens::Some(initial.value as u32),
-        },
-        rest,
+    // The amount, the period, the burst and the initial tokens.
+    #[tactic(auto, using(crate::proofs::ReadingLaws::no_number))]
+    pub(crate) fn rate(&mut self) -> Option<Rate>
+        ensures { Tells result self.new (Lines.taken_rate (left self.old)) }
+    {
+        let amount = self.number_u32()?;
+        let period = self.number(u64::MAX)?;
+        let burst = self.number_u32()?;
+        let initial = self.number_u32()?;
+        Some(Rate {
+            amount,
+            period: Nanos(period),
+            burst: Some(burst),
+            initial: Some(initial),
+        })
     }
 }

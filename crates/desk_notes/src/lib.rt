@@ -24,19 +24,16 @@ pub fn tell(err: &impl Print, number: u64, first: bool, line: &[u8]) {
 fn write(err: &impl Print, note: &[u8], end: usize)
     requires { end ≤ length note.now }
 {
-    streams::say(err, &note[0..end]);
+    streams::say(err, &note[..end]);
 }
 
 // The letter of a line, or 0 where it has no byte.
 fn letter_of(line: &[u8]) -> u8 {
-    if line.len() == 0 {
-        return 0;
-    }
-    line[0]
+    line.first().copied().unwrap_or(0)
 }
 
 // Makes the bytes of a note. Tells how many they are.
-fn compose(note: &mut [u8], number: u64, letter: u8, reason: Reason) -> usize
+fn compose(note: &mut [u8], number: u64, letter: u8, reason: Option<Reason>) -> usize
     ensures { result ≤ length note.new }
 {
     let at = words::add(note, 0, b"desk: line ");
@@ -46,18 +43,18 @@ fn compose(note: &mut [u8], number: u64, letter: u8, reason: Reason) -> usize
     words::add(note, at, b"\n")
 }
 
-// A reason in words.
-fn why(note: &mut [u8], at: usize, letter: u8, reason: Reason) -> usize
+// A reason in words; nothing where there is none.
+fn why(note: &mut [u8], at: usize, letter: u8, reason: Option<Reason>) -> usize
     requires { at ≤ length note.old }
     ensures { result ≤ length note.new }
 {
     match reason {
-        Reason::Fine => at,
-        Reason::Blank => words::add(note, at, b"it is empty"),
-        Reason::Long => words::add(note, at, b"it has more than 100 bytes"),
-        Reason::Field(n, fault) => field(note, at, letter, n, fault),
-        Reason::Early => words::add(note, at, b"it is not an s line"),
-        Reason::Late => words::add(note, at, b"a second s line: only line 1 is one"),
+        None => at,
+        Some(Reason::Blank) => words::add(note, at, b"it is empty"),
+        Some(Reason::Long) => words::add(note, at, b"it has more than 100 bytes"),
+        Some(Reason::Field(n, fault)) => field(note, at, letter, n, fault),
+        Some(Reason::Early) => words::add(note, at, b"it is not an s line"),
+        Some(Reason::Late) => words::add(note, at, b"a second s line: only line 1 is one"),
     }
 }
 

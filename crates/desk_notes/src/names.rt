@@ -10,8 +10,7 @@ pub(crate) fn add(note: &mut [u8], at: usize, letter: u8, n: usize) -> usize
 {
     match letter {
         b's' => of_settings(note, at, n),
-        b'a' => of_request(note, at, n),
-        b'p' => of_request(note, at, n),
+        b'a' | b'p' => of_request(note, at, n),
         b'r' => of_reservation(note, at, n),
         b'f' => of_refund(note, at, n),
         b'd' => of_removal(note, at, n),
@@ -35,30 +34,30 @@ fn of_reservation(note: &mut [u8], at: usize, n: usize) -> usize
     requires { at ≤ length note.old }
     ensures { result ≤ length note.new }
 {
-    if n == 5 {
-        return words::add(note, at, b" (max-wait)");
+    match n {
+        5 => words::add(note, at, b" (max-wait)"),
+        _ => of_request(note, at, n),
     }
-    of_request(note, at, n)
 }
 
 fn of_refund(note: &mut [u8], at: usize, n: usize) -> usize
     requires { at ≤ length note.old }
     ensures { result ≤ length note.new }
 {
-    if n == 3 {
-        return words::add(note, at, b" (cost)");
+    match n {
+        3 => words::add(note, at, b" (cost)"),
+        _ => of_removal(note, at, n),
     }
-    of_removal(note, at, n)
 }
 
 fn of_removal(note: &mut [u8], at: usize, n: usize) -> usize
     requires { at ≤ length note.old }
     ensures { result ≤ length note.new }
 {
-    if n == 2 {
-        return words::add(note, at, b" (modem)");
+    match n {
+        2 => words::add(note, at, b" (modem)"),
+        _ => at,
     }
-    at
 }
 
 fn of_settings(note: &mut [u8], at: usize, n: usize) -> usize

@@ -1,22 +1,17 @@
 // Words and numbers, put into a buffer one after the other. What has no room is left out.
 ghost use Rattle.std.specs.Prelude.{◌≤◌, length};
 
-// Puts words from a place on. Tells the place after them.
+// Puts words from a place on. Tells the place after them. The bytes are copied by a loop, since the kit's clang makes of `copy_from_slice` a module for wasm32
+// that no browser takes.
 pub(crate) fn add(out: &mut [u8], at: usize, words: &[u8]) -> usize
     requires { at ≤ length out.old }
     ensures { result ≤ length out.new }
 {
-    let mut end = at;
-    let mut i: usize = 0;
-    while i < words.len() {
-        if end == out.len() {
-            return end;
-        }
-        out[end] = words[i];
-        end += 1;
-        i += 1;
+    let size = words.len().min(out.len() - at);
+    for i in 0..size {
+        out[at + i] = words[i];
     }
-    end
+    at + size
 }
 
 // Puts a number in decimal from a place on, where 20 digits have room. Tells the place after them.

@@ -5,7 +5,7 @@ use native.Mathlib.Numerals.{add-one}
 use mathlib.Core.Path.{◌≡◌}
 use mathlib.Core.Bool.{true, false}
 use mathlib.Core.List.{List}
-use lib.Dec.{eqb, leb, ltb}
+use lib.Dec.{ltb}
 use lib.ListN.{length, get_or, drop, drop_of_length-le}
 use lib.Seq.{drop-cons}
 use Rattle.scan.specs.Bytes.{index_of, slice}
@@ -13,17 +13,8 @@ use Rattle.decimal.specs.Decimal.{is_digit, all_digits}
 use Rattle.desk_lines.proofs.FieldLaws.{found_from}
 use Rattle.desk_reasons.specs.declared.Fault.{Fault}
 use Rattle.desk_reasons.specs.declared.Fault.TheVariants as fault
-use Rattle.desk_reasons.specs.Reasons.{has, seen, is_marked, number_fault}
+use Rattle.desk_reasons.specs.Reasons.{has, seen, number_fault}
 use borrow.Author.Tests.{eq-eqb, ne_eqb, le-leb, lt-leb}
-
--- A digit.
-pub below_digits : (b : ℕ) → b < 48 → false ≡ is_digit b
-unfolding is_digit
-below_digits b low = rw (lt-leb 48 b low)
-
-pub from_digits : (b : ℕ) → 48 ≤ b → leb b 57 ≡ is_digit b
-unfolding is_digit
-from_digits b high = rw (le-leb 48 b high)
 
 module _ (f : List ℕ) where
   pub has_by_search : (b : ℕ) {r : ℕ} → r ≡ 0 + index_of b (slice 0 (length f) f) → ltb r (length f) ≡ has b f
@@ -48,24 +39,6 @@ module _ (f : List ℕ) where
       pub seen_other : has 13 f ≡ false → has 9 f ≡ false → otherwise ≡ seen f otherwise
       unfolding seen
       seen_other other another = rw (ne_eqb _ _ some, other, another)
-
-  -- The three bytes of a byte order mark.
-  pub too_short_for_a_mark : length f < 3 → false ≡ is_marked f
-  unfolding is_marked
-  too_short_for_a_mark short = rw (lt-leb 3 (length f) short)
-
-  module _ (long : 3 ≤ length f) where
-    pub first_of_no_mark : (get_or f 0 0 ≡ 239 → ⊥) → false ≡ is_marked f
-    unfolding is_marked
-    first_of_no_mark other = rw (le-leb 3 (length f) long, ne_eqb _ _ other)
-
-    pub second_of_no_mark : get_or f 0 0 ≡ 239 → (get_or f 1 0 ≡ 187 → ⊥) → false ≡ is_marked f
-    unfolding is_marked
-    second_of_no_mark first other = rw (le-leb 3 (length f) long, eq-eqb _ _ first, ne_eqb _ _ other)
-
-    pub mark_by_third : get_or f 0 0 ≡ 239 → get_or f 1 0 ≡ 187 → eqb (get_or f 2 0) 191 ≡ is_marked f
-    unfolding is_marked
-    mark_by_third first second = rw (le-leb 3 (length f) long, eq-eqb _ _ first, eq-eqb _ _ second)
 
   -- Digits that are no number.
   module _ (most : ℕ) where

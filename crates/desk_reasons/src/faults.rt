@@ -17,19 +17,19 @@ pub(crate) fn of_letter(field: &[u8]) -> Fault
 }
 
 // What is wrong with a field that is not of its kind.
-pub(crate) fn of_field(kind: Kind, field: &[u8]) -> Fault
+pub(crate) fn of_field(kind: Option<Kind>, field: &[u8]) -> Fault
     ensures { result ≡ Reasons.field_fault kind field.now }
 {
     seen(field, of_kind(kind, field))
 }
 
-fn of_kind(kind: Kind, field: &[u8]) -> Fault
+fn of_kind(kind: Option<Kind>, field: &[u8]) -> Fault
     ensures { result ≡ Reasons.kind_fault kind field.now }
 {
     match kind {
-        Kind::None => Fault::Extra,
-        Kind::Number(most) => of_number(most, field),
-        Kind::Idle => of_number(u64::MAX, field),
+        None => Fault::Extra,
+        Some(Kind::Number(most)) => of_number(most, field),
+        Some(Kind::Idle) => of_number(u64::MAX, field),
     }
 }
 
@@ -50,7 +50,7 @@ fn of_number(most: u64, field: &[u8]) -> Fault
 fn seen(field: &[u8], otherwise: Fault) -> Fault
     ensures { result ≡ Reasons.seen field.now otherwise }
 {
-    if field.len() == 0 {
+    if field.is_empty() {
         return Fault::Empty;
     }
     if has(field, b'\r') {
@@ -70,40 +70,28 @@ fn has(field: &[u8], byte: u8) -> bool
 }
 
 // Whether a field begins with the three bytes of a byte order mark.
+#[tactic(auto, unfolding(crate::specs::Reasons::is_marked))]
 fn is_marked(field: &[u8]) -> bool
     ensures { result ≡ Reasons.is_marked field.now }
 {
-    if field.len() < 3 {
-        return false;
-    }
-    if field[0] != 0xef {
-        return false;
-    }
-    if field[1] != 0xbb {
-        return false;
-    }
-    field[2] == 0xbf
+    matches!(field, [0xef, 0xbb, 0xbf, ..])
 }
 
 // Whether all bytes of a field are digits.
 fn all_digits(field: &[u8]) -> bool
     ensures { result ≡ all_digits field.now }
 {
-    let mut i: usize = 0;
-    while i < field.len() {
-        if !is_digit(field[i]) {
+    for byte in field {
+        if !is_digit(*byte) {
             return false;
         }
-        i += 1;
     }
     true
 }
 
+#[tactic(auto, unfolding(decimal::specs::Decimal::is_digit))]
 fn is_digit(byte: u8) -> bool
     ensures { result ≡ is_digit byte }
 {
-    if byte < b'0' {
-        return false;
-    }
-    byte <= b'9'
+    matches!(byte, b'0'..=b'9')
 }

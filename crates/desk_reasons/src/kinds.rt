@@ -5,13 +5,9 @@ ghost use Rattle.desk_reasons.specs.Reasons.{first_kind, kinds_of, request_kinds
 ghost use Rattle.desk_reasons.specs.Reasons.{is_number};
 ghost use Rattle.desk_reasons.specs.Reasons as Reasons;
 
-use decimal::OptionNumber;
-
 // What a field has to be.
 #[derive(Clone, Copy)]
 pub enum Kind {
-    // There is no such field.
-    None,
     // A number of at most this.
     Number(u64),
     // An idle time: a number, or `-` for none.
@@ -21,161 +17,116 @@ pub enum Kind {
 // The largest number of 32 bits.
 const MOST_32: u64 = 0xffff_ffff;
 
-// The letter that a field is, or 0 if it is no letter of the desk.
-pub(crate) fn letter_in(field: &[u8]) -> u8
+// The letter that a field is, if it is one of the desk: a field comes after it.
+#[tactic(auto, unfolding(crate::specs::Reasons::letter_in))]
+pub(crate) fn letter_in(field: &[u8]) -> Option<u8>
     ensures { result ≡ letter_in field.now }
 {
     if field.len() != 1 {
-        return 0;
+        return None;
     }
     let letter = field[0];
-    known(letter, at(letter, 0))
+    at(letter, 0)?;
+    Some(letter)
 }
 
-// A letter, or 0 if no field comes after it: every letter of the desk has one at least.
-fn known(letter: u8, kind: Kind) -> u8
-    ensures { result ≡ Reasons.known letter kind }
-{
-    match kind {
-        Kind::None => 0,
-        Kind::Number(_) => letter,
-        Kind::Idle => letter,
-    }
-}
-
-// What a field after a letter has to be, by its place among them, from 0.
-pub(crate) fn at(letter: u8, i: usize) -> Kind
+// What a field after a letter has to be, by its place among them, from 0; nothing where there is no such field.
+#[tactic(auto, unfolding(crate::specs::Reasons::kinds_of))]
+pub(crate) fn at(letter: u8, i: usize) -> Option<Kind>
     ensures { result ≡ first_kind (drop i (kinds_of letter)) }
 {
-    if letter == b'a' {
-        return in_request(i);
+    match letter {
+        b'a' | b'p' => in_request(i),
+        b'r' => in_reserve(i),
+        b'f' => in_refund(i),
+        b'd' => in_remove(i),
+        b's' => in_set_up(i),
+        _ => None,
     }
-    if letter == b'p' {
-        return in_request(i);
-    }
-    if letter == b'r' {
-        return in_reserve(i);
-    }
-    if letter == b'f' {
-        return in_refund(i);
-    }
-    if letter == b'd' {
-        return in_remove(i);
-    }
-    if letter == b's' {
-        return in_set_up(i);
-    }
-    Kind::None
 }
 
 // The moment, the key, the cost.
-fn in_request(i: usize) -> Kind
+#[tactic(auto, using(crate::proofs::KindLaws::none_past))]
+fn in_request(i: usize) -> Option<Kind>
     ensures { result ≡ first_kind (drop i request_kinds) }
 {
-    if i < 2 {
-        return Kind::Number(u64::MAX);
+    match i {
+        0 | 1 => Some(Kind::Number(u64::MAX)),
+        2 => Some(Kind::Number(MOST_32)),
+        _ => None,
     }
-    if i == 2 {
-        return Kind::Number(MOST_32);
-    }
-    Kind::None
 }
 
 // The same, and the longest wait.
-fn in_reserve(i: usize) -> Kind
+fn in_reserve(i: usize) -> Option<Kind>
     ensures { result ≡ first_kind (drop i reserve_kinds) }
 {
-    if i == 3 {
-        return Kind::Number(u64::MAX);
+    match i {
+        3 => Some(Kind::Number(u64::MAX)),
+        _ => in_request(i),
     }
-    in_request(i)
 }
 
 // The key, the cost.
-fn in_refund(i: usize) -> Kind
+#[tactic(auto, using(crate::proofs::KindLaws::none_past))]
+fn in_refund(i: usize) -> Option<Kind>
     ensures { result ≡ first_kind (drop i refund_kinds) }
 {
-    if i == 1 {
-        return Kind::Number(MOST_32);
+    match i {
+        1 => Some(Kind::Number(MOST_32)),
+        _ => in_remove(i),
     }
-    in_remove(i)
 }
 
 // The key.
-fn in_remove(i: usize) -> Kind
+#[tactic(auto, using(crate::proofs::KindLaws::none_past))]
+fn in_remove(i: usize) -> Option<Kind>
     ensures { result ≡ first_kind (drop i remove_kinds) }
 {
-    if i == 0 {
-        return Kind::Number(u64::MAX);
+    match i {
+        0 => Some(Kind::Number(u64::MAX)),
+        _ => None,
     }
-    Kind::None
 }
 
 // The amount, the period, the burst, the initial tokens, the keys, the shards, the idle time, the rule when full.
-fn in_set_up(i: usize) -> Kind
+#[tactic(auto, using(crate::proofs::KindLaws::none_past))]
+fn in_set_up(i: usize) -> Option<Kind>
     ensures { result ≡ first_kind (drop i set_up_kinds) }
 {
-    if i == 1 {
-        return Kind::Number(u64::MAX);
+    match i {
+        0 => Some(Kind::Number(MOST_32)),
+        1 => Some(Kind::Number(u64::MAX)),
+        2 | 3 => Some(Kind::Number(MOST_32)),
+        4 | 5 => Some(Kind::Number(u64::MAX)),
+        6 => Some(Kind::Idle),
+        7 => Some(Kind::Number(1)),
+        _ => None,
     }
-    if i < 4 {
-        return Kind::Number(MOST_32);
-    }
-    if i < 6 {
-        return Kind::Number(u64::MAX);
-    }
-    if i == 6 {
-        return Kind::Idle;
-    }
-    if i == 7 {
-        return Kind::Number(1);
-    }
-    Kind::None
 }
 
-// Whether a field is of a kind.
-pub(crate) fn accepts(kind: Kind, field: &[u8]) -> bool
+// Whether a field is of a kind. No field is of none.
+pub(crate) fn accepts(kind: Option<Kind>, field: &[u8]) -> bool
     ensures { result ≡ Reasons.accepts kind field.now }
 {
     match kind {
-        Kind::None => false,
-        Kind::Number(most) => is_number(field, most),
-        Kind::Idle => is_idle(field),
+        None => false,
+        Some(Kind::Number(most)) => is_number(field, most),
+        Some(Kind::Idle) => is_dash(field) || is_number(field, u64::MAX),
     }
-}
-
-// Whether a field is an idle time.
-fn is_idle(field: &[u8]) -> bool
-    ensures { result ≡ Reasons.is_idle field.now }
-{
-    if is_dash(field) {
-        return true;
-    }
-    is_number(field, u64::MAX)
 }
 
 // Whether a field is the one byte `-`.
+#[tactic(auto, unfolding(desk_lines::specs::Lines::is_dash))]
 fn is_dash(field: &[u8]) -> bool
     ensures { result ≡ Lines.is_dash field.now }
 {
-    if field.len() != 1 {
-        return false;
-    }
-    field[0] == b'-'
+    field.len() == 1 && field[0] == b'-'
 }
 
 // Whether a field is a number of at most `most`.
 fn is_number(field: &[u8], most: u64) -> bool
     ensures { result ≡ is_number most field.now }
 {
-    is_some(decimal::number(field, most))
-}
-
-fn is_some(number: OptionNumber) -> bool
-    ensures { result ≡ Reasons.is_some number }
-{
-    match number {
-        OptionNumber::None => false,
-        OptionNumber::Some(_) => true,
-    }
+    decimal::number(field, most).is_some()
 }

@@ -40,8 +40,6 @@ pub enum Fault {
 // Why a line is answered with 9.
 #[derive(Clone, Copy)]
 pub enum Reason {
-    // It is not.
-    Fine,
     // It has no byte.
     Blank,
     // It has more bytes than a line may have.
@@ -54,82 +52,53 @@ pub enum Reason {
     Late,
 }
 
-// Why a line is answered with 9, as line 1 or as another.
-pub fn reason_at(first: bool, line: &[u8]) -> Reason
+// Why a line is answered with 9, as line 1 or as another, if it is.
+pub fn reason_at(first: bool, line: &[u8]) -> Option<Reason>
     ensures { result ≡ Reasons.reason_at first line.now }
 {
-    let reason = reason_of(line);
-    if is_fine(reason) {
-        return out_of_place(first, is_set_up(desk_lines::read(line)));
+    if let Some(reason) = reason_of(line) {
+        return Some(reason);
     }
-    reason
-}
-
-// Whether there is no reason.
-pub fn is_fine(reason: Reason) -> bool
-    ensures { result ≡ Reasons.is_fine reason }
-{
-    match reason {
-        Reason::Fine => true,
-        Reason::Blank => false,
-        Reason::Long => false,
-        Reason::Field(_, _) => false,
-        Reason::Early => false,
-        Reason::Late => false,
-    }
+    out_of_place(first, is_set_up(desk_lines::read(line)))
 }
 
 // Whether a line sets the store up.
 fn is_set_up(line: Line) -> bool
     ensures { result ≡ Reasons.is_set_up line }
 {
-    match line {
-        Line::SetUp(_) => true,
-        Line::Try(_) => false,
-        Line::Peek(_) => false,
-        Line::Reserve(_, _) => false,
-        Line::Refund(_, _) => false,
-        Line::Remove(_) => false,
-        Line::Malformed => false,
-    }
+    matches!(line, Line::SetUp(_))
 }
 
 // Line 1 sets the store up, and no other line does.
-fn out_of_place(first: bool, sets_up: bool) -> Reason
+fn out_of_place(first: bool, sets_up: bool) -> Option<Reason>
     ensures { result ≡ Reasons.out_of_place first sets_up }
 {
-    if first {
-        if sets_up {
-            return Reason::Fine;
-        }
-        return Reason::Early;
+    match (first, sets_up) {
+        (true, false) => Some(Reason::Early),
+        (false, true) => Some(Reason::Late),
+        _ => None,
     }
-    if sets_up {
-        return Reason::Late;
-    }
-    Reason::Fine
 }
 
-// Why a line is malformed, whichever line it is.
-pub fn reason_of(line: &[u8]) -> Reason
+// Why a line is malformed, whichever line it is, if it is.
+pub fn reason_of(line: &[u8]) -> Option<Reason>
     ensures { result ≡ Reasons.reason_of line.now }
 {
-    if line.len() == 0 {
-        return Reason::Blank;
+    if line.is_empty() {
+        return Some(Reason::Blank);
     }
     if LONGEST_LINE < line.len() {
-        return Reason::Long;
+        return Some(Reason::Long);
     }
     let end = scan::find(line, 0, line.len(), b' ');
-    let letter = kinds::letter_in(&line[0..end]);
-    if letter == 0 {
-        return Reason::Field(1, faults::of_letter(&line[0..end]));
+    match kinds::letter_in(&line[..end]) {
+        None => Some(Reason::Field(1, faults::of_letter(&line[..end]))),
+        Some(letter) => of_fields(line, letter, end + 1),
     }
-    of_fields(line, letter, end + 1)
 }
 
 // The first fault among the fields after the letter, which begin at a place.
-fn of_fields(line: &[u8], letter: u8, from: usize) -> Reason
+fn of_fields(line: &[u8], letter: u8, from: usize) -> Option<Reason>
     requires { length line.now ≤ longest_line }
     ensures { result ≡ Reasons.fields_reason 0 (Reasons.kinds_of letter) (fields_from line.now from) }
 {
@@ -139,7 +108,7 @@ fn of_fields(line: &[u8], letter: u8, from: usize) -> Reason
         let end = scan::find(line, at, line.len(), b' ');
         let kind = kinds::at(letter, i);
         if !kinds::accepts(kind, &line[at..end]) {
-            return Reason::Field(i + 2, faults::of_field(kind, &line[at..end]));
+            return Some(Reason::Field(i + 2, faults::of_field(kind, &line[at..end])));
         }
         at = end + 1;
         i += 1;
@@ -148,13 +117,10 @@ fn of_fields(line: &[u8], letter: u8, from: usize) -> Reason
 }
 
 // The line ends before a field: that is missing, if there is one.
-fn at_end(kind: Kind, i: usize) -> Reason
+fn at_end(kind: Option<Kind>, i: usize) -> Option<Reason>
     requires { i + 2 < 2 ^ 64 }
     ensures { result ≡ Reasons.end_reason kind i }
 {
-    match kind {
-        Kind::None => Reason::Fine,
-        Kind::Number(_) => Reason::Field(i + 2, Fault::Missing),
-        Kind::Idle => Reason::Field(i + 2, Fault::Missing),
-    }
+    kind?;
+    Some(Reason::Field(i + 2, Fault::Missing))
 }

@@ -14,14 +14,12 @@ const MOST_KEYS: usize = 65536;
 pub fn room_for(words: usize, shards: usize) -> usize
     ensures { result ≡ Room.room_for words shards }
 {
-    let mut keys: usize = 0;
-    while keys < MOST_KEYS {
+    for keys in 0..MOST_KEYS {
         if !fits(keys + 1, words, shards) {
             return keys;
         }
-        keys += 1;
     }
-    keys
+    MOST_KEYS
 }
 
 // Whether a store for so many modems in so many shards is accepted, and needs no more words.
@@ -29,7 +27,7 @@ fn fits(keys: usize, words: usize, shards: usize) -> bool
     ensures { result ≡ Room.fits keys words shards }
 {
     let settings = sized(keys, shards);
-    if settings.size_refusal() != 0 {
+    if settings.check_sizes().is_err() {
         return false;
     }
     store::words::memory_words(settings) <= words
@@ -39,10 +37,9 @@ fn fits(keys: usize, words: usize, shards: usize) -> bool
 fn sized(keys: usize, shards: usize) -> Settings
     ensures { result ≡ Room.sized keys shards }
 {
-    let eviction = Eviction::capacity(keys);
     Settings {
         limit: Limit::Closed,
-        eviction,
+        eviction: Eviction::capacity(keys),
         shards,
         classes: 0,
     }

@@ -84,8 +84,7 @@ fn field_size(n: u64) -> usize
 fn request_size(request: Request) -> usize
     ensures { (result ≡ length (spaced (request_numbers request))) × (result ≤ 63) }
 {
-    let at = request.at;
-    field_size(at.0) + field_size(request.key) + field_size(request.cost as u64)
+    field_size(request.at.0) + field_size(request.key) + field_size(request.cost as u64)
 }
 
 // Stores a number with a space in front from a place on. Tells the place after it.
@@ -113,9 +112,7 @@ fn put_request(out: &mut [u8], letter: u8, request: Request) -> usize
     requires { length (letter ∷ spaced (request_numbers request)) ≤ length out.old }
     ensures { outcome result out.new ≡ written_over (letter ∷ spaced (request_numbers request)) 0 out.old }
 {
-    let at = request.at;
-    let cost = request.cost as u64;
-    put_three(out, letter, at.0, request.key, cost)
+    put_three(out, letter, request.at.0, request.key, request.cost as u64)
 }
 
 // Stores a reservation's line without its LF. Tells the place after it.
@@ -123,9 +120,8 @@ fn put_reserve(out: &mut [u8], request: Request, max_wait: Nanos) -> usize
     requires { length (bytes_of (Reserve request max_wait)) ≤ length out.old }
     ensures { outcome result out.new ≡ written_over (bytes_of (Reserve request max_wait)) 0 out.old }
 {
-    let at = request.at;
     let cost = request.cost as u64;
-    let wait_at = put_three(out, b'r', at.0, request.key, cost);
+    let wait_at = put_three(out, b'r', request.at.0, request.key, cost);
     put_field(out, wait_at, max_wait.0)
 }
 

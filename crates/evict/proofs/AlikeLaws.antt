@@ -1,17 +1,15 @@
 -- An eviction on two shards that are alike to a view: the walk, the choice of the victim and what happens to it are the same, and the shards left are alike.
+use Rattle.std.proofs.Common.{Some, Ok, Err}
 use Prim.Native.Nat.{ℕ, zero, suc, ◌+◌, min}
 use mathlib.Core.Path.{◌≡◌, refl, ap, subst}
 use mathlib.Core.Bool.{Bool}
 use Rattle.units.specs.declared.Nanos.{Nanos}
 use Rattle.bucket.specs.declared.BucketConfig.{BucketConfig}
 use Rattle.settings.specs.Eviction.{clock_scan}
-use Rattle.rows.specs.declared.Place.TheVariants.{At}
 use Rattle.held.proofs.AlikeLaws.{SameOutcome, alike_by_test}
 use Rattle.slot.specs.declared.Slot.{Slot}
 use Rattle.ledger.specs.declared.Debt.{Debt}
-use Rattle.ledger.specs.declared.Recorded.{Recorded}
-use Rattle.ledger.specs.declared.Recorded.TheVariants.{Done, NoRoom}
-use Rattle.ledger.specs.Model.{Ledger, recorded}
+use Rattle.ledger.specs.Model.{Recorded, Ledger, recorded}
 use Rattle.shard_map.specs.Model.{Shard, slot_at, hand_of}
 use Rattle.shard_map.proofs.AlikeLaws.{View, AlikeShards, slot_alike, hand_alike, hand_moved_alike, ledger_alike, change_alike, removal_alike}
 use Rattle.evict.specs.declared.Victim.{Victim}
@@ -44,7 +42,7 @@ module _ (v : View) (c : BucketConfig) (at : Nanos) where
       let slot = slot_alike v like here in
       let goes : goes_at_once c at (slot_at s (hand_of s)) ≡ goes_at_once c at (slot_at t (hand_of t)) = rw ((v.reads slot).bucket, (v.reads slot).mark) in
       alike_by_test (AlikeWalks v) _ goes
-      (record { ended = ap At here; notes = noting; after = looked_alike like })
+      (record { ended = ap Some here; notes = noting; after = looked_alike like })
       (walk_from_alike left (looked_alike like) (noted_alike noting here slot))
 
   walk_alike : {s t : Shard} → AlikeShards v s t → AlikeWalks v (walked c at s) (walked c at t)
@@ -67,8 +65,8 @@ module _ (v : View) (c : BucketConfig) (at : Nanos) (forget : Bool) where
 
   after_recording_alike : {s t : Shard} {l m : Ledger} → AlikeShards v s t → v.Ledgers l m → (p soonest : ℕ) (r : Recorded)
       → SameOutcome (AlikeShards v) (after_recording at s p soonest l r) (after_recording at t p soonest m r)
-  after_recording_alike like same p soonest Done = record { answer = refl; after = evict_at_alike v (ledger_alike v like same) p }
-  after_recording_alike like same p soonest (NoRoom wait) = record { answer = refl; after = ledger_alike v like same }
+  after_recording_alike like same p soonest (Ok _) = record { answer = refl; after = evict_at_alike v (ledger_alike v like same) p }
+  after_recording_alike like same p soonest (Err full) = record { answer = refl; after = ledger_alike v like same }
 
   victim_alike : {s t : Shard} → AlikeShards v s t → (soonest : ℕ) (victim : Victim)
       → SameOutcome (AlikeShards v) (evict_victim c at forget s soonest victim) (evict_victim c at forget t soonest victim)

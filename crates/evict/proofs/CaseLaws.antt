@@ -1,5 +1,6 @@
 -- How an eviction ends: in one of three ways. Laws about an eviction go by these cases and do not open the walk: what it keeps of the slots and of the ledger,
 -- and the room that it makes.
+use Rattle.std.proofs.Common.{Ok, Err}
 use Prim.Native.Nat.{ℕ, ◌<◌, ◌+◌, ◌≤◌}
 use mathlib.Core.Path.{◌≡◌, refl, sym, ◌∙◌, ap}
 use mathlib.Core.Bool.{Bool}
@@ -9,14 +10,12 @@ use Rattle.bucket.specs.declared.BucketConfig.{BucketConfig}
 use Rattle.bucket.specs.declared.Due.{Due}
 use Rattle.bucket.specs.Bucket.{due_after}
 use Rattle.rows.specs.Outcome.{Outcome, outcome}
-use Rattle.ledger.specs.declared.Recorded.{Recorded}
-use Rattle.ledger.specs.declared.Recorded.TheVariants.{Done, NoRoom}
+use Rattle.ledger.specs.Model.{Recorded, no_room}
 use Rattle.ledger.specs.Model as Ledger
 use Rattle.ledger.proofs.RecordLaws.{recorded_sound, recorded_complete, recorded_room}
 use Rattle.evict.specs.declared.Victim.{Victim}
 use Rattle.evict.specs.declared.Victim.TheVariants.{Free, Owing}
-use Rattle.evict.specs.declared.Room.{Room}
-use Rattle.evict.specs.declared.Room.TheVariants.{Made, Refused}
+use Rattle.evict.specs.Evict.{Room}
 use Rattle.shard_map.specs.Model.{Shard, Sound, slot_at, with_ledger, hand_of, Complete, slot_items, cap_of, remove_at}
 use Rattle.shard_map.proofs.StepLaws.{ledger_sound, removal_count, removal_cap, removal_kind, removal_slots_complete, removal_ledger}
 use Rattle.evict.specs.Evict.{Notes, walked, victim_of, evict_at, debt_left, refusal_wait, after_recording, evict_victim, evicted}
@@ -38,12 +37,12 @@ pub debt_recorded_sound : (c : BucketConfig) (at : Nanos) (forget : Bool) (s : S
 debt_recorded_sound c at forget s p u = ledger_sound s _ u (recorded_sound s.ledger (debt_left c at (slot_at s p)) at forget u.ledger)
 
 -- The two answers are not one, and there is no third.
-pub made_is_no_refusal : {Q : Type 0} {due : Due} → Made ≡ Refused due → Q
+pub made_is_no_refusal : {Q : Type 0} {due : Due} → ◌≡◌ {A = Room} (Ok tt) (Err due) → Q
 made_is_no_refusal e = let z : ◌≡◌ {A = ℕ} 0 1 = cc in absurd (omega arith)
 
-pub never_refused_is_made : (answer : Room) → ((due : Due) → answer ≡ Refused due → ⊥) → answer ≡ Made
-never_refused_is_made Made never = refl
-never_refused_is_made (Refused due) never = absurd (never due refl)
+pub never_refused_is_made : (answer : Room) → ((due : Due) → answer ≡ Err due → ⊥) → answer ≡ Ok tt
+never_refused_is_made (Ok _) never = refl
+never_refused_is_made (Err due) never = absurd (never due refl)
 
 -- Q, of the slots, is kept by the two steps of an eviction: marks change, and a slot leaves.
 pub record KeptByEvictSteps (Q : Held Slot → Type 0) : Type 0 where
@@ -62,17 +61,17 @@ module _ (c : BucketConfig) (at : Nanos) (forget : Bool) (s : Shard) (u : Sound 
   recording p = debt_recorded c at forget left p
 
   -- A full slot goes; a slot goes once its debt is in the ledger; or none goes, since the ledger had no room.
-  pub evict_cases : (P : Outcome Room Shard → Type 0) → ((p : ℕ) → FullSlot c at left p → P (outcome Made (evict_at left p)))
-      → ((p : ℕ) → p < left.slots.count → (recording p).answer ≡ Done → P (outcome Made (evict_at (with_ledger left (recording p).after) p)))
-      → ((p : ℕ) (wait : Nanos) → p < left.slots.count → (recording p).answer ≡ NoRoom wait
-      → P (outcome (Refused (due_after at (refusal_wait notes.soonest wait))) (with_ledger left (recording p).after))) → P (evicted c at forget s)
+  pub evict_cases : (P : Outcome Room Shard → Type 0) → ((p : ℕ) → FullSlot c at left p → P (outcome (Ok tt) (evict_at left p)))
+      → ((p : ℕ) → p < left.slots.count → (recording p).answer ≡ Ok tt → P (outcome (Ok tt) (evict_at (with_ledger left (recording p).after) p)))
+      → ((p : ℕ) (wait : Nanos) → p < left.slots.count → (recording p).answer ≡ no_room wait
+      → P (outcome (Err (due_after at (refusal_wait notes.soonest wait))) (with_ledger left (recording p).after))) → P (evicted c at forget s)
   unfolding evicted
   evict_cases P full owing none = by_victim (victim_of (walked c at s).ended notes.full notes.unmarked (hand_of s)) (walk_chooses c at s u some)
     where
       by_record : (p : ℕ) → p < left.slots.count → (answer : Recorded) → (recording p).answer ≡ answer
           → P (after_recording at left p notes.soonest (recording p).after answer)
-      by_record p below Done told = owing p below told
-      by_record p below (NoRoom wait) told = none p wait below told
+      by_record p below (Ok _) told = owing p below told
+      by_record p below (Err full) told = none p full.wait below told
 
       by_victim : (v : Victim) → VictimIs c at left v → P (evict_victim c at forget left notes.soonest v)
       by_victim (Free p) is = full p is
@@ -137,12 +136,12 @@ module _ (c : BucketConfig) (at : Nanos) (forget : Bool) (s : Shard) (u : Sound 
   }
 
   -- Where room was made one slot has gone, so there is room for another.
-  pub evict_made_count : (evicted c at forget s).answer ≡ Made → (evicted c at forget s).after.slots.count + 1 ≡ s.slots.count
+  pub evict_made_count : (evicted c at forget s).answer ≡ Ok tt → (evicted c at forget s).after.slots.count + 1 ≡ s.slots.count
   evict_made_count =
-      evict_cases (λ o. o.answer ≡ Made → o.after.slots.count + 1 ≡ s.slots.count)
+      evict_cases (λ o. o.answer ≡ Ok tt → o.after.slots.count + 1 ≡ s.slots.count)
       (λ p full made. omega (arith, removal_count left p, full.below, walk_remarks.count))
       (λ p below done made. omega (arith, removal_count (with_ledger left (recording p).after) p, walk_remarks.count))
       (λ p wait below told made. made_is_no_refusal (sym made))
 
-  pub evict_made_leaves_room : (evicted c at forget s).answer ≡ Made → (evicted c at forget s).after.slots.count < cap_of (evicted c at forget s).after
+  pub evict_made_leaves_room : (evicted c at forget s).answer ≡ Ok tt → (evicted c at forget s).after.slots.count < cap_of (evicted c at forget s).after
   evict_made_leaves_room made = omega (arith, evict_made_count made, evict_cap, u.count_fits)

@@ -1,4 +1,5 @@
 -- The two sums over all that a shard has of one hash (KeptLaws of the shard), across an eviction: where debts may not be forgotten, none is lost.
+use Rattle.std.proofs.Common.{Ok}
 use Prim.Native.Nat.{ℕ, ◌+◌, ◌*◌, ◌-◌, ◌≤◌, ◌<◌, ◌^◌}
 use mathlib.Core.Path.{◌≡◌, refl, ap}
 use mathlib.Core.Bool.{Bool, false}
@@ -16,7 +17,7 @@ use Rattle.rows.proofs.SumLaws.{sum_same}
 use Rattle.slot.specs.declared.Slot.{Slot}
 use Rattle.slot.specs.Slot.{with_mark}
 use Rattle.ledger.specs.declared.Debt.{Debt}
-use Rattle.ledger.specs.declared.Recorded.TheVariants.{Done, NoRoom}
+use Rattle.ledger.specs.Model.{no_room}
 use Rattle.ledger.specs.Model as Ledger
 use Rattle.ledger.proofs.KeptLaws.{weigh, owed, one, weigh_own, weigh_other, record_adds_at_most, record_keeps_unsettled, refusal_keeps}
 use Rattle.shard_map.specs.Model.{Shard, Sound, slot_at, with_ledger}
@@ -73,7 +74,7 @@ module _ (c : BucketConfig) (h k : ℕ) where
 
   -- A slot goes once its debt is recorded, where debts may not be forgotten; and a recording that is refused changes nothing.
   owing_slot_loses_nothing : (at : Nanos) (forget : Bool) (s : Shard) (p : ℕ) → Accepted c → at.0 ≤ 2 ^ 62 → Sound s → forget ≡ false → p < s.slots.count
-      → (debt_recorded c at forget s p).answer ≡ Done → Keeps c h k at s (evict_at (with_ledger s (debt_recorded c at forget s p).after) p)
+      → (debt_recorded c at forget s p).answer ≡ Ok tt → Keeps c h k at s (evict_at (with_ledger s (debt_recorded c at forget s p).after) p)
   owing_slot_loses_nothing at forget s p a early u never below done =
       let slot : Slot = slot_at s p in
       let d : Debt = debt_left c at slot in
@@ -97,7 +98,7 @@ module _ (c : BucketConfig) (h k : ℕ) where
             );
       }
 
-  refusal_loses_nothing : (at : Nanos) (forget : Bool) (s : Shard) (p : ℕ) (wait : Nanos) → Sound s → (debt_recorded c at forget s p).answer ≡ NoRoom wait
+  refusal_loses_nothing : (at : Nanos) (forget : Bool) (s : Shard) (p : ℕ) (wait : Nanos) → Sound s → (debt_recorded c at forget s p).answer ≡ no_room wait
       → Keeps c h k at s (with_ledger s (debt_recorded c at forget s p).after)
   refusal_loses_nothing at forget s p wait u told =
       let d : Debt = debt_left c at (slot_at s p) in

@@ -1,5 +1,6 @@
 -- Laws of the eviction that its functions go by: one look is one step of the definition that counts the looks left; what a definition is in each case that
 -- the code goes through; and that words which are lent stay so. What an eviction keeps is in CaseLaws.
+use Rattle.std.proofs.Common.{Option, Some, None, Ok, Err}
 use Prim.Native.Nat.{ℕ, suc, ◌-◌, ◌<◌, min}
 use native.Mathlib.Omega.{arith}
 use mathlib.Core.Path.{◌≡◌, refl, ap, sym, ◌∙◌}
@@ -13,17 +14,13 @@ use Rattle.bucket.specs.declared.BucketConfig.{BucketConfig}
 use Rattle.bucket.specs.declared.Due.{Due}
 use Rattle.bucket.specs.Bucket.{Accepted, shortfall_at, due_after}
 use Rattle.bucket.proofs.BucketLaws.{due_by_number}
-use Rattle.rows.specs.declared.Place.{Place}
-use Rattle.rows.specs.declared.Place.TheVariants.{At, Nowhere}
 use Rattle.rows.specs.Outcome.{Outcome, outcome}
 use Rattle.rows.proofs.OutcomeLaws.{answer_is, after_is}
 use Rattle.slot.specs.declared.Slot.{Slot}
 use Rattle.slot.specs.Slot.{recovery}
 use Rattle.ledger.specs.declared.Debt.{Debt}
-use Rattle.ledger.specs.declared.Recorded.{Recorded}
-use Rattle.ledger.specs.declared.Recorded.TheVariants.{Done, NoRoom}
-use Rattle.ledger.specs.declared.Prepared.{Prepared}
-use Rattle.ledger.specs.declared.Prepared.TheVariants.{Ready, Full}
+use Rattle.ledger.specs.Model.{Recorded, no_room}
+use Rattle.ledger.specs.code.Prepared.{Prepared}
 use Rattle.ledger.specs.Model as Ledger
 use Rattle.ledger.specs.code.Prepared.{prepared, written, finished, ReadyFor}
 use Rattle.ledger.proofs.PreparedLaws.{prepared_ready, recorded_in_steps}
@@ -36,9 +33,7 @@ use Rattle.evict.specs.declared.Awaited.{Awaited}
 use Rattle.evict.specs.declared.Walk.{Walk}
 use Rattle.evict.specs.declared.Victim.{Victim}
 use Rattle.evict.specs.declared.Victim.TheVariants.{Free, Owing}
-use Rattle.evict.specs.declared.Room.{Room}
-use Rattle.evict.specs.declared.Room.TheVariants.{Made, Refused}
-use Rattle.evict.specs.Evict.{or_else, Notes, noted, looked, goes_at_once, walk_from, walked, victim_of, place_of_victim}
+use Rattle.evict.specs.Evict.{Room, or_else, Notes, noted, looked, goes_at_once, walk_from, walked, victim_of, place_of_victim}
 use Rattle.evict.specs.Evict.{evict_at, debt_left, refusal_wait, evict_victim, evicted}
 use Rattle.evict.specs.code.Awaited.{awaiting, notes_of, new_walk, walk_noted}
 use Rattle.evict.proofs.AwaitedLaws.{new_walk_notes_nothing, awaited_recovers_soonest}
@@ -47,12 +42,12 @@ use Rattle.evict.proofs.CaseLaws.{debt_recorded}
 
 -- What a look of the walk notes: of a full slot, and of one that is not full, by its mark. The code has worked out the shortfall n, and what is awaited then.
 module _ (c : BucketConfig) (at : Nanos) (w : Walk) (p : ℕ) (slot : Slot) {n : ℕ} (is : n ≡ shortfall_at c slot.bucket at) where
-  pub noted_full : n ≡ 0 → record { full = or_else w.full (At p); unmarked = w.unmarked; awaited = w.awaited } ≡ walk_noted c at w p slot
+  pub noted_full : n ≡ 0 → record { full = or_else w.full (Some p); unmarked = w.unmarked; awaited = w.awaited } ≡ walk_noted c at w p slot
   unfolding noted
   noted_full full = rw (eq-eqb _ _ (sym is ∙ full))
 
   module _ (owing : n ≡ 0 → ⊥) {awaited : Awaited} (awaits : awaited ≡ awaiting c at w.awaited slot.bucket) where
-    pub noted_unmarked : slot.mark ≡ 0 → record { full = w.full; unmarked = or_else w.unmarked (At p); awaited = awaited } ≡ walk_noted c at w p slot
+    pub noted_unmarked : slot.mark ≡ 0 → record { full = w.full; unmarked = or_else w.unmarked (Some p); awaited = awaited } ≡ walk_noted c at w p slot
     unfolding noted
     noted_unmarked clear = rw (ne_eqb _ _ (rw is at owing), eq-eqb _ _ clear, awaits)
 
@@ -66,7 +61,7 @@ unfolding walked
 walk_start c at s = rw (new_walk_notes_nothing c)
 
 pub walk_end : (c : BucketConfig) (at : Nanos) (left : ℕ) (s : Shard) (n : Notes) → left ≡ 0
-    → walk_from c at left s n ≡ record { ended = Nowhere; notes = n; after = s }
+    → walk_from c at left s n ≡ record { ended = None; notes = n; after = s }
 unfolding walk_from
 walk_end c at left s n none = rw none
 
@@ -76,7 +71,7 @@ module _ (c : BucketConfig) (at : Nanos) (left : ℕ) (s : Shard) (w : Walk) {t 
   abbrev n : Notes
   n = notes_of c w
 
-  pub walk_ends_at_once : goes ≡ true → walk_from c at left s n ≡ record { ended = At pos; notes = n; after = t }
+  pub walk_ends_at_once : goes ≡ true → walk_from c at left s n ≡ record { ended = Some pos; notes = n; after = t }
   unfolding walk_from
   walk_ends_at_once so =
       let e : left ≡ suc (left - 1) = omega arith in
@@ -134,17 +129,17 @@ module _ (s : Shard) (d : Debt) (at : Nanos) (forget : Bool) {t : Shard} {r : Pr
   in_steps : {known : Prepared} → r ≡ known → finished d t.ledger known ≡ Ledger.recorded s.ledger d at forget
   in_steps is = recorded_in_steps s.ledger d at forget (ap (λ o. outcome o.answer o.after.ledger) gave) is
 
-  pub written_is_recorded : {place : Place} {u : Shard} → r ≡ Ready place → u ≡ with_ledger t (written t.ledger place d)
-      → outcome Done u ≡ in_ledger s (Ledger.recorded s.ledger d at forget)
+  pub written_is_recorded : {place : Option ℕ} {u : Shard} → r ≡ Ok place → u ≡ with_ledger t (written t.ledger place d)
+      → outcome (Ok tt) u ≡ in_ledger s (Ledger.recorded s.ledger d at forget)
   written_is_recorded is wrote = rw (wrote, after_is gave) (ap (in_ledger s) (rw (after_is gave) at (in_steps is)))
 
-  full_is_not_recorded : {wait : Nanos} → r ≡ Full wait → outcome (NoRoom wait) t ≡ in_ledger s (Ledger.recorded s.ledger d at forget)
+  full_is_not_recorded : {wait : Nanos} → r ≡ Err (record { wait = wait }) → outcome (no_room wait) t ≡ in_ledger s (Ledger.recorded s.ledger d at forget)
   full_is_not_recorded is = rw (after_is gave) (ap (in_ledger s) (rw (after_is gave) at (in_steps is)))
 
 -- So with the debt of the slot at p, which the code has read.
 pub debt_not_recorded : (c : BucketConfig) (at : Nanos) (forget : Bool) (p : ℕ) (s : Shard) {t : Shard} {r : Prepared} {slot : Slot} {wait : Nanos}
-    → slot ≡ slot_at s p → outcome r t ≡ in_ledger s (prepared s.ledger slot.hash at forget) → r ≡ Full wait
-    → outcome (NoRoom wait) t ≡ in_ledger s (debt_recorded c at forget s p)
+    → slot ≡ slot_at s p → outcome r t ≡ in_ledger s (prepared s.ledger slot.hash at forget) → r ≡ Err (record { wait = wait })
+    → outcome (no_room wait) t ≡ in_ledger s (debt_recorded c at forget s p)
 debt_not_recorded c at forget p s read gave is = full_is_not_recorded s (debt_left c at (slot_at s p)) at forget (rw read at gave) is
 
 -- After the walk the words are still lent, and the victim is held.
@@ -156,7 +151,7 @@ victim_held : (c : BucketConfig) (at : Nanos) (s : Shard) (v : Victim) → Victi
 victim_held c at s (Free p) full = full.below
 victim_held c at s (Owing p) below = below
 
-pub after_walk : (c : BucketConfig) (at : Nanos) {cap : ℕ} {ws ws' : List ℕ} {ended : Place} {n : Notes} → Intact cap ws → 0 < (shard cap ws).slots.count
+pub after_walk : (c : BucketConfig) (at : Nanos) {cap : ℕ} {ws ws' : List ℕ} {ended : Option ℕ} {n : Notes} → Intact cap ws → 0 < (shard cap ws).slots.count
     → length ws' ≡ length ws → walked c at (shard cap ws) ≡ record { ended = ended; notes = n; after = shard cap ws' }
     → AfterWalk cap ws' (victim_of ended n.full n.unmarked (hand_of (shard cap ws)))
 after_walk c at {cap} {ws} {ws'} {ended} {n} intact some same is =
@@ -168,7 +163,7 @@ after_walk c at {cap} {ws} {ws'} {ended} {n} intact some same is =
     }
 
 -- An eviction is the walk, the choice of the victim, and what happens to the victim.
-pub evicted_in_steps : (c : BucketConfig) (at : Nanos) (forget : Bool) (s : Shard) {ended : Place} {n : Notes} {t : Shard} {first : ℕ} {v : Victim}
+pub evicted_in_steps : (c : BucketConfig) (at : Nanos) (forget : Bool) (s : Shard) {ended : Option ℕ} {n : Notes} {t : Shard} {first : ℕ} {v : Victim}
     {o : Outcome Room Shard} → walked c at s ≡ record { ended = ended; notes = n; after = t } → first ≡ hand_of s
     → v ≡ victim_of ended n.full n.unmarked first → o ≡ evict_victim c at forget t n.soonest v → o ≡ evicted c at forget s
 unfolding evicted
@@ -185,9 +180,9 @@ debt_recorded_lem c at forget p s read takes due gave = rw (due ∙ due_by_numbe
 -- The eviction of a slot that owes, once its debt is recorded, or is not.
 module _ (c : BucketConfig) (at : Nanos) (forget : Bool) (p soonest : ℕ) (s : Shard) {r : Recorded} {t : Shard}
     (gave : outcome r t ≡ in_ledger s (debt_recorded c at forget s p)) where
-  pub owing_goes_out : r ≡ Done → outcome Made (evict_at t p) ≡ evict_victim c at forget s soonest (Owing p)
+  pub owing_goes_out : r ≡ Ok tt → outcome (Ok tt) (evict_at t p) ≡ evict_victim c at forget s soonest (Owing p)
   owing_goes_out is = rw (after_is gave, sym (answer_is gave) ∙ is)
 
-  pub owing_stays : {wait : Nanos} → r ≡ NoRoom wait
-      → outcome (Refused (due_after at (refusal_wait soonest wait))) t ≡ evict_victim c at forget s soonest (Owing p)
+  pub owing_stays : {wait : Nanos} → r ≡ no_room wait
+      → outcome (Err (due_after at (refusal_wait soonest wait))) t ≡ evict_victim c at forget s soonest (Owing p)
   owing_stays is = rw (after_is gave, sym (answer_is gave) ∙ is)

@@ -1,8 +1,9 @@
 -- Looks in a row at slots that plainly owe: what the definitions are in each case that the code goes through, and that such looks are looks of the walk.
+use Rattle.std.proofs.Common.{Option, Some, None, is_some}
 use Prim.Native.Nat.{ℕ, zero, suc, ◌+◌, ◌-◌, ◌≤◌, ◌<◌, min}
 use native.Mathlib.Omega.{arith}
 use mathlib.Core.Path.{◌≡◌, refl, ap, sym, ◌∙◌}
-use mathlib.Core.Bool.{false}
+use mathlib.Core.Bool.{true, false, true≢false}
 use mathlib.Core.List.{List}
 use lib.ListN.{length, set}
 use lib.Seq.{set-get_or}
@@ -11,7 +12,6 @@ use Rattle.arith.proofs.Cases.{by_eq, by_le}
 use Rattle.units.specs.declared.Nanos.{Nanos}
 use Rattle.bucket.specs.declared.BucketConfig.{BucketConfig}
 use Rattle.bucket.specs.Bucket.{Accepted, shortfall_at}
-use Rattle.rows.specs.declared.Place.TheVariants.{At}
 use Rattle.rows.specs.Outcome.{outcome}
 use Rattle.slot.specs.declared.Slot.{Slot}
 use Rattle.slot.specs.Slot.{with_mark}
@@ -76,9 +76,23 @@ module _ (c : BucketConfig) (at : Nanos) (s : Shard) (end left least : ℕ) wher
         let e : left ≡ suc (left - 1) = omega arith in
         rw (told, saw) (ap (λ (k : ℕ). along c at s end k least) e ∙ rw (along, ← e, ne_eqb _ _ (rw (told, saw) at some)))
 
+-- The same by the place pos of the first look.
+module _ (c : BucketConfig) (at : Nanos) (s : Shard) (least : ℕ) {end pos : ℕ} (more : pos < end) {slot : Slot} {owed : ℕ} (saw : slot ≡ slot_at s pos)
+    (told : owed ≡ plainly_owed c at slot) where
+  place : end - (end - pos) ≡ pos
+  place = omega arith
+
+  pub along_stops_at : owed ≡ 0 → record { left = end - pos; least = least } ≡ along c at s end (end - pos) least
+  along_stops_at none = along_stops c at s end (end - pos) least (omega arith) (rw place saw) told none
+
+  pub along_turn_at : (owed ≡ 0 → ⊥) → along c at s end (end - pos) least ≡ along c at s end (end - (pos + 1)) (min least owed)
+  along_turn_at some =
+      let next : end - pos - 1 ≡ end - (pos + 1) = omega arith in
+      rw next at (along_turn c at s end (end - pos) least (omega arith) (rw place saw) told some)
+
 -- A look at a slot that plainly owes, once an unmarked slot is noted: the walk goes on with the hand one place on and the least shortfall. So the looks of a
 -- row are looks of the walk, with `more` looks after them.
-module _ {c : BucketConfig} (a : Accepted c) (at : Nanos) (s : Shard) (w : Walk) {first : ℕ} (unmarked : w.unmarked ≡ At first) where
+module _ {c : BucketConfig} (a : Accepted c) (at : Nanos) (s : Shard) (w : Walk) {first : ℕ} (unmarked : w.unmarked ≡ Some first) where
   clear_look : (p : ℕ) → (slot_at s p).mark ≡ 0 → with_hand s (p + 1) ≡ looked (with_hand s p) p
   clear_look p clear =
       let same : with_mark (slot_at s p) 0 ≡ slot_at s p = ap (λ (m : ℕ). with_mark (slot_at s p) m) (sym clear) in
@@ -120,6 +134,11 @@ module _ {c : BucketConfig} (a : Accepted c) (at : Nanos) (s : Shard) (w : Walk)
       rw (along_turn c at s end (suc left) least (omega arith) refl refl some, one)
       (rw (next, rest) at turn ∙ row_is_walked end left (min least (plainly_owed c at (slot_at s p))) more (omega arith) held))
 
+-- A place that is there is some place.
+pub is_at_a_place : (place : Option ℕ) → is_some place ≡ true → (p : ℕ) × (place ≡ Some p)
+is_at_a_place (Some p) there = (p, refl)
+is_at_a_place None there = absurd (true≢false (sym there))
+
 -- A row leaves no more looks than it had.
 along_fewer : (c : BucketConfig) (at : Nanos) (s : Shard) (end left least : ℕ) → (along c at s end left least).left ≤ left
 along_fewer c at s end zero least = rw (← along_none c at s end 0 least refl) (omega arith)
@@ -149,7 +168,7 @@ walk_from_the_hand c at left s n more below =
 
 -- What the code makes of a walk that has looks left and has noted an unmarked slot: a row from the hand on, and the hand stored after it.
 pub row_passed : {c : BucketConfig} → Accepted c → (at : Nanos) (s : Shard) (w : Walk) {first left pos count run : ℕ} {row : Row} {t : Shard}
-    → w.unmarked ≡ At first → 0 < left → 0 < s.slots.count → pos ≡ hand_of s → count ≡ s.slots.count → run ≡ min left (count - pos)
+    → w.unmarked ≡ Some first → 0 < left → 0 < s.slots.count → pos ≡ hand_of s → count ≡ s.slots.count → run ≡ min left (count - pos)
     → row ≡ along c at s (pos + run) run w.awaited.least → t ≡ with_hand s (pos + run - row.left)
     → Passed c at w left s (record { left = left - run + row.left; least = row.least }) t
 row_passed {c} a at s w {first} {left} {pos} {count} {run} {row} {t} noted more some there counted least made stored =

@@ -1,5 +1,7 @@
 -- The walk of the hand. It only clears marks and moves the hand, the places that it notes hold slots, and the victim that it chooses is held. The worked
 -- examples are checked before the laws, which quote the definitions: a definition that says something else is refused there first.
+use Rattle.std.proofs.Common.{Option, Some, None}
+use Rattle.std.specs.Option.{option_or, unwrap_or}
 use Prim.Native.Nat.{ℕ, zero, suc, ◌<◌}
 use mathlib.Core.Path.{◌≡◌, refl, ◌∙◌, ap}
 use mathlib.Core.Bool.{true}
@@ -10,8 +12,6 @@ use Rattle.arith.proofs.Cases.{by_test, by_eq}
 use Rattle.units.specs.declared.Nanos.{Nanos}
 use Rattle.bucket.specs.declared.BucketConfig.{BucketConfig}
 use Rattle.bucket.specs.Bucket.{shortfall_at}
-use Rattle.rows.specs.declared.Place.{Place}
-use Rattle.rows.specs.declared.Place.TheVariants.{At, Nowhere}
 use Rattle.held.specs.Held.{Held}
 use Rattle.held.specs.Held as Held
 use Rattle.held.proofs.HeldLaws.{item_stored, item_stored_other}
@@ -23,6 +23,15 @@ use Rattle.evict.specs.declared.Victim.TheVariants.{Free, Owing}
 use Rattle.shard_map.specs.Model.{Shard, Sound, slot_items, cap_of, slot_at, hand_of}
 use Rattle.shard_map.proofs.StepLaws.{hand_below}
 use Rattle.evict.specs.Evict.{or_else, place_or, Notes, nothing_noted, noted, looked, goes_at_once, Walked, walk_from, walked, free_or, victim_of}
+
+-- What std makes of a place that may be missing is what the definitions make of it.
+pub or_is_or_else : (a b : Option ℕ) → option_or a b ≡ or_else a b
+or_is_or_else (Some p) b = refl
+or_is_or_else None b = refl
+
+pub unwrap_or_is_place_or : (a : Option ℕ) (p : ℕ) → unwrap_or a p ≡ place_or a p
+unwrap_or_is_place_or (Some q) p = refl
+unwrap_or_is_place_or None p = refl
 
 -- A shard that is another but for the hand and the marks.
 pub record Remarked (s t : Shard) : Type 0 where
@@ -69,13 +78,13 @@ pub record FullSlot (c : BucketConfig) (at : Nanos) (s : Shard) (p : ℕ) : Type
   pub below : p < s.slots.count
   pub full : shortfall_at c (slot_at s p).bucket at ≡ 0
 
-abbrev pub FullIfAny : BucketConfig → Nanos → Shard → Place → Type 0
-FullIfAny c at s (At p) = FullSlot c at s p
-FullIfAny c at s Nowhere = Unit {0}
+abbrev pub FullIfAny : BucketConfig → Nanos → Shard → Option ℕ → Type 0
+FullIfAny c at s (Some p) = FullSlot c at s p
+FullIfAny c at s None = Unit {0}
 
-abbrev HeldIfAny : Shard → Place → Type 0
-HeldIfAny s (At p) = p < s.slots.count
-HeldIfAny s Nowhere = Unit {0}
+abbrev HeldIfAny : Shard → Option ℕ → Type 0
+HeldIfAny s (Some p) = p < s.slots.count
+HeldIfAny s None = Unit {0}
 
 -- What the walk leaves: nothing but marks and the hand has changed, the slot at which it ended and the first full one are held and full, the first unmarked
 -- one is held.
@@ -91,13 +100,13 @@ record NotedKept (c : BucketConfig) (at : Nanos) (s : Shard) (n : Notes) : Type 
   unmarked : HeldIfAny s n.unmarked
 
 module _ (c : BucketConfig) (at : Nanos) (s : Shard) where
-  first_full : (a b : Place) → FullIfAny c at s a → FullIfAny c at s b → FullIfAny c at s (or_else a b)
-  first_full (At p) b first second = first
-  first_full Nowhere b first second = second
+  first_full : (a b : Option ℕ) → FullIfAny c at s a → FullIfAny c at s b → FullIfAny c at s (or_else a b)
+  first_full (Some p) b first second = first
+  first_full None b first second = second
 
-  first_held : (a b : Place) → HeldIfAny s a → HeldIfAny s b → HeldIfAny s (or_else a b)
-  first_held (At p) b first second = first
-  first_held Nowhere b first second = second
+  first_held : (a b : Option ℕ) → HeldIfAny s a → HeldIfAny s b → HeldIfAny s (or_else a b)
+  first_held (Some p) b first second = first
+  first_held None b first second = second
 
   -- The bucket that a look sees, after other looks have cleared marks.
   seen_full : (t : Shard) (p : ℕ) → Remarked s t → p < s.slots.count → lossless c (slot_at t p) at ≡ true → FullSlot c at s p
@@ -107,10 +116,10 @@ module _ (c : BucketConfig) (at : Nanos) (s : Shard) where
   unfolding noted
   noted_kept t n p r below kept =
       by_test (lossless c (slot_at t p) at)
-      (λ full. rw (full, noted) (record { full = first_full n.full (At p) kept.full (seen_full t p r below full); unmarked = kept.unmarked }))
+      (λ full. rw (full, noted) (record { full = first_full n.full (Some p) kept.full (seen_full t p r below full); unmarked = kept.unmarked }))
       (λ owing. by_test (marked (slot_at t p))
       (λ m. rw (owing, noted, m) (record { full = kept.full; unmarked = kept.unmarked }))
-      (λ m. rw (owing, noted, m) (record { full = kept.full; unmarked = first_held n.unmarked (At p) kept.unmarked below })))
+      (λ m. rw (owing, noted, m) (record { full = kept.full; unmarked = first_held n.unmarked (Some p) kept.unmarked below })))
 
   at_once_is_full : (slot : Slot) → goes_at_once c at slot ≡ true → lossless c slot at ≡ true
   at_once_is_full slot = by_test (lossless c slot at) (λ t. rw t (λ e. refl)) (λ t. rw t (λ e. e))
@@ -149,14 +158,14 @@ remarked_victim c at s t (Free p) r full = remarked_full c at s t p r full
 remarked_victim c at s t (Owing p) r below = omega (arith, r.count)
 
 -- So is the slot that a walk chooses.
-full_or_held : (c : BucketConfig) (at : Nanos) (s : Shard) (place : Place) (p : ℕ) → FullIfAny c at s place → p < s.slots.count
+full_or_held : (c : BucketConfig) (at : Nanos) (s : Shard) (place : Option ℕ) (p : ℕ) → FullIfAny c at s place → p < s.slots.count
     → VictimIs c at s (free_or place p)
-full_or_held c at s (At q) p full below = full
-full_or_held c at s Nowhere p full below = below
+full_or_held c at s (Some q) p full below = full
+full_or_held c at s None p full below = below
 
-held_or_first : (s : Shard) (place : Place) (first : ℕ) → HeldIfAny s place → first < s.slots.count → place_or place first < s.slots.count
-held_or_first s (At p) first held below = held
-held_or_first s Nowhere first held below = below
+held_or_first : (s : Shard) (place : Option ℕ) (first : ℕ) → HeldIfAny s place → first < s.slots.count → place_or place first < s.slots.count
+held_or_first s (Some p) first held below = held
+held_or_first s None first held below = below
 
 pub walk_chooses : (c : BucketConfig) (at : Nanos) (s : Shard) → Sound s → 0 < s.slots.count → let w : Walked = walked c at s in
     VictimIs c at w.after (victim_of w.ended w.notes.full w.notes.unmarked (hand_of s))

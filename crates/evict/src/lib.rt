@@ -12,8 +12,7 @@ ghost use Rattle.evict.specs.code.Awaited.{awaiting, soonest_in, new_walk, walk_
 ghost use Rattle.evict.specs.code.Row.{with_least, plainly_owed, along, Passed};
 
 use bucket::{BucketConfig, BucketCore, Due};
-use ledger::{Debt, Prepared};
-use rows::Place;
+use ledger::{Debt, NoRoom};
 use settings::eviction::Eviction;
 use shard_map::{debts, words};
 use slot::Slot;
@@ -21,13 +20,6 @@ use units::Nanos;
 
 // The shortest wait that a key refused for space is told, in nanoseconds, so that it does not ask again at once.
 const MIN_REFUSAL_WAIT: u64 = 1000000;
-
-// Whether a slot was evicted; if none could be, when room is expected.
-#[derive(Clone, Copy)]
-pub enum Room {
-    Made,
-    Refused(Due),
-}
 
 // Who goes in an eviction, by its place: a free slot is full and goes without loss; one that owes goes once its debt is recorded.
 #[derive(Clone, Copy)]
@@ -48,8 +40,8 @@ pub struct Awaited {
 // What the walk of the hand has noted: the first full slot, the first slot neither full nor marked, and how soon those not full recover.
 #[derive(Clone, Copy)]
 pub struct Walk {
-    pub full: Place,
-    pub unmarked: Place,
+    pub full: Option<usize>,
+    pub unmarked: Option<usize>,
     pub awaited: Awaited,
 }
 
@@ -68,14 +60,14 @@ impl Awaited {
     {
         if bucket.stamp.0 <= at.0 {
             return Awaited {
-                least: arith::smaller(self.least, shortfall),
-                later: self.later,
+                least: self.least.min(shortfall),
+                ..self
             };
         }
         let recovers_in = bucket.recovers_in(config, at);
         Awaited {
-            least: self.least,
-            later: arith::smaller(self.later, recovers_in.0),
+            later: self.later.min(recovers_in.0),
+            ..self
         }
     }
 
@@ -88,7 +80,7 @@ impl Awaited {
             return Nanos(self.later);
         }
         let recovery = config.recovery_of(self.least);
-        Nanos(arith::smaller(recovery.0, self.later))
+        Nanos(recovery.0.min(self.later))
     }
 }
 
@@ -98,8 +90,8 @@ impl Walk {
         ensures { result ≡ new_walk }
     {
         Walk {
-            full: Place::Nowhere,
-            unmarked: Place::Nowhere,
+            full: None,
+            unmarked: None,
             awaited: Awaited {
                 least: u64::MAX,
                 later: u64::MAX,
@@ -112,80 +104,45 @@ impl Walk {
         requires { Accepted config }
         ensures { result ≡ walk_noted config at self pos slot }
     {
-        let full = self.full;
-        let unmarked = self.unmarked;
-        let before = self.awaited;
-        let bucket = slot.bucket;
-        let shortfall = bucket.shortfall_at(config, at);
+        let shortfall = slot.bucket.shortfall_at(config, at);
         if shortfall == 0 {
             return Walk {
-                full: first_of(full, Place::At(pos)),
-                unmarked,
-                awaited: before,
+                full: self.full.or(Some(pos)),
+                ..self
             };
         }
-        let awaited = before.with(bucket, shortfall, config, at);
+        let awaited = self.awaited.with(slot.bucket, shortfall, config, at);
         if slot.mark == 0 {
             return Walk {
-                full,
-                unmarked: first_of(unmarked, Place::At(pos)),
+                unmarked: self.unmarked.or(Some(pos)),
                 awaited,
+                ..self
             };
         }
-        Walk {
-            full,
-            unmarked,
-            awaited,
-        }
+        Walk { awaited, ..self }
     }
 
     // With another least shortfall.
     fn with_least(self, least: u64) -> Walk
         ensures { result ≡ with_least self least }
     {
-        let full = self.full;
-        let unmarked = self.unmarked;
-        let before = self.awaited;
         Walk {
-            full,
-            unmarked,
             awaited: Awaited {
                 least,
-                later: before.later,
+                ..self.awaited
             },
+            ..self
         }
     }
 
     // Who goes: the slot at which the walk ended; else the first full one; else the first unmarked one, or the first looked at, which owes.
-    fn choose(self, ended: Place, first: usize) -> Victim
+    fn choose(self, ended: Option<usize>, first: usize) -> Victim
         ensures { result ≡ Evict.victim_of ended self.full self.unmarked first }
     {
-        let full = self.full;
-        let unmarked = self.unmarked;
-        match first_of(ended, full) {
-            Place::At(pos) => Victim::Free(pos),
-            Place::Nowhere => Victim::Owing(place_or(unmarked, first)),
+        match ended.or(self.full) {
+            Some(pos) => Victim::Free(pos),
+            None => Victim::Owing(self.unmarked.unwrap_or(first)),
         }
-    }
-}
-
-// The first of two places, if there is one, else the second.
-fn first_of(first: Place, second: Place) -> Place
-    ensures { result ≡ Evict.or_else first second }
-{
-    match first {
-        Place::At(pos) => Place::At(pos),
-        Place::Nowhere => second,
-    }
-}
-
-// The place noted, if there is one, else this one, as a number.
-fn place_or(noted: Place, pos: usize) -> usize
-    ensures { result ≡ Evict.place_or noted pos }
-{
-    match noted {
-        Place::At(first) => first,
-        Place::Nowhere => pos,
     }
 }
 
@@ -194,10 +151,7 @@ fn goes_at_once(slot: Slot, config: BucketConfig, at: Nanos) -> bool
     requires { Accepted config }
     ensures { result ≡ Evict.goes_at_once config at slot }
 {
-    if slot.is_lossless(config, at) {
-        return slot.mark == 0;
-    }
-    false
+    slot.is_lossless(config, at) && slot.mark == 0
 }
 
 // A look of the hand. It gives the slot as it is; then it clears the slot's mark and steps the hand on.
@@ -218,14 +172,13 @@ fn plainly_owed(slot: Slot, config: BucketConfig, at: Nanos) -> u64
     requires { Accepted config }
     ensures { result ≡ plainly_owed config at slot }
 {
-    let bucket = slot.bucket;
     if slot.mark != 0 {
         return 0;
     }
-    if at.0 < bucket.stamp.0 {
+    if at.0 < slot.bucket.stamp.0 {
         return 0;
     }
-    bucket.shortfall_at(config, at)
+    slot.bucket.shortfall_at(config, at)
 }
 
 // The looks at the last `left` slots before the place `end`, up to the first that does not plainly owe. It stores nothing, so a look takes few instructions.
@@ -233,18 +186,19 @@ fn look_along(ws: &[u64], cap: usize, config: BucketConfig, at: Nanos, end: usiz
     requires { Intact cap ws.now × Accepted config × (row.left ≤ end) × (end ≤ cap) }
     ensures { result ≡ along config at (shard cap ws.now) end row.left row.least }
 {
-    let mut left = row.left;
     let mut least = row.least;
-    while 0 < left {
-        let slot = shard_map::get(ws, cap, end - left);
+    for pos in end - row.left..end {
+        let slot = shard_map::get(ws, cap, pos);
         let owed = plainly_owed(slot, config, at);
         if owed == 0 {
-            break;
+            return Row {
+                left: end - pos,
+                least,
+            };
         }
-        least = arith::smaller(least, owed);
-        left -= 1;
+        least = least.min(owed);
     }
-    Row { left, least }
+    Row { left: 0, least }
 }
 
 // The looks from the hand on at slots that plainly owe, up to the last slot. It is made once an unmarked slot is noted and while looks are left.
@@ -259,44 +213,44 @@ fn pass_owing(
     requires { Intact cap ws.old × Accepted config × (0 < (shard cap ws.old).slots.count) }
     ensures { Passed config at walk left (shard cap ws.old) result (shard cap ws.new) }
 {
-    let awaited = walk.awaited;
-    let least = awaited.least;
-    let unmarked = walk.unmarked;
-    if left == 0 {
+    let least = walk.awaited.least;
+    if left == 0 || walk.unmarked.is_none() {
         return Row { left, least };
     }
-    match unmarked {
-        Place::Nowhere => Row { left, least },
-        Place::At(_) => {
-            let pos = words::hand(ws, cap);
-            let run = arith::fewer(left, shard_map::len(ws, cap) - pos);
-            let end = pos + run;
-            let row = look_along(ws, cap, config, at, end, Row { left: run, least });
-            words::set_hand(ws, cap, end - row.left);
-            Row {
-                left: left - run + row.left,
-                least: row.least,
-            }
-        }
+    let pos = words::hand(ws, cap);
+    let run = left.min(shard_map::len(ws, cap) - pos);
+    let end = pos + run;
+    let row = look_along(ws, cap, config, at, end, Row { left: run, least });
+    words::set_hand(ws, cap, end - row.left);
+    Row {
+        left: left - run + row.left,
+        ..row
     }
 }
 
-// Evicts one slot of a full shard. The walk ends at once at the first full slot without the mark; else one that it noted goes.
-pub fn evict_one(ws: &mut [u64], cap: usize, config: BucketConfig, at: Nanos, forget: bool) -> Room
+// Evicts one slot of a full shard; where none can go, it tells when room is due. The walk ends at once at the first full slot without the mark; else one that
+// it noted goes.
+pub fn evict_one(
+    ws: &mut [u64],
+    cap: usize,
+    config: BucketConfig,
+    at: Nanos,
+    forget: bool,
+) -> Result<(), Due>
     requires { Intact cap ws.old × Accepted config × (0 < (shard cap ws.old).slots.count) }
     ensures { outcome result (shard cap ws.new) ≡ Evict.evicted config at forget (shard cap ws.old) }
 {
     let first = words::hand(ws, cap);
-    let mut left = arith::fewer(Eviction::hand_looks(), shard_map::len(ws, cap));
+    let mut left = Eviction::hand_looks().min(shard_map::len(ws, cap));
     let mut walk = Walk::new();
     let ended = loop {
         if left == 0 {
-            break Place::Nowhere;
+            break None;
         }
         let pos = words::hand(ws, cap);
         let slot = hand_look(ws, cap, pos);
         if goes_at_once(slot, config, at) {
-            break Place::At(pos);
+            break Some(pos);
         }
         walk = walk.noted(pos, slot, config, at);
         left -= 1;
@@ -304,16 +258,8 @@ pub fn evict_one(ws: &mut [u64], cap: usize, config: BucketConfig, at: Nanos, fo
         walk = walk.with_least(row.least);
         left = row.left;
     };
-    let awaited = walk.awaited;
-    evict_victim(
-        ws,
-        cap,
-        config,
-        at,
-        forget,
-        walk.choose(ended, first),
-        awaited,
-    )
+    let victim = walk.choose(ended, first);
+    evict_victim(ws, cap, config, at, forget, victim, walk.awaited)
 }
 
 // What happens to the victim: a free slot goes; one that owes goes once its debt is recorded.
@@ -325,7 +271,7 @@ fn evict_victim(
     forget: bool,
     victim: Victim,
     awaited: Awaited,
-) -> Room
+) -> Result<(), Due>
     requires { Intact cap ws.old × Accepted config × (Evict.place_of_victim victim < (shard cap ws.old).slots.count) }
     ensures { outcome result (shard cap ws.new) ≡
         Evict.evict_victim config at forget (shard cap ws.old) (soonest_in config awaited) victim }
@@ -333,7 +279,7 @@ fn evict_victim(
     match victim {
         Victim::Free(pos) => {
             evict_at(ws, cap, pos);
-            Room::Made
+            Ok(())
         }
         Victim::Owing(pos) => evict_owing(ws, cap, config, at, forget, pos, awaited),
     }
@@ -358,28 +304,27 @@ fn evict_owing(
     forget: bool,
     pos: usize,
     awaited: Awaited,
-) -> Room
+) -> Result<(), Due>
     requires { Intact cap ws.old × Accepted config × (pos < (shard cap ws.old).slots.count) }
     ensures { outcome result (shard cap ws.new) ≡
         Evict.evict_victim config at forget (shard cap ws.old) (soonest_in config awaited) (Owing pos) }
 {
     let slot = shard_map::get(ws, cap, pos);
     match debts::prepare(ws, cap, slot.hash, at, forget) {
-        Prepared::Ready(place) => {
+        Ok(place) => {
             let full = Due::after(at, slot.recovers_in(config, at));
-            let settles = full.moment;
             let debt = Debt {
                 hash: slot.hash,
-                settles,
+                settles: full.moment,
             };
             debts::write(ws, cap, place, debt);
             evict_at(ws, cap, pos);
-            Room::Made
+            Ok(())
         }
-        Prepared::Full(wait) => {
+        Err(NoRoom { wait }) => {
             let soonest = awaited.soonest(config);
-            let sooner = arith::smaller(soonest.0, wait.0);
-            Room::Refused(Due::after(at, Nanos(arith::larger(sooner, MIN_REFUSAL_WAIT))))
+            let sooner = soonest.0.min(wait.0);
+            Err(Due::after(at, Nanos(sooner.max(MIN_REFUSAL_WAIT))))
         }
     }
 }

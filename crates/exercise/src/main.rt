@@ -2,38 +2,19 @@
 // another and at moments SPACING apart. What is wrong with another line is told on standard error, with its number, and nothing is written for it.
 #![tactic(auto)]
 
-ghost use Rattle.std.specs.Prelude.{◌≡◌, ◌-◌, ◌<◌, true, length};
+ghost use Rattle.std.specs.Prelude.{◌≡◌, ◌-◌, true, length, IfErr};
 ghost use Rattle.exercise_lines.specs.Repeats.{within64};
-ghost use Rattle.exercise.specs.Described.{Inside, step_after};
+ghost use Rattle.described.specs.Described.{Inside};
 
+use described::Unread;
 use desk_lines::Line;
-use desk_reads::Got;
 use desk_writer::{DeskCall, LONGEST_WRITTEN};
 use exercise_lines::Repeat;
-use std::io::{Read, Write};
-use streams::{Stream, Streams, say, say_number};
+use std::io::Write;
+use streams::{Streams, say, say_number};
 
 // A description has fewer bytes than these.
 const TEXT_BYTES: usize = 65536;
-
-// What was read of the description.
-#[derive(Clone, Copy)]
-enum Described {
-    // All of it, with its length in bytes.
-    Whole(usize),
-    // It fills the buffer, so it may be cut.
-    TooLong,
-    // A read failed.
-    Failed,
-}
-
-// Where the reading stands after a read.
-#[derive(Clone, Copy)]
-enum Step {
-    // The bytes that are read so far. There may be more.
-    More(usize),
-    Over(Described),
-}
 
 // The description is read whole before a line is written. For one that is cut nothing is written.
 fn main(rt: HostRuntime) {
@@ -43,63 +24,28 @@ fn main(rt: HostRuntime) {
     }
     let mut streams = streams::open(rt.stdin(), rt.stdout(), rt.stderr());
     let mut text: [u8; TEXT_BYTES] = [0; TEXT_BYTES];
-    let described = read_all(&mut streams.source, &mut text);
+    let described = described::read_all(&mut streams.source, &mut text);
     finish(&mut streams, &text, described);
 }
 
-// Reads to the end of the input. The loop counts its turns since a proved loop has to end, up to a number that no run reaches.
-fn read_all<R: Read>(source: &mut Stream<R>, text: &mut [u8]) -> Described
-    requires { 0 < length text.old }
-    ensures { Inside (length text.old) result }
-{
-    let mut size: usize = 0;
-    let mut turns: u64 = 0;
-    while turns < u64::MAX {
-        let got = desk_reads::read_more(source, text, size);
-        let step = after(got, size, text.len());
-        match step {
-            Step::More(end) => {
-                size = end;
-            }
-            Step::Over(described) => {
-                return described;
-            }
-        }
-        turns += 1;
-    }
-    Described::Failed
-}
-
-// Where the reading stands after a read, with the bytes that were read before it and those that there is room for.
-#[tactic(auto, unfolding(crate::specs::Described::step_after))]
-fn after(got: Got, size: usize, room: usize) -> Step
-    ensures { result ≡ step_after got size room }
-{
-    match got {
-        Got::More(end) => {
-            if end < room {
-                return Step::More(end);
-            }
-            Step::Over(Described::TooLong)
-        }
-        Got::End => Step::Over(Described::Whole(size)),
-        Got::Failed => Step::Over(Described::Failed),
-    }
-}
-
-// Writes the lines of a description that was read whole. Of any other it tells what is wrong.
-fn finish<R, W: Write, E: Print>(streams: &mut Streams<R, W, E>, text: &[u8], described: Described)
+// Writes the lines of a description that was read whole. Of any other it tells what is wrong, and writes nothing.
+fn finish<R, W: Write, E: Print>(
+    streams: &mut Streams<R, W, E>,
+    text: &[u8],
+    described: Result<usize, Unread>,
+)
     requires { Inside (length text.now) described }
+    ensures { IfErr described (λ why. streams.new.sink ≡ streams.old.sink) }
 {
     match described {
-        Described::Whole(size) => all_lines(streams, &text[0..size]),
-        Described::TooLong => {
+        Ok(size) => all_lines(streams, &text[0..size]),
+        Err(Unread::TooLong) => {
             say(
                 &streams.err,
                 b"exercise: the description has more than 65535 bytes, and nothing is written\n",
             );
         }
-        Described::Failed => streams::fail(
+        Err(Unread::Failed) => streams::fail(
             &streams.err,
             b"exercise: a read failed, and nothing is written",
             streams.source.failure,
@@ -139,18 +85,14 @@ fn one_line<R, W: Write, E: Print>(
     line: &[u8],
     number: u64,
 ) -> bool {
-    let read = desk_lines::read(line);
-    match read {
+    match desk_lines::read(line) {
         Line::Malformed => other_line(streams, line, number),
         _ => copied(streams, line),
     }
 }
 
 fn copied<R, W: Write, E: Print>(streams: &mut Streams<R, W, E>, line: &[u8]) -> bool {
-    if streams::write_all(&mut streams.sink, line) {
-        return streams::write_all(&mut streams.sink, b"\n");
-    }
-    false
+    streams::write_all(&mut streams.sink, line) && streams::write_all(&mut streams.sink, b"\n")
 }
 
 // Writes the lines of a `v` line. Of any other line it tells what is wrong.
@@ -159,8 +101,7 @@ fn other_line<R, W: Write, E: Print>(
     line: &[u8],
     number: u64,
 ) -> bool {
-    let read = exercise_lines::read(line);
-    match read {
+    match exercise_lines::read(line) {
         Repeat::Calls(call, count, spacing) => repeated(streams, call, count, spacing),
         Repeat::Other => {
             wrong(
@@ -190,12 +131,10 @@ fn repeated<R, W: Write, E: Print>(
 ) -> bool
     requires { within64 spacing (count - 1) call ≡ true }
 {
-    let mut place: u64 = 0;
-    while place < count {
+    for place in 0..count {
         if !write_line(streams, exercise_lines::call_on(call, spacing, place)) {
             return false;
         }
-        place += 1;
     }
     true
 }
@@ -204,8 +143,7 @@ fn repeated<R, W: Write, E: Print>(
 fn write_line<R, W: Write, E: Print>(streams: &mut Streams<R, W, E>, call: DeskCall) -> bool {
     let mut out: [u8; LONGEST_WRITTEN] = [0; LONGEST_WRITTEN];
     let written = desk_writer::write(call, &mut out);
-    let size = written.size;
-    streams::write_all(&mut streams.sink, &out[0..size])
+    streams::write_all(&mut streams.sink, &out[0..written.size])
 }
 
 // Tells what is wrong with a line.

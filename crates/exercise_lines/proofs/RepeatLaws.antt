@@ -1,22 +1,23 @@
 -- Which calls a `v` line stands for, test by test; and that every call before one within 64 bits is so too.
+use Rattle.std.proofs.Common.{Option, Some, None}
 use Prim.Native.Nat.{ℕ, ◌+◌, ◌*◌, ◌-◌, ◌/◌, ◌≤◌, ◌<◌}
 use native.Mathlib.Omega.{arith}
 use native.Mathlib.Nat.{le-div_iff_mul-le, div-lt_iff_lt-mul, mul-le-mul_right}
-use mathlib.Core.Path.{◌≡◌, sym, ◌∙◌}
+use Rattle.std.specs.List.{starts_with}
+use Rattle.std.proofs.lemmas.Bool.Decides.{nat_tests}
+use mathlib.Core.Path.{◌≡◌, refl, sym, ◌∙◌}
 use mathlib.Core.Bool.{true, false, true≢false}
-use mathlib.Core.List.{List}
+use mathlib.Core.List.{List, [], ◌∷◌}
 use lib.Dec.{eqb, leb}
-use lib.ListN.{length, take, drop, get_or, length-drop}
+use lib.ListN.{length, take, drop, length-drop}
 use lib.Seq.{take_all}
 use Rattle.arith.proofs.Cases.{by_test, by_le}
 use Rattle.rows.specs.Segments.{segment}
-use Rattle.decimal.specs.declared.OptionNumber.{OptionNumber}
-use Rattle.decimal.specs.declared.OptionNumber.TheVariants as number
 use Rattle.decimal.specs.Decimal.{number_of}
 use Rattle.desk_lines.specs.declared.Request.{Request}
 use Rattle.desk_lines.specs.declared.Line.{Line}
 use Rattle.desk_lines.specs.declared.Line.TheVariants as line
-use Rattle.desk_lines.specs.Fields.{space, field_end}
+use Rattle.desk_lines.specs.Fields.{field_end}
 use Rattle.desk_lines.specs.Lines.{most64, line_of}
 use Rattle.desk_writer.specs.declared.DeskCall.{DeskCall}
 use Rattle.desk_writer.specs.declared.DeskCall.TheVariants.{Try, Peek, Reserve, Refund, Remove}
@@ -81,22 +82,13 @@ pub moment_without_spacing : (at spacing place : ℕ) → at ≤ most64 → spac
 moment_without_spacing at spacing place fits none = sym (le-leb (at + place * spacing) most64 (rw none (omega arith)))
 
 -- How a line begins.
+pub v_is_ahead : (bytes : List ℕ) → starts_with eqb bytes (118 ∷ 32 ∷ []) ≡ begins_with_v bytes
+unfolding begins_with_v
+v_is_ahead [] = refl
+v_is_ahead (a ∷ []) = grind (arith, nat_tests)
+v_is_ahead (a ∷ b ∷ bs) = grind (arith, nat_tests)
+
 module _ (bytes : List ℕ) where
-  pub too_short_for_v : length bytes < 2 → false ≡ begins_with_v bytes
-  unfolding begins_with_v
-  too_short_for_v short = rw (lt-leb 2 (length bytes) short)
-
-  pub begins_with_v_lem : 2 ≤ length bytes → get_or bytes 0 0 ≡ 118 → eqb (get_or bytes 1 0) space ≡ begins_with_v bytes
-  unfolding begins_with_v
-  begins_with_v_lem two v = rw (le-leb 2 (length bytes) two, v)
-
-  pub begins_with_another : (get_or bytes 0 0 ≡ 118 → ⊥) → false ≡ begins_with_v bytes
-  unfolding begins_with_v
-  begins_with_another other =
-      by_test (leb 2 (length bytes))
-      (λ t. rw (t, ne_eqb (get_or bytes 0 0) 118 other))
-      (λ t. rw t)
-
   pub v_has_two_bytes : begins_with_v bytes ≡ true → 2 ≤ length bytes
   unfolding begins_with_v
   v_has_two_bytes is =
@@ -121,7 +113,7 @@ module _ (bytes : List ℕ) {end : ℕ} (ends : end ≡ field_end bytes 2) where
     unfolding of_bytes
     no_call last = rw (has_spacing, eq-eqb (field_end bytes (spacing_at bytes)) (length bytes) (is_next ∙ last))
 
-    pub of_all_parts : (end' ≡ length bytes → ⊥) → {r : Repeat} {n m : OptionNumber} {l : Line} → r ≡ of_parts n m l
+    pub of_all_parts : (end' ≡ length bytes → ⊥) → {r : Repeat} {n m : Option ℕ} {l : Line} → r ≡ of_parts n m l
         → n ≡ number_of most_lines (segment 2 (end - 2) bytes) → m ≡ number_of most64 (segment (end + 1) (end' - (end + 1)) bytes)
         → l ≡ line_of (segment (end' + 1) (length bytes - (end' + 1)) bytes) → r ≡ of_bytes bytes
     unfolding of_bytes
@@ -146,11 +138,11 @@ line_is_within count spacing (line.Remove key) = call_is_within count spacing (R
 line_is_within count spacing (line.SetUp s) = tt
 line_is_within count spacing line.Malformed = tt
 
-parts_are_within : (n m : OptionNumber) (l : Line) → Within (of_parts n m l)
+parts_are_within : (n m : Option ℕ) (l : Line) → Within (of_parts n m l)
 unfolding of_parts
-parts_are_within number.None m l = tt
-parts_are_within (number.Some count) number.None l = tt
-parts_are_within (number.Some count) (number.Some spacing) l = line_is_within count spacing l
+parts_are_within None m l = tt
+parts_are_within (Some count) None l = tt
+parts_are_within (Some count) (Some spacing) l = line_is_within count spacing l
 
 bytes_are_within : (bytes : List ℕ) → Within (of_bytes bytes)
 unfolding of_bytes

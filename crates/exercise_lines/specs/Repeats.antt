@@ -1,8 +1,6 @@
 -- The lines `v COUNT SPACING CALL` of an exercise: which bytes are such a line, and which calls it stands for.
-use Rattle.std.specs.Prelude.{ℕ, ◌+◌, ◌*◌, ◌-◌, ◌≡◌, Bool, true, false, cond, List, eqb, leb, length, drop, get_or}
+use Rattle.std.specs.Prelude.{ℕ, ◌+◌, ◌*◌, ◌-◌, ◌≡◌, Bool, true, false, cond, List, eqb, leb, length, drop, get_or, Option, Some, None}
 use Rattle.units.specs.Units.{nanos_of}
-use Rattle.decimal.specs.declared.OptionNumber.{OptionNumber}
-use Rattle.decimal.specs.declared.OptionNumber.TheVariants as number
 use Rattle.decimal.specs.Decimal.{number_of}
 use Rattle.desk_lines.specs.declared.Request.{Request}
 use Rattle.desk_lines.specs.declared.Line.{Line}
@@ -52,10 +50,10 @@ of_line count spacing (line.SetUp s) = Other
 of_line count spacing line.Malformed = Other
 
 -- The calls, if both numbers are numbers.
-unfoldable pub of_parts : OptionNumber → OptionNumber → Line → Repeat
-of_parts number.None spacing l = Other
-of_parts (number.Some n) number.None l = Other
-of_parts (number.Some n) (number.Some m) l = of_line n m l
+unfoldable pub of_parts : Option ℕ → Option ℕ → Line → Repeat
+of_parts None spacing l = Other
+of_parts (Some n) None l = Other
+of_parts (Some n) (Some m) l = of_line n m l
 
 -- The largest count.
 abbrev pub most_lines : ℕ

@@ -5,7 +5,6 @@ ghost use Rattle.std.specs.Prelude.{◌≡◌, true, ◌+◌, ◌*◌, ◌-◌, 
 ghost use Rattle.desk_lines.specs.Lines.{most64};
 ghost use Rattle.exercise_lines.specs.Repeats.{request_on, call_on, request_within, within64, begins_with_v, repeat_of, of_bytes, of_parts, of_line, of_call};
 
-use decimal::OptionNumber;
 use desk_lines::{Line, Request};
 use desk_writer::DeskCall;
 use units::Nanos;
@@ -38,13 +37,7 @@ pub fn read(line: &[u8]) -> Repeat
 fn begins_with_v(line: &[u8]) -> bool
     ensures { result ≡ begins_with_v line.now }
 {
-    if line.len() < 2 {
-        return false;
-    }
-    if line[0] == b'v' {
-        return line[1] == b' ';
-    }
-    false
+    line.starts_with(b"v ")
 }
 
 // The same of a line that begins with `v` and a space: two numbers, each with a space behind it, and then a line of the desk.
@@ -68,19 +61,18 @@ fn of_bytes(line: &[u8]) -> Repeat
 }
 
 // The calls, if both numbers are numbers.
-fn of_parts(count: OptionNumber, spacing: OptionNumber, line: Line) -> Repeat
+#[tactic(auto, unfolding(crate::specs::Repeats::of_parts))]
+fn of_parts(count: Option<u64>, spacing: Option<u64>, line: Line) -> Repeat
     ensures { result ≡ of_parts count spacing line }
 {
-    match count {
-        OptionNumber::None => Repeat::Other,
-        OptionNumber::Some(many) => match spacing {
-            OptionNumber::None => Repeat::Other,
-            OptionNumber::Some(apart) => of_line(line, many, apart),
-        },
+    match (count, spacing) {
+        (Some(count), Some(spacing)) => of_line(line, count, spacing),
+        _ => Repeat::Other,
     }
 }
 
 // The calls of a line of the desk. Settings are no call.
+#[tactic(auto, unfolding(crate::specs::Repeats::of_line))]
 fn of_line(line: Line, count: u64, spacing: u64) -> Repeat
     ensures { result ≡ of_line count spacing line }
 {
@@ -92,12 +84,12 @@ fn of_line(line: Line, count: u64, spacing: u64) -> Repeat
         }
         Line::Refund(key, cost) => of_call(DeskCall::Refund(key, cost), count, spacing),
         Line::Remove(key) => of_call(DeskCall::Remove(key), count, spacing),
-        Line::SetUp(_) => Repeat::Other,
-        Line::Malformed => Repeat::Other,
+        Line::SetUp(_) | Line::Malformed => Repeat::Other,
     }
 }
 
 // The calls, unless a number of the last one has more than 64 bits.
+#[tactic(auto, unfolding(crate::specs::Repeats::of_call))]
 fn of_call(call: DeskCall, count: u64, spacing: u64) -> Repeat
     ensures { result ≡ of_call count spacing call }
 {
@@ -111,33 +103,29 @@ fn of_call(call: DeskCall, count: u64, spacing: u64) -> Repeat
 pub fn last(count: u64) -> u64
     ensures { result ≡ count - 1 }
 {
-    if count == 0 {
-        return 0;
-    }
-    count - 1
+    count.saturating_sub(1)
 }
 
 // Whether the numbers of the call at a place have at most 64 bits.
+#[tactic(auto, unfolding(crate::specs::Repeats::within64))]
 pub fn is_within(call: DeskCall, spacing: u64, place: u64) -> bool
     ensures { result ≡ within64 spacing place call }
 {
     match call {
-        DeskCall::Try(request) => request_is_within(request, spacing, place),
-        DeskCall::Peek(request) => request_is_within(request, spacing, place),
-        DeskCall::Reserve(request, _) => request_is_within(request, spacing, place),
+        DeskCall::Try(request) | DeskCall::Peek(request) | DeskCall::Reserve(request, _) => {
+            request_is_within(request, spacing, place)
+        }
         DeskCall::Refund(key, _) => key_is_within(key, place),
         DeskCall::Remove(key) => key_is_within(key, place),
     }
 }
 
+#[tactic(auto, unfolding(crate::specs::Repeats::request_within))]
 fn request_is_within(request: Request, spacing: u64, place: u64) -> bool
     ensures { result ≡ request_within spacing place request }
 {
     let at = request.at;
-    if moment_is_within(at.0, spacing, place) {
-        return key_is_within(request.key, place);
-    }
-    false
+    moment_is_within(at.0, spacing, place) && key_is_within(request.key, place)
 }
 
 fn moment_is_within(at: u64, spacing: u64, place: u64) -> bool

@@ -1,6 +1,8 @@
--- The definitions step by step: the product inside `mixed`, and one turn and the end of each of the two loops that hash.
-use Rattle.std.proofs.Common.{◌≡◌, ℕ, suc, ◌+◌, ◌-◌, ◌*◌, ◌/◌, ◌%◌, ◌^◌, ◌<◌, ◌≤◌, List, length, get_or, drop, refl, add-one, arith, drop_of_length-le}
+-- The definitions step by step: the product inside `mixed`, one turn and the end of a loop that hashes bytes, and the bytes of a key.
+use Rattle.std.proofs.Common.{◌≡◌, ℕ, zero, suc, ◌+◌, ◌*◌, ◌/◌, ◌%◌, ◌^◌, ◌<◌, ◌≤◌, List, length, get_or, drop, refl, sym, add-one, drop_of_length-le}
 use Rattle.std.proofs.Common.{drop-cons}
+use Rattle.std.specs.Int.{w64, to_le_bytes, bytes_low_first}
+use Rattle.std.proofs.Math.Nat.{div-div-eq-div-mul, pow-suc}
 use lib.Bits.{bit_xor}
 use Rattle.hash.specs.Fnv.{prime, mixed, hash_from, lowest_first}
 
@@ -20,15 +22,15 @@ pub hash_ends_after_last_byte : (h : ℕ) (bs : List ℕ) (i : ℕ) → length b
 unfolding hash_from
 hash_ends_after_last_byte h bs i l = rw (drop_of_length-le bs)
 
--- After k of n bytes, with the others left in x, hashing mixes the lowest byte of x and goes on with the number that the rest make.
-pub hash_mixes_lowest_byte : (h x n k : ℕ) → k < n
-    → hash_from h (lowest_first (n - k) x) ≡ hash_from (mixed h (x % 256)) (lowest_first (n - (k + 1)) (x / 256))
-unfolding hash_from lowest_first
-hash_mixes_lowest_byte h x n k l =
-    let one_more : n - k ≡ suc (n - (k + 1)) = omega arith in
-    rw (one_more, lowest_first, hash_from)
+-- The bytes of a number from place i + 1 on are those of what is left of it past those before.
+bytes_on : (i k n : ℕ) → bytes_low_first (suc i) k n ≡ lowest_first k (n / 256 ^ suc i)
+unfolding lowest_first
+bytes_on i zero n = refl
+bytes_on i (suc k) n =
+    let further : n / 256 ^ suc (suc i) ≡ n / 256 ^ suc i / 256 = rw pow-suc (sym (div-div-eq-div-mul n (256 ^ suc i) 256)) in
+    rw (bytes_on (suc i) k n, further)
 
--- After n of n bytes the hash is the one reached.
-pub hash_ends_after_n_bytes : (h x n k : ℕ) → n ≤ k → hash_from h (lowest_first (n - k) x) ≡ h
-unfolding hash_from lowest_first
-hash_ends_after_n_bytes h x n k l = let none : n - k ≡ 0 = omega arith in rw none
+-- The eight bytes that a key has in std are its eight lowest bytes.
+pub key_bytes : (key : ℕ) → to_le_bytes w64 key ≡ lowest_first 8 key
+unfolding lowest_first
+key_bytes key = rw (bytes_on 0 7 key)

@@ -1,3 +1,2 @@
-pub mod ProductLaws
 pub mod FnvLaws
 pub mod Vectors

@@ -10,30 +10,11 @@ pub const OFFSET_BASIS: u64 = 14695981039346656037;
 // The factor by which each byte multiplies the hash.
 pub const PRIME: u64 = 1099511628211;
 
-// a * b, modulo 2^64, by wrapping adds alone: a is doubled once for each bit of b, and added at each bit that is set.
+// a * b, modulo 2^64.
 pub fn wrapping_mul(a: u64, b: u64) -> u64
     ensures { result ≡ (a * b) % 2 ^ 64 }
 {
-    let mut product: u64 = 0;
-    let mut doubled = a;
-    let mut bits = b;
-    while bits != 0 {
-        product = add_if_odd(product, doubled, bits);
-        doubled = std::num::wrapping_add_u64(doubled, doubled);
-        bits /= 2;
-    }
-    product
-}
-
-// The product after the lowest bit of bits: with doubled added if that bit is set.
-fn add_if_odd(product: u64, doubled: u64, bits: u64) -> u64
-    ensures { result ≡ (product + doubled * (bits % 2)) % 2 ^ 64 }
-{
-    if bits % 2 == 1 {
-        std::num::wrapping_add_u64(product, doubled)
-    } else {
-        product
-    }
+    a.wrapping_mul(b)
 }
 
 // One byte into the hash: XOR first, then the product with the prime.
@@ -49,8 +30,8 @@ pub fn fnv1a(bytes: &[u8]) -> u64
     ensures { result ≡ Fnv.fnv1a bytes.now }
 {
     let mut hash = OFFSET_BASIS;
-    for i in 0..bytes.len() {
-        hash = mix(hash, bytes[i]);
+    for &byte in bytes {
+        hash = mix(hash, byte);
     }
     hash
 }
@@ -59,11 +40,5 @@ pub fn fnv1a(bytes: &[u8]) -> u64
 pub fn key_hash(key: u64) -> u64
     ensures { result ≡ Fnv.key_hash key }
 {
-    let mut hash = OFFSET_BASIS;
-    let mut rest = key;
-    for _ in 0..8u64 {
-        hash = mix(hash, (rest % 256) as u8);
-        rest /= 256;
-    }
-    hash
+    fnv1a(&key.to_le_bytes())
 }

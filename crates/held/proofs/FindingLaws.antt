@@ -1,12 +1,12 @@
 -- What a lookup says. On any value, what it finds is below the count and passes. On a complete value it misses no item of the hash. So layers above know
 -- lookup by two laws. Then what each step keeps: that the value is complete, the kind of its finding, and a bound over the words of its index.
+use Rattle.std.proofs.Common.{Some, None}
 use Prim.Native.Nat.{ℕ, ◌+◌, ◌<◌}
 use native.Mathlib.Omega.{arith}
 use mathlib.Core.Path.{◌≡◌, refl, ap, ◌∙◌}
 use mathlib.Core.Bool.{Bool, true, false}
 use lib.ListN.{length, length-set, replicate, length-replicate}
 use Rattle.arith.proofs.Cases.{by_test, by_eq}
-use Rattle.rows.specs.declared.Place.TheVariants.{At, Nowhere}
 use Rattle.rows.proofs.LowestLaws as LowestLaws
 use Rattle.rows.proofs.LowestLaws.{Found}
 use Rattle.index.specs.Walk as Index
@@ -63,7 +63,7 @@ without_below bound in_order hash n p small words = tt
 without_below bound (by_index ix) hash n p small words = remove_below bound hash n ix p small words
 
 -- What a lookup finds passes, in both cases.
-found_by_lem : (f : Finding) (n : ℕ) (test : ℕ → Bool) (key p : ℕ) → found_by f n test key ≡ At p → Found test n p
+found_by_lem : (f : Finding) (n : ℕ) (test : ℕ → Bool) (key p : ℕ) → found_by f n test key ≡ Some p → Found test n p
 found_by_lem in_order n test key p found = LowestLaws.found_passes n test p found
 found_by_lem (by_index ix) n test key p found = find_sound n test ix key p found
 
@@ -77,12 +77,12 @@ module _ {A : Type 0} (items : Items A) (h : Held A) where
   removed_below bound p small words = without_below bound h.finding _ _ p small words
 
   -- On any value: what is found is below the count and passes.
-  pub found_passes : (key : ℕ) (test : A → Bool) (p : ℕ) → position items h key test ≡ At p → Found (λ i. test (item_at items h i)) h.count p
+  pub found_passes : (key : ℕ) (test : A → Bool) (p : ℕ) → position items h key test ≡ Some p → Found (λ i. test (item_at items h i)) h.count p
   found_passes key test p found = found_by_lem h.finding h.count (λ i. test (item_at items h i)) key p found
 
   -- On a complete value: where nothing is found no item passes, for a test that only items of the hash pass.
   pub nowhere_passes_none : Complete items h → (key : ℕ) (test : A → Bool) → ((x : A) → test x ≡ true → items.hash x ≡ key)
-      → position items h key test ≡ Nowhere → (i : ℕ) → i < h.count → test (item_at items h i) ≡ false
+      → position items h key test ≡ None → (i : ℕ) → i < h.count → test (item_at items h i) ≡ false
   nowhere_passes_none (in_order_is_complete order) key test own nowhere i below =
       LowestLaws.nowhere_passes_none h.count (λ j. test (item_at items h j)) i (rw order at nowhere) below
   nowhere_passes_none (exact_is_complete ix by size exact) key test own nowhere i below =

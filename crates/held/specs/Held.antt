@@ -3,8 +3,7 @@
 -- of another. Only set_up_lem and clear do otherwise: all words become 0. `position` finds an item and changes nothing. Only `position`, `appended` and
 -- `removed` read or change an index. Definitions in higher crates are the same with an index and without. `mapped` stands in claims alone: no operation uses
 -- it.
-use Rattle.std.specs.Prelude.{ℕ, ◌+◌, ◌-◌, ◌≤◌, ◌<◌, ◌≡◌, Bool, cond, List, map, ltb, length, get_or, set}
-use Rattle.rows.specs.declared.Place.{Place}
+use Rattle.std.specs.Prelude.{ℕ, ◌+◌, ◌-◌, ◌≤◌, ◌<◌, ◌≡◌, Bool, cond, List, map, ltb, length, get_or, set, Option}
 use Rattle.rows.specs.Places.{lowest, sum}
 use Rattle.index.specs.Walk as Index
 use Rattle.index.specs.Exact.{Exact}
@@ -35,7 +34,7 @@ abbrev pub wrapped : ℕ → ℕ → ℕ
 wrapped i count = cond (ltb i count) i 0
 
 -- The lookup of a hash among n items: the lowest place that passes a test, or the first item on the hash's walk that does.
-abbrev pub found_by : Finding → ℕ → (ℕ → Bool) → ℕ → Place
+abbrev pub found_by : Finding → ℕ → (ℕ → Bool) → ℕ → Option ℕ
 found_by in_order n test h = lowest n test
 found_by (by_index ix) n test h = Index.find n test ix h
 
@@ -58,7 +57,7 @@ module _ {A : Type 0} (items : Items A) where
   hash_at h i = items.hash (item_at h i)
 
   -- The place of an item of a hash that passes a test.
-  abbrev pub position : Held A → ℕ → (A → Bool) → Place
+  abbrev pub position : Held A → ℕ → (A → Bool) → Option ℕ
   position h hash test = found_by h.finding h.count (λ i. test (item_at h i)) hash
 
   -- An item comes last.

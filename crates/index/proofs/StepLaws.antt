@@ -1,13 +1,12 @@
 -- What each definition makes of one place. Those that count the places left have a law for each turn of the loop that computes them.
 -- The worked examples are checked before these laws, which quote the definitions: a definition that says something else is refused there first.
 use Rattle.std.proofs.Common.{◌≡◌, ℕ, zero, suc, ◌+◌, ◌-◌, ◌%◌, ◌^◌, ◌<◌, ◌≤◌, Bool, true, false, eqb, List, length, set, sym, refl, ◌∙◌, arith, length-set}
+use Rattle.std.proofs.Common.{Option, Some, None}
 use Rattle.std.proofs.Common.{le-ltb, lt-ltb, eq-eqb, ne_eqb, le-leb}
 use lib.ListN.{get_or-eq_default}
 use lib.Seq.{set_out}
 use borrow.Author.Tests.{lt-leb}
 use Rattle.arith.proofs.Cases.{by_test, by_eq, by_le}
-use Rattle.rows.specs.declared.Place.{Place}
-use Rattle.rows.specs.declared.Place.TheVariants.{At, Nowhere}
 use Rattle.index.specs.declared.Probed.{Probed}
 use Rattle.index.specs.declared.Probed.TheVariants.{Hit, Empty, Other}
 use Rattle.index.specs.Walk.{at, onward, walk_from, walk, hits, find_from, find, probed, seek, add, add_again, rehome, vacate, renumber, remove}
@@ -100,17 +99,21 @@ module _ (n : ℕ) (test : ℕ → Bool) (word : ℕ) where
   unfolding probed
   probed_no_item l = rw (ne_eqb word 0 (omega arith), lt-leb word n l)
 
--- A word less 1, with 0 wrapped round: below a count it is the item that the word names, and else the word names no item.
-pub less_one_names : (word item n : ℕ) → (item + 1) % 2 ^ 64 ≡ word → item < n → n < 2 ^ 64 → word ≡ item + 1
-less_one_names word item n e l f = omega arith
+-- A word less 1, with 0 wrapped round.
+abbrev less_one : ℕ → ℕ
+less_one word = (word + 18446744073709551615) % 2 ^ 64
 
-pub less_one_over : (word item n : ℕ) → (item + 1) % 2 ^ 64 ≡ word → item < 2 ^ 64 → n ≤ item → (word ≡ 0 → ⊥) → n < word
-less_one_over word item n e f l k = omega arith
+-- It is below a count where it is the item that the word names, and else the word names no item.
+pub less_one_names : (word n : ℕ) → word < 2 ^ 64 → less_one word < n → n < 2 ^ 64 → word ≡ less_one word + 1
+less_one_names word n w l f = omega arith
+
+pub less_one_over : (word n : ℕ) → word < 2 ^ 64 → n ≤ less_one word → (word ≡ 0 → ⊥) → n < word
+less_one_over word n w l k = omega arith
 
 -- What a lookup gives after one look, where the rest of its walk gives a place.
-abbrev pub after_look : Probed → Place → Place
-after_look (Hit i) rest = At i
-after_look Empty rest = Nowhere
+abbrev pub after_look : Probed → Option ℕ → Option ℕ
+after_look (Hit i) rest = Some i
+after_look Empty rest = None
 after_look Other rest = rest
 
 -- A lookup at place q, by what it makes of the word there, and where no place is left.
@@ -129,7 +132,7 @@ module _ (n : ℕ) (test : ℕ → Bool) (ix : List ℕ) (q left : ℕ) where
       → after_look p' (find_from n test ix (onward size q) (left - 1)) ≡ find_from n test ix q left
   find_turn size len h e which = rw (← which, e) (sym (find_look size len h))
 
-  pub find_over : left ≤ 0 → Nowhere ≡ find_from n test ix q left
+  pub find_over : left ≤ 0 → None ≡ find_from n test ix q left
   unfolding find_from
   find_over h = rw (walk_over ix (hits n test) q left h, at_past ix (length ix) (omega arith))
 
@@ -140,7 +143,7 @@ unfolding find
 find_home n test ix h size q len room home e which = rw (len, ← home) (find_turn n test ix q size size len room e which)
 
 -- Among no items nothing is found, whatever the words are.
-find_from_none : (test : ℕ → Bool) (ix : List ℕ) (q left : ℕ) → find_from 0 test ix q left ≡ Nowhere
+find_from_none : (test : ℕ → Bool) (ix : List ℕ) (q left : ℕ) → find_from 0 test ix q left ≡ None
 find_from_none test ix q zero = sym (find_over 0 test ix q 0 (omega arith))
 find_from_none test ix q (suc left) =
     let look = find_look 0 test ix q (suc left) (length ix) refl (omega arith) in
@@ -148,7 +151,7 @@ find_from_none test ix q (suc left) =
     (λ e. rw (look, ← probed_empty 0 test (at ix q) e))
     (λ k. rw (look, ← probed_no_item 0 test (at ix q) (omega arith), suc_less left) (find_from_none test ix (onward (length ix) q) left))
 
-pub find_among_none : (test : ℕ → Bool) (ix : List ℕ) (h : ℕ) → find 0 test ix h ≡ Nowhere
+pub find_among_none : (test : ℕ → Bool) (ix : List ℕ) (h : ℕ) → find 0 test ix h ≡ None
 unfolding find
 find_among_none test ix h = find_from_none test ix (h % length ix) (length ix)
 

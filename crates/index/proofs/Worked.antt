@@ -1,6 +1,5 @@
 -- The sentences of request 3 on an index, each worked on a small one. An index is written as its words, and the items by their hashes, item 0 first.
-use Rattle.std.proofs.Common.{◌≡◌, ℕ, Bool, true, eqb, List, [], ◌∷◌, get_or, replicate, refl}
-use Rattle.rows.specs.declared.Place.TheVariants.{At, Nowhere}
+use Rattle.std.proofs.Common.{◌≡◌, ℕ, Bool, true, eqb, List, [], ◌∷◌, get_or, replicate, refl, Some, None}
 use Rattle.index.specs.Walk.{onward, walk_from, walk, find_from, find, seek, add, add_again, rehome, vacate, renumber, remove}
 
 -- Items of these hashes.
@@ -21,12 +20,12 @@ unfolding onward walk_from walk seek add
 added_items_fill_the_empty_places = refl
 
 -- A walk stops at the first empty place, though the item stands behind it.
-walk_stops_at_an_empty_place : find 2 (item 1) (1 ∷ 0 ∷ 2 ∷ 0 ∷ []) 0 ≡ Nowhere
+walk_stops_at_an_empty_place : find 2 (item 1) (1 ∷ 0 ∷ 2 ∷ 0 ∷ []) 0 ≡ None
 unfolding onward walk_from find_from find
 walk_stops_at_an_empty_place = refl
 
 -- A walk goes round the end.
-walk_goes_round : find 2 (item 0) (1 ∷ 0 ∷ 0 ∷ 2 ∷ []) 3 ≡ At 0
+walk_goes_round : find 2 (item 0) (1 ∷ 0 ∷ 0 ∷ 2 ∷ []) 3 ≡ Some 0
 unfolding onward walk_from find_from find
 walk_goes_round = refl
 
@@ -36,30 +35,30 @@ unfolding onward walk_from walk seek
 walk_ends_after_one_round = refl
 
 -- Of two items that pass, lookup takes the first on the walk, and not the lowest.
-lookup_takes_the_first_on_the_walk : find 2 any (2 ∷ 1 ∷ 0 ∷ 0 ∷ []) 0 ≡ At 1
+lookup_takes_the_first_on_the_walk : find 2 any (2 ∷ 1 ∷ 0 ∷ 0 ∷ []) 0 ≡ Some 1
 unfolding onward walk_from find_from find
 lookup_takes_the_first_on_the_walk = refl
 
 -- The index decides: an item that no place names is not found.
-index_decides : find 1 any (0 ∷ 0 ∷ 0 ∷ 0 ∷ []) 0 ≡ Nowhere
+index_decides : find 1 any (0 ∷ 0 ∷ 0 ∷ 0 ∷ []) 0 ≡ None
 unfolding onward walk_from find_from find
 index_decides = refl
 
 -- A walk passes over a place that names no item. With two items, 3 is the first such word.
-word_over_the_count_is_passed : find 2 any (3 ∷ 1 ∷ 0 ∷ 0 ∷ []) 0 ≡ At 0
+word_over_the_count_is_passed : find 2 any (3 ∷ 1 ∷ 0 ∷ 0 ∷ []) 0 ≡ Some 0
 unfolding onward walk_from find_from find
 word_over_the_count_is_passed = refl
 
-last_item_is_an_item : find 3 any (3 ∷ 1 ∷ 0 ∷ 0 ∷ []) 0 ≡ At 2
+last_item_is_an_item : find 3 any (3 ∷ 1 ∷ 0 ∷ 0 ∷ []) 0 ≡ Some 2
 unfolding onward walk_from find_from find
 last_item_is_an_item = refl
 
 -- A full index that is damaged: the item is found past words that name none, and where no word names one nothing is.
-found_in_a_full_index : find 2 (item 1) (9 ∷ 2 ∷ 9 ∷ 9 ∷ []) 3 ≡ At 1
+found_in_a_full_index : find 2 (item 1) (9 ∷ 2 ∷ 9 ∷ 9 ∷ []) 3 ≡ Some 1
 unfolding onward walk_from find_from find
 found_in_a_full_index = refl
 
-nothing_in_a_full_index : find 1 any (9 ∷ 9 ∷ 9 ∷ 9 ∷ []) 3 ≡ Nowhere
+nothing_in_a_full_index : find 1 any (9 ∷ 9 ∷ 9 ∷ 9 ∷ []) 3 ≡ None
 unfolding onward walk_from find_from find
 nothing_in_a_full_index = refl
 
@@ -68,7 +67,7 @@ no_place_in_a_full_index : add (9 ∷ 9 ∷ 9 ∷ 9 ∷ []) 3 0 ≡ 9 ∷ 9 ∷ 
 unfolding onward walk_from walk seek add
 no_place_in_a_full_index = refl
 
-not_found_without_a_place : find 1 any (add (9 ∷ 9 ∷ 9 ∷ 9 ∷ []) 3 0) 3 ≡ Nowhere
+not_found_without_a_place : find 1 any (add (9 ∷ 9 ∷ 9 ∷ 9 ∷ []) 3 0) 3 ≡ None
 unfolding onward walk_from walk find_from find seek add
 not_found_without_a_place = refl
 
@@ -77,7 +76,7 @@ no_place_beside_its_own_number : add (1 ∷ 9 ∷ []) 0 0 ≡ 1 ∷ 9 ∷ []
 unfolding onward walk_from walk seek add
 no_place_beside_its_own_number = refl
 
-found_by_its_number_without_a_place : find 1 any (add (1 ∷ 9 ∷ []) 0 0) 0 ≡ At 0
+found_by_its_number_without_a_place : find 1 any (add (1 ∷ 9 ∷ []) 0 0) 0 ≡ Some 0
 unfolding onward walk_from walk find_from find seek add
 found_by_its_number_without_a_place = refl
 

@@ -1,8 +1,7 @@
 -- An index by hash. It is a list of places that holds a word in each: 0 in an empty place, else the number of an item, counted from 0, plus 1. The
 -- definitions take any words and any count: `n` is the number of items, and `hash i` the hash of item i.
-use Rattle.std.specs.Prelude.{ℕ, zero, suc, ◌+◌, ◌-◌, ◌%◌, Bool, true, false, cond, List, length, ◌==◌, nat_eq, nat_le, nat_lt, slice_index, slice_set}
-use Rattle.rows.specs.declared.Place.{Place}
-use Rattle.rows.specs.declared.Place.TheVariants.{At, Nowhere}
+use Rattle.std.specs.Prelude.{ℕ, zero, suc, ◌+◌, ◌-◌, ◌%◌, Bool, true, false, cond, List, length, ◌==◌, nat_eq, nat_le, nat_lt, slice_index, slice_set, Option}
+use Rattle.std.specs.Prelude.{Some, None}
 use Rattle.index.specs.declared.Probed.{Probed}
 use Rattle.index.specs.declared.Probed.TheVariants.{Hit, Empty, Other}
 
@@ -32,15 +31,15 @@ abbrev pub hits : ℕ → (ℕ → Bool) → ℕ → Bool
 hits n test word = cond (nat_le word n) (test (word - 1)) false
 
 -- What a lookup gives that stops at this word: its item, or nowhere for 0.
-abbrev pub named : ℕ → Place
-named word = cond (word == 0) Nowhere (At (word - 1))
+abbrev pub named : ℕ → Option ℕ
+named word = cond (word == 0) None (Some (word - 1))
 
 -- Lookup, at place q with so many places left: the first item on the walk that passes a test.
-unfoldable pub find_from : ℕ → (ℕ → Bool) → List ℕ → ℕ → ℕ → Place
+unfoldable pub find_from : ℕ → (ℕ → Bool) → List ℕ → ℕ → ℕ → Option ℕ
 find_from n test ix q left = named (at ix (walk_from ix (hits n test) q left))
 
 -- Lookup on the whole walk of a hash.
-unfoldable pub find : ℕ → (ℕ → Bool) → List ℕ → ℕ → Place
+unfoldable pub find : ℕ → (ℕ → Bool) → List ℕ → ℕ → Option ℕ
 find n test ix h = find_from n test ix (h % length ix) (length ix)
 
 -- What lookup makes of one word: it has found an item, it is at the end of the walk, or it goes on.

@@ -8,8 +8,6 @@ ghost use Rattle.index.specs.Walk as Walk;
 ghost use Rattle.index.specs.code.Trail.{Trail, from_home, known_after};
 ghost use Rattle.index.specs.Layout.{Fits, places_of, with_places, item_word, hash_of, keyed};
 
-use rows::Place;
-
 mod places;
 
 // Where an index and its items lie in one slice: the index has `size` places from word `base` on. The items lie before it, from word `first` on, each in a row
@@ -69,10 +67,7 @@ fn has_key(ws: &[u64], index: Index, n: usize, i: usize, hash: u64, key: u64) ->
     requires { Fits index n ws.now × (i < n) }
     ensures { result ≡ keyed index ws.now hash key i }
 {
-    if item_word(ws, index, n, i, HASH) == hash {
-        return item_word(ws, index, n, i, index.key) == key;
-    }
-    false
+    item_word(ws, index, n, i, HASH) == hash && item_word(ws, index, n, i, index.key) == key
 }
 
 // One look of a lookup. A word less 1, with 0 wrapped round, is below the count exactly where the word names an item: one comparison for the common case.
@@ -81,7 +76,7 @@ fn probe(ws: &[u64], index: Index, n: usize, hash: u64, key: u64, q: usize) -> P
     ensures { result ≡ Walk.probed n (keyed index ws.now hash key) (Walk.at (places_of index ws.now) q) }
 {
     let word = word_at(ws, index, q);
-    let item = std::num::wrapping_sub_u64(word, 1);
+    let item = word.wrapping_sub(1);
     if item < n as u64 {
         let i = item as usize;
         if has_key(ws, index, n, i, hash, key) {
@@ -96,41 +91,33 @@ fn probe(ws: &[u64], index: Index, n: usize, hash: u64, key: u64, q: usize) -> P
 }
 
 // The rest of a lookup, after a look at place `home` that found no reason to stop.
-fn find_on(ws: &[u64], index: Index, n: usize, hash: u64, key: u64, home: usize) -> Place
+fn find_on(ws: &[u64], index: Index, n: usize, hash: u64, key: u64, home: usize) -> Option<usize>
     requires { Fits index n ws.now × (home < index.size) }
     ensures { result
         ≡ Walk.find_from n (keyed index ws.now hash key) (places_of index ws.now) (Walk.onward index.size home) (index.size - 1) }
 {
     let size = index.size;
     let mut q = places::onward(size, home);
-    let mut left = size - 1;
-    while 0 < left {
+    for _ in 0..size - 1 {
         match probe(ws, index, n, hash, key, q) {
-            Probed::Hit(i) => {
-                return Place::At(i);
-            }
-            Probed::Empty => {
-                return Place::Nowhere;
-            }
-            Probed::Other => {
-                q = places::onward(size, q);
-                left -= 1;
-            }
+            Probed::Hit(i) => return Some(i),
+            Probed::Empty => return None,
+            Probed::Other => q = places::onward(size, q),
         }
     }
-    Place::Nowhere
+    None
 }
 
 // The first item on the hash's walk that has the hash and the key. For items without a key the caller gives the hash for it. This function makes the first look
 // itself, so that the compiler can inline it.
-pub fn find(ws: &[u64], index: Index, n: usize, hash: u64, key: u64) -> Place
+pub fn find(ws: &[u64], index: Index, n: usize, hash: u64, key: u64) -> Option<usize>
     requires { Fits index n ws.now }
     ensures { result ≡ Walk.find n (keyed index ws.now hash key) (places_of index ws.now) hash }
 {
     let home = places::home(index.size, hash);
     match probe(ws, index, n, hash, key, home) {
-        Probed::Hit(i) => Place::At(i),
-        Probed::Empty => Place::Nowhere,
+        Probed::Hit(i) => Some(i),
+        Probed::Empty => None,
         Probed::Other => find_on(ws, index, n, hash, key, home),
     }
 }
@@ -236,7 +223,7 @@ fn pass_one(ws: &mut [u64], index: Index, n: usize, q: usize, word: u64, pass: P
         return Pass {
             gap: by_home(back, run, gap, q),
             run: by_home(back, run, run + 1, 0),
-            known: arith::fewer(pass.known + 1, index.size),
+            known: (pass.known + 1).min(index.size),
         };
     }
     rehome_one(ws, index, n, q, word);
@@ -261,15 +248,13 @@ fn rehome(ws: &mut [u64], index: Index, n: usize, z: usize)
         known: 1,
     };
     let mut q = places::onward(size, z);
-    let mut left = size - 1;
-    while 0 < left {
+    for _ in 1..size {
         let held = word_at(ws, index, q);
         if held == 0 {
             return;
         }
         pass = pass_one(ws, index, n, q, held, pass);
         q = places::onward(size, q);
-        left -= 1;
     }
 }
 
@@ -279,11 +264,9 @@ fn vacate(ws: &mut [u64], index: Index, n: usize, z: usize)
     ensures { ws.new
         ≡ with_places index ws.old (Walk.vacate (hash_of index ws.old) n (places_of index ws.old) z) }
 {
-    if z < index.size {
-        if word_at(ws, index, z) != 0 {
-            empty(ws, index, z);
-            rehome(ws, index, n, z);
-        }
+    if z < index.size && word_at(ws, index, z) != 0 {
+        empty(ws, index, z);
+        rehome(ws, index, n, z);
     }
 }
 

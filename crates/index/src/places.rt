@@ -44,17 +44,12 @@ pub(crate) fn seek(ix: &[u64], hash: u64, word: u64) -> usize
 {
     let size = ix.len();
     let mut q = home(size, hash);
-    let mut left = size;
-    while 0 < left {
+    for _ in 0..size {
         let v = ix[q];
-        if v == 0 {
-            return q;
-        }
-        if v == word {
+        if v == 0 || v == word {
             return q;
         }
         q = onward(size, q);
-        left -= 1;
     }
     size
 }
@@ -76,9 +71,7 @@ pub(crate) fn renumber(ix: &mut [u64], hash: u64, m: usize, r: usize)
     ensures { ix.new ≡ Walk.renumber ix.old hash m r }
 {
     let z = seek(ix, hash, m as u64 + 1);
-    if z < ix.len() {
-        if ix[z] != 0 {
-            ix[z] = r as u64 + 1;
-        }
+    if z < ix.len() && ix[z] != 0 {
+        ix[z] = r as u64 + 1;
     }
 }

@@ -1,5 +1,6 @@
 -- Sums over the debts of one hash, for any value of a debt by the moment at which it settles: how many there are (value 1), the time they have left, and
 -- so on. What each operation does to a sum is an equation or a bound without a difference, so that layers above add them up and look at no place.
+use Rattle.std.proofs.Common.{Option, Some, None, Ok}
 use Prim.Native.Nat.{ℕ, ◌+◌, ◌*◌, ◌≤◌, ◌<◌, max}
 use mathlib.Core.Path.{◌≡◌, refl, sym, ◌∙◌, ap}
 use mathlib.Core.Bool.{Bool, false, cond}
@@ -7,10 +8,7 @@ use native.Mathlib.Omega.{arith}
 use borrow.Author.Tests.{eq-eqb, ne_eqb, leb-true}
 use Rattle.arith.proofs.Cases.{by_eq, by_le}
 use Rattle.units.specs.declared.Nanos.{Nanos}
-use Rattle.units.specs.declared.OptionNanos.{OptionNanos}
-use Rattle.units.specs.declared.OptionNanos.TheVariants.{None, Some}
 use Rattle.bucket.specs.declared.BucketConfig.{BucketConfig}
-use Rattle.rows.specs.declared.Place.TheVariants.{At, Nowhere}
 use Rattle.rows.specs.Outcome.{Outcome}
 use Rattle.held.specs.Held.{total}
 use Rattle.rows.proofs.SumLaws.{sum_of_zeros, sum_le, term_le_sum}
@@ -18,8 +16,7 @@ use Rattle.held.proofs.RoundLaws as RoundLaws
 use Rattle.held.proofs.RoundLaws.{sweep_keeps_total}
 use Rattle.held.proofs.HeldLaws.{total_stored, total_appended, total_removed}
 use Rattle.ledger.specs.declared.Debt.{Debt}
-use Rattle.ledger.specs.declared.Recorded.{Recorded}
-use Rattle.ledger.specs.declared.Recorded.TheVariants.{Done, NoRoom}
+use Rattle.ledger.specs.Model.{Recorded, no_room}
 use Rattle.ledger.specs.Model.{Ledger, Sound, Complete, debt_items, cap_of, debt_at, settling_at, settled_by, with_cursor, with_debt, owes, place_of, remove_at}
 use Rattle.ledger.specs.Model.{append, taken, round_of, sweep}
 use Rattle.ledger.specs.Model.{later, recorded, credit, paid_down}
@@ -40,7 +37,7 @@ abbrev pub one : ℕ → ℕ
 one s = 1
 
 -- The value of a moment that may be missing.
-abbrev pub worth : (ℕ → ℕ) → OptionNanos → ℕ
+abbrev pub worth : (ℕ → ℕ) → Option Nanos → ℕ
 worth value None = 0
 worth value (Some t) = value t.0
 
@@ -118,7 +115,7 @@ module _ (h : ℕ) (value : ℕ → ℕ) where
       (λ d settled. weigh_settled at nothing d (leb-true _ _ settled))
 
 -- Where lookup misses no debt and finds none of the hash, nothing is owed.
-pub nowhere_owes_nothing : (h : ℕ) (value : ℕ → ℕ) (l : Ledger) → Complete l → place_of l h ≡ Nowhere → owed h value l ≡ 0
+pub nowhere_owes_nothing : (h : ℕ) (value : ℕ → ℕ) (l : Ledger) → Complete l → place_of l h ≡ None → owed h value l ≡ 0
 unfolding owed
 nowhere_owes_nothing h value l complete e =
     sum_of_zeros l.debts.count (λ i. weigh h value (debt_at l i)) (λ i below. weigh_other h value (debt_at l i) (nowhere_owes_none l complete h e i below))
@@ -149,22 +146,22 @@ none_owed_nothing_owed h value l none =
 
 module _ (h : ℕ) (value : ℕ → ℕ) (l : Ledger) (s : Sound l) where
   -- The debt that lookup finds is taken out of the sum; it is of the hash that was asked for.
-  pub found_leaves : (other p : ℕ) → place_of l other ≡ At p → owed h value (remove_at l p) + weigh h value (debt_at l p) ≡ owed h value l
+  pub found_leaves : (other p : ℕ) → place_of l other ≡ Some p → owed h value (remove_at l p) + weigh h value (debt_at l p) ≡ owed h value l
   found_leaves other p e = owed_removed h value l p s (found_owes l other p e).below
 
   -- A single debt of the hash is the one that lookup finds.
-  pub found_is_all : (p : ℕ) → place_of l h ≡ At p → owed h one l ≤ 1 → owed h value l ≡ value (settling_at l p).0
+  pub found_is_all : (p : ℕ) → place_of l h ≡ Some p → owed h one l ≤ 1 → owed h value l ≡ value (settling_at l p).0
   found_is_all p e single =
       let f : Owing l h p = found_owes l h p e in
       let alone : owed h one (remove_at l p) ≡ 0 = omega (arith, owed_removed h one l p s f.below, weigh_own h one (debt_at l p) f.own) in
       omega (arith, owed_removed h value l p s f.below, weigh_own h value (debt_at l p) f.own, none_owed_nothing_owed h value (remove_at l p) alone)
 
   -- Recording adds at most the value of the debt, whether it joins, merges or takes another's place.
-  pub record_adds_at_most : (d : Debt) (at : Nanos) (forget : Bool) → (recorded l d at forget).answer ≡ Done
+  pub record_adds_at_most : (d : Debt) (at : Nanos) (forget : Bool) → (recorded l d at forget).answer ≡ Ok tt
       → owed h value (recorded l d at forget).after ≤ owed h value l + weigh h value d
   record_adds_at_most d at forget = go (record_cases l d at forget s)
     where
-      go : {o : Outcome Recorded Ledger} → Recording l d at forget o → o.answer ≡ Done → owed h value o.after ≤ owed h value l + weigh h value d
+      go : {o : Outcome Recorded Ledger} → Recording l d at forget o → o.answer ≡ Ok tt → owed h value o.after ≤ owed h value l + weigh h value d
       go (merged p e) done =
           let f : Owing l d.hash p = found_owes l d.hash p e in
           omega (arith, owed_stored h value l p (later (debt_at l p) d.settles) s f.below, weigh_later h value (debt_at l p) d f.own)
@@ -175,11 +172,11 @@ module _ (h : ℕ) (value : ℕ → ℕ) (l : Ledger) (s : Sound l) where
   -- Where debts may not be forgotten, recording loses nothing that is unsettled: the sum grows by the debt's value. For a hash that already owes this
   -- need not hold (two moments become one), hence the bound on their number.
   pub record_keeps_unsettled : (d : Debt) (at : Nanos) (forget : Bool) → forget ≡ false → SettledIsNothing at value → owed h one l + weigh h one d ≤ 1
-      → (recorded l d at forget).answer ≡ Done
+      → (recorded l d at forget).answer ≡ Ok tt
       → owed h value (recorded l d at forget).after ≡ owed h value l + weigh h value d
   record_keeps_unsettled d at forget never nothing single = go (record_cases l d at forget s)
     where
-      go : {o : Outcome Recorded Ledger} → Recording l d at forget o → o.answer ≡ Done → owed h value o.after ≡ owed h value l + weigh h value d
+      go : {o : Outcome Recorded Ledger} → Recording l d at forget o → o.answer ≡ Ok tt → owed h value o.after ≡ owed h value l + weigh h value d
       go (merged p e) done =
           let f : Owing l d.hash p = found_owes l d.hash p e in
           let x : Debt = debt_at l p in
@@ -200,7 +197,7 @@ module _ (h : ℕ) (value : ℕ → ℕ) (l : Ledger) (s : Sound l) where
       go (refused p c near full below _ unsettled) done = done_is_no_refusal (sym done)
 
   -- A refusal changes no sum.
-  pub refusal_keeps : (d : Debt) (at : Nanos) (forget : Bool) (wait : Nanos) → (recorded l d at forget).answer ≡ NoRoom wait
+  pub refusal_keeps : (d : Debt) (at : Nanos) (forget : Bool) (wait : Nanos) → (recorded l d at forget).answer ≡ no_room wait
       → owed h value (recorded l d at forget).after ≡ owed h value l
   unfolding owed
   refusal_keeps d at forget wait told = ap (total debt_items (weigh h value)) (refusal l d at forget wait s told).debts

@@ -1,20 +1,15 @@
 -- What lookup finds of a hash after each operation, where the hash owes at most once. All of it follows from the sums: what lookup finds of a hash is known
 -- once the sum of every value is.
+use Rattle.std.proofs.Common.{Option, Some, None, Ok}
 use Prim.Native.Nat.{ℕ, ◌-◌, ◌≤◌, ◌<◌, max}
 use mathlib.Core.Path.{◌≡◌, refl, sym, ◌∙◌, ap}
 use mathlib.Core.Bool.{Bool}
 use native.Mathlib.Omega.{arith}
 use Rattle.units.specs.declared.Nanos.{Nanos}
-use Rattle.units.specs.declared.OptionNanos.{OptionNanos}
-use Rattle.units.specs.declared.OptionNanos.TheVariants.{None, Some}
 use Rattle.bucket.specs.declared.BucketConfig.{BucketConfig}
-use Rattle.rows.specs.declared.Place.{Place}
-use Rattle.rows.specs.declared.Place.TheVariants.{At, Nowhere}
 use Rattle.rows.specs.Outcome.{Outcome}
 use Rattle.ledger.specs.declared.Debt.{Debt}
-use Rattle.ledger.specs.declared.Recorded.{Recorded}
-use Rattle.ledger.specs.declared.Recorded.TheVariants.{Done}
-use Rattle.ledger.specs.Model.{Ledger, Sound, Complete, debt_at, place_of, owed_at, owed_by, taken, sweep, later, recorded, credit, paid_down}
+use Rattle.ledger.specs.Model.{Recorded, Ledger, Sound, Complete, debt_at, place_of, owed_at, owed_by, taken, sweep, later, recorded, credit, paid_down}
 use Rattle.ledger.proofs.StepLaws.{sweep_room, paid_room, Owing, found_owes, nowhere_owes_none, owed_where, taken_cases, paid_cases, sooner_by}
 use Rattle.ledger.proofs.RecordLaws.{Recording, merged, joins, replaces, refused, record_cases, recorded_sound, recorded_complete, done_is_no_refusal}
 use Rattle.ledger.proofs.KeptLaws.{owed, one, worth, weigh_own, weigh_other, owed_stored, owed_appended, owed_replaced, sweep_never_adds}
@@ -25,22 +20,22 @@ pub taken_tells : (l : Ledger) (h : ℕ) → (taken l h).answer ≡ owed_by l h
 taken_tells l h = taken_cases l h (λ o. o.answer ≡ owed_by l h) (λ p e. owed_where l h e) (λ e. owed_where l h e)
 
 -- What was found, or another moment where that is later; and what was found, so much sooner.
-abbrev pub later_of : Nanos → OptionNanos → OptionNanos
+abbrev pub later_of : Nanos → Option Nanos → Option Nanos
 later_of t None = Some t
 later_of t (Some u) = Some (record { 0 = max u.0 t.0 })
 
-abbrev pub paid_off : Nanos → OptionNanos → OptionNanos
+abbrev pub paid_off : Nanos → Option Nanos → Option Nanos
 paid_off off None = None
 paid_off off (Some t) = Some (record { 0 = t.0 - off.0 })
 
 -- Two findings with the same values are the same.
-same_worth : (a b : OptionNanos) → ((value : ℕ → ℕ) → worth value a ≡ worth value b) → a ≡ b
+same_worth : (a b : Option Nanos) → ((value : ℕ → ℕ) → worth value a ≡ worth value b) → a ≡ b
 same_worth None None same = refl
 same_worth None (Some t) same = absurd (omega (arith, same one))
 same_worth (Some t) None same = absurd (omega (arith, same one))
 same_worth (Some t) (Some u) same = ap (λ (n : ℕ). Some (record { 0 = n })) (same (λ n. n))
 
-worth_one : (a : OptionNanos) → worth one a ≤ 1
+worth_one : (a : Option Nanos) → worth one a ≤ 1
 worth_one None = omega arith
 worth_one (Some t) = omega arith
 
@@ -49,18 +44,18 @@ pub sum_of_lookup : (h : ℕ) (l : Ledger) → Sound l → Complete l → owed h
 unfolding owed_by
 sum_of_lookup h l s complete single value = go (place_of l h) refl
   where
-    go : (place : Place) → place_of l h ≡ place → owed h value l ≡ worth value (owed_at l place)
-    go (At p) e = found_is_all h value l s p e single
-    go Nowhere e = nowhere_owes_nothing h value l complete e
+    go : (place : Option ℕ) → place_of l h ≡ place → owed h value l ≡ worth value (owed_at l place)
+    go (Some p) e = found_is_all h value l s p e single
+    go None e = nowhere_owes_nothing h value l complete e
 
-pub lookup_by_sums : (h : ℕ) (l : Ledger) → Sound l → Complete l → (found : OptionNanos) → ((value : ℕ → ℕ) → owed h value l ≡ worth value found)
+pub lookup_by_sums : (h : ℕ) (l : Ledger) → Sound l → Complete l → (found : Option Nanos) → ((value : ℕ → ℕ) → owed h value l ≡ worth value found)
     → owed_by l h ≡ found
 lookup_by_sums h l s complete found sums =
     let single : owed h one l ≤ 1 = omega (arith, sums one, worth_one found) in
     same_worth (owed_by l h) found (λ value. sym (sum_of_lookup h l s complete single value) ∙ sums value)
 
 -- Two ledgers with the same time left to the debts of a hash: an unsettled debt that lookup finds in one it finds in the other.
-unsettled_by_time_left : (at : Nanos) (found : OptionNanos) (t : Nanos) → at.0 < t.0 → worth (λ n. n - at.0) found ≡ t.0 - at.0 → found ≡ Some t
+unsettled_by_time_left : (at : Nanos) (found : Option Nanos) (t : Nanos) → at.0 < t.0 → worth (λ n. n - at.0) found ≡ t.0 - at.0 → found ≡ Some t
 unsettled_by_time_left at None t unsettled same = absurd (omega arith)
 unsettled_by_time_left at (Some u) t unsettled same = let e : u.0 ≡ t.0 = omega arith in ap (λ (n : ℕ). Some (record { 0 = n })) e
 
@@ -100,13 +95,13 @@ module _ (l : Ledger) (s : Sound l) (complete : Complete l) (h : ℕ) (single : 
 
 module _ (l : Ledger) (s : Sound l) (complete : Complete l) (d : Debt) (at : Nanos) (forget : Bool) (single : owed d.hash one l ≤ 1) where
   -- After a recording the hash owes until the later of the two moments.
-  pub recorded_finds_later : (recorded l d at forget).answer ≡ Done
+  pub recorded_finds_later : (recorded l d at forget).answer ≡ Ok tt
       → owed_by (recorded l d at forget).after d.hash ≡ later_of d.settles (owed_by l d.hash)
   recorded_finds_later done =
       lookup_by_sums d.hash (recorded l d at forget).after (recorded_sound l d at forget s) (recorded_complete l d at forget s complete)
       (later_of d.settles (owed_by l d.hash)) (λ value. go value (record_cases l d at forget s) done)
     where
-      go : (value : ℕ → ℕ) {o : Outcome Recorded Ledger} → Recording l d at forget o → o.answer ≡ Done
+      go : (value : ℕ → ℕ) {o : Outcome Recorded Ledger} → Recording l d at forget o → o.answer ≡ Ok tt
           → owed d.hash value o.after ≡ worth value (later_of d.settles (owed_by l d.hash))
       go value (merged p e) q =
           let f : Owing l d.hash p = found_owes l d.hash p e in

@@ -1,5 +1,6 @@
 -- Laws that the proofs of the code go by: one turn of a loop is one step of the definition that counts the looks left; what a definition is in each
 -- case that the code goes through; and words that are lent stay lent after each call.
+use Rattle.std.proofs.Common.{Option, Some, None, Ok}
 use Prim.Native.Nat.{ℕ, suc, ◌+◌, ◌-◌, ◌≤◌, ◌<◌, min}
 use native.Mathlib.Omega.{arith}
 use mathlib.Core.Path.{◌≡◌, refl, ap, sym, ◌∙◌}
@@ -10,8 +11,6 @@ use borrow.Author.Tests.{lt-ltb, le-ltb, le-leb, lt-leb}
 use Rattle.units.specs.declared.Nanos.{Nanos}
 use Rattle.bucket.specs.declared.BucketConfig.{BucketConfig}
 use Rattle.settings.specs.Eviction.{ledger_scan}
-use Rattle.rows.specs.declared.Place.{Place}
-use Rattle.rows.specs.declared.Place.TheVariants.{At, Nowhere}
 use Rattle.index.specs.Walk as Index
 use Rattle.index.specs.Layout.{Fits, places_of, with_places, hash_of, keyed}
 use Rattle.index.proofs.StepLaws.{find_among_none}
@@ -24,8 +23,7 @@ use Rattle.held.proofs.RoundLaws.{look_goes, look_stays, look_none, ByLooks}
 use Rattle.ledger.specs.declared.Debt.{Debt}
 use Rattle.ledger.specs.declared.Choice.{Choice}
 use Rattle.ledger.specs.declared.Choice.TheVariants.{Settled, Soonest}
-use Rattle.ledger.specs.declared.Recorded.{Recorded}
-use Rattle.ledger.specs.declared.Recorded.TheVariants.{Done, NoRoom}
+use Rattle.ledger.specs.Model.{Recorded, no_room}
 use Rattle.ledger.specs.Model.{Ledger, Sound, no_debt, debt_items, cap_of, debt_at, settling_at, settled_by, cursor_of, with_count, with_cursor, with_finding}
 use Rattle.ledger.specs.Model.{with_debt, owes, place_of}
 use Rattle.ledger.specs.Model.{remove_at, append, taken_at, taken, round_of, with_round, look, sweep, sooner, scan_from, scan, drop_chosen, make_room, joined}
@@ -71,7 +69,7 @@ module _ {cap : ℕ} {ws : List ℕ} (intact : Intact cap ws) where
   found_in_index hash = indexed_find (debts_indexed intact) hash hash (owes hash) (λ d. tested_twice (owes hash d))
 
   -- Where there are no debts none is found, whatever the index holds.
-  pub none_found : (hash : ℕ) → stands.debts.count ≡ 0 → Nowhere ≡ place_of stands hash
+  pub none_found : (hash : ℕ) → stands.debts.count ≡ 0 → None ≡ place_of stands hash
   none_found hash e =
       let none = find_among_none (keyed (debt_index cap) ws hash hash) (places_of (debt_index cap) ws) hash in
       sym (rw e none) ∙ found_in_index hash
@@ -86,7 +84,7 @@ module _ {cap : ℕ} {ws : List ℕ} (intact : Intact cap ws) where
   removed_from_index p below = indexed_remove (debts_indexed intact) (ledger cap) (with_finding stands) (index_put cap ws intact.size) p below
 
 -- Take and pay down, once lookup has given a place and it is known which.
-module _ (l : Ledger) (hash : ℕ) {place known : Place} (gave : place ≡ place_of l hash) (is : place ≡ known) where
+module _ (l : Ledger) (hash : ℕ) {place known : Option ℕ} (gave : place ≡ place_of l hash) (is : place ≡ known) where
   pub taken_where : taken_at l known ≡ taken l hash
   unfolding taken
   taken_where = rw (← gave, is)
@@ -129,35 +127,35 @@ module _ (at : Nanos) (left : ℕ) (l : Ledger) (best : ℕ) where
 
 -- Room is made, once the scan has chosen: a settled debt goes, the soonest goes where debts may be forgotten, else it stays.
 module _ (at : Nanos) (l : Ledger) {m : Ledger} {choice : Choice} (forget : Bool) (p : ℕ) (gave : outcome choice m ≡ scan at l) where
-  pub settled_dropped : choice ≡ Settled p → outcome Done (remove_at m p) ≡ make_room at forget l
+  pub settled_dropped : choice ≡ Settled p → outcome (Ok tt) (remove_at m p) ≡ make_room at forget l
   unfolding make_room drop_chosen
   settled_dropped is = rw (← gave, is)
 
-  pub soonest_dropped : choice ≡ Soonest p → forget ≡ true → outcome Done (remove_at m p) ≡ make_room at forget l
+  pub soonest_dropped : choice ≡ Soonest p → forget ≡ true → outcome (Ok tt) (remove_at m p) ≡ make_room at forget l
   unfolding make_room drop_chosen
   soonest_dropped is may = rw (← gave, is, may)
 
-  pub soonest_kept : choice ≡ Soonest p → forget ≡ false → outcome (NoRoom (record { 0 = (settling_at m p).0 - at.0 })) m ≡ make_room at forget l
+  pub soonest_kept : choice ≡ Soonest p → forget ≡ false → outcome (no_room (record { 0 = (settling_at m p).0 - at.0 })) m ≡ make_room at forget l
   unfolding make_room drop_chosen
   soonest_kept is may = rw (← gave, is, may)
 
 -- Recording: the hash is there; it is not; and then there is room, or room was made, or not.
 module _ (l : Ledger) (d : Debt) (at : Nanos) (forget : Bool) where
-  pub recorded_existing : {place : Place} {p : ℕ} → place ≡ place_of l d.hash → place ≡ At p
-      → outcome Done (with_debt l p (later (debt_at l p) d.settles)) ≡ recorded l d at forget
+  pub recorded_existing : {place : Option ℕ} {p : ℕ} → place ≡ place_of l d.hash → place ≡ Some p
+      → outcome (Ok tt) (with_debt l p (later (debt_at l p) d.settles)) ≡ recorded l d at forget
   unfolding recorded recorded_at
   recorded_existing gave is = rw (← gave, is)
 
-  pub recorded_new : {place : Place} → place ≡ place_of l d.hash → place ≡ Nowhere → recorded_at l d at forget Nowhere ≡ recorded l d at forget
+  pub recorded_new : {place : Option ℕ} → place ≡ place_of l d.hash → place ≡ None → recorded_at l d at forget None ≡ recorded l d at forget
   unfolding recorded
   recorded_new gave is = rw (← gave, is)
 
-  pub recorded_free : l.debts.count < cap_of l → outcome Done (append l d) ≡ recorded_at l d at forget Nowhere
+  pub recorded_free : l.debts.count < cap_of l → outcome (Ok tt) (append l d) ≡ recorded_at l d at forget None
   unfolding recorded_at
   recorded_free free = rw (lt-ltb _ _ free)
 
   pub recorded_full : {m : Ledger} {r known : Recorded} → cap_of l ≤ l.debts.count → outcome r m ≡ make_room at forget l → r ≡ known
-      → joined d m known ≡ recorded_at l d at forget Nowhere
+      → joined d m known ≡ recorded_at l d at forget None
   unfolding recorded_at
   recorded_full full made is = rw (le-ltb _ _ full, ← made, is)
 
@@ -179,8 +177,8 @@ pub intact_sooner : {cap : ℕ} {ws : List ℕ} {best c : ℕ} → Intact cap ws
 intact_sooner {cap} {ws} {best} {c} intact b d = sooner_is_either (ledger cap ws) best c (λ p. p < (ledger cap ws).debts.count) b d
 
 -- In words that are lent, a place that lookup gives holds a debt.
-module _ {cap : ℕ} {ws : List ℕ} (hash : ℕ) {place : Place} {p : ℕ} (intact : Intact cap ws)
-    (gave : place ≡ place_of (ledger cap ws) hash) (is : place ≡ At p) where
+module _ {cap : ℕ} {ws : List ℕ} (hash : ℕ) {place : Option ℕ} {p : ℕ} (intact : Intact cap ws)
+    (gave : place ≡ place_of (ledger cap ws) hash) (is : place ≡ Some p) where
   pub found_held : p < (ledger cap ws).debts.count
   found_held = (found_owes (ledger cap ws) hash p (sym gave ∙ is)).below
 
@@ -225,7 +223,7 @@ choice_held after is = rw is at after.chosen_below
 -- After room was made the words are still lent, and there is room for a debt.
 pub after_make_room : {cap : ℕ} {ws ws' : List ℕ} {r : Recorded} (at : Nanos) (forget : Bool) → Intact cap ws → 0 < (ledger cap ws).debts.count
     → length ws' ≡ length ws
-    → outcome r (ledger cap ws') ≡ make_room at forget (ledger cap ws) → r ≡ Done → Intact cap ws' × ((ledger cap ws').debts.count < cap)
+    → outcome r (ledger cap ws') ≡ make_room at forget (ledger cap ws) → r ≡ Ok tt → Intact cap ws' × ((ledger cap ws').debts.count < cap)
 after_make_room {cap} {ws} {ws'} at forget intact some same gave done =
     let free = make_room_makes_room (ledger cap ws) at forget some intact.sound (sym (answer_is gave) ∙ done) in
     let free' : (ledger cap ws').debts.count < cap_of (ledger cap ws') = rw (after_is gave) free in

@@ -1,5 +1,6 @@
 -- The steps of a ledger ask neither how its debts are found, once a place is known, nor for the words that are not its own. So no operation changes those
 -- words, and with others in their place it gives the same answer and leaves the same debts and cursor.
+use Rattle.std.proofs.Common.{Option, Some, None, Ok, Err}
 use Prim.Native.Nat.{ℕ, zero, suc}
 use mathlib.Core.Path.{◌≡◌, refl, ap}
 use mathlib.Core.Bool.{Bool, true, false}
@@ -8,15 +9,12 @@ use lib.Dec.{ltb}
 use Rattle.arith.proofs.Cases.{by_test}
 use Rattle.units.specs.declared.Nanos.{Nanos}
 use Rattle.bucket.specs.declared.BucketConfig.{BucketConfig}
-use Rattle.rows.specs.declared.Place.{Place}
-use Rattle.rows.specs.declared.Place.TheVariants.{At, Nowhere}
 use Rattle.rows.specs.Outcome.{Outcome, outcome}
 use Rattle.held.specs.Held.{Finding, with_added, with_removed, found_otherwise, removed}
 use Rattle.ledger.specs.declared.Debt.{Debt}
 use Rattle.ledger.specs.declared.Choice.{Choice}
 use Rattle.ledger.specs.declared.Choice.TheVariants.{Settled, Soonest}
-use Rattle.ledger.specs.declared.Recorded.{Recorded}
-use Rattle.ledger.specs.declared.Recorded.TheVariants.{Done, NoRoom}
+use Rattle.ledger.specs.Model.{Recorded}
 use Rattle.ledger.specs.Model.{Ledger, cap_of, has_settled, cursor_of, with_cursor, with_others, place_of, remove_at, append, owed_at, owed_by, taken_at, taken}
 use Rattle.ledger.specs.Model.{sweep}
 use Rattle.ledger.specs.Model.{sooner, scan_from, scan, drop_chosen, make_room, joined, recorded_at, recorded, credit, paid_at, paid_down}
@@ -56,8 +54,8 @@ module _ (f : Finding → Finding) (g : List ℕ → List ℕ) (adds : (x : Find
   drop_changed : (at : Nanos) (forget : Bool) (l : Ledger) (choice : Choice)
       → drop_chosen at forget (changed f g l) choice ≡ left_changed f g (drop_chosen at forget l choice)
   unfolding drop_chosen
-  drop_changed at forget l (Settled p) = ap (outcome Done) (removal_changed l p)
-  drop_changed at true l (Soonest p) = ap (outcome Done) (removal_changed l p)
+  drop_changed at forget l (Settled p) = ap (outcome (Ok tt)) (removal_changed l p)
+  drop_changed at true l (Soonest p) = ap (outcome (Ok tt)) (removal_changed l p)
   drop_changed at false l (Soonest p) = refl
 
   pub make_room_changed : (at : Nanos) (forget : Bool) (l : Ledger) → make_room at forget (changed f g l) ≡ left_changed f g (make_room at forget l)
@@ -66,47 +64,47 @@ module _ (f : Finding → Finding) (g : List ℕ → List ℕ) (adds : (x : Find
 
   -- Once the place of the hash is known: the debt is owed, taken out, paid down, recorded.
   joined_changed : (d : Debt) (l : Ledger) (r : Recorded) → joined d (changed f g l) r ≡ left_changed f g (joined d l r)
-  joined_changed d l Done = ap (outcome Done) (append_changed l d)
-  joined_changed d l (NoRoom wait) = refl
+  joined_changed d l (Ok _) = ap (outcome (Ok tt)) (append_changed l d)
+  joined_changed d l (Err full) = refl
 
-  pub owed_at_changed : (l : Ledger) (place : Place) → owed_at (changed f g l) place ≡ owed_at l place
-  owed_at_changed l (At p) = refl
-  owed_at_changed l Nowhere = refl
+  pub owed_at_changed : (l : Ledger) (place : Option ℕ) → owed_at (changed f g l) place ≡ owed_at l place
+  owed_at_changed l (Some p) = refl
+  owed_at_changed l None = refl
 
-  pub taken_at_changed : (l : Ledger) (place : Place) → taken_at (changed f g l) place ≡ left_changed f g (taken_at l place)
-  taken_at_changed l (At p) = ap (outcome _) (removal_changed l p)
-  taken_at_changed l Nowhere = refl
+  pub taken_at_changed : (l : Ledger) (place : Option ℕ) → taken_at (changed f g l) place ≡ left_changed f g (taken_at l place)
+  taken_at_changed l (Some p) = ap (outcome _) (removal_changed l p)
+  taken_at_changed l None = refl
 
-  pub paid_at_changed : (l : Ledger) (off : Nanos) (place : Place) → paid_at (changed f g l) off place ≡ left_changed f g (paid_at l off place)
-  paid_at_changed l off (At p) = refl
-  paid_at_changed l off Nowhere = refl
+  pub paid_at_changed : (l : Ledger) (off : Nanos) (place : Option ℕ) → paid_at (changed f g l) off place ≡ left_changed f g (paid_at l off place)
+  paid_at_changed l off (Some p) = refl
+  paid_at_changed l off None = refl
 
-  pub recorded_at_changed : (l : Ledger) (d : Debt) (at : Nanos) (forget : Bool) (place : Place)
+  pub recorded_at_changed : (l : Ledger) (d : Debt) (at : Nanos) (forget : Bool) (place : Option ℕ)
       → recorded_at (changed f g l) d at forget place ≡ left_changed f g (recorded_at l d at forget place)
   unfolding recorded_at
-  recorded_at_changed l d at forget (At p) = refl
-  recorded_at_changed l d at forget Nowhere =
+  recorded_at_changed l d at forget (Some p) = refl
+  recorded_at_changed l d at forget None =
       by_test (ltb l.debts.count (cap_of l))
-      (λ free. rw (free, recorded_at) (joined_changed d l Done))
+      (λ free. rw (free, recorded_at) (joined_changed d l (Ok tt)))
       (λ full. rw (full, recorded_at, make_room_changed at forget l) (joined_changed d (make_room at forget l).after (make_room at forget l).answer))
 
   -- The two steps of recording.
   readied_changed : (l : Ledger) (r : Recorded) → readied (changed f g l) r ≡ left_changed f g (readied l r)
-  readied_changed l Done = refl
-  readied_changed l (NoRoom wait) = refl
+  readied_changed l (Ok _) = refl
+  readied_changed l (Err full) = refl
 
-  pub prepared_at_changed : (l : Ledger) (at : Nanos) (forget : Bool) (place : Place)
+  pub prepared_at_changed : (l : Ledger) (at : Nanos) (forget : Bool) (place : Option ℕ)
       → prepared_at (changed f g l) at forget place ≡ left_changed f g (prepared_at l at forget place)
   unfolding prepared_at
-  prepared_at_changed l at forget (At p) = refl
-  prepared_at_changed l at forget Nowhere =
+  prepared_at_changed l at forget (Some p) = refl
+  prepared_at_changed l at forget None =
       by_test (ltb l.debts.count (cap_of l))
       (λ free. rw (free, prepared_at))
       (λ full. rw (full, prepared_at, make_room_changed at forget l) (readied_changed (make_room at forget l).after (make_room at forget l).answer))
 
-  pub written_changed : (l : Ledger) (place : Place) (d : Debt) → written (changed f g l) place d ≡ changed f g (written l place d)
-  written_changed l (At p) d = refl
-  written_changed l Nowhere d = append_changed l d
+  pub written_changed : (l : Ledger) (place : Option ℕ) (d : Debt) → written (changed f g l) place d ≡ changed f g (written l place d)
+  written_changed l (Some p) d = refl
+  written_changed l None d = append_changed l d
 
 -- What an operation gave, with other words in the place of those that are not the ledger's own.
 abbrev pub left_with_others : {A : Type 0} → Outcome A Ledger → List ℕ → Outcome A Ledger
@@ -134,12 +132,12 @@ module _ (l : Ledger) (ws : List ℕ) where
   unfolding prepared place_of
   prepared_with_others h at forget = prepared_at_changed (λ x. x) (λ _. ws) (λ x key i. refl) (λ x hash n p. refl) l at forget (place_of l h)
 
-  pub written_with_others : (place : Place) (d : Debt) → written (with_others l ws) place d ≡ with_others (written l place d) ws
+  pub written_with_others : (place : Option ℕ) (d : Debt) → written (with_others l ws) place d ≡ with_others (written l place d) ws
   written_with_others place d = written_changed (λ x. x) (λ _. ws) (λ x key i. refl) (λ x hash n p. refl) l place d
 
-  pub writable_with_others : (place : Place) → writable l place → writable (with_others l ws) place
-  writable_with_others (At p) may = may
-  writable_with_others Nowhere may = may
+  pub writable_with_others : (place : Option ℕ) → writable l place → writable (with_others l ws) place
+  writable_with_others (Some p) may = may
+  writable_with_others None may = may
 
   pub sweep_with_others : (at : Nanos) (n : ℕ) → sweep at n (with_others l ws) ≡ with_others (sweep at n l) ws
   unfolding sweep

@@ -1,4 +1,5 @@
 -- A debt is recorded by making the ledger ready for it and writing it; and what each step is in each case that the code goes through.
+use Rattle.std.proofs.Common.{Option, Some, None, Ok, Err}
 use Prim.Native.Nat.{ℕ, ◌≤◌, ◌<◌}
 use native.Mathlib.Omega.{arith}
 use mathlib.Core.Path.{◌≡◌, refl}
@@ -9,15 +10,11 @@ use lib.ListN.{length}
 use borrow.Author.Tests.{lt-ltb, le-ltb, ltb-true, ltb-false}
 use Rattle.arith.proofs.Cases.{by_test}
 use Rattle.units.specs.declared.Nanos.{Nanos}
-use Rattle.rows.specs.declared.Place.{Place}
-use Rattle.rows.specs.declared.Place.TheVariants.{At, Nowhere}
 use Rattle.rows.specs.Outcome.{outcome}
 use Rattle.rows.proofs.OutcomeLaws.{answer_is, after_is}
 use Rattle.ledger.specs.declared.Debt.{Debt}
-use Rattle.ledger.specs.declared.Recorded.{Recorded}
-use Rattle.ledger.specs.declared.Recorded.TheVariants.{Done, NoRoom}
-use Rattle.ledger.specs.declared.Prepared.{Prepared}
-use Rattle.ledger.specs.declared.Prepared.TheVariants.{Ready}
+use Rattle.ledger.specs.Model.{Recorded}
+use Rattle.ledger.specs.code.Prepared.{Prepared}
 use Rattle.ledger.specs.Model.{Ledger, Sound, cap_of, place_of, make_room, joined, recorded_at, recorded}
 use Rattle.ledger.specs.Layout.{ledger, Intact}
 use Rattle.ledger.specs.code.Prepared.{readied, prepared_at, prepared, finished, ReadyFor}
@@ -28,14 +25,14 @@ use Rattle.ledger.proofs.RecordLaws.{make_room_sound, make_room_makes_room}
 -- Recording is the two steps.
 module _ (d : Debt) where
   readied_is_joined : (l : Ledger) (r : Recorded) → finished d (readied l r).after (readied l r).answer ≡ joined d l r
-  readied_is_joined l Done = refl
-  readied_is_joined l (NoRoom wait) = refl
+  readied_is_joined l (Ok _) = refl
+  readied_is_joined l (Err full) = refl
 
-  at_place : (l : Ledger) (at : Nanos) (forget : Bool) (place : Place)
+  at_place : (l : Ledger) (at : Nanos) (forget : Bool) (place : Option ℕ)
       → finished d (prepared_at l at forget place).after (prepared_at l at forget place).answer ≡ recorded_at l d at forget place
   unfolding prepared_at recorded_at
-  at_place l at forget (At p) = refl
-  at_place l at forget Nowhere =
+  at_place l at forget (Some p) = refl
+  at_place l at forget None =
       by_test (ltb l.debts.count (cap_of l))
       (λ free. rw (free, prepared_at, recorded_at))
       (λ full. rw (full, prepared_at, recorded_at) (readied_is_joined (make_room at forget l).after (make_room at forget l).answer))
@@ -47,20 +44,20 @@ module _ (d : Debt) where
 
 -- The ledger is made ready: the hash is there; it is not; and then there is room, or room was made, or not.
 module _ (l : Ledger) (at : Nanos) (forget : Bool) where
-  pub prepared_where : (hash : ℕ) {place known : Place} → place ≡ place_of l hash → place ≡ known → prepared_at l at forget known ≡ prepared l hash at forget
+  pub prepared_where : (hash : ℕ) {place known : Option ℕ} → place ≡ place_of l hash → place ≡ known → prepared_at l at forget known ≡ prepared l hash at forget
   unfolding prepared
   prepared_where hash gave is = rw (← gave, is)
 
-  pub prepared_known : (p : ℕ) → outcome (Ready (At p)) l ≡ prepared_at l at forget (At p)
+  pub prepared_known : (p : ℕ) → outcome (Ok (Some p)) l ≡ prepared_at l at forget (Some p)
   unfolding prepared_at
   prepared_known p = refl
 
-  pub prepared_free : l.debts.count < cap_of l → outcome (Ready Nowhere) l ≡ prepared_at l at forget Nowhere
+  pub prepared_free : l.debts.count < cap_of l → outcome (Ok None) l ≡ prepared_at l at forget None
   unfolding prepared_at
   prepared_free free = rw (lt-ltb _ _ free)
 
   pub prepared_full : {m : Ledger} {r known : Recorded} → cap_of l ≤ l.debts.count → outcome r m ≡ make_room at forget l → r ≡ known
-      → readied m known ≡ prepared_at l at forget Nowhere
+      → readied m known ≡ prepared_at l at forget None
   unfolding prepared_at
   prepared_full full made is = rw (le-ltb _ _ full, ← made, is)
 
@@ -68,14 +65,14 @@ module _ (l : Ledger) (at : Nanos) (forget : Bool) where
 module _ (l : Ledger) (at : Nanos) (forget : Bool) (sound : Sound l) where
   readied_ready : (some : 0 < l.debts.count) (r : Recorded) → (make_room at forget l).answer ≡ r
       → let o = readied (make_room at forget l).after r in Sound o.after × ReadyFor o.after o.answer
-  readied_ready some Done is = (make_room_sound l at forget some sound, make_room_makes_room l at forget some sound is)
-  readied_ready some (NoRoom wait) is = (make_room_sound l at forget some sound, tt)
+  readied_ready some (Ok _) is = (make_room_sound l at forget some sound, make_room_makes_room l at forget some sound is)
+  readied_ready some (Err full) is = (make_room_sound l at forget some sound, tt)
 
-  ready_at : (hash : ℕ) (place : Place) → place_of l hash ≡ place
+  ready_at : (hash : ℕ) (place : Option ℕ) → place_of l hash ≡ place
       → let o = prepared_at l at forget place in Sound o.after × ReadyFor o.after o.answer
   unfolding prepared_at
-  ready_at hash (At p) is = (sound, (found_owes l hash p is).below)
-  ready_at hash Nowhere is =
+  ready_at hash (Some p) is = (sound, (found_owes l hash p is).below)
+  ready_at hash None is =
       by_test (ltb l.debts.count (cap_of l))
       (λ free. rw (free, prepared_at) (sound, ltb-true _ _ free))
       (λ full.

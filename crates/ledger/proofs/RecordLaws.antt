@@ -1,22 +1,20 @@
 -- How a recording goes: it merges, joins, takes the place of a debt, or is refused. Laws about sums, hashes and lookup go by these four cases and do not
 -- open the looks at a full ledger. What the answer says follows from them here, and so does what each step leaves of the room.
+use Rattle.std.proofs.Common.{Option, Some, None, Ok, Err}
 use Prim.Native.Nat.{ℕ, zero, suc, ◌-◌, ◌≤◌, ◌<◌, max}
-use mathlib.Core.Path.{◌≡◌, refl, sym}
+use mathlib.Core.Path.{◌≡◌, refl, sym, ap}
 use mathlib.Core.Bool.{Bool, true, false, true≢false}
 use native.Mathlib.Omega.{arith}
 use lib.Dec.{ltb}
 use borrow.Author.Tests.{ltb-true, ltb-false, leb-true, leb-false}
 use Rattle.arith.proofs.Cases.{by_test}
 use Rattle.units.specs.declared.Nanos.{Nanos}
-use Rattle.rows.specs.declared.Place.{Place}
-use Rattle.rows.specs.declared.Place.TheVariants.{At, Nowhere}
 use Rattle.rows.specs.Outcome.{Outcome, outcome}
 use Rattle.held.proofs.SingleLaws.{Lacks, lacks_stays, removed_comes_from}
 use Rattle.ledger.specs.declared.Debt.{Debt}
 use Rattle.ledger.specs.declared.Choice.{Choice}
 use Rattle.ledger.specs.declared.Choice.TheVariants.{Settled, Soonest}
-use Rattle.ledger.specs.declared.Recorded.{Recorded}
-use Rattle.ledger.specs.declared.Recorded.TheVariants.{Done, NoRoom}
+use Rattle.ledger.specs.Model.{Recorded, no_room}
 use Rattle.ledger.specs.Model.{Ledger, Sound, Complete, debt_items, cap_of, debt_at, has_settled, settling_at, cursor_of, with_cursor, with_debt, place_of}
 use Rattle.ledger.specs.Model.{remove_at, append, sooner}
 use Rattle.ledger.specs.Model.{scan_from, scan, drop_chosen, make_room, joined, later, recorded_at, recorded}
@@ -92,9 +90,9 @@ scan_sound at l some s = go (scan_cases at l some)
 -- unsettled debt.
 data MakingRoom (l : Ledger) (at : Nanos) (forget : Bool) : Outcome Recorded Ledger → Type 0 where
   one_leaves : (p c : ℕ) → c ≤ max l.cursor l.debts.count → p < l.debts.count → (forget ≡ false → (settling_at l p).0 ≤ at.0)
-      → MakingRoom l at forget (outcome Done (remove_at (with_cursor l c) p))
+      → MakingRoom l at forget (outcome (Ok tt) (remove_at (with_cursor l c) p))
   none_leaves : (p c : ℕ) → c ≤ max l.cursor l.debts.count → p < l.debts.count → forget ≡ false → at.0 < (settling_at l p).0
-      → MakingRoom l at forget (outcome (NoRoom (record { 0 = (settling_at l p).0 - at.0 })) (with_cursor l c))
+      → MakingRoom l at forget (outcome (no_room (record { 0 = (settling_at l p).0 - at.0 })) (with_cursor l c))
 
 drop_cases : (l : Ledger) (at : Nanos) (forget : Bool) {o : Outcome Choice Ledger} → Scanned at l o
     → MakingRoom l at forget (drop_chosen at forget o.after o.answer)
@@ -108,7 +106,7 @@ unfolding make_room
 room_cases l at forget some = drop_cases l at forget (scan_cases at l some)
 
 -- The two answers are not one.
-pub done_is_no_refusal : {Q : Type 0} {wait : Nanos} → Done ≡ NoRoom wait → Q
+pub done_is_no_refusal : {Q : Type 0} {wait : Nanos} → Ok tt ≡ no_room wait → Q
 done_is_no_refusal e = let z : ◌≡◌ {A = ℕ} 0 1 = cc in absurd (omega arith)
 
 -- Making room leaves a sound ledger, and where it is done one that has room for another debt.
@@ -120,25 +118,25 @@ module _ (l : Ledger) (at : Nanos) (forget : Bool) (some : 0 < l.debts.count) (s
       go (one_leaves p c near below settled) = (removal_room (with_cursor l c) p below).sound s
       go (none_leaves p c near below never unsettled) = s
 
-  pub make_room_makes_room : (make_room at forget l).answer ≡ Done → (make_room at forget l).after.debts.count < cap_of (make_room at forget l).after
+  pub make_room_makes_room : (make_room at forget l).answer ≡ Ok tt → (make_room at forget l).after.debts.count < cap_of (make_room at forget l).after
   make_room_makes_room = go (room_cases l at forget some)
     where
-      go : {o : Outcome Recorded Ledger} → MakingRoom l at forget o → o.answer ≡ Done → o.after.debts.count < cap_of o.after
+      go : {o : Outcome Recorded Ledger} → MakingRoom l at forget o → o.answer ≡ Ok tt → o.after.debts.count < cap_of o.after
       go (one_leaves p c near below settled) done = removal_leaves_room (with_cursor l c) p s.count_fits below
       go (none_leaves p c near below never unsettled) done = done_is_no_refusal (sym done)
 
 -- How a recording goes, for every ledger that is sound: the hash is there and is merged; there is room and the debt joins; a debt leaves for it, which is
 -- settled unless debts may be forgotten; or it is refused, where only the cursor moves and the wait is that of an unsettled debt.
 pub data Recording (l : Ledger) (d : Debt) (at : Nanos) (forget : Bool) : Outcome Recorded Ledger → Type 0 where
-  merged : (p : ℕ) → place_of l d.hash ≡ At p → Recording l d at forget (outcome Done (with_debt l p (later (debt_at l p) d.settles)))
-  joins : place_of l d.hash ≡ Nowhere → l.debts.count < cap_of l → Recording l d at forget (outcome Done (append l d))
-  replaces : (p c : ℕ) → c ≤ max l.cursor l.debts.count → place_of l d.hash ≡ Nowhere → p < l.debts.count
+  merged : (p : ℕ) → place_of l d.hash ≡ Some p → Recording l d at forget (outcome (Ok tt) (with_debt l p (later (debt_at l p) d.settles)))
+  joins : place_of l d.hash ≡ None → l.debts.count < cap_of l → Recording l d at forget (outcome (Ok tt) (append l d))
+  replaces : (p c : ℕ) → c ≤ max l.cursor l.debts.count → place_of l d.hash ≡ None → p < l.debts.count
       → (forget ≡ false → (settling_at l p).0 ≤ at.0)
-      → Recording l d at forget (outcome Done (append (remove_at (with_cursor l c) p) d))
+      → Recording l d at forget (outcome (Ok tt) (append (remove_at (with_cursor l c) p) d))
   refused : (p c : ℕ) → c ≤ max l.cursor l.debts.count → cap_of l ≤ l.debts.count → p < l.debts.count → forget ≡ false → at.0 < (settling_at l p).0
-      → Recording l d at forget (outcome (NoRoom (record { 0 = (settling_at l p).0 - at.0 })) (with_cursor l c))
+      → Recording l d at forget (outcome (no_room (record { 0 = (settling_at l p).0 - at.0 })) (with_cursor l c))
 
-full_cases : (l : Ledger) (d : Debt) (at : Nanos) (forget : Bool) → place_of l d.hash ≡ Nowhere → cap_of l ≤ l.debts.count → {o : Outcome Recorded Ledger}
+full_cases : (l : Ledger) (d : Debt) (at : Nanos) (forget : Bool) → place_of l d.hash ≡ None → cap_of l ≤ l.debts.count → {o : Outcome Recorded Ledger}
     → MakingRoom l at forget o → Recording l d at forget (joined d o.after o.answer)
 full_cases l d at forget new full (one_leaves p c near below settled) = replaces p c near new below settled
 full_cases l d at forget new full (none_leaves p c near below never unsettled) = refused p c near full below never unsettled
@@ -147,9 +145,9 @@ pub record_cases : (l : Ledger) (d : Debt) (at : Nanos) (forget : Bool) → Soun
 unfolding recorded recorded_at
 record_cases l d at forget s = go (place_of l d.hash) refl
   where
-    go : (place : Place) → place_of l d.hash ≡ place → Recording l d at forget (recorded_at l d at forget place)
-    go (At p) e = merged p e
-    go Nowhere e =
+    go : (place : Option ℕ) → place_of l d.hash ≡ place → Recording l d at forget (recorded_at l d at forget place)
+    go (Some p) e = merged p e
+    go None e =
         by_test (ltb l.debts.count (cap_of l))
         (λ t. rw (t, recorded_at) (joins e (ltb-true _ _ t)))
         (λ t. let full : cap_of l ≤ l.debts.count = ltb-false _ _ t in
@@ -160,7 +158,7 @@ pub recorded_room : (l : Ledger) (d : Debt) (at : Nanos) (forget : Bool) → Sou
 unfolding remove_at
 recorded_room l d at forget s = go (record_cases l d at forget s)
   where
-    lacks : place_of l d.hash ≡ Nowhere → FindsEach l → Lacks debt_items hash_of d.hash l.debts
+    lacks : place_of l d.hash ≡ None → FindsEach l → Lacks debt_items hash_of d.hash l.debts
     lacks new each = nowhere_owes_none l each.complete d.hash new
 
     go : {o : Outcome Recorded Ledger} → Recording l d at forget o → SameRoom l o.after
@@ -179,19 +177,19 @@ recorded_complete l d at forget s complete = (recorded_room l d at forget s).com
 
 -- A debt is recorded unless the ledger is full and nothing may be forgotten.
 record_succeeds : (l : Ledger) (d : Debt) (at : Nanos) (forget : Bool) → Sound l → (forget ≡ false → l.debts.count < cap_of l)
-    → (recorded l d at forget).answer ≡ Done
+    → (recorded l d at forget).answer ≡ Ok tt
 record_succeeds l d at forget s room = go (record_cases l d at forget s)
   where
-    go : {o : Outcome Recorded Ledger} → Recording l d at forget o → o.answer ≡ Done
+    go : {o : Outcome Recorded Ledger} → Recording l d at forget o → o.answer ≡ Ok tt
     go (merged p e) = refl
     go (joins new free) = refl
     go (replaces p c near new below settled) = refl
     go (refused p c near full below never unsettled) = absurd (omega (arith, room never))
 
-pub record_below_cap_never_fails : (l : Ledger) (d : Debt) (at : Nanos) (forget : Bool) → l.debts.count < cap_of l → (recorded l d at forget).answer ≡ Done
+pub record_below_cap_never_fails : (l : Ledger) (d : Debt) (at : Nanos) (forget : Bool) → l.debts.count < cap_of l → (recorded l d at forget).answer ≡ Ok tt
 record_below_cap_never_fails l d at forget room = record_succeeds l d at forget (record { room = omega arith; count_fits = omega arith }) (λ _. room)
 
-pub record_forgetting_never_fails : (l : Ledger) (d : Debt) (at : Nanos) → Sound l → (recorded l d at true).answer ≡ Done
+pub record_forgetting_never_fails : (l : Ledger) (d : Debt) (at : Nanos) → Sound l → (recorded l d at true).answer ≡ Ok tt
 record_forgetting_never_fails l d at s = record_succeeds l d at true s (λ e. absurd (true≢false e))
 
 -- What a refusal says: the ledger is full, nothing may be forgotten, there is a wait, and of the ledger only the cursor may have moved.
@@ -201,14 +199,19 @@ pub record Refusal (l : Ledger) (forget : Bool) (wait : Nanos) (after : Ledger) 
   pub waits : 0 < wait.0
   pub debts : after.debts ≡ l.debts
 
-pub refusal : (l : Ledger) (d : Debt) (at : Nanos) (forget : Bool) (wait : Nanos) → Sound l → (recorded l d at forget).answer ≡ NoRoom wait
+-- The wait that an answer tells; 0 where there is none.
+abbrev waited : Recorded → ℕ
+waited (Ok _) = 0
+waited (Err full) = full.wait.0
+
+pub refusal : (l : Ledger) (d : Debt) (at : Nanos) (forget : Bool) (wait : Nanos) → Sound l → (recorded l d at forget).answer ≡ no_room wait
     → Refusal l forget wait (recorded l d at forget).after
 refusal l d at forget wait s = go (record_cases l d at forget s)
   where
-    go : {o : Outcome Recorded Ledger} → Recording l d at forget o → o.answer ≡ NoRoom wait → Refusal l forget wait o.after
+    go : {o : Outcome Recorded Ledger} → Recording l d at forget o → o.answer ≡ no_room wait → Refusal l forget wait o.after
     go (merged p e) q = done_is_no_refusal q
     go (joins new room) q = done_is_no_refusal q
     go (replaces p c near new below settled) q = done_is_no_refusal q
     go (refused p c near full below never unsettled) q =
-        let told : (settling_at l p).0 - at.0 ≡ wait.0 = cc in
+        let told : (settling_at l p).0 - at.0 ≡ wait.0 = ap waited q in
         record { full = full; never = never; waits = omega arith; debts = refl }

@@ -36,6 +36,19 @@ module _ (at : Nanos) (l : Ledger) (end left : ℕ) where
       let e : left ≡ suc (left - 1) = omega arith in
       ap (λ (k : ℕ). unsettled_before at l end k) e ∙ rw (unsettled_before, ← e, lt-leb _ _ unsettled)
 
+-- The same by the place i of the first look.
+module _ (at : Nanos) (l : Ledger) {end i : ℕ} (more : i < end) where
+  place : end - (end - i) ≡ i
+  place = omega arith
+
+  pub settled_found_at : (settling_at l i).0 ≤ at.0 → false ≡ unsettled_before at l end (end - i)
+  settled_found_at settled = settled_found at l end (end - i) (omega arith) (rw place settled)
+
+  pub unsettled_turn_at : at.0 < (settling_at l i).0 → unsettled_before at l end (end - i) ≡ unsettled_before at l end (end - (i + 1))
+  unsettled_turn_at unsettled =
+      let next : end - i - 1 ≡ end - (i + 1) = omega arith in
+      rw next at (unsettled_turn at l end (end - i) (omega arith) (rw place unsettled))
+
 -- So in a row of unsettled debts the first is unsettled, and so are those after it.
 record FirstUnsettled (at : Nanos) (l : Ledger) (end left : ℕ) : Type 0 where
   first : at.0 < (settling_at l (end - left)).0
@@ -58,6 +71,13 @@ module _ (l : Ledger) (end left best : ℕ) where
   soonest_turn more =
       let e : left ≡ suc (left - 1) = omega arith in
       ap (λ (k : ℕ). soonest_before l end k best) e ∙ rw (soonest_before, ← e)
+
+pub soonest_turn_at : (l : Ledger) (best : ℕ) {end i : ℕ} → i < end
+    → soonest_before l end (end - i) best ≡ soonest_before l end (end - (i + 1)) (sooner l best i)
+soonest_turn_at l best {end} {i} more =
+    let place : end - (end - i) ≡ i = omega arith in
+    let next : end - i - 1 ≡ end - (i + 1) = omega arith in
+    rw (place, next) at (soonest_turn l end (end - i) best (omega arith))
 
 pub sooner_below : (l : Ledger) (best looked : ℕ) {n cap : ℕ} → n ≡ sooner l best looked → best < cap → looked < cap → n < cap
 sooner_below l best looked {n} {cap} is below looked_below = rw is (sooner_is_either l best looked (λ p. p < cap) below looked_below)

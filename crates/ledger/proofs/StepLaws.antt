@@ -1,4 +1,5 @@
 -- What lookup by hash says, and what the operations leave of the room.
+use Rattle.std.proofs.Common.{Option, Some, None}
 use Prim.Native.Nat.{ℕ, ◌-◌, ◌≤◌, ◌<◌}
 use mathlib.Core.Path.{◌≡◌, refl, ◌∙◌}
 use mathlib.Core.Bool.{Bool, true, false}
@@ -6,11 +7,7 @@ use native.Mathlib.Omega.{arith}
 use lib.ListN.{length, length-set}
 use borrow.Author.Tests.{eqb-true, eqb-false}
 use Rattle.units.specs.declared.Nanos.{Nanos}
-use Rattle.units.specs.declared.OptionNanos.{OptionNanos}
-use Rattle.units.specs.declared.OptionNanos.TheVariants.{None, Some}
 use Rattle.bucket.specs.declared.BucketConfig.{BucketConfig}
-use Rattle.rows.specs.declared.Place.{Place}
-use Rattle.rows.specs.declared.Place.TheVariants.{At, Nowhere}
 use Rattle.rows.specs.Outcome.{Outcome, outcome}
 use Rattle.held.specs.Round as Round
 use Rattle.held.proofs.RoundLaws as RoundLaws
@@ -32,17 +29,17 @@ pub record Owing (l : Ledger) (h p : ℕ) : Type 0 where
   pub below : p < l.debts.count
   pub own : (debt_at l p).hash ≡ h
 
-pub found_owes : (l : Ledger) (h p : ℕ) → place_of l h ≡ At p → Owing l h p
+pub found_owes : (l : Ledger) (h p : ℕ) → place_of l h ≡ Some p → Owing l h p
 unfolding place_of
 found_owes l h p e = let f = found_passes debt_items l.debts h (owes h) p e in record { below = f.below; own = eqb-true _ _ f.passes }
 
-pub nowhere_owes_none : (l : Ledger) → Complete l → (h : ℕ) → place_of l h ≡ Nowhere → (i : ℕ) → i < l.debts.count → (debt_at l i).hash ≡ h → ⊥
+pub nowhere_owes_none : (l : Ledger) → Complete l → (h : ℕ) → place_of l h ≡ None → (i : ℕ) → i < l.debts.count → (debt_at l i).hash ≡ h → ⊥
 unfolding place_of
 nowhere_owes_none l complete h e i below =
     eqb-false _ _ (nowhere_passes_none debt_items l.debts complete h (owes h) (λ d passes. eqb-true _ _ passes) e i below)
 
 -- When the debt of a hash settles, once its place is known.
-pub owed_where : (l : Ledger) (h : ℕ) {place : Place} → place_of l h ≡ place → owed_at l place ≡ owed_by l h
+pub owed_where : (l : Ledger) (h : ℕ) {place : Option ℕ} → place_of l h ≡ place → owed_at l place ≡ owed_by l h
 unfolding owed_by
 owed_where l h looked_up = rw looked_up
 
@@ -133,25 +130,25 @@ abbrev pub sooner_by : Nanos → Debt → Debt
 sooner_by off d = record { hash = d.hash; settles = record { 0 = d.settles.0 - off.0 } }
 
 -- Taking out and paying down, by what lookup finds.
-pub taken_cases : (l : Ledger) (h : ℕ) (Q : Outcome OptionNanos Ledger → Type 0)
-    → ((p : ℕ) → place_of l h ≡ At p → Q (outcome (Some (debt_at l p).settles) (remove_at l p))) → (place_of l h ≡ Nowhere → Q (outcome None l)) → Q (taken l h)
+pub taken_cases : (l : Ledger) (h : ℕ) (Q : Outcome (Option Nanos) Ledger → Type 0)
+    → ((p : ℕ) → place_of l h ≡ Some p → Q (outcome (Some (debt_at l p).settles) (remove_at l p))) → (place_of l h ≡ None → Q (outcome None l)) → Q (taken l h)
 unfolding taken
 taken_cases l h Q found none = go (place_of l h) refl
   where
-    go : (place : Place) → place_of l h ≡ place → Q (taken_at l place)
-    go (At p) e = found p e
-    go Nowhere e = none e
+    go : (place : Option ℕ) → place_of l h ≡ place → Q (taken_at l place)
+    go (Some p) e = found p e
+    go None e = none e
 
 pub paid_cases : (l : Ledger) (h cost : ℕ) (c : BucketConfig) (Q : Outcome Bool Ledger → Type 0)
-    → ((p : ℕ) → place_of l h ≡ At p → Q (outcome true (with_debt l p (sooner_by (credit c cost) (debt_at l p)))))
-    → (place_of l h ≡ Nowhere → Q (outcome false l))
+    → ((p : ℕ) → place_of l h ≡ Some p → Q (outcome true (with_debt l p (sooner_by (credit c cost) (debt_at l p)))))
+    → (place_of l h ≡ None → Q (outcome false l))
     → Q (paid_down l h cost c)
 unfolding paid_down
 paid_cases l h cost c Q found none = go (place_of l h) refl
   where
-    go : (place : Place) → place_of l h ≡ place → Q (paid_at l (credit c cost) place)
-    go (At p) e = found p e
-    go Nowhere e = none e
+    go : (place : Option ℕ) → place_of l h ≡ place → Q (paid_at l (credit c cost) place)
+    go (Some p) e = found p e
+    go None e = none e
 
 -- What they leave.
 pub taken_room : (l : Ledger) (h : ℕ) → SameRoom l (taken l h).after

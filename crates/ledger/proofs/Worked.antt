@@ -1,24 +1,22 @@
 -- The sentences of document 01 on the ledger, each worked on a small one. Hashes are small numbers and moments count from 0; a free place is `no_debt`.
+use Rattle.std.proofs.Common.{Some, Ok}
 use Prim.Native.Nat.{ℕ, ◌+◌, ◌^◌, ◌-◌}
 use mathlib.Core.Path.{◌≡◌, refl}
 use mathlib.Core.Bool.{true, false}
 use mathlib.Core.List.{List, [], ◌∷◌, ◌++◌}
 use lib.ListN.{replicate}
 use Rattle.units.specs.declared.Nanos.{Nanos}
-use Rattle.units.specs.declared.OptionNanos.TheVariants.{Some}
 use Rattle.bucket.specs.declared.BucketConfig.{BucketConfig}
 use Rattle.settings.specs.Eviction.{ledger_scan}
 use Rattle.rows.specs.Places.{lowest_from}
 use Rattle.rows.specs.Rows.{rows}
-use Rattle.rows.specs.declared.Place.TheVariants.{At}
 use Rattle.index.specs.Walk as Index
 use Rattle.held.specs.Held.{in_order, by_index, removed}
 use Rattle.held.specs.Layout.{table_in}
 use Rattle.held.specs.Round as Round
 use Rattle.rows.specs.Outcome.{outcome}
 use Rattle.ledger.specs.declared.Debt.{Debt}
-use Rattle.ledger.specs.declared.Recorded.TheVariants.{Done, NoRoom}
-use Rattle.ledger.specs.Model.{Ledger, no_debt, place_of, remove_at, append, taken, sweep, scan_from, scan, drop_chosen, make_room, recorded_at}
+use Rattle.ledger.specs.Model.{no_room, Ledger, no_debt, place_of, remove_at, append, taken, sweep, scan_from, scan, drop_chosen, make_room, recorded_at}
 use Rattle.ledger.specs.Model.{recorded, paid_down}
 use Rattle.ledger.specs.Layout.{ledger}
 
@@ -45,7 +43,7 @@ a_ledger_in_words : ledger 1 in_words ≡ indexed_five
 unfolding ledger table_in rows
 a_ledger_in_words = refl
 
-found_by_the_index : place_of indexed_five 5 ≡ At 0
+found_by_the_index : place_of indexed_five 5 ≡ Some 0
 unfolding place_of Index.find Index.find_from Index.walk_from Index.onward
 found_by_the_index = refl
 
@@ -86,23 +84,23 @@ empty_sweep_leaves_the_cursor = refl
 abbrev one_and_two : Ledger
 one_and_two = holding 2 0 (owing 1 10 ∷ owing 2 20 ∷ [])
 
-merge_takes_the_later_moment : recorded one_and_two (owing 1 15) (moment 12) false ≡ outcome Done (holding 2 0 (owing 1 15 ∷ owing 2 20 ∷ []))
+merge_takes_the_later_moment : recorded one_and_two (owing 1 15) (moment 12) false ≡ outcome (Ok tt) (holding 2 0 (owing 1 15 ∷ owing 2 20 ∷ []))
 unfolding recorded recorded_at place_of lowest_from
 merge_takes_the_later_moment = refl
 
-merge_keeps_the_later_moment : recorded one_and_two (owing 2 15) (moment 12) false ≡ outcome Done one_and_two
+merge_keeps_the_later_moment : recorded one_and_two (owing 2 15) (moment 12) false ≡ outcome (Ok tt) one_and_two
 unfolding recorded recorded_at place_of lowest_from
 merge_keeps_the_later_moment = refl
 
 -- Where there is room the new debt goes last.
-new_debt_goes_last : recorded (holding 1 0 (owing 1 10 ∷ no_debt ∷ [])) (owing 2 20) (moment 15) false ≡ outcome Done one_and_two
+new_debt_goes_last : recorded (holding 1 0 (owing 1 10 ∷ no_debt ∷ [])) (owing 2 20) (moment 15) false ≡ outcome (Ok tt) one_and_two
 unfolding recorded recorded_at place_of lowest_from append
 new_debt_goes_last = refl
 
--- At cap the first settled debt is dropped, here the second one looked at, and the cursor rests there. The other debt that is settled stays.
+-- At the cap the first settled debt is dropped, here the second one looked at, and the cursor rests there. The other debt that is settled stays.
 settled_debt_makes_room :
     recorded (holding 3 0 (owing 1 30 ∷ owing 2 5 ∷ owing 3 4 ∷ [])) (owing 4 50) (moment 5) true
-    ≡ outcome Done (holding 3 1 (owing 1 30 ∷ owing 3 4 ∷ owing 4 50 ∷ []))
+    ≡ outcome (Ok tt) (holding 3 1 (owing 1 30 ∷ owing 3 4 ∷ owing 4 50 ∷ []))
 unfolding recorded recorded_at place_of lowest_from make_room scan scan_from drop_chosen append remove_at removed
 settled_debt_makes_room = refl
 
@@ -110,12 +108,12 @@ settled_debt_makes_room = refl
 abbrev none_settled : ℕ → Ledger
 none_settled cursor = holding 3 cursor (owing 1 30 ∷ owing 2 20 ∷ owing 3 20 ∷ [])
 
-soonest_debt_is_forgotten : recorded (none_settled 0) (owing 4 50) (moment 5) true ≡ outcome Done (holding 3 3 (owing 1 30 ∷ owing 3 20 ∷ owing 4 50 ∷ []))
+soonest_debt_is_forgotten : recorded (none_settled 0) (owing 4 50) (moment 5) true ≡ outcome (Ok tt) (holding 3 3 (owing 1 30 ∷ owing 3 20 ∷ owing 4 50 ∷ []))
 unfolding recorded recorded_at place_of lowest_from make_room scan scan_from drop_chosen append remove_at removed
 soonest_debt_is_forgotten = refl
 
 -- Where they may not, nothing is dropped and the wait until the soonest settles is told; the cursor has gone past the debts looked at.
-refusal_tells_the_wait : recorded (none_settled 0) (owing 4 50) (moment 5) false ≡ outcome (NoRoom (moment 15)) (none_settled 3)
+refusal_tells_the_wait : recorded (none_settled 0) (owing 4 50) (moment 5) false ≡ outcome (no_room (moment 15)) (none_settled 3)
 unfolding recorded recorded_at place_of lowest_from make_room scan scan_from drop_chosen
 refusal_tells_the_wait = refl
 
@@ -124,7 +122,7 @@ refusal_tells_the_wait = refl
 abbrev one_too_many : ℕ → Ledger
 one_too_many cursor = holding (ledger_scan + 1) cursor (replicate 3 (owing 1 90) ++ owing 2 80 ∷ replicate (ledger_scan - 4) (owing 3 90) ++ owing 4 40 ∷ [])
 
-recording_takes_its_looks : recorded (one_too_many 0) (owing 5 50) (moment 30) false ≡ outcome (NoRoom (moment 50)) (one_too_many ledger_scan)
+recording_takes_its_looks : recorded (one_too_many 0) (owing 5 50) (moment 30) false ≡ outcome (no_room (moment 50)) (one_too_many ledger_scan)
 unfolding recorded recorded_at place_of lowest_from make_room scan scan_from drop_chosen
 recording_takes_its_looks = refl
 

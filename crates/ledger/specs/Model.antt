@@ -1,13 +1,10 @@
 -- The ledger of one shard: the debts of keys that were forgotten before their buckets were full, and what each operation makes of it.
 use Rattle.std.specs.Prelude.{ℕ, zero, suc, ◌+◌, ◌*◌, ◌-◌, ◌/◌, min, max, Bool, true, false, cond, List, length, ltb, leb, eqb}
+use Rattle.std.specs.Prelude.{Option, Some, None, Result, Ok, Err}
 use Rattle.arith.specs.Arith.{saturated}
 use Rattle.units.specs.declared.Nanos.{Nanos}
-use Rattle.units.specs.declared.OptionNanos.{OptionNanos}
-use Rattle.units.specs.declared.OptionNanos.TheVariants.{None, Some}
 use Rattle.bucket.specs.declared.BucketConfig.{BucketConfig}
 use Rattle.settings.specs.Eviction.{ledger_scan}
-use Rattle.rows.specs.declared.Place.{Place}
-use Rattle.rows.specs.declared.Place.TheVariants.{At, Nowhere}
 use Rattle.held.specs.Held.{Held, Items, Finding, wrapped, item_at, position, removed, appended, stored, found_otherwise}
 use Rattle.held.specs.Held as Held
 use Rattle.held.specs.Round.{Round}
@@ -16,8 +13,7 @@ use Rattle.rows.specs.Outcome.{Outcome, outcome}
 use Rattle.ledger.specs.declared.Debt.{Debt}
 use Rattle.ledger.specs.declared.Choice.{Choice}
 use Rattle.ledger.specs.declared.Choice.TheVariants.{Settled, Soonest}
-use Rattle.ledger.specs.declared.Recorded.{Recorded}
-use Rattle.ledger.specs.declared.Recorded.TheVariants.{Done, NoRoom}
+use Rattle.ledger.specs.declared.NoRoom.{NoRoom}
 
 -- The debts, the cursor, which is the place at which the next look begins, and the lent words that are not the ledger's own. Every operation keeps those.
 pub record Ledger : Type 0 where
@@ -89,7 +85,7 @@ in_place_order l = with_debts l (Held.in_place_order l.debts)
 abbrev pub owes : ℕ → Debt → Bool
 owes hash d = eqb d.hash hash
 
-unfoldable pub place_of : Ledger → ℕ → Place
+unfoldable pub place_of : Ledger → ℕ → Option ℕ
 place_of l hash = position debt_items l.debts hash (owes hash)
 
 -- A debt leaves, and the last one moves into the gap. A new debt comes last.
@@ -100,19 +96,19 @@ unfoldable pub append : Ledger → Debt → Ledger
 append l d = with_debts l (appended debt_items l.debts d)
 
 -- When the debt of a hash settles, if there is one.
-abbrev pub owed_at : Ledger → Place → OptionNanos
-owed_at l (At p) = Some (debt_at l p).settles
-owed_at l Nowhere = None
+abbrev pub owed_at : Ledger → Option ℕ → Option Nanos
+owed_at l (Some p) = Some (debt_at l p).settles
+owed_at l None = None
 
-unfoldable pub owed_by : Ledger → ℕ → OptionNanos
+unfoldable pub owed_by : Ledger → ℕ → Option Nanos
 owed_by l hash = owed_at l (place_of l hash)
 
 -- The debt of a hash is taken out, if there is one, and its moment told.
-abbrev pub taken_at : Ledger → Place → Outcome OptionNanos Ledger
-taken_at l (At p) = outcome (Some (debt_at l p).settles) (remove_at l p)
-taken_at l Nowhere = outcome None l
+abbrev pub taken_at : Ledger → Option ℕ → Outcome (Option Nanos) Ledger
+taken_at l (Some p) = outcome (Some (debt_at l p).settles) (remove_at l p)
+taken_at l None = outcome None l
 
-unfoldable pub taken : Ledger → ℕ → Outcome OptionNanos Ledger
+unfoldable pub taken : Ledger → ℕ → Outcome (Option Nanos) Ledger
 taken l hash = taken_at l (place_of l hash)
 
 -- The sweep goes round the debts from the cursor on.
@@ -146,29 +142,36 @@ scan_from at (suc left) l best =
 unfoldable pub scan : Nanos → Ledger → Outcome Choice Ledger
 scan at l = scan_from at (min ledger_scan l.debts.count) l (cursor_of l)
 
+-- What recording a debt answers, as making room for one does: that it was done; or that there is no room, and how long the soonest debt looked at still takes.
+abbrev pub Recorded : Type 0
+Recorded = Result (Unit {0}) NoRoom
+
+abbrev pub no_room : Nanos → Recorded
+no_room wait = Err (record { wait = wait })
+
 -- A settled debt is dropped. An unsettled one is dropped only where debts may be forgotten; else nothing is, and how long it still takes is told.
 unfoldable pub drop_chosen : Nanos → Bool → Ledger → Choice → Outcome Recorded Ledger
-drop_chosen at forget l (Settled p) = outcome Done (remove_at l p)
+drop_chosen at forget l (Settled p) = outcome (Ok tt) (remove_at l p)
 drop_chosen at forget l (Soonest p) =
-    cond forget (outcome Done (remove_at l p)) (outcome (NoRoom (record { 0 = (settling_at l p).0 - at.0 })) l)
+    cond forget (outcome (Ok tt) (remove_at l p)) (outcome (no_room (record { 0 = (settling_at l p).0 - at.0 })) l)
 
 unfoldable pub make_room : Nanos → Bool → Ledger → Outcome Recorded Ledger
 make_room at forget l = drop_chosen at forget (scan at l).after (scan at l).answer
 
 -- A new debt joins once there is room for it.
 abbrev pub joined : Debt → Ledger → Recorded → Outcome Recorded Ledger
-joined d l Done = outcome Done (append l d)
-joined d l (NoRoom wait) = outcome (NoRoom wait) l
+joined d l (Ok _) = outcome (Ok tt) (append l d)
+joined d l (Err full) = outcome (Err full) l
 
 -- The later of two moments for one hash.
 abbrev pub later : Debt → Nanos → Debt
 later d moment = record { hash = d.hash; settles = record { 0 = max d.settles.0 moment.0 } }
 
 -- A debt is recorded: a hash that is there keeps the later moment; a new one comes last, after room is made where the ledger is full.
-unfoldable pub recorded_at : Ledger → Debt → Nanos → Bool → Place → Outcome Recorded Ledger
-recorded_at l d at forget (At p) = outcome Done (with_debt l p (later (debt_at l p) d.settles))
-recorded_at l d at forget Nowhere =
-    cond (ltb l.debts.count (cap_of l)) (joined d l Done) (joined d (make_room at forget l).after (make_room at forget l).answer)
+unfoldable pub recorded_at : Ledger → Debt → Nanos → Bool → Option ℕ → Outcome Recorded Ledger
+recorded_at l d at forget (Some p) = outcome (Ok tt) (with_debt l p (later (debt_at l p) d.settles))
+recorded_at l d at forget None =
+    cond (ltb l.debts.count (cap_of l)) (joined d l (Ok tt)) (joined d (make_room at forget l).after (make_room at forget l).answer)
 
 unfoldable pub recorded : Ledger → Debt → Nanos → Bool → Outcome Recorded Ledger
 recorded l d at forget = recorded_at l d at forget (place_of l d.hash)
@@ -178,9 +181,9 @@ abbrev pub credit : BucketConfig → ℕ → Nanos
 credit c cost = record { 0 = saturated (c.period.0 / c.amount * cost) }
 
 -- The debt of a hash settles that much sooner, not before moment 0; whether there is one is told.
-abbrev pub paid_at : Ledger → Nanos → Place → Outcome Bool Ledger
-paid_at l off (At p) = outcome true (with_debt l p (record { hash = (debt_at l p).hash; settles = record { 0 = (settling_at l p).0 - off.0 } }))
-paid_at l off Nowhere = outcome false l
+abbrev pub paid_at : Ledger → Nanos → Option ℕ → Outcome Bool Ledger
+paid_at l off (Some p) = outcome true (with_debt l p (record { hash = (debt_at l p).hash; settles = record { 0 = (settling_at l p).0 - off.0 } }))
+paid_at l off None = outcome false l
 
 unfoldable pub paid_down : Ledger → ℕ → ℕ → BucketConfig → Outcome Bool Ledger
 paid_down l hash cost c = paid_at l (credit c cost) (place_of l hash)

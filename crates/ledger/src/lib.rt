@@ -3,7 +3,7 @@
 #![tactic(auto)]
 
 ghost use Rattle.std.specs.Prelude.{◌≡◌, ◌-◌, ◌≤◌, ◌<◌, length};
-ghost use Rattle.rows.specs.declared.Place.TheVariants.{Nowhere};
+ghost use Rattle.std.specs.Prelude.{None};
 ghost use Rattle.rows.specs.Outcome.{outcome};
 ghost use Rattle.held.specs.Held.{with_added, without_item};
 ghost use Rattle.bucket.specs.Bucket.{Accepted};
@@ -13,9 +13,8 @@ ghost use Rattle.ledger.specs.code.Prepared.{prepared_at, prepared, writable, wr
 ghost use Rattle.ledger.specs.code.Row.{unsettled_before, meets_unsettled, soonest_before};
 
 use bucket::BucketConfig;
-use rows::Place;
 use settings::eviction::Eviction;
-use units::{Nanos, OptionNanos};
+use units::Nanos;
 
 pub mod words;
 
@@ -34,19 +33,10 @@ pub enum Choice {
     Soonest(usize),
 }
 
-// Whether a debt was recorded; where there was no room for it, how long until the soonest of the debts looked at settles.
+// There is no room for a debt: how long until the soonest of the debts looked at settles.
 #[derive(Clone, Copy)]
-pub enum Recorded {
-    Done,
-    NoRoom(Nanos),
-}
-
-// Whether a debt can be written: in the place of the debt of its hash, or, where there is none, as one more; where there is no room for it, how long until the
-// soonest of the debts looked at settles.
-#[derive(Clone, Copy)]
-pub enum Prepared {
-    Ready(Place),
-    Full(Nanos),
+pub struct NoRoom {
+    pub wait: Nanos,
 }
 
 // How many debts are held. It requires the length alone, so that it can tell a count that is too large.
@@ -58,13 +48,13 @@ pub fn len(ws: &[u64], cap: usize) -> usize
 }
 
 // The place of the first debt on the hash's walk that has the hash.
-pub fn position(ws: &[u64], cap: usize, hash: u64) -> Place
+pub fn position(ws: &[u64], cap: usize, hash: u64) -> Option<usize>
     requires { Intact cap ws.now }
     ensures { result ≡ Model.place_of (ledger cap ws.now) hash }
 {
     let count = words::count(ws, cap);
     if count == 0 {
-        return Place::Nowhere;
+        return None;
     }
     index::find(ws, words::index(cap), count, hash, hash)
 }
@@ -89,14 +79,12 @@ fn remove_from_index(ws: &mut [u64], cap: usize, pos: usize)
 }
 
 // When the debt of the hash settles, if there is one.
-pub fn owed_by(ws: &[u64], cap: usize, hash: u64) -> OptionNanos
+pub fn owed_by(ws: &[u64], cap: usize, hash: u64) -> Option<Nanos>
     requires { Intact cap ws.now }
     ensures { result ≡ Model.owed_by (ledger cap ws.now) hash }
 {
-    match position(ws, cap, hash) {
-        Place::At(pos) => OptionNanos::Some(words::settles_at(ws, cap, pos)),
-        Place::Nowhere => OptionNanos::None,
-    }
+    let pos = position(ws, cap, hash)?;
+    Some(words::settles_at(ws, cap, pos))
 }
 
 // Removes the debt at a place: the last debt moves into the gap.
@@ -117,18 +105,14 @@ pub fn remove_at(ws: &mut [u64], cap: usize, pos: usize)
 }
 
 // Takes out the debt of the hash, if there is one, and tells when it settles.
-pub fn take(ws: &mut [u64], cap: usize, hash: u64) -> OptionNanos
+pub fn take(ws: &mut [u64], cap: usize, hash: u64) -> Option<Nanos>
     requires { Intact cap ws.old }
     ensures { outcome result (ledger cap ws.new) ≡ Model.taken (ledger cap ws.old) hash }
 {
-    match position(ws, cap, hash) {
-        Place::At(pos) => {
-            let settles = words::settles_at(ws, cap, pos);
-            remove_at(ws, cap, pos);
-            OptionNanos::Some(settles)
-        }
-        Place::Nowhere => OptionNanos::None,
-    }
+    let pos = position(ws, cap, hash)?;
+    let settles = words::settles_at(ws, cap, pos);
+    remove_at(ws, cap, pos);
+    Some(settles)
 }
 
 // One look of the sweep, at a ledger that holds a debt.
@@ -151,13 +135,11 @@ fn are_unsettled(ws: &[u64], cap: usize, at: Nanos, end: usize, looks: usize) ->
     requires { Intact cap ws.now × (looks ≤ end) × (end ≤ cap) }
     ensures { result ≡ unsettled_before at (ledger cap ws.now) end looks }
 {
-    let mut left = looks;
-    while 0 < left {
-        let settles = words::settles_at(ws, cap, end - left);
+    for i in end - looks..end {
+        let settles = words::settles_at(ws, cap, i);
         if settles.0 <= at.0 {
             return false;
         }
-        left -= 1;
     }
     true
 }
@@ -195,13 +177,11 @@ fn sweep_by_looks(ws: &mut [u64], cap: usize, at: Nanos, budget: usize)
     requires { Intact cap ws.old }
     ensures { ledger cap ws.new ≡ Model.sweep at budget (ledger cap ws.old) }
 {
-    let mut left = budget;
-    while 0 < left {
+    for _ in 0..budget {
         if words::count(ws, cap) == 0 {
             break;
         }
         look(ws, cap, at);
-        left -= 1;
     }
 }
 
@@ -224,11 +204,10 @@ fn soonest_before(ws: &[u64], cap: usize, end: usize, looks: usize) -> usize
     requires { Intact cap ws.now × (0 < looks) × (looks ≤ end) × (end ≤ cap) }
     ensures { result ≡ soonest_before (ledger cap ws.now) end looks (end - looks) }
 {
-    let mut best = end - looks;
-    let mut left = looks;
-    while 0 < left {
-        best = sooner(ws, cap, best, end - left);
-        left -= 1;
+    let first = end - looks;
+    let mut best = first;
+    for i in first..end {
+        best = sooner(ws, cap, best, i);
     }
     best
 }
@@ -254,9 +233,9 @@ fn scan_by_looks(ws: &mut [u64], cap: usize, at: Nanos) -> Choice
     requires { Intact cap ws.old × (0 < (ledger cap ws.old).debts.count) }
     ensures { outcome result (ledger cap ws.new) ≡ Model.scan at (ledger cap ws.old) }
 {
-    let mut left = arith::fewer(Eviction::ledger_looks(), words::count(ws, cap));
+    let looks = Eviction::ledger_looks().min(words::count(ws, cap));
     let mut best = words::cursor(ws, cap);
-    while 0 < left {
+    for _ in 0..looks {
         let cursor = words::cursor(ws, cap);
         let settles = words::settles_at(ws, cap, cursor);
         if settles.0 <= at.0 {
@@ -265,29 +244,28 @@ fn scan_by_looks(ws: &mut [u64], cap: usize, at: Nanos) -> Choice
         }
         best = sooner(ws, cap, best, cursor);
         words::set_cursor(ws, cap, cursor + 1);
-        left -= 1;
     }
     Choice::Soonest(best)
 }
 
 // Drops a debt of a full ledger: a settled one, else under `forget` the soonest looked at. Where it drops none, it tells how long the soonest still takes.
-fn make_room(ws: &mut [u64], cap: usize, at: Nanos, forget: bool) -> Recorded
+fn make_room(ws: &mut [u64], cap: usize, at: Nanos, forget: bool) -> Result<(), NoRoom>
     requires { Intact cap ws.old × (0 < (ledger cap ws.old).debts.count) }
     ensures { outcome result (ledger cap ws.new) ≡ Model.make_room at forget (ledger cap ws.old) }
 {
     match scan(ws, cap, at) {
         Choice::Settled(pos) => {
             remove_at(ws, cap, pos);
-            Recorded::Done
+            Ok(())
         }
         Choice::Soonest(pos) => {
             if forget {
                 remove_at(ws, cap, pos);
-                Recorded::Done
-            } else {
-                let settles = words::settles_at(ws, cap, pos);
-                Recorded::NoRoom(Nanos(arith::saturating_sub(settles.0, at.0)))
+                return Ok(());
             }
+            let settles = words::settles_at(ws, cap, pos);
+            let wait = Nanos(settles.0.saturating_sub(at.0));
+            Err(NoRoom { wait })
         }
     }
 }
@@ -304,53 +282,54 @@ fn append(ws: &mut [u64], cap: usize, debt: Debt)
 }
 
 // Makes the ledger ready for the debt of a hash that it does not have.
-fn prepare_new(ws: &mut [u64], cap: usize, at: Nanos, forget: bool) -> Prepared
+fn prepare_new(ws: &mut [u64], cap: usize, at: Nanos, forget: bool) -> Result<Option<usize>, NoRoom>
     requires { Intact cap ws.old }
-    ensures { outcome result (ledger cap ws.new) ≡ prepared_at (ledger cap ws.old) at forget Nowhere }
+    ensures { outcome result (ledger cap ws.new) ≡ prepared_at (ledger cap ws.old) at forget None }
 {
     if words::count(ws, cap) < cap {
-        return Prepared::Ready(Place::Nowhere);
+        return Ok(None);
     }
-    match make_room(ws, cap, at, forget) {
-        Recorded::Done => Prepared::Ready(Place::Nowhere),
-        Recorded::NoRoom(wait) => Prepared::Full(wait),
-    }
+    make_room(ws, cap, at, forget)?;
+    Ok(None)
 }
 
-// Makes the ledger ready for the debt of a hash, making room for it where the ledger is full. When the debt settles need not be known yet.
-pub fn prepare(ws: &mut [u64], cap: usize, hash: u64, at: Nanos, forget: bool) -> Prepared
+// Makes the ledger ready for the debt of a hash, making room for it where the ledger is full: the debt can be written in the place of the debt of its hash, or,
+// where there is none, as one more. When the debt settles need not be known yet.
+pub fn prepare(
+    ws: &mut [u64],
+    cap: usize,
+    hash: u64,
+    at: Nanos,
+    forget: bool,
+) -> Result<Option<usize>, NoRoom>
     requires { Intact cap ws.old }
     ensures { outcome result (ledger cap ws.new) ≡ prepared (ledger cap ws.old) hash at forget }
 {
     match position(ws, cap, hash) {
-        Place::At(pos) => Prepared::Ready(Place::At(pos)),
-        Place::Nowhere => prepare_new(ws, cap, at, forget),
+        Some(pos) => Ok(Some(pos)),
+        None => prepare_new(ws, cap, at, forget),
     }
 }
 
 // Writes a debt that the ledger is ready for. A hash that is there keeps the later moment.
-pub fn write(ws: &mut [u64], cap: usize, place: Place, debt: Debt)
+pub fn write(ws: &mut [u64], cap: usize, place: Option<usize>, debt: Debt)
     requires { Intact cap ws.old × writable (ledger cap ws.old) place }
     ensures { ledger cap ws.new ≡ written (ledger cap ws.old) place debt }
 {
     match place {
-        Place::At(pos) => keep_later(ws, cap, pos, debt.settles),
-        Place::Nowhere => append(ws, cap, debt),
+        Some(pos) => keep_later(ws, cap, pos, debt.settles),
+        None => append(ws, cap, debt),
     }
 }
 
 // Records a debt, making room for it where the ledger is full. A hash that is there keeps the later moment.
-pub fn record(ws: &mut [u64], cap: usize, debt: Debt, at: Nanos, forget: bool) -> Recorded
+pub fn record(ws: &mut [u64], cap: usize, debt: Debt, at: Nanos, forget: bool) -> Result<(), NoRoom>
     requires { Intact cap ws.old }
     ensures { outcome result (ledger cap ws.new) ≡ Model.recorded (ledger cap ws.old) debt at forget }
 {
-    match prepare(ws, cap, debt.hash, at, forget) {
-        Prepared::Ready(place) => {
-            write(ws, cap, place, debt);
-            Recorded::Done
-        }
-        Prepared::Full(wait) => Recorded::NoRoom(wait),
-    }
+    let place = prepare(ws, cap, debt.hash, at, forget)?;
+    write(ws, cap, place, debt);
+    Ok(())
 }
 
 // The debt at a place settles at the later of its moment and another.
@@ -360,17 +339,8 @@ fn keep_later(ws: &mut [u64], cap: usize, pos: usize, settles: Nanos)
         ≡ Model.with_debt (ledger cap ws.old) pos (Model.later (Model.debt_at (ledger cap ws.old) pos) settles) }
 {
     let held = words::load(ws, cap, pos);
-    let held_settles = held.settles;
-    let later = Nanos(arith::larger(held_settles.0, settles.0));
-    words::put(
-        ws,
-        cap,
-        pos,
-        Debt {
-            hash: held.hash,
-            settles: later,
-        },
-    );
+    let settles = Nanos(held.settles.0.max(settles.0));
+    words::put(ws, cap, pos, Debt { settles, ..held });
 }
 
 // Pays tokens off the debt of the hash: for each token it settles sooner by the time that a token takes to come back, rounded down. Tells whether there was
@@ -379,24 +349,13 @@ pub fn pay_down(ws: &mut [u64], cap: usize, hash: u64, cost: u32, config: Bucket
     requires { Intact cap ws.old × Accepted config }
     ensures { outcome result (ledger cap ws.new) ≡ Model.paid_down (ledger cap ws.old) hash cost config }
 {
-    match position(ws, cap, hash) {
-        Place::At(pos) => {
-            let per_token = config.period.0 / (config.amount as u64);
-            let credit = Nanos(arith::saturating_mul(per_token, cost));
-            let held = words::load(ws, cap, pos);
-            let settles = held.settles;
-            let sooner = Nanos(arith::saturating_sub(settles.0, credit.0));
-            words::put(
-                ws,
-                cap,
-                pos,
-                Debt {
-                    hash: held.hash,
-                    settles: sooner,
-                },
-            );
-            true
-        }
-        Place::Nowhere => false,
-    }
+    let Some(pos) = position(ws, cap, hash) else {
+        return false;
+    };
+    let per_token = config.period.0 / (config.amount as u64);
+    let credit = arith::saturating_mul(per_token, cost);
+    let held = words::load(ws, cap, pos);
+    let settles = Nanos(held.settles.0.saturating_sub(credit));
+    words::put(ws, cap, pos, Debt { settles, ..held });
+    true
 }

@@ -104,7 +104,6 @@ pub(crate) fn put(ws: &mut [u64], cap: usize, i: usize, debt: Debt)
     ensures { ledger cap ws.new ≡ Model.with_debt (ledger cap ws.old) i debt }
 {
     let first = DEBTS + DEBT_WIDTH * i;
-    let settles = debt.settles;
     ws[first] = debt.hash;
-    ws[first + SETTLES] = settles.0;
+    ws[first + SETTLES] = debt.settles.0;
 }

@@ -2,39 +2,21 @@
 // on standard error, with its number, the place and its text. In the end it is told how many lines were written and how many were left out.
 #![tactic(auto)]
 
-ghost use Rattle.std.specs.Prelude.{◌≡◌, ◌<◌, ◌≤◌, true, length};
+ghost use Rattle.std.specs.Prelude.{◌≡◌, ◌≤◌, true, length, IfErr};
 ghost use Rattle.lesson_run.specs.Run.{Stands, Stepped, Counted};
-ghost use Rattle.lesson.specs.Described.{Inside, step_after, Finished};
+ghost use Rattle.described.specs.Described.{Inside};
+ghost use Rattle.lesson.specs.Described.{Finished};
 
-use desk_reads::Got;
+use described::Unread;
 use lesson_run::Progress;
 use lesson_writer::LIMITS_BYTES;
-use std::io::{Read, Write};
-use streams::{Stream, Streams, say};
+use std::io::Write;
+use streams::{Streams, say};
 
 mod notes;
 
 // A description has fewer bytes than these.
 const TEXT_BYTES: usize = 65536;
-
-// What was read of the description.
-#[derive(Clone, Copy)]
-enum Described {
-    // All of it, with its length in bytes.
-    Whole(usize),
-    // It fills the buffer, so it may be cut.
-    TooLong,
-    // A read failed.
-    Failed,
-}
-
-// Where the reading stands after a read.
-#[derive(Clone, Copy)]
-enum Step {
-    // The bytes that are read so far. There may be more.
-    More(usize),
-    Over(Described),
-}
 
 // The description is read whole before a line is written. For one that is cut nothing is written.
 fn main(rt: HostRuntime) {
@@ -44,63 +26,28 @@ fn main(rt: HostRuntime) {
     }
     let mut streams = streams::open(rt.stdin(), rt.stdout(), rt.stderr());
     let mut text: [u8; TEXT_BYTES] = [0; TEXT_BYTES];
-    let described = read_all(&mut streams.source, &mut text);
+    let described = described::read_all(&mut streams.source, &mut text);
     finish(&mut streams, &text, described);
 }
 
-// Reads to the end of the input. The loop counts its turns since a proved loop has to end, up to a number that no run reaches.
-fn read_all<R: Read>(source: &mut Stream<R>, text: &mut [u8]) -> Described
-    requires { 0 < length text.old }
-    ensures { Inside (length text.old) result }
-{
-    let mut size: usize = 0;
-    let mut turns: u64 = 0;
-    while turns < u64::MAX {
-        let got = desk_reads::read_more(source, text, size);
-        let step = after(got, size, text.len());
-        match step {
-            Step::More(end) => {
-                size = end;
-            }
-            Step::Over(described) => {
-                return described;
-            }
-        }
-        turns += 1;
-    }
-    Described::Failed
-}
-
-// Where the reading stands after a read, with the bytes that were read before it and those that there is room for.
-#[tactic(auto, unfolding(crate::specs::Described::step_after))]
-fn after(got: Got, size: usize, room: usize) -> Step
-    ensures { result ≡ step_after got size room }
-{
-    match got {
-        Got::More(end) => {
-            if end < room {
-                return Step::More(end);
-            }
-            Step::Over(Described::TooLong)
-        }
-        Got::End => Step::Over(Described::Whole(size)),
-        Got::Failed => Step::Over(Described::Failed),
-    }
-}
-
-// Writes the lines of a description that was read whole. Of any other it tells what is wrong.
-fn finish<R, W: Write, E: Print>(streams: &mut Streams<R, W, E>, text: &[u8], described: Described)
+// Writes the lines of a description that was read whole. Of any other it tells what is wrong, and writes nothing.
+fn finish<R, W: Write, E: Print>(
+    streams: &mut Streams<R, W, E>,
+    text: &[u8],
+    described: Result<usize, Unread>,
+)
     requires { Inside (length text.now) described }
+    ensures { IfErr described (λ why. streams.new.sink ≡ streams.old.sink) }
 {
     match described {
-        Described::Whole(size) => all_lines(streams, &text[0..size]),
-        Described::TooLong => {
+        Ok(size) => all_lines(streams, &text[0..size]),
+        Err(Unread::TooLong) => {
             say(
                 &streams.err,
                 b"lesson: the description has more than 65535 bytes, and nothing is written\n",
             );
         }
-        Described::Failed => streams::fail(
+        Err(Unread::Failed) => streams::fail(
             &streams.err,
             b"lesson: a read failed, and nothing is written",
             streams.source.failure,
@@ -111,59 +58,48 @@ fn finish<R, W: Write, E: Print>(streams: &mut Streams<R, W, E>, text: &[u8], de
 // Writes all lines, and tells how many they are, up to a write that fails.
 fn all_lines<R, W: Write, E: Print>(streams: &mut Streams<R, W, E>, text: &[u8]) {
     let mut out: [u8; LIMITS_BYTES] = [0; LIMITS_BYTES];
-    let ran = lines(streams, text, &mut out);
-    if ran.whole {
-        notes::summary(&streams.err, ran.written, ran.wrong);
-        return;
+    match lines(streams, text, &mut out) {
+        Some(counts) => notes::summary(&streams.err, counts.written, counts.wrong),
+        None => streams::fail(
+            &streams.err,
+            b"lesson: a write failed, and the run ends",
+            streams.sink.failure,
+        ),
     }
-    streams::fail(
-        &streams.err,
-        b"lesson: a write failed, and the run ends",
-        streams.sink.failure,
-    );
 }
 
-// A run: whether all was written, how many lines were written, and how many were left out.
+// How many lines were written, and how many were left out.
 #[derive(Clone, Copy)]
-struct Ran {
-    whole: bool,
+struct Counts {
     written: u64,
     wrong: u64,
 }
 
-// Hands out one step of the lesson after the other. The loop counts its turns since a proved loop has to end, up to a number that no run reaches.
-fn lines<R, W: Write, E: Print>(streams: &mut Streams<R, W, E>, text: &[u8], out: &mut [u8]) -> Ran
+// Hands out one step of the lesson after the other, unless a write fails. The loop counts its turns since a proved loop has to end, up to a number that no run
+// reaches.
+fn lines<R, W: Write, E: Print>(
+    streams: &mut Streams<R, W, E>,
+    text: &[u8],
+    out: &mut [u8],
+) -> Option<Counts>
     requires { 170 ≤ length out.old }
     ensures { Finished text.now result }
 {
     let mut progress = lesson_run::start(text);
     let mut written: u64 = 0;
     let mut wrong: u64 = 0;
-    let mut turns: u64 = 0;
-    while turns < u64::MAX {
-        let step = lesson_run::next(text, out, progress);
-        if step.over {
-            return Ran {
-                whole: true,
-                written,
-                wrong,
-            };
-        }
+    for _turn in 0..u64::MAX {
+        let Some(step) = lesson_run::next(text, out, progress) else {
+            return Some(Counts { written, wrong });
+        };
         if !hand_out(streams, text, out, progress, step, written, wrong) {
-            break;
+            return None;
         }
-        let note = step.note;
-        let after = step.progress;
         written += lesson_run::lines_in(step.size);
-        wrong += lesson_run::wrong_in(note);
-        progress = after;
-        turns += 1;
+        wrong += lesson_run::wrong_in(step.note);
+        progress = step.progress;
     }
-    Ran {
-        whole: false,
-        written,
-        wrong,
-    }
+    None
 }
 
 // Writes the line of a step, and tells its note. Whether the line was written. What is handed out is what comes next in the output of the lesson.
@@ -178,11 +114,8 @@ fn hand_out<R, W: Write, E: Print>(
 ) -> bool
     requires { Stands text.now before written wrong × Stepped text.now before step out.now }
 {
-    let note = step.note;
-    let after = step.progress;
-    notes::tell(&streams.err, note, text, before.at, after.at);
-    let size = step.size;
-    streams::write_all(&mut streams.sink, &out[0..size])
+    notes::tell(&streams.err, step.note, text, before.at, step.progress.at);
+    streams::write_all(&mut streams.sink, &out[0..step.size])
 }
 
 // How to use the program.

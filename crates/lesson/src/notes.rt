@@ -81,42 +81,27 @@ fn write(err: &impl Print, shown: &[u8], size: usize)
 fn copy(text: &[u8], from: usize, next: usize, shown: &mut [u8]) -> usize
     ensures { result ≤ length shown.new }
 {
-    let mut size: usize = 0;
-    while size < shown.len() {
+    for size in 0..shown.len() {
         let at = from.wrapping_add(size);
-        if at >= next {
-            break;
-        }
-        if at >= text.len() {
-            break;
-        }
-        if is_end(text[at]) {
-            break;
+        if at >= next || at >= text.len() || is_end(text[at]) {
+            return size;
         }
         shown[size] = printed(text[at]);
-        size += 1;
     }
-    size
+    shown.len()
 }
 
 fn is_end(byte: u8) -> bool {
-    if byte == b'\n' {
-        return true;
-    }
-    byte == b'\r'
+    matches!(byte, b'\n' | b'\r')
 }
 
+// A tab as a space, and any other byte that is no printed character as a question mark.
 fn printed(byte: u8) -> u8 {
-    if byte == b'\t' {
-        return b' ';
+    match byte {
+        b'\t' => b' ',
+        b' '..=b'~' => byte,
+        _ => b'?',
     }
-    if byte < b' ' {
-        return b'?';
-    }
-    if byte > b'~' {
-        return b'?';
-    }
-    byte
 }
 
 // A fault in words.

@@ -5,7 +5,7 @@
 -- * `written_lines_are_read_as_named`: the desk reads every line that is written for a lesson as the settings or the call that the lesson's line names, in
 -- order.
 -- * `a_wrong_line_writes_nothing`: for a wrong line nothing is written, it is told, and the clock stays.
-use Rattle.std.specs.Prelude.{ℕ, ◌≡◌, List, [], ◌∷◌, ◌++◌, drop}
+use Rattle.std.specs.Prelude.{ℕ, ◌≡◌, List, [], ◌∷◌, ◌++◌, drop, Ok}
 use Rattle.desk_cutting.specs.Cutting as Cutting
 use Rattle.desk_lines.specs.Printed.{line_feed}
 use Rattle.desk_lines.specs.declared.Line.{Line}
@@ -20,7 +20,7 @@ use Rattle.lesson_run.specs.Run.{start_of, written, told, next_number}
 -- and where.
 pub data Fate (number clock : ℕ) (line : List ℕ) : Type 0 where
   is_written : (first : List ℕ) (more : List (List ℕ)) → written (meaning_of clock line) ≡ first ∷ more → Fate number clock line
-  is_empty : meaning_of clock line ≡ meaning.Blank → Fate number clock line
+  is_empty : meaning_of clock line ≡ Ok meaning.Blank → Fate number clock line
   is_told : (place : ℕ) (fault : Fault) → told number clock (meaning_of clock line) ≡ note.Wrong number place fault ∷ [] → Fate number clock line
 
 -- Each of some lines has its fate, by the number of the line before and the clock.

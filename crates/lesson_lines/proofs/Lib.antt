@@ -1,3 +1,4 @@
 pub mod ReadingLaws
 pub mod SizeLaws
 pub mod LetterLaws
+pub mod StepLaws

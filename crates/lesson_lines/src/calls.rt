@@ -2,143 +2,93 @@
 ghost use Rattle.std.specs.Prelude.{◌≡◌};
 ghost use Rattle.lesson_lines.specs.Lesson as Lesson;
 
-use crate::words;
-use crate::words::{LetterRead, Rest};
+use crate::words::Letter;
+use crate::{Wrong, words};
 use desk_lines::Request;
 use desk_writer::DeskCall;
 use lesson_words::{Fault, Kind};
 use units::Nanos;
 
-// A request that was read, and what is left.
-#[derive(Clone, Copy)]
-pub struct RequestRead {
-    pub value: Request,
-    pub rest: Rest,
-}
-
-// A call that was read, or the place of a word that is at fault.
-#[derive(Clone, Copy)]
-pub enum CallRead {
-    Call(DeskCall),
-    Wrong(usize, Fault),
-}
-
 // The largest number of 32 bits.
 pub(crate) const MOST_32: u64 = 0xffff_ffff;
 
-// The call of a letter, unless that is at fault.
-pub(crate) fn read(line: &[u8], clock: u64, letter: LetterRead) -> CallRead
-    ensures { result ≡ Lesson.call_read line.now clock letter letter.rest }
-{
-    let rest = letter.rest;
-    match rest {
-        Rest::Left(_) => of_letter(line, clock, letter),
-        Rest::Wrong(at, fault) => CallRead::Wrong(at, fault),
-    }
-}
-
 // The call of a letter.
-pub(crate) fn of_letter(line: &[u8], clock: u64, letter: LetterRead) -> CallRead
+#[tactic(auto, unfolding(crate::specs::Lesson::call_of))]
+pub(crate) fn read(line: &[u8], clock: u64, letter: Letter) -> Result<DeskCall, Wrong>
     ensures { result ≡ Lesson.call_of line.now clock letter }
 {
-    let rest = letter.rest;
-    if letter.value == b'a' {
-        return try_call(line, clock, rest);
+    match letter.value {
+        b'a' => try_call(line, clock, letter.end),
+        b'p' => peek_call(line, clock, letter.end),
+        b'r' => reserve_call(line, clock, letter.end),
+        b'f' => refund_call(line, clock, letter.end),
+        b'd' => remove_call(line, clock, letter.end),
+        _ => Err(Wrong {
+            at: letter.from,
+            fault: Fault::Letter,
+        }),
     }
-    if letter.value == b'p' {
-        return peek_call(line, clock, rest);
-    }
-    if letter.value == b'r' {
-        return reserve_call(line, clock, rest);
-    }
-    if letter.value == b'f' {
-        return refund_call(line, clock, rest);
-    }
-    if letter.value == b'd' {
-        return remove_call(line, clock, rest);
-    }
-    CallRead::Wrong(letter.from, Fault::Letter)
 }
 
 // The moment, the modem and the cost.
-fn request(line: &[u8], clock: u64, rest: Rest) -> RequestRead
-    ensures { result ≡ Lesson.taken_request line.now clock rest }
+#[tactic(auto, unfolding(crate::specs::Lesson::taken_request))]
+fn request(line: &[u8], clock: u64, at: usize) -> Result<(Request, usize), Wrong>
+    ensures { result ≡ Lesson.taken_request line.now clock at }
 {
-    let moment = words::number(line, Kind::Moment, clock, rest);
-    let rest = moment.rest;
-    let modem = words::number(line, Kind::Modem, clock, rest);
-    let rest = modem.rest;
-    let cost = words::number(line, Kind::Number(MOST_32), clock, rest);
-    let rest = cost.rest;
-    RequestRead {
-        value: Request {
-            at: Nanos(moment.value),
-            key: modem.value,
-            cost: cost.value as u32,
-        },
-        rest,
-    }
+    let (moment, at) = words::next_number(line, Kind::Moment, clock, at)?;
+    let (key, at) = words::next_number(line, Kind::Modem, clock, at)?;
+    let (cost, at) = words::next_number(line, Kind::Number(MOST_32), clock, at)?;
+    let request = Request {
+        at: Nanos(moment),
+        key,
+        cost: cost as u32,
+    };
+    Ok((request, at))
 }
 
-// A call whose words are all read.
-fn ended(rest: Rest, call: DeskCall) -> CallRead
-    ensures { result ≡ Lesson.ended_by rest call }
+#[tactic(auto, unfolding(crate::specs::Lesson::try_of))]
+fn try_call(line: &[u8], clock: u64, at: usize) -> Result<DeskCall, Wrong>
+    ensures { result ≡ Lesson.try_of line.now clock at }
 {
-    match rest {
-        Rest::Left(_) => CallRead::Call(call),
-        Rest::Wrong(at, fault) => CallRead::Wrong(at, fault),
-    }
+    let (request, at) = request(line, clock, at)?;
+    words::finish(line, at)?;
+    Ok(DeskCall::Try(request))
 }
 
-fn try_call(line: &[u8], clock: u64, rest: Rest) -> CallRead
-    ensures { result ≡ Lesson.try_of line.now clock rest }
+#[tactic(auto, unfolding(crate::specs::Lesson::peek_of))]
+fn peek_call(line: &[u8], clock: u64, at: usize) -> Result<DeskCall, Wrong>
+    ensures { result ≡ Lesson.peek_of line.now clock at }
 {
-    let request = request(line, clock, rest);
-    let value = request.value;
-    let rest = request.rest;
-    ended(words::finish(line, rest), DeskCall::Try(value))
+    let (request, at) = request(line, clock, at)?;
+    words::finish(line, at)?;
+    Ok(DeskCall::Peek(request))
 }
 
-fn peek_call(line: &[u8], clock: u64, rest: Rest) -> CallRead
-    ensures { result ≡ Lesson.peek_of line.now clock rest }
+#[tactic(auto, unfolding(crate::specs::Lesson::reserve_of))]
+fn reserve_call(line: &[u8], clock: u64, at: usize) -> Result<DeskCall, Wrong>
+    ensures { result ≡ Lesson.reserve_of line.now clock at }
 {
-    let request = request(line, clock, rest);
-    let value = request.value;
-    let rest = request.rest;
-    ended(words::finish(line, rest), DeskCall::Peek(value))
+    let (request, at) = request(line, clock, at)?;
+    let (longest, at) = words::next_number(line, Kind::Time, clock, at)?;
+    words::finish(line, at)?;
+    Ok(DeskCall::Reserve(request, Nanos(longest)))
 }
 
-fn reserve_call(line: &[u8], clock: u64, rest: Rest) -> CallRead
-    ensures { result ≡ Lesson.reserve_of line.now clock rest }
+#[tactic(auto, unfolding(crate::specs::Lesson::refund_of))]
+fn refund_call(line: &[u8], clock: u64, at: usize) -> Result<DeskCall, Wrong>
+    ensures { result ≡ Lesson.refund_of line.now clock at }
 {
-    let request = request(line, clock, rest);
-    let value = request.value;
-    let rest = request.rest;
-    let longest = words::number(line, Kind::Time, clock, rest);
-    let rest = longest.rest;
-    ended(
-        words::finish(line, rest),
-        DeskCall::Reserve(value, Nanos(longest.value)),
-    )
+    let (key, at) = words::next_number(line, Kind::Modem, clock, at)?;
+    let (cost, at) = words::next_number(line, Kind::Number(MOST_32), clock, at)?;
+    words::finish(line, at)?;
+    Ok(DeskCall::Refund(key, cost as u32))
 }
 
-fn refund_call(line: &[u8], clock: u64, rest: Rest) -> CallRead
-    ensures { result ≡ Lesson.refund_of line.now clock rest }
+#[tactic(auto, unfolding(crate::specs::Lesson::remove_of))]
+fn remove_call(line: &[u8], clock: u64, at: usize) -> Result<DeskCall, Wrong>
+    ensures { result ≡ Lesson.remove_of line.now clock at }
 {
-    let modem = words::number(line, Kind::Modem, clock, rest);
-    let rest = modem.rest;
-    let cost = words::number(line, Kind::Number(MOST_32), clock, rest);
-    let rest = cost.rest;
-    ended(
-        words::finish(line, rest),
-        DeskCall::Refund(modem.value, cost.value as u32),
-    )
-}
-
-fn remove_call(line: &[u8], clock: u64, rest: Rest) -> CallRead
-    ensures { result ≡ Lesson.remove_of line.now clock rest }
-{
-    let modem = words::number(line, Kind::Modem, clock, rest);
-    let rest = modem.rest;
-    ended(words::finish(line, rest), DeskCall::Remove(modem.value))
+    let (key, at) = words::next_number(line, Kind::Modem, clock, at)?;
+    words::finish(line, at)?;
+    Ok(DeskCall::Remove(key))
 }

@@ -6,12 +6,10 @@ ghost use Rattle.desk_writer.specs.Writer.{field};
 ghost use Rattle.lesson_lines.specs.Lesson as Lesson;
 ghost use Rattle.lesson_lines.specs.Written.{idle_field, limits_bytes};
 
-use calls::CallRead;
-use decimal::OptionNumber;
 use desk_lines::LONGEST_LINE;
 use desk_writer::DeskCall;
 use lesson_words::{Fault, Kind};
-use words::{LetterRead, Rest};
+use words::Letter;
 
 mod calls;
 mod words;
@@ -27,16 +25,9 @@ pub struct Limits {
     pub modems: u64,
     pub shards: u64,
     // In nanoseconds.
-    pub idle: OptionNumber,
+    pub idle: Option<u64>,
     // 0 or 1.
     pub when_full: u64,
-}
-
-// Limits that were read, and what is left.
-#[derive(Clone, Copy)]
-pub struct LimitsRead {
-    pub value: Limits,
-    pub rest: Rest,
 }
 
 // What a line means.
@@ -47,12 +38,17 @@ pub enum Meaning {
     SetUp(Limits),
     // The first call, how many they are, and the spacing. Every number of every call has at most 64 bits.
     Calls(DeskCall, u64, u64),
-    // The word that begins at this place is at fault.
-    Wrong(usize, Fault),
+}
+
+// What is wrong with a line: the word that begins at a place of it.
+#[derive(Clone, Copy)]
+pub struct Wrong {
+    pub at: usize,
+    pub fault: Fault,
 }
 
 // What a line means, where relative moments are counted from the clock. The line has no LF.
-pub fn read(clock: u64, line: &[u8]) -> Meaning
+pub fn read(clock: u64, line: &[u8]) -> Result<Meaning, Wrong>
     ensures { result ≡ Lesson.meaning_of clock line.now }
 {
     let stop = scan::find(line, 0, line.len(), b'#');
@@ -60,131 +56,101 @@ pub fn read(clock: u64, line: &[u8]) -> Meaning
 }
 
 // What the words of a line mean.
-fn of_words(clock: u64, line: &[u8]) -> Meaning
+#[tactic(auto, unfolding(crate::specs::Lesson::words_mean))]
+fn of_words(clock: u64, line: &[u8]) -> Result<Meaning, Wrong>
     ensures { result ≡ Lesson.words_mean clock line.now }
 {
     if words::word_from(line, 0) == line.len() {
-        return Meaning::Blank;
+        return Ok(Meaning::Blank);
     }
-    of_letter(line, clock, words::letter(line, Rest::Left(0)))
+    by_letter(line, clock, words::next_letter(line, 0)?)
 }
 
-// By the letter, unless that is at fault.
-fn of_letter(line: &[u8], clock: u64, letter: LetterRead) -> Meaning
-    ensures { result ≡ Lesson.letter_read line.now clock letter letter.rest }
-{
-    let rest = letter.rest;
-    match rest {
-        Rest::Left(_) => by_letter(line, clock, letter),
-        Rest::Wrong(at, fault) => Meaning::Wrong(at, fault),
-    }
-}
-
-fn by_letter(line: &[u8], clock: u64, letter: LetterRead) -> Meaning
+#[tactic(auto, unfolding(crate::specs::Lesson::by_letter))]
+fn by_letter(line: &[u8], clock: u64, letter: Letter) -> Result<Meaning, Wrong>
     ensures { result ≡ Lesson.by_letter line.now clock letter }
 {
-    if letter.value == b's' {
-        return settings_line(line, letter);
+    match letter.value {
+        b's' => settings_line(line, letter),
+        b'v' => village_line(line, clock, letter),
+        _ => village_of(letter.from, 1, 0, calls::read(line, clock, letter)?),
     }
-    if letter.value == b'v' {
-        return village_line(line, clock, letter);
-    }
-    village_of(letter.from, 1, 0, calls::of_letter(line, clock, letter))
 }
 
 // `v`: a count, a spacing and a call.
-fn village_line(line: &[u8], clock: u64, v: LetterRead) -> Meaning
+#[tactic(auto, unfolding(crate::specs::Lesson::village))]
+fn village_line(line: &[u8], clock: u64, v: Letter) -> Result<Meaning, Wrong>
     ensures { result ≡ Lesson.village line.now clock v }
 {
-    let rest = v.rest;
-    let count = words::number(line, Kind::Count, clock, rest);
-    let rest = count.rest;
-    let spacing = words::number(line, Kind::Time, clock, rest);
-    let rest = spacing.rest;
-    let letter = words::letter(line, rest);
-    village_of(
-        v.from,
-        count.value,
-        spacing.value,
-        calls::read(line, clock, letter),
-    )
+    let (count, at) = words::next_number(line, Kind::Count, clock, v.end)?;
+    let (spacing, at) = words::next_number(line, Kind::Time, clock, at)?;
+    let letter = words::next_letter(line, at)?;
+    let call = calls::read(line, clock, letter)?;
+    village_of(v.from, count, spacing, call)
 }
 
 // The calls, unless a number of the last one has more than 64 bits.
-fn village_of(from: usize, count: u64, spacing: u64, read: CallRead) -> Meaning
-    ensures { result ≡ Lesson.village_of from count spacing read }
+#[tactic(auto, unfolding(crate::specs::Lesson::village_of))]
+fn village_of(from: usize, count: u64, spacing: u64, call: DeskCall) -> Result<Meaning, Wrong>
+    ensures { result ≡ Lesson.village_of from count spacing call }
 {
-    match read {
-        CallRead::Call(call) => {
-            if exercise_lines::is_within(call, spacing, exercise_lines::last(count)) {
-                return Meaning::Calls(call, count, spacing);
-            }
-            Meaning::Wrong(from, Fault::Far)
-        }
-        CallRead::Wrong(at, fault) => Meaning::Wrong(at, fault),
+    if exercise_lines::is_within(call, spacing, exercise_lines::last(count)) {
+        return Ok(Meaning::Calls(call, count, spacing));
     }
+    Err(Wrong {
+        at: from,
+        fault: Fault::Far,
+    })
 }
 
 // `s`: the limits.
-fn settings_line(line: &[u8], s: LetterRead) -> Meaning
+#[tactic(auto, unfolding(crate::specs::Lesson::settings))]
+fn settings_line(line: &[u8], s: Letter) -> Result<Meaning, Wrong>
     ensures { result ≡ Lesson.settings line.now s }
 {
-    let rest = s.rest;
-    let limits = limits_in(line, rest);
-    let value = limits.value;
-    let rest = limits.rest;
-    set_up(s.from, value, words::finish(line, rest))
+    let (limits, at) = limits_in(line, s.end)?;
+    words::finish(line, at)?;
+    set_up(s.from, limits)
 }
 
 // The limits, unless the desk's line would be too long.
-fn set_up(from: usize, limits: Limits, rest: Rest) -> Meaning
-    ensures { result ≡ Lesson.set_up_by from limits rest }
+#[tactic(auto, unfolding(crate::specs::Lesson::set_up_by))]
+fn set_up(from: usize, limits: Limits) -> Result<Meaning, Wrong>
+    ensures { result ≡ Lesson.set_up_by from limits }
 {
-    match rest {
-        Rest::Left(_) => {
-            if limits_size(limits) <= LONGEST_LINE {
-                return Meaning::SetUp(limits);
-            }
-            Meaning::Wrong(from, Fault::Wide)
-        }
-        Rest::Wrong(at, fault) => Meaning::Wrong(at, fault),
+    if limits_size(limits) <= LONGEST_LINE {
+        return Ok(Meaning::SetUp(limits));
     }
+    Err(Wrong {
+        at: from,
+        fault: Fault::Wide,
+    })
 }
 
-// The numbers of a settings line.
-fn limits_in(line: &[u8], rest: Rest) -> LimitsRead
-    ensures { result ≡ Lesson.taken_limits line.now rest }
+// The numbers of a settings line, and the place after them.
+#[tactic(auto, unfolding(crate::specs::Lesson::taken_limits))]
+fn limits_in(line: &[u8], at: usize) -> Result<(Limits, usize), Wrong>
+    ensures { result ≡ Lesson.taken_limits line.now at }
 {
-    let amount = words::number(line, Kind::Number(calls::MOST_32), 0, rest);
-    let rest = amount.rest;
-    let period = words::number(line, Kind::Time, 0, rest);
-    let rest = period.rest;
-    let burst = words::number(line, Kind::Number(calls::MOST_32), 0, rest);
-    let rest = burst.rest;
-    let initial = words::number(line, Kind::Number(calls::MOST_32), 0, rest);
-    let rest = initial.rest;
-    let modems = words::number(line, Kind::Number(u64::MAX), 0, rest);
-    let rest = modems.rest;
-    let shards = words::number(line, Kind::Number(u64::MAX), 0, rest);
-    let rest = shards.rest;
-    let idle = words::idle(line, rest);
-    let rest = idle.rest;
-    let rule = words::number(line, Kind::Number(1), 0, rest);
-    let rest = rule.rest;
-    let idle_time = idle.value;
-    LimitsRead {
-        value: Limits {
-            amount: amount.value as u32,
-            period: period.value,
-            burst: burst.value as u32,
-            initial: initial.value as u32,
-            modems: modems.value,
-            shards: shards.value,
-            idle: idle_time,
-            when_full: rule.value,
-        },
-        rest,
-    }
+    let (amount, at) = words::next_number(line, Kind::Number(calls::MOST_32), 0, at)?;
+    let (period, at) = words::next_number(line, Kind::Time, 0, at)?;
+    let (burst, at) = words::next_number(line, Kind::Number(calls::MOST_32), 0, at)?;
+    let (initial, at) = words::next_number(line, Kind::Number(calls::MOST_32), 0, at)?;
+    let (modems, at) = words::next_number(line, Kind::Number(u64::MAX), 0, at)?;
+    let (shards, at) = words::next_number(line, Kind::Number(u64::MAX), 0, at)?;
+    let (idle, at) = words::next_idle(line, at)?;
+    let (when_full, at) = words::next_number(line, Kind::Number(1), 0, at)?;
+    let limits = Limits {
+        amount: amount as u32,
+        period,
+        burst: burst as u32,
+        initial: initial as u32,
+        modems,
+        shards,
+        idle,
+        when_full,
+    };
+    Ok((limits, at))
 }
 
 // How many bytes a settings line has, without its LF.
@@ -208,11 +174,11 @@ fn field_size(n: u64) -> usize
 }
 
 // How many bytes an idle time has, with the space in front.
-fn idle_size(idle: OptionNumber) -> usize
+fn idle_size(idle: Option<u64>) -> usize
     ensures { (result ≡ length (idle_field idle)) × (result ≤ 21) }
 {
     match idle {
-        OptionNumber::Some(n) => field_size(n),
-        OptionNumber::None => 2,
+        Some(n) => field_size(n),
+        None => 2,
     }
 }

@@ -1,10 +1,8 @@
 -- What a writer left in the buffer.
-use Rattle.std.proofs.Common.{◌≡◌, ℕ, ◌<◌, ◌≤◌, List, [], ◌∷◌, ◌++◌, length, take, drop, ap, ◌∙◌, zero-add, arith, length-append, le-leb}
+use Rattle.std.proofs.Common.{◌≡◌, ℕ, ◌<◌, ◌≤◌, List, [], ◌∷◌, ◌++◌, length, take, drop, ap, ◌∙◌, zero-add, arith, length-append, le-leb, Option, Some, None}
 use lib.Seq.{sets-eq, take-append_seam}
 use Rattle.rows.specs.Outcome.{outcome}
 use Rattle.rows.proofs.OutcomeLaws.{answer_is, after_is}
-use Rattle.decimal.specs.declared.OptionNumber.{OptionNumber}
-use Rattle.decimal.specs.declared.OptionNumber.TheVariants as number
 use Rattle.decimal.proofs.WriteLaws.{digits_count}
 use Rattle.desk_lines.specs.Printed.{written_over, line_feed}
 use Rattle.desk_writer.specs.declared.DeskCall.{DeskCall}
@@ -62,9 +60,9 @@ module _ (call : DeskCall) (out : List ℕ) {r : Written} {out' : List ℕ} (roo
   line_is_inside = omega (arith, line_size_is, has_room)
 
 -- A settings line.
-idle_short : (idle : OptionNumber) → length (idle_field idle) ≤ 21
-idle_short (number.Some n) = omega (arith, digits_count n)
-idle_short number.None = omega arith
+idle_short : (idle : Option ℕ) → length (idle_field idle) ≤ 21
+idle_short (Some n) = omega (arith, digits_count n)
+idle_short None = omega arith
 
 pub limits_short : (l : Limits) → length (limits_line l) ≤ 170
 limits_short l =

@@ -1,5 +1,5 @@
 -- What is left of a lesson before a step and after it.
-use Rattle.std.proofs.Common.{◌≡◌, ℕ, suc, ◌+◌, ◌-◌, ◌<◌, ◌≤◌, false, eqb, ltb, leb, List, [], ◌∷◌, length, take, drop, refl, ap, ◌∙◌, add-one, arith}
+use Rattle.std.proofs.Common.{Result, Ok, Err, ◌≡◌, ℕ, suc, ◌+◌, ◌-◌, ◌<◌, ◌≤◌, eqb, ltb, leb, List, [], ◌∷◌, length, take, drop, refl, ap, ◌∙◌, add-one, arith}
 use Rattle.std.proofs.Common.{length-drop, drop_of_length-le, take_all, drop-drop, ne_eqb}
 use Rattle.arith.proofs.Cases.{by_test, by_le}
 use Rattle.scan.specs.Bytes.{index_of}
@@ -10,62 +10,73 @@ use Rattle.desk_writer.specs.declared.DeskCall.{DeskCall}
 use Rattle.desk_writer.specs.Writer.{written_line}
 use Rattle.exercise_lines.specs.Repeats.{call_on, within64}
 use Rattle.lesson_lines.specs.declared.Limits.{Limits}
-use Rattle.lesson_lines.specs.declared.words.Rest.{Rest}
-use Rattle.lesson_lines.specs.declared.words.Rest.TheVariants.{Left, Wrong}
-use Rattle.lesson_lines.specs.declared.words.LetterRead.{LetterRead}
-use Rattle.lesson_lines.specs.declared.calls.CallRead.{CallRead}
-use Rattle.lesson_lines.specs.declared.calls.CallRead.TheVariants as read
+use Rattle.std.specs.Result.{IfOk}
+use Rattle.std.specs.List.{starts_with}
+use Rattle.std.proofs.lemmas.Bool.Decides.{nat_tests}
+use Rattle.lesson_lines.specs.declared.Wrong.{Wrong}
+use Rattle.lesson_lines.specs.declared.words.Letter.{Letter}
 use Rattle.lesson_lines.specs.declared.Meaning.{Meaning}
 use Rattle.lesson_lines.specs.declared.Meaning.TheVariants as meaning
 use Rattle.lesson_lines.specs.Written.{limits_bytes}
 use Rattle.lesson_words.specs.declared.Kind.TheVariants as kind
-use Rattle.lesson_lines.specs.Lesson.{taken, finished, taken_limits, call_of, call_read, village}
-use Rattle.lesson_lines.specs.Lesson.{meaning_of, moment_in, clock_after, village_of, set_up_by, by_letter, letter_read, words_mean, uncommented, taken_letter}
-use Rattle.lesson_lines.specs.Lesson.{word_from}
+use Rattle.lesson_lines.specs.Lesson.{taken, taken_letter, finished, taken_limits, call_of, village, settings, by_letter, words_mean, uncommented, word_from}
+use Rattle.lesson_lines.specs.Lesson.{meaning_of, moment_in, clock_after, village_of, set_up_by}
+use Rattle.lesson_lines.proofs.StepLaws.{holds_after}
 use Rattle.lesson_writer.specs.Lines.{calls_from}
 use Rattle.lesson_run.specs.declared.Progress.{Progress}
 use Rattle.lesson_run.specs.declared.Step.{Step}
 use Rattle.lesson_run.specs.Run.{all_written, written, falls_to, told, next_number, Output, and_then, output_of, calls_left, left_of, at_line, Good, line_in}
-use Rattle.lesson_run.specs.Run.{notes_in}
+use Rattle.lesson_run.specs.Run.{notes_in, is_marked}
 use Rattle.lesson_run.specs.Run.{one_place_on, CallPut, falls_note, calls_begun, CallsWithin, LineTaken}
 
+-- A byte order mark, byte by byte.
+pub mark_is_ahead : (bs : List ℕ) → starts_with eqb bs (239 ∷ 187 ∷ 191 ∷ []) ≡ is_marked bs
+unfolding is_marked
+mark_is_ahead [] = refl
+mark_is_ahead (a ∷ []) = grind (arith, nat_tests)
+mark_is_ahead (a ∷ b ∷ []) = grind (arith, nat_tests)
+mark_is_ahead (a ∷ b ∷ c ∷ bs) = grind (arith, nat_tests)
+
 -- The calls of a line that is read are within 64 bits.
-village_within : (from count spacing : ℕ) (r : CallRead) → CallsWithin (village_of from count spacing r)
-village_within from count spacing (read.Call c) = by_test (within64 spacing (count - 1) c) (λ t. rw t t) (λ t. rw t tt)
-village_within from count spacing (read.Wrong at f) = tt
+village_within : (from count spacing : ℕ) (c : DeskCall) → IfOk (village_of from count spacing c) CallsWithin
+unfolding village_of
+village_within from count spacing c = by_test (within64 spacing (count - 1) c) (λ t. rw t t) (λ t. rw t tt)
 
-settings_within : (from : ℕ) (l : Limits) (r : Rest) → CallsWithin (set_up_by from l r)
-settings_within from l (Left at) = by_test (leb (length (limits_bytes l)) 100) (λ t. rw t tt) (λ t. rw t tt)
-settings_within from l (Wrong at f) = tt
+set_up_within : (from : ℕ) (l : Limits) → IfOk (set_up_by from l) CallsWithin
+unfolding set_up_by
+set_up_within from l = by_test (leb (length (limits_bytes l)) 100) (λ t. rw t tt) (λ t. rw t tt)
 
-village_line_within : (line : List ℕ) (clock : ℕ) (v : LetterRead) → CallsWithin (village line clock v)
+settings_within : (line : List ℕ) (s : Letter) → IfOk (settings line s) CallsWithin
+unfolding settings
+settings_within line s =
+    holds_after CallsWithin (taken_limits line s.end) _ (λ l _.
+    holds_after CallsWithin (finished line l.1) _ (λ over _. set_up_within s.from l.0))
+
+village_line_within : (line : List ℕ) (clock : ℕ) (v : Letter) → IfOk (village line clock v) CallsWithin
+unfolding village
 village_line_within line clock v =
-    let count = taken line kind.Count clock v.rest in
-    let spacing = taken line kind.Time clock count.rest in
-    let l = taken_letter line spacing.rest in
-    village_within v.from count.value spacing.value (call_read line clock l l.rest)
+    holds_after CallsWithin (taken line kind.Count clock v.end) _ (λ count _.
+    holds_after CallsWithin (taken line kind.Time clock count.1) _ (λ spacing _.
+    holds_after CallsWithin (taken_letter line spacing.1) _ (λ l _.
+    holds_after CallsWithin (call_of line clock l) _ (λ c _. village_within v.from count.0 spacing.0 c))))
 
-letter_within : (line : List ℕ) (clock : ℕ) (l : LetterRead) → CallsWithin (by_letter line clock l)
+letter_within : (line : List ℕ) (clock : ℕ) (l : Letter) → IfOk (by_letter line clock l) CallsWithin
 unfolding by_letter
 letter_within line clock l =
     by_test (eqb l.value 115)
-    (λ t. rw t (settings_within l.from (taken_limits line l.rest).value (finished line (taken_limits line l.rest).rest)))
+    (λ t. rw t (settings_within line l))
     (λ t. by_test (eqb l.value 118)
     (λ u. rw (t, u) (village_line_within line clock l))
-    (λ u. rw (t, u) (village_within l.from 1 0 (call_of line clock l))))
+    (λ u. rw (t, u) (holds_after CallsWithin (call_of line clock l) (village_of l.from 1 0) (λ c _. village_within l.from 1 0 c))))
 
-rest_within : (line : List ℕ) (clock : ℕ) (l : LetterRead) (r : Rest) → CallsWithin (letter_read line clock l r)
-rest_within line clock l (Left at) = letter_within line clock l
-rest_within line clock l (Wrong at f) = tt
-
-words_within : (clock : ℕ) (line : List ℕ) → CallsWithin (words_mean clock line)
+words_within : (clock : ℕ) (line : List ℕ) → IfOk (words_mean clock line) CallsWithin
 unfolding words_mean
 words_within clock line =
     by_test (eqb (word_from line 0) (length line))
     (λ t. rw t tt)
-    (λ t. rw t (rest_within line clock (taken_letter line (Left 0)) (taken_letter line (Left 0)).rest))
+    (λ t. rw t (holds_after CallsWithin (taken_letter line 0) (by_letter line clock) (λ l _. letter_within line clock l)))
 
-pub meaning_within : (clock : ℕ) (line : List ℕ) {m : Meaning} → m ≡ meaning_of clock line → CallsWithin m
+pub meaning_within : (clock : ℕ) (line : List ℕ) {m : Result Meaning Wrong} → m ≡ meaning_of clock line → IfOk m CallsWithin
 meaning_within clock line is = rw is (words_within clock (uncommented line))
 
 -- The first of some lines.
@@ -125,7 +136,7 @@ module _ (text : List ℕ) (p : Progress) (more : p.place < p.count) where
 
 -- A line that was taken.
 module _ (text : List ℕ) (at number clock : ℕ) where
-  abbrev after : Meaning → Output
+  abbrev after : Result Meaning Wrong → Output
   after m = and_then (written m) (told number clock m) (output_of number (clock_after clock m) (lines_of (drop at text)))
 
   pub at_line_left : left_of text (at_line at number clock) ≡ output_of number clock (lines_of (drop at text))
@@ -136,35 +147,29 @@ module _ (text : List ℕ) (at number clock : ℕ) where
 
   calls_left_lem : (c : DeskCall) (count spacing : ℕ) → left_of text (calls_begun c count spacing at number clock).progress
       ≡ and_then (all_written (calls_from c spacing 0 count)) []
-      (output_of number (clock_after clock (meaning.Calls c count spacing)) (lines_of (drop at text)))
+      (output_of number (clock_after clock (Ok (meaning.Calls c count spacing))) (lines_of (drop at text)))
   unfolding left_of
   calls_left_lem c count spacing = let all : count - 0 ≡ count = omega arith in rw all
 
-  pub taken_splits : (m : Meaning) (r : Step) (out : List ℕ) → LineTaken m at number clock r out
+  pub taken_splits : (m : Result Meaning Wrong) (r : Step) (out : List ℕ) → LineTaken m at number clock r out
       → after m ≡ and_then (line_in r.size out) (notes_in r.note) (left_of text r.progress)
-  taken_splits meaning.Blank r out is = rw (is, at_line_left)
-  taken_splits (meaning.SetUp l) r out put =
+  taken_splits (Ok meaning.Blank) r out is = rw (is, at_line_left)
+  taken_splits (Ok (meaning.SetUp l)) r out put =
       rw (put.moves, put.quiet, ne_eqb r.size 0 (λ e. omega (arith, put.some)), put.puts, at_line_left)
-  taken_splits (meaning.Calls c count spacing) r out is = rw (is, calls_left_lem c count spacing, falls_splits (moment_in clock c))
-  taken_splits (meaning.Wrong place f) r out is = rw (is, at_line_left)
+  taken_splits (Ok (meaning.Calls c count spacing)) r out is = rw (is, calls_left_lem c count spacing, falls_splits (moment_in clock c))
+  taken_splits (Err w) r out is = rw (is, at_line_left)
 
-  pub taken_good : (m : Meaning) (r : Step) (out : List ℕ) → CallsWithin m → LineTaken m at number clock r out → Good r.progress
-  taken_good meaning.Blank r out within is = rw is (λ more. absurd (omega arith))
-  taken_good (meaning.SetUp l) r out within put = rw put.moves (λ more. absurd (omega arith))
-  taken_good (meaning.Calls c count spacing) r out within is = rw is (λ more. within)
-  taken_good (meaning.Wrong place f) r out within is = rw is (λ more. absurd (omega arith))
+  pub taken_good : (m : Result Meaning Wrong) (r : Step) (out : List ℕ) → IfOk m CallsWithin → LineTaken m at number clock r out → Good r.progress
+  taken_good (Ok meaning.Blank) r out within is = rw is (λ more. absurd (omega arith))
+  taken_good (Ok (meaning.SetUp l)) r out within put = rw put.moves (λ more. absurd (omega arith))
+  taken_good (Ok (meaning.Calls c count spacing)) r out within is = rw is (λ more. within)
+  taken_good (Err w) r out within is = rw is (λ more. absurd (omega arith))
 
-  pub taken_short : (m : Meaning) (r : Step) (out : List ℕ) → LineTaken m at number clock r out → r.size ≤ length out
-  taken_short meaning.Blank r out is = rw is (omega arith)
-  taken_short (meaning.SetUp l) r out put = put.short
-  taken_short (meaning.Calls c count spacing) r out is = rw is (omega arith)
-  taken_short (meaning.Wrong place f) r out is = rw is (omega arith)
-
-  pub taken_going : (m : Meaning) (r : Step) (out : List ℕ) → LineTaken m at number clock r out → r.over ≡ false
-  taken_going meaning.Blank r out is = rw is
-  taken_going (meaning.SetUp l) r out put = put.going
-  taken_going (meaning.Calls c count spacing) r out is = rw is
-  taken_going (meaning.Wrong place f) r out is = rw is
+  pub taken_short : (m : Result Meaning Wrong) (r : Step) (out : List ℕ) → LineTaken m at number clock r out → r.size ≤ length out
+  taken_short (Ok meaning.Blank) r out is = rw is (omega arith)
+  taken_short (Ok (meaning.SetUp l)) r out put = put.short
+  taken_short (Ok (meaning.Calls c count spacing)) r out is = rw is (omega arith)
+  taken_short (Err w) r out is = rw is (omega arith)
 
 pub call_good : (text : List ℕ) (p : Progress) → p.place < p.count → Good p → {r : Step} {out : List ℕ} → CallPut p r out → Good r.progress
 call_good text p more good put = rw put.moves (λ next. good more)

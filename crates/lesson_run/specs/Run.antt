@@ -1,6 +1,7 @@
 -- What is written for a lesson, and what is told of it: one definition for any input bytes. A run goes through it line by line; what is left to be written and
 -- told from wherever it stands is `left_of`.
 use Rattle.std.specs.Prelude.{◌≡◌, ℕ, ◌+◌, ◌-◌, ◌%◌, ◌^◌, ◌<◌, ◌≤◌, Bool, true, false, cond, List, [], ◌∷◌, ◌++◌, length, take, drop, ◌==◌, nat_le, nat_lt}
+use Rattle.std.specs.Prelude.{Option, Some, None, Result, Ok, Err}
 use Rattle.std.specs.Prelude.{slice_index}
 use Rattle.desk_cutting.specs.Cutting.{lines_of}
 use Rattle.desk_writer.specs.declared.DeskCall.{DeskCall}
@@ -8,6 +9,7 @@ use Rattle.desk_writer.specs.declared.DeskCall.TheVariants as call
 use Rattle.desk_writer.specs.Writer.{written_line}
 use Rattle.exercise_lines.specs.Repeats.{call_on, within64}
 use Rattle.lesson_lines.specs.declared.Limits.{Limits}
+use Rattle.lesson_lines.specs.declared.Wrong.{Wrong}
 use Rattle.lesson_lines.specs.declared.Meaning.{Meaning}
 use Rattle.lesson_lines.specs.declared.Meaning.TheVariants as meaning
 use Rattle.lesson_lines.specs.Lesson.{meaning_of, moment_in, clock_after}
@@ -29,21 +31,21 @@ unfoldable pub all_written : List DeskCall → List (List ℕ)
 all_written [] = []
 all_written (c ∷ cs) = written_line c ∷ all_written cs
 
-abbrev pub written : Meaning → List (List ℕ)
-written meaning.Blank = []
-written (meaning.SetUp l) = limits_line l ∷ []
-written (meaning.Calls c count spacing) = all_written (calls_from c spacing 0 count)
-written (meaning.Wrong at f) = []
+abbrev pub written : Result Meaning Wrong → List (List ℕ)
+written (Ok meaning.Blank) = []
+written (Ok (meaning.SetUp l)) = limits_line l ∷ []
+written (Ok (meaning.Calls c count spacing)) = all_written (calls_from c spacing 0 count)
+written (Err w) = []
 
 -- What is told of the line of a number: what is wrong with it and where; or that its first moment is before the clock.
 abbrev pub falls_to : ℕ → ℕ → ℕ → List Note
 falls_to number clock moment = cond (nat_lt moment clock) (note.Falls number moment clock ∷ []) []
 
-abbrev pub told : ℕ → ℕ → Meaning → List Note
-told number clock meaning.Blank = []
-told number clock (meaning.SetUp l) = []
-told number clock (meaning.Calls c count spacing) = falls_to number clock (moment_in clock c)
-told number clock (meaning.Wrong at f) = note.Wrong number at f ∷ []
+abbrev pub told : ℕ → ℕ → Result Meaning Wrong → List Note
+told number clock (Ok meaning.Blank) = []
+told number clock (Ok (meaning.SetUp l)) = []
+told number clock (Ok (meaning.Calls c count spacing)) = falls_to number clock (moment_in clock c)
+told number clock (Err w) = note.Wrong number w.at w.fault ∷ []
 
 -- Lines are counted in 64 bits.
 abbrev pub next_number : ℕ → ℕ
@@ -94,12 +96,16 @@ notes_in note.Nothing = []
 notes_in (note.Wrong number at f) = note.Wrong number at f ∷ []
 notes_in (note.Falls number moment clock) = note.Falls number moment clock ∷ []
 
--- A step: what it hands out, and what is left after it, is what was left before it. Where it is over nothing is left.
+-- A step: what it hands out, and what is left after it, is what was left before it.
 pub record Stepped (text : List ℕ) (p : Progress) (r : Step) (out : List ℕ) : Type 0 where
   pub splits : left_of text p ≡ and_then (line_in r.size out) (notes_in r.note) (left_of text r.progress)
   pub good : Good r.progress
   pub short : r.size ≤ length out
-  pub ends : r.over ≡ true → left_of text p ≡ record { lines = []; notes = [] }
+
+-- The next step; or there is none, and nothing is left.
+abbrev pub SteppedOrOver : List ℕ → Progress → Option Step → List ℕ → Type 0
+SteppedOrOver text p (Some r) out = Stepped text p r out
+SteppedOrOver text p None out = left_of text p ≡ record { lines = []; notes = [] }
 
 -- The parts of a step. A call is put: one more of those that were left.
 abbrev pub one_place_on : Progress → Progress
@@ -119,11 +125,10 @@ pub record CallPut (p : Progress) (r : Step) (out : List ℕ) : Type 0 where
   pub some : 0 < r.size
   pub short : r.size ≤ length out
   pub quiet : r.note ≡ note.Nothing
-  pub going : r.over ≡ false
 
 -- A line is taken by its meaning: settings are put, and calls are left to be put.
 abbrev pub quiet : Progress → Note → Step
-quiet p n = record { progress = p; size = 0; note = n; over = false }
+quiet p n = record { progress = p; size = 0; note = n }
 
 abbrev pub falls_note : ℕ → ℕ → ℕ → Note
 falls_note number moment clock = cond (nat_lt moment clock) (note.Falls number moment clock) note.Nothing
@@ -145,19 +150,17 @@ pub record LimitsPut (l : Limits) (p : Progress) (r : Step) (out : List ℕ) : T
   pub some : 0 < r.size
   pub short : r.size ≤ length out
   pub quiet : r.note ≡ note.Nothing
-  pub going : r.over ≡ false
 
 abbrev pub CallsWithin : Meaning → Type 0
 CallsWithin meaning.Blank = Unit {0}
 CallsWithin (meaning.SetUp l) = Unit {0}
 CallsWithin (meaning.Calls c count spacing) = within64 spacing (count - 1) c ≡ true
-CallsWithin (meaning.Wrong at f) = Unit {0}
 
-abbrev pub LineTaken : Meaning → ℕ → ℕ → ℕ → Step → List ℕ → Type 0
-LineTaken meaning.Blank at number clock r out = r ≡ quiet (at_line at number clock) note.Nothing
-LineTaken (meaning.SetUp l) at number clock r out = LimitsPut l (at_line at number clock) r out
-LineTaken (meaning.Calls c count spacing) at number clock r out = r ≡ calls_begun c count spacing at number clock
-LineTaken (meaning.Wrong place f) at number clock r out = r ≡ quiet (at_line at number clock) (note.Wrong number place f)
+abbrev pub LineTaken : Result Meaning Wrong → ℕ → ℕ → ℕ → Step → List ℕ → Type 0
+LineTaken (Ok meaning.Blank) at number clock r out = r ≡ quiet (at_line at number clock) note.Nothing
+LineTaken (Ok (meaning.SetUp l)) at number clock r out = LimitsPut l (at_line at number clock) r out
+LineTaken (Ok (meaning.Calls c count spacing)) at number clock r out = r ≡ calls_begun c count spacing at number clock
+LineTaken (Err w) at number clock r out = r ≡ quiet (at_line at number clock) (note.Wrong number w.at w.fault)
 
 -- How many lines were left out, by the notes; and how many lines and lines left out a step hands out.
 abbrev pub wrong_one : Note → ℕ

@@ -1,13 +1,13 @@
 // A lesson, step by step: each step hands out at most one line for the desk and at most one note for a person.
 #![tactic(auto)]
 
-ghost use Rattle.std.specs.Prelude.{◌≡◌, ◌+◌, ◌-◌, ◌<◌, ◌≤◌, true, length};
+ghost use Rattle.std.specs.Prelude.{◌≡◌, ◌+◌, ◌-◌, ◌<◌, ◌≤◌, true, length, IfOk};
 ghost use Rattle.exercise_lines.specs.Repeats.{within64, call_on};
 ghost use Rattle.lesson_lines.specs.Lesson as Lesson;
 ghost use Rattle.lesson_run.specs.Run as Run;
 
 use desk_writer::DeskCall;
-use lesson_lines::{Limits, Meaning};
+use lesson_lines::{Limits, Meaning, Wrong};
 use lesson_words::Fault;
 
 // What is told of a line, by its number.
@@ -35,13 +35,12 @@ pub struct Progress {
     pub spacing: u64,
 }
 
-// A step: where the run stands after it, how many bytes of a line it put, what is to be told, and whether nothing was left.
+// A step: where the run stands after it, how many bytes of a line it put, and what is to be told.
 #[derive(Clone, Copy)]
 pub struct Step {
     pub progress: Progress,
     pub size: usize,
     pub note: Note,
-    pub over: bool,
 }
 
 // Where a run begins: before the first line, after a byte order mark.
@@ -79,39 +78,25 @@ fn at_line(at: usize, number: u64, clock: u64) -> Progress
 fn is_marked(text: &[u8]) -> bool
     ensures { result ≡ Run.is_marked text.now }
 {
-    if text.len() < 3 {
-        return false;
-    }
-    if text[0] != 0xef {
-        return false;
-    }
-    if text[1] != 0xbb {
-        return false;
-    }
-    text[2] == 0xbf
+    text.starts_with(b"\xef\xbb\xbf")
 }
 
-// The next step. A line is put at the start of the buffer.
-pub fn next(text: &[u8], out: &mut [u8], progress: Progress) -> Step
+// The next step, unless nothing is left. A line is put at the start of the buffer.
+pub fn next(text: &[u8], out: &mut [u8], progress: Progress) -> Option<Step>
     requires { (170 ≤ length out.old) × Run.Good progress }
-    ensures { Run.Stepped text.now progress result out.new }
+    ensures { Run.SteppedOrOver text.now progress result out.new }
 {
     if progress.place < progress.count {
-        return next_call(out, progress);
+        return Some(next_call(out, progress));
     }
     let at = progress.at;
     if at < text.len() {
         let stop = scan::find(text, at, text.len(), b'\n');
-        let meaning = lesson_lines::read(progress.clock, &text[at..stop]);
-        let number = std::num::wrapping_add_u64(progress.number, 1);
-        return take(meaning, out, stop + 1, number, progress.clock);
+        let line = lesson_lines::read(progress.clock, &text[at..stop]);
+        let number = progress.number.wrapping_add(1);
+        return Some(take(line, out, stop + 1, number, progress.clock));
     }
-    Step {
-        progress,
-        size: 0,
-        note: Note::Nothing,
-        over: true,
-    }
+    None
 }
 
 // Puts the next of the calls that are left.
@@ -136,22 +121,21 @@ fn next_call(out: &mut [u8], progress: Progress) -> Step
         progress,
         size: written.size,
         note: Note::Nothing,
-        over: false,
     }
 }
 
-// Takes a line by its meaning.
-fn take(meaning: Meaning, out: &mut [u8], at: usize, number: u64, clock: u64) -> Step
-    requires { (170 ≤ length out.old) × Run.CallsWithin meaning }
-    ensures { Run.LineTaken meaning at number clock result out.new }
+// Takes a line by its meaning, or by what is wrong with it.
+fn take(line: Result<Meaning, Wrong>, out: &mut [u8], at: usize, number: u64, clock: u64) -> Step
+    requires { (170 ≤ length out.old) × IfOk line Run.CallsWithin }
+    ensures { Run.LineTaken line at number clock result out.new }
 {
-    match meaning {
-        Meaning::Blank => quiet(at_line(at, number, clock), Note::Nothing),
-        Meaning::SetUp(limits) => set_up(limits, out, at_line(at, number, clock)),
-        Meaning::Calls(call, count, spacing) => calls(call, count, spacing, at, number, clock),
-        Meaning::Wrong(place, fault) => quiet(
+    match line {
+        Ok(Meaning::Blank) => quiet(at_line(at, number, clock), Note::Nothing),
+        Ok(Meaning::SetUp(limits)) => set_up(limits, out, at_line(at, number, clock)),
+        Ok(Meaning::Calls(call, count, spacing)) => calls(call, count, spacing, at, number, clock),
+        Err(wrong) => quiet(
             at_line(at, number, clock),
-            Note::Wrong(number, place, fault),
+            Note::Wrong(number, wrong.at, wrong.fault),
         ),
     }
 }
@@ -164,7 +148,6 @@ fn quiet(progress: Progress, note: Note) -> Step
         progress,
         size: 0,
         note,
-        over: false,
     }
 }
 
@@ -178,7 +161,6 @@ fn set_up(limits: Limits, out: &mut [u8], progress: Progress) -> Step
         progress,
         size,
         note: Note::Nothing,
-        over: false,
     }
 }
 
@@ -215,11 +197,10 @@ fn moment_in(clock: u64, call: DeskCall) -> u64
     ensures { result ≡ Lesson.moment_in clock call }
 {
     match call {
-        DeskCall::Try(request) => request.at.0,
-        DeskCall::Peek(request) => request.at.0,
-        DeskCall::Reserve(request, _) => request.at.0,
-        DeskCall::Refund(_, _) => clock,
-        DeskCall::Remove(_) => clock,
+        DeskCall::Try(request) | DeskCall::Peek(request) | DeskCall::Reserve(request, _) => {
+            request.at.0
+        }
+        DeskCall::Refund(_, _) | DeskCall::Remove(_) => clock,
     }
 }
 
@@ -238,8 +219,7 @@ pub fn wrong_in(note: Note) -> u64
     ensures { result ≡ Run.wrong_one note }
 {
     match note {
-        Note::Nothing => 0,
         Note::Wrong(_, _, _) => 1,
-        Note::Falls(_, _, _) => 0,
+        Note::Nothing | Note::Falls(_, _, _) => 0,
     }
 }

@@ -1,7 +1,9 @@
 -- Times, as the code comes to them.
-use Prim.Native.Nat.{ℕ, zero, suc, ◌+◌, ◌*◌, ◌-◌, ◌/◌, ◌^◌, ◌≤◌, ◌<◌}
+use Rattle.std.specs.Bool.{⊤}
+use Rattle.std.proofs.Common.{Option, Some, None, Err}
+use Prim.Native.Nat.{ℕ, zero, suc, ◌+◌, ◌*◌, ◌-◌, ◌^◌, ◌≤◌, ◌<◌}
 use native.Mathlib.Omega.{arith}
-use native.Mathlib.Nat.{add-zero, le-div_iff_mul-le, div-lt_iff_lt-mul, mul-le-mul_right, mul-le-mul_left, pow-le-pow_right}
+use native.Mathlib.Nat.{add-zero, mul-le-mul_right, mul-le-mul_left, pow-le-pow_right}
 use lib.Pow.{pow-add}
 use mathlib.Core.Path.{◌≡◌, refl, sym, ap, ◌∙◌}
 use mathlib.Core.Bool.{true, true≢false}
@@ -14,16 +16,15 @@ use Rattle.decimal.specs.declared.Digits.{Digits}
 use Rattle.decimal.specs.Decimal.{is_digit, all_digits, front_of, digits_ahead, decimal_from}
 use Rattle.decimal.proofs.ReadLaws.{ahead_within, ahead_are_digits, one_digit_more_fits, front_inside}
 use Rattle.lesson_words.specs.declared.Fault.TheVariants as fault
-use Rattle.lesson_words.specs.declared.Value.TheVariants.{Number, Wrong}
 use Rattle.lesson_words.specs.declared.times.Unit.{Unit}
 use Rattle.lesson_words.specs.declared.times.Fraction.{Fraction}
 use Rattle.lesson_words.specs.Words.{small}
-use Rattle.lesson_words.specs.Times.{most64, one_letter, part_of_second, two_letters, three_letters, unit_of, fraction_of, no_fraction, as_fraction}
+use Rattle.lesson_words.specs.Times.{one_letter, part_of_second, two_letters, three_letters, unit_of, fraction_of, no_fraction, as_fraction}
 use Rattle.lesson_words.specs.Times.{product_of, quotient_of, in_nanos, most_digits, of_decimal}
 use borrow.Author.Tests.{le-leb, lt-leb, eq-eqb, ne_eqb}
 
 -- A unit by how many bytes it has.
-pub unit_of_none : (bs : List ℕ) → length bs ≡ 0 → record { by = 1; tens = 0 } ≡ unit_of bs
+pub unit_of_none : (bs : List ℕ) → length bs ≡ 0 → Some (record { by = 1; tens = 0 }) ≡ unit_of bs
 unfolding unit_of
 unit_of_none [] is = refl
 unit_of_none (a ∷ bs) is = absurd (omega arith)
@@ -49,7 +50,7 @@ unit_of_three (a ∷ b ∷ []) is = absurd (omega arith)
 unit_of_three (a ∷ b ∷ c ∷ []) is = refl
 unit_of_three (a ∷ b ∷ c ∷ d ∷ bs) is = absurd (omega arith)
 
-pub unit_of_more : (bs : List ℕ) → 3 < length bs → record { by = 0; tens = 0 } ≡ unit_of bs
+pub unit_of_more : (bs : List ℕ) → 3 < length bs → None ≡ unit_of bs
 unfolding unit_of
 unit_of_more [] is = absurd (omega arith)
 unit_of_more (a ∷ []) is = absurd (omega arith)
@@ -59,64 +60,56 @@ unit_of_more (a ∷ b ∷ c ∷ d ∷ bs) is = refl
 
 -- A unit is at most an hour.
 pub record Small (u : Unit) : Type 0 where
+  pub by_some : 0 < u.by
   pub by_small : u.by ≤ 36
   pub tens_small : u.tens ≤ 11
 
-one_small : (a : ℕ) → Small (one_letter a)
+abbrev pub SmallIf : Option Unit → Type 0
+SmallIf (Some u) = Small u
+SmallIf None = ⊤
+
+one_small : (a : ℕ) → SmallIf (one_letter a)
 unfolding one_letter
 one_small a =
     by_test (eqb a 115)
-    (λ t. rw t (record { by_small = omega arith; tens_small = omega arith }))
+    (λ t. rw t (record { by_some = omega arith; by_small = omega arith; tens_small = omega arith }))
     (λ t. by_test (eqb a 104)
-    (λ u. rw (t, u) (record { by_small = omega arith; tens_small = omega arith }))
-    (λ u. rw (t, u) (record { by_small = omega arith; tens_small = omega arith })))
+    (λ u. rw (t, u) (record { by_some = omega arith; by_small = omega arith; tens_small = omega arith }))
+    (λ u. rw (t, u) tt))
 
-part_small : (a : ℕ) → Small (part_of_second a)
+part_small : (a : ℕ) → SmallIf (part_of_second a)
 unfolding part_of_second
 part_small a =
     by_test (eqb a 110)
-    (λ t. rw t (record { by_small = omega arith; tens_small = omega arith }))
+    (λ t. rw t (record { by_some = omega arith; by_small = omega arith; tens_small = omega arith }))
     (λ t. by_test (eqb a 117)
-    (λ u. rw (t, u) (record { by_small = omega arith; tens_small = omega arith }))
+    (λ u. rw (t, u) (record { by_some = omega arith; by_small = omega arith; tens_small = omega arith }))
     (λ u. by_test (eqb a 109)
-    (λ v. rw (t, u, v) (record { by_small = omega arith; tens_small = omega arith }))
-    (λ v. rw (t, u, v) (record { by_small = omega arith; tens_small = omega arith }))))
+    (λ v. rw (t, u, v) (record { by_some = omega arith; by_small = omega arith; tens_small = omega arith }))
+    (λ v. rw (t, u, v) tt)))
 
-two_small : (a b : ℕ) → Small (two_letters a b)
+two_small : (a b : ℕ) → SmallIf (two_letters a b)
 unfolding two_letters
-two_small a b = by_test (eqb b 115) (λ t. rw t (part_small a)) (λ t. rw t (record { by_small = omega arith; tens_small = omega arith }))
+two_small a b = by_test (eqb b 115) (λ t. rw t (part_small a)) (λ t. rw t tt)
 
-three_small : (a b c : ℕ) → Small (three_letters a b c)
+three_small : (a b c : ℕ) → SmallIf (three_letters a b c)
 unfolding three_letters
 three_small a b c =
     by_test (eqb a 109)
     (λ t. by_test (eqb b 105)
     (λ u. by_test (eqb c 110)
-    (λ v. rw (t, u, v) (record { by_small = omega arith; tens_small = omega arith }))
-    (λ v. rw (t, u, v) (record { by_small = omega arith; tens_small = omega arith })))
-    (λ u. rw (t, u) (record { by_small = omega arith; tens_small = omega arith })))
-    (λ t. rw t (record { by_small = omega arith; tens_small = omega arith }))
+    (λ v. rw (t, u, v) (record { by_some = omega arith; by_small = omega arith; tens_small = omega arith }))
+    (λ v. rw (t, u, v) tt))
+    (λ u. rw (t, u) tt))
+    (λ t. rw t tt)
 
-pub unit_small : (bs : List ℕ) → Small (unit_of bs)
+pub unit_small : (bs : List ℕ) → SmallIf (unit_of bs)
 unfolding unit_of
-unit_small [] = record { by_small = omega arith; tens_small = omega arith }
+unit_small [] = record { by_some = omega arith; by_small = omega arith; tens_small = omega arith }
 unit_small (a ∷ []) = one_small (small a)
 unit_small (a ∷ b ∷ []) = two_small (small a) (small b)
 unit_small (a ∷ b ∷ c ∷ []) = three_small (small a) (small b) (small c)
-unit_small (a ∷ b ∷ c ∷ d ∷ bs) = record { by_small = omega arith; tens_small = omega arith }
-
--- A product and a quotient, by the tests of the code.
-module _ (n by : ℕ) (some : 0 < by) where
-  pub product_fits : n ≤ most64 / by → n * by ≤ most64
-  product_fits few = (le-div_iff_mul-le some).0 few
-
-  pub product_is : n ≤ most64 / by → Number (n * by) ≡ product_of n by
-  unfolding product_of
-  product_is few = rw (le-leb (n * by) most64 (product_fits few))
-
-  pub product_is_far : most64 / by < n → Wrong fault.Far ≡ product_of n by
-  unfolding product_of
-  product_is_far many = rw (lt-leb (n * by) most64 ((div-lt_iff_lt-mul some).0 many))
+unit_small (a ∷ b ∷ c ∷ d ∷ bs) = tt
 
 -- Digits before and after a point as one number have as many digits as both.
 pub digits_fit : (w e f k : ℕ) → w < 10 ^ e → f < 10 ^ k → w * 10 ^ k + f < 10 ^ (e + k)
@@ -206,12 +199,12 @@ module _ (word : List ℕ) (end : ℕ) (within : end ≤ length word) where
       rw (is ∙ sym (fraction_at_point point refl)) (record { inside = fits.inside; few = fits.few; small = fits.small }))
       (λ other. rw (is ∙ sym (no_fraction_at_another other)) (record { inside = within; few = omega arith; small = omega arith }))
 
--- A power of ten, by one more.
-pub one_power_more : (i : ℕ) → 10 ^ i * 10 ≡ 10 ^ (i + 1)
-one_power_more i = sym (pow-add 10 i 1)
-
+-- Powers of ten.
 pub power_at_most : (i m : ℕ) → i ≤ m → 10 ^ i ≤ 10 ^ m
 power_at_most i m few = pow-le-pow_right {n = 10} (omega arith) few
+
+pub power_fits : (i : ℕ) → i ≤ 17 → 10 ^ i < 2 ^ 64
+power_fits i few = omega (arith, power_at_most i 17 few)
 
 pub power_positive : (i : ℕ) → 0 < 10 ^ i
 power_positive i = omega (arith, power_at_most 0 i (omega arith))
@@ -230,33 +223,24 @@ module _ (whole : Digits) (f : Fraction) (u : Unit) where
   abbrev count : ℕ
   count = whole.end + f.places
 
-  pub no_digits : count ≡ 0 → Wrong fault.Time ≡ of_decimal whole f u
+  pub no_digits : count ≡ 0 → Err fault.Time ≡ of_decimal whole f u
   unfolding of_decimal
   no_digits none = rw (eq-eqb count 0 none)
 
-  pub no_unit : (count ≡ 0 → ⊥) → u.by ≡ 0 → Wrong fault.Time ≡ of_decimal whole f u
+  pub too_many_digits : (count ≡ 0 → ⊥) → most_digits < count → Err fault.Long ≡ of_decimal whole f u
   unfolding of_decimal
-  no_unit some none = rw (ne_eqb count 0 some, eq-eqb u.by 0 none)
+  too_many_digits some many = rw (ne_eqb count 0 some, lt-leb count most_digits many)
 
-  pub too_many_digits : (count ≡ 0 → ⊥) → (u.by ≡ 0 → ⊥) → most_digits < count → Wrong fault.Long ≡ of_decimal whole f u
-  unfolding of_decimal
-  too_many_digits some unit many = rw (ne_eqb count 0 some, ne_eqb u.by 0 unit, lt-leb count most_digits many)
-
-  pub digits_in_nanos : (count ≡ 0 → ⊥) → (u.by ≡ 0 → ⊥) → count ≤ most_digits
+  pub digits_in_nanos : (count ≡ 0 → ⊥) → count ≤ most_digits
       → in_nanos (whole.value * 10 ^ f.places + f.value) f.places u ≡ of_decimal whole f u
   unfolding of_decimal
-  digits_in_nanos some unit few = rw (ne_eqb count 0 some, ne_eqb u.by 0 unit, le-leb count most_digits few)
+  digits_in_nanos some few = rw (ne_eqb count 0 some, le-leb count most_digits few)
 
 -- A unit's factor, and digits times it, fit.
 pub factor_fits : (by k : ℕ) → by ≤ 36 → k ≤ 11 → by * 10 ^ k ≤ 36 * 10 ^ 11
 factor_fits by k small few =
     let first : by * 10 ^ k ≤ 36 * 10 ^ k = mul-le-mul_right (10 ^ k) small in
     omega (arith, power_at_most k 11 few)
-
-pub factor_positive : (by k : ℕ) → 0 < by → 0 < by * 10 ^ k
-factor_positive by k some =
-    let first : 1 * 10 ^ k ≤ by * 10 ^ k = mul-le-mul_right (10 ^ k) (omega arith) in
-    omega (arith, power_positive k)
 
 pub digits_times_unit : (digits by : ℕ) → digits < 10 ^ 17 → by ≤ 36 → digits * by ≤ 10 ^ 17 * 36
 digits_times_unit digits by few small =
@@ -273,8 +257,8 @@ all_digits_fit whole f first second few =
 pub rest_is_dropped : (w : List ℕ) (e : ℕ) → take (length w - e) (drop e w) ≡ drop e w
 rest_is_dropped w e = take_all (length w - e) (drop e w) (omega (arith, length-drop e w))
 
-pub unit_is_small : (bs : List ℕ) {u : Unit} → u ≡ unit_of bs → Small u
-unit_is_small bs is = rw is (unit_small bs)
+pub unit_is_small : (bs : List ℕ) {u : Unit} → Some u ≡ unit_of bs → Small u
+unit_is_small bs is = rw (← is) at (unit_small bs)
 
 -- The digits that a word begins with.
 pub record WholeFits (d : Digits) (size : ℕ) : Type 0 where

@@ -1,7 +1,5 @@
 -- The hardware address on a modem's label, as `00:1a:2b:3c:4d:5e`: six bytes of two hexadecimal digits each, with a colon between two bytes.
-use Rattle.std.specs.Prelude.{ℕ, ◌+◌, ◌*◌, ◌-◌, ◌%◌, Bool, true, false, cond, List, [], ◌∷◌, eqb, leb, length, get_or}
-use Rattle.decimal.specs.declared.OptionNumber.{OptionNumber}
-use Rattle.decimal.specs.declared.OptionNumber.TheVariants as number
+use Rattle.std.specs.Prelude.{ℕ, ◌+◌, ◌*◌, ◌-◌, ◌%◌, Bool, true, false, cond, List, [], ◌∷◌, eqb, leb, length, get_or, Option, Some, None}
 use Rattle.decimal.specs.Decimal.{is_digit}
 use Rattle.lesson_words.specs.Words.{small}
 
@@ -30,5 +28,5 @@ six_bytes word =
     1099511627776 * pair_at word 0 + 4294967296 * pair_at word 3 + 16777216 * pair_at word 6 + 65536 * pair_at word 9 + 256 * pair_at word 12 + pair_at word 15
 
 -- The number of an address. Anything else is none.
-unfoldable pub address_of : List ℕ → OptionNumber
-address_of word = cond (eqb (length word) 17) (cond (all_fit 0 word) (number.Some (six_bytes word)) number.None) number.None
+unfoldable pub address_of : List ℕ → Option ℕ
+address_of word = cond (eqb (length word) 17) (cond (all_fit 0 word) (Some (six_bytes word)) None) None

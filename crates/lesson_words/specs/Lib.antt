@@ -1,4 +1,5 @@
 pub mod Words
+pub mod Steps
 pub mod Times
 pub mod Addresses
 pub mod Values

@@ -1,37 +1,31 @@
 // Hardware addresses, as 00:1a:2b:3c:4d:5e.
 ghost use Rattle.std.specs.Prelude.{◌≡◌, ◌+◌, ◌≤◌, ◌<◌, length};
-ghost use Rattle.decimal.specs.Decimal.{is_digit};
 ghost use Rattle.lesson_words.specs.Addresses as Addresses;
-
-use crate::small;
-use decimal::OptionNumber;
 
 // The bytes of an address.
 const ADDRESS_BYTES: usize = 17;
 
 // The number of an address: its first byte is highest.
-pub fn address(word: &[u8]) -> OptionNumber
+pub fn address(word: &[u8]) -> Option<u64>
     ensures { result ≡ Addresses.address_of word.now }
 {
     if word.len() != ADDRESS_BYTES {
-        return OptionNumber::None;
+        return None;
     }
     if all_fit(word) {
-        return OptionNumber::Some(six_bytes(word));
+        return Some(six_bytes(word));
     }
-    OptionNumber::None
+    None
 }
 
 // Whether every byte fits at its place.
 fn all_fit(word: &[u8]) -> bool
     ensures { result ≡ Addresses.all_fit 0 word.now }
 {
-    let mut i: usize = 0;
-    while i < word.len() {
+    for i in 0..word.len() {
         if !fits_at(i, word[i]) {
             return false;
         }
-        i += 1;
     }
     true
 }
@@ -71,33 +65,12 @@ fn pair(word: &[u8], i: usize) -> u64
 fn hex(byte: u8) -> u64
     ensures { (result ≡ Addresses.hex_of byte) × (result < 16) }
 {
-    if !is_hex(byte) {
-        return 0;
-    }
-    if is_digit(byte) {
-        return (byte - b'0') as u64;
-    }
-    (small(byte) - 87) as u64
+    (byte as char).to_digit(16).unwrap_or(0) as u64
 }
 
+#[tactic(auto, unfolding(crate::specs::Addresses::is_hex))]
 fn is_hex(byte: u8) -> bool
     ensures { result ≡ Addresses.is_hex byte }
 {
-    if is_digit(byte) {
-        return true;
-    }
-    let byte = small(byte);
-    if byte < b'a' {
-        return false;
-    }
-    byte <= b'f'
-}
-
-pub(crate) fn is_digit(byte: u8) -> bool
-    ensures { result ≡ is_digit byte }
-{
-    if byte < b'0' {
-        return false;
-    }
-    byte <= b'9'
+    byte.is_ascii_hexdigit()
 }

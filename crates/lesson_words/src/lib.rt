@@ -4,10 +4,7 @@
 ghost use Rattle.std.specs.Prelude.{◌≡◌, ◌+◌, ◌≤◌, length, drop};
 ghost use Rattle.decimal.specs.Decimal.{all_digits};
 ghost use Rattle.lesson_words.specs.Words as Words;
-ghost use Rattle.lesson_words.specs.Times.{or_else};
 ghost use Rattle.lesson_words.specs.Values as Values;
-
-use decimal::OptionNumber;
 
 pub mod addresses;
 pub mod times;
@@ -53,27 +50,15 @@ pub enum Fault {
     Wide,
 }
 
-// A word's number, or what is wrong with the word.
-#[derive(Clone, Copy)]
-pub enum Value {
-    Number(u64),
-    Wrong(Fault),
-}
-
 // The largest count.
 pub const MOST_CALLS: u64 = 65536;
 
 // Whether a byte separates words.
+#[tactic(auto, unfolding(crate::specs::Words::is_blank))]
 pub fn is_blank(byte: u8) -> bool
     ensures { result ≡ Words.is_blank byte }
 {
-    if byte == b' ' {
-        return true;
-    }
-    if byte == b'\t' {
-        return true;
-    }
-    byte == b'\r'
+    matches!(byte, b' ' | b'\t' | b'\r')
 }
 
 // The place of the next word's first byte, from a place on; the end of the line where there is none.
@@ -81,14 +66,12 @@ pub fn word_start(line: &[u8], from: usize) -> usize
     requires { from ≤ length line.now }
     ensures { result ≡ from + Words.blanks_ahead (drop from line.now) }
 {
-    let mut at = from;
-    while at < line.len() {
+    for at in from..line.len() {
         if !is_blank(line[at]) {
-            break;
+            return at;
         }
-        at += 1;
     }
-    at
+    line.len()
 }
 
 // The place after the word that begins at a place.
@@ -96,36 +79,29 @@ pub fn word_end(line: &[u8], from: usize) -> usize
     requires { from ≤ length line.now }
     ensures { result ≡ from + Words.word_size (drop from line.now) }
 {
-    let mut at = from;
-    while at < line.len() {
+    for at in from..line.len() {
         if is_blank(line[at]) {
-            break;
+            return at;
         }
-        at += 1;
     }
-    at
+    line.len()
 }
 
 // A capital letter as the small letter.
+#[tactic(auto, unfolding(crate::specs::Words::small))]
 pub fn small(byte: u8) -> u8
     ensures { result ≡ Words.small byte }
 {
-    if byte < b'A' {
-        return byte;
-    }
-    if byte > b'Z' {
-        return byte;
-    }
-    byte + 32
+    byte.to_ascii_lowercase()
 }
 
 // The number that a word stands for, by what it has to be. A moment may be counted from the clock.
-pub fn value_of(kind: Kind, clock: u64, word: &[u8]) -> Value
+pub fn value_of(kind: Kind, clock: u64, word: &[u8]) -> Result<u64, Fault>
     ensures { result ≡ Values.value_of kind clock word.now }
 {
     match kind {
         Kind::Number(most) => plain(most, word),
-        Kind::Count => at_least_once(plain(MOST_CALLS, word)),
+        Kind::Count => count(word),
         Kind::Time => times::time(word),
         Kind::Moment => moment(clock, word),
         Kind::Modem => modem(word),
@@ -133,26 +109,14 @@ pub fn value_of(kind: Kind, clock: u64, word: &[u8]) -> Value
 }
 
 // A number of at most `most`.
-fn plain(most: u64, word: &[u8]) -> Value
+fn plain(most: u64, word: &[u8]) -> Result<u64, Fault>
     ensures { result ≡ Values.plain_of most word.now }
 {
-    or_else(
-        decimal::number(word, most),
-        Value::Wrong(number_fault(most, word)),
-    )
-}
-
-// A number, if there is one.
-pub(crate) fn or_else(number: OptionNumber, otherwise: Value) -> Value
-    ensures { result ≡ or_else number otherwise }
-{
-    match number {
-        OptionNumber::Some(n) => Value::Number(n),
-        OptionNumber::None => otherwise,
-    }
+    decimal::number(word, most).ok_or_else(|| number_fault(most, word))
 }
 
 // What is wrong with a word that is no number.
+#[tactic(auto, unfolding(crate::specs::Values::number_fault))]
 fn number_fault(most: u64, word: &[u8]) -> Fault
     ensures { result ≡ Values.number_fault most word.now }
 {
@@ -166,63 +130,42 @@ fn number_fault(most: u64, word: &[u8]) -> Fault
 fn all_digits(word: &[u8]) -> bool
     ensures { result ≡ all_digits word.now }
 {
-    let mut i: usize = 0;
-    while i < word.len() {
-        if !addresses::is_digit(word[i]) {
-            return false;
-        }
-        i += 1;
-    }
-    true
+    word.iter().all(|byte| byte.is_ascii_digit())
 }
 
-// A count, unless it is 0.
-fn at_least_once(value: Value) -> Value
-    ensures { result ≡ Values.at_least_once value }
+// A count, which is not 0.
+fn count(word: &[u8]) -> Result<u64, Fault>
+    ensures { result ≡ Values.count_of word.now }
 {
-    match value {
-        Value::Number(n) => {
-            if n == 0 {
-                return Value::Wrong(Fault::Zero);
-            }
-            Value::Number(n)
-        }
-        Value::Wrong(fault) => Value::Wrong(fault),
+    let count = plain(MOST_CALLS, word)?;
+    if count == 0 {
+        return Err(Fault::Zero);
     }
+    Ok(count)
 }
 
 // A moment: a time, or after a plus sign a time after the clock.
-fn moment(clock: u64, word: &[u8]) -> Value
+fn moment(clock: u64, word: &[u8]) -> Result<u64, Fault>
     ensures { result ≡ Values.moment_of clock word.now }
 {
-    if word.len() == 0 {
-        return times::time(word);
+    match word.strip_prefix(b"+") {
+        Some(time) => later(clock, times::time(time)?),
+        None => times::time(word),
     }
-    if word[0] == b'+' {
-        return later(clock, times::time(&word[1..]));
-    }
-    times::time(word)
 }
 
 // A time after the clock.
-fn later(clock: u64, value: Value) -> Value
-    ensures { result ≡ Values.later clock value }
+fn later(clock: u64, time: u64) -> Result<u64, Fault>
+    ensures { result ≡ Values.later clock time }
 {
-    match value {
-        Value::Number(n) => {
-            if n <= u64::MAX - clock {
-                return Value::Number(clock + n);
-            }
-            Value::Wrong(Fault::Far)
-        }
-        Value::Wrong(fault) => Value::Wrong(fault),
-    }
+    clock.checked_add(time).ok_or(Fault::Far)
 }
 
 // A modem: its number, or its address.
-fn modem(word: &[u8]) -> Value
+fn modem(word: &[u8]) -> Result<u64, Fault>
     ensures { result ≡ Values.modem_of word.now }
 {
-    let address = or_else(addresses::address(word), Value::Wrong(Fault::Modem));
-    or_else(decimal::number(word, u64::MAX), address)
+    decimal::number(word, u64::MAX)
+        .or_else(|| addresses::address(word))
+        .ok_or(Fault::Modem)
 }

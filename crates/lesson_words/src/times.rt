@@ -2,10 +2,10 @@
 ghost use Rattle.std.specs.Prelude.{◌≡◌, ◌+◌, ◌*◌, ◌^◌, ◌≤◌, ◌<◌, length};
 ghost use Rattle.lesson_words.specs.Times as Times;
 
-use crate::{Fault, Value, or_else, small};
+use crate::{Fault, small};
 use decimal::Digits;
 
-// A unit has `by` times ten to the power `tens` nanoseconds. What is no unit has `by` 0.
+// A unit has `by` times ten to the power `tens` nanoseconds.
 #[derive(Clone, Copy)]
 pub struct Unit {
     pub by: u64,
@@ -24,20 +24,25 @@ pub struct Fraction {
 const MOST_DIGITS: usize = 17;
 
 // A time. A plain number is in nanoseconds.
-pub fn time(word: &[u8]) -> Value
+#[tactic(auto, unfolding(crate::specs::Times::time_of))]
+pub fn time(word: &[u8]) -> Result<u64, Fault>
     ensures { result ≡ Times.time_of word.now }
 {
-    or_else(decimal::number(word, u64::MAX), with_unit(word))
+    match decimal::number(word, u64::MAX) {
+        Some(nanos) => Ok(nanos),
+        None => with_unit(word),
+    }
 }
 
 // A decimal number with a unit.
-fn with_unit(word: &[u8]) -> Value
+fn with_unit(word: &[u8]) -> Result<u64, Fault>
     ensures { result ≡ Times.with_unit word.now }
 {
     let whole = decimal::front(word, 0);
     let fraction = fraction_at(word, whole.end);
     let end = fraction.end;
-    of_decimal(whole, fraction, unit_of(&word[end..]))
+    let unit = unit_of(&word[end..]).ok_or(Fault::Time)?;
+    of_decimal(whole, fraction, unit)
 }
 
 // What comes after the digits before a place.
@@ -70,98 +75,81 @@ fn none(end: usize) -> Fraction
     }
 }
 
-// The unit that bytes are.
-fn unit_of(bytes: &[u8]) -> Unit
+// The unit that bytes are. No bytes are nanoseconds.
+fn unit_of(bytes: &[u8]) -> Option<Unit>
     ensures { result ≡ Times.unit_of bytes.now }
 {
-    if bytes.len() == 0 {
-        return Unit { by: 1, tens: 0 };
+    match bytes {
+        [] => Some(Unit { by: 1, tens: 0 }),
+        [a] => one_letter(small(*a)),
+        [a, b] => two_letters(small(*a), small(*b)),
+        [a, b, c] => three_letters(small(*a), small(*b), small(*c)),
+        _ => None,
     }
-    if bytes.len() == 1 {
-        return one_letter(small(bytes[0]));
-    }
-    if bytes.len() == 2 {
-        return two_letters(small(bytes[0]), small(bytes[1]));
-    }
-    if bytes.len() == 3 {
-        return three_letters(small(bytes[0]), small(bytes[1]), small(bytes[2]));
-    }
-    Unit { by: 0, tens: 0 }
 }
 
-fn one_letter(a: u8) -> Unit
+#[tactic(auto, unfolding(crate::specs::Times::one_letter))]
+fn one_letter(a: u8) -> Option<Unit>
     ensures { result ≡ Times.one_letter a }
 {
-    if a == b's' {
-        return Unit { by: 1, tens: 9 };
+    match a {
+        b's' => Some(Unit { by: 1, tens: 9 }),
+        b'h' => Some(Unit { by: 36, tens: 11 }),
+        _ => None,
     }
-    if a == b'h' {
-        return Unit { by: 36, tens: 11 };
-    }
-    Unit { by: 0, tens: 0 }
 }
 
-fn two_letters(a: u8, b: u8) -> Unit
+#[tactic(auto, unfolding(crate::specs::Times::two_letters))]
+fn two_letters(a: u8, b: u8) -> Option<Unit>
     ensures { result ≡ Times.two_letters a b }
 {
-    if b == b's' {
-        return part_of_second(a);
+    match b {
+        b's' => part_of_second(a),
+        _ => None,
     }
-    Unit { by: 0, tens: 0 }
 }
 
-fn part_of_second(a: u8) -> Unit
+#[tactic(auto, unfolding(crate::specs::Times::part_of_second))]
+fn part_of_second(a: u8) -> Option<Unit>
     ensures { result ≡ Times.part_of_second a }
 {
-    if a == b'n' {
-        return Unit { by: 1, tens: 0 };
+    match a {
+        b'n' => Some(Unit { by: 1, tens: 0 }),
+        b'u' => Some(Unit { by: 1, tens: 3 }),
+        b'm' => Some(Unit { by: 1, tens: 6 }),
+        _ => None,
     }
-    if a == b'u' {
-        return Unit { by: 1, tens: 3 };
-    }
-    if a == b'm' {
-        return Unit { by: 1, tens: 6 };
-    }
-    Unit { by: 0, tens: 0 }
 }
 
-fn three_letters(a: u8, b: u8, c: u8) -> Unit
+#[tactic(auto, unfolding(crate::specs::Times::three_letters))]
+fn three_letters(a: u8, b: u8, c: u8) -> Option<Unit>
     ensures { result ≡ Times.three_letters a b c }
 {
-    if a != b'm' {
-        return Unit { by: 0, tens: 0 };
+    match (a, b, c) {
+        (b'm', b'i', b'n') => Some(Unit { by: 6, tens: 10 }),
+        _ => None,
     }
-    if b != b'i' {
-        return Unit { by: 0, tens: 0 };
-    }
-    if c != b'n' {
-        return Unit { by: 0, tens: 0 };
-    }
-    Unit { by: 6, tens: 10 }
 }
 
 // Digits, with a point among them or not, and a unit.
-fn of_decimal(whole: Digits, fraction: Fraction, unit: Unit) -> Value
+fn of_decimal(whole: Digits, fraction: Fraction, unit: Unit) -> Result<u64, Fault>
     requires { (whole.value < 10 ^ whole.end) × (fraction.value < 10 ^ fraction.places) × (whole.end ≤ 19) × (fraction.places ≤ 19)
-        × (unit.by ≤ 36) × (unit.tens ≤ 11) }
+        × (0 < unit.by) × (unit.by ≤ 36) × (unit.tens ≤ 11) }
     ensures { result ≡ Times.of_decimal whole fraction unit }
 {
     let count = whole.end + fraction.places;
     if count == 0 {
-        return Value::Wrong(Fault::Time);
-    }
-    if unit.by == 0 {
-        return Value::Wrong(Fault::Time);
+        return Err(Fault::Time);
     }
     if count > MOST_DIGITS {
-        return Value::Wrong(Fault::Long);
+        return Err(Fault::Long);
     }
     let digits = whole.value * power(fraction.places) + fraction.value;
     in_nanos(digits, fraction.places, unit)
 }
 
 // A number of units in nanoseconds: its digits as one number, of which so many come after the point.
-fn in_nanos(digits: u64, places: usize, unit: Unit) -> Value
+fn in_nanos(digits: u64, places: usize, unit: Unit) -> Result<u64, Fault>
     requires { (digits < 10 ^ 17) × (places ≤ 17) × (unit.by ≤ 36) × (0 < unit.by) × (unit.tens ≤ 11) }
     ensures { result ≡ Times.in_nanos digits places unit }
 {
@@ -172,37 +160,30 @@ fn in_nanos(digits: u64, places: usize, unit: Unit) -> Value
 }
 
 // A product, if it has at most 64 bits.
-fn product(n: u64, by: u64) -> Value
-    requires { 0 < by }
+#[tactic(auto, unfolding(crate::specs::Times::product_of))]
+fn product(n: u64, by: u64) -> Result<u64, Fault>
     ensures { result ≡ Times.product_of n by }
 {
-    if n <= u64::MAX / by {
-        return Value::Number(n * by);
-    }
-    Value::Wrong(Fault::Far)
+    n.checked_mul(by).ok_or(Fault::Far)
 }
 
 // A quotient, if nothing is left over.
-fn quotient(n: u64, by: u64) -> Value
+#[tactic(auto, unfolding(crate::specs::Times::quotient_of))]
+fn quotient(n: u64, by: u64) -> Result<u64, Fault>
     requires { 0 < by }
     ensures { result ≡ Times.quotient_of n by }
 {
     if n % by == 0 {
-        return Value::Number(n / by);
+        return Ok(n / by);
     }
-    Value::Wrong(Fault::Split)
+    Err(Fault::Split)
 }
 
 // A power of ten.
+#[tactic(auto, using(crate::proofs::TimeLaws::power_fits))]
 fn power(n: usize) -> u64
     requires { n ≤ 17 }
     ensures { result ≡ 10 ^ n }
 {
-    let mut power: u64 = 1;
-    let mut i: usize = 0;
-    while i < n {
-        power *= 10;
-        i += 1;
-    }
-    power
+    10u64.pow(n as u32)
 }

@@ -1,12 +1,11 @@
 -- Every line that is written is read by the desk as what the meaning names.
+use Rattle.std.proofs.Common.{Option, Some, None, Result, Ok, Err}
 use Prim.Native.Nat.{ℕ, zero, suc, ◌+◌, ◌≤◌, ◌<◌}
 use native.Mathlib.Omega.{arith}
 use mathlib.Core.Path.{◌≡◌, refl, sym, ap, ◌∙◌}
 use mathlib.Core.Bool.{true, false, true≢false}
 use mathlib.Core.List.{List, [], ◌∷◌, ◌++◌, append_assoc, append-nil}
 use lib.ListN.{length}
-use Rattle.decimal.specs.declared.OptionNumber.{OptionNumber}
-use Rattle.decimal.specs.declared.OptionNumber.TheVariants as number
 use Rattle.decimal.specs.Decimal.{is_digit, all_digits, digits_of}
 use Rattle.decimal.proofs.ReadBackLaws.{digits_are_digits}
 use Rattle.desk_lines.specs.Fields.{fields}
@@ -18,6 +17,8 @@ use Rattle.desk_writer.specs.Writer.{field, spaced, Fits}
 use Rattle.desk_writer.proofs.ReadBackLaws.{digits_are_a_field, number_is_taken, written_line_reads_back}
 use Rattle.exercise_lines.specs.Repeats.{call_on}
 use Rattle.lesson_lines.specs.declared.Limits.{Limits}
+use Rattle.std.specs.Result.{IfOk}
+use Rattle.lesson_lines.specs.declared.Wrong.{Wrong}
 use Rattle.lesson_lines.specs.declared.Meaning.{Meaning}
 use Rattle.lesson_lines.specs.declared.Meaning.TheVariants as meaning
 use Rattle.lesson_lines.specs.Written.{idle_field, limits_bytes, idle_time, settings_of}
@@ -34,14 +35,14 @@ unfolding spaced
 spaced_are_more n ns bs fs rest = rw (append_assoc (field n) (spaced ns) bs) (field_is_more n (spaced ns ++ bs) fs rest)
 
 -- An idle time as a field.
-abbrev idle_digits : OptionNumber → List ℕ
-idle_digits (number.Some n) = digits_of n
-idle_digits number.None = 45 ∷ []
+abbrev idle_digits : Option ℕ → List ℕ
+idle_digits (Some n) = digits_of n
+idle_digits None = 45 ∷ []
 
-idle_is_more : (idle : OptionNumber) (bs : List ℕ) (fs : List (List ℕ)) → fields bs ≡ [] ∷ fs → fields (idle_field idle ++ bs) ≡ [] ∷ idle_digits idle ∷ fs
+idle_is_more : (idle : Option ℕ) (bs : List ℕ) (fs : List (List ℕ)) → fields bs ≡ [] ∷ fs → fields (idle_field idle ++ bs) ≡ [] ∷ idle_digits idle ∷ fs
 unfolding fields
-idle_is_more (number.Some n) bs fs rest = field_is_more n bs fs rest
-idle_is_more number.None bs fs rest = rw rest
+idle_is_more (Some n) bs fs rest = field_is_more n bs fs rest
+idle_is_more None bs fs rest = rw rest
 
 last_field : (n : ℕ) → fields (field n) ≡ [] ∷ digits_of n ∷ []
 unfolding fields
@@ -72,12 +73,12 @@ digits_are_no_dash [] digits = refl
 digits_are_no_dash (d ∷ []) digits = ne_eqb d 45 (λ e. true≢false (sym digits ∙ rw e))
 digits_are_no_dash (d ∷ e ∷ ds) digits = rw (ne_eqb (length (d ∷ e ∷ ds)) 1 (λ h. omega arith))
 
-idle_is_taken : (idle : OptionNumber) (fs : List (List ℕ)) → IdleFits idle
+idle_is_taken : (idle : Option ℕ) (fs : List (List ℕ)) → IdleFits idle
     → taken_idle (left (idle_digits idle ∷ fs)) ≡ record { value = idle_time idle; rest = left fs }
 unfolding is_dash
-idle_is_taken (number.Some n) fs fits =
+idle_is_taken (Some n) fs fits =
     rw (digits_are_no_dash (digits_of n) (digits_are_digits 20 n), number_is_taken most64 n fs (omega arith) fits)
-idle_is_taken number.None fs fits = refl
+idle_is_taken None fs fits = refl
 
 -- The settings are read back.
 settings_are_read : (l : Limits) → LimitsFit l → line_of_letter 115 (left (fields_of l)) ≡ SetUp (settings_of l)
@@ -121,11 +122,10 @@ abbrev pub MeaningFits : Meaning → Type 0
 MeaningFits meaning.Blank = Unit {0}
 MeaningFits (meaning.SetUp l) = LimitsFit l × (length (limits_bytes l) ≤ longest_line)
 MeaningFits (meaning.Calls call count spacing) = EachFits call spacing 0 count
-MeaningFits (meaning.Wrong at f) = Unit {0}
 
-pub written_lines_read_back : (m : Meaning) → MeaningFits m → read_all (lines_of m) ≡ named_by m
+pub written_lines_read_back : (m : Result Meaning Wrong) → IfOk m MeaningFits → read_all (lines_of m) ≡ named_by m
 unfolding read_all
-written_lines_read_back meaning.Blank fits = refl
-written_lines_read_back (meaning.SetUp l) fits = rw (written_settings_read_back l fits.0 fits.1)
-written_lines_read_back (meaning.Calls call count spacing) fits = calls_read_back call spacing 0 count fits
-written_lines_read_back (meaning.Wrong at f) fits = refl
+written_lines_read_back (Ok meaning.Blank) fits = refl
+written_lines_read_back (Ok (meaning.SetUp l)) fits = rw (written_settings_read_back l fits.0 fits.1)
+written_lines_read_back (Ok (meaning.Calls call count spacing)) fits = calls_read_back call spacing 0 count fits
+written_lines_read_back (Err w) fits = refl

@@ -1,4 +1,5 @@
 -- A settings line is put number by number, and what is put is the line of the definition.
+use Rattle.std.proofs.Common.{Option, Some, None}
 use Prim.Native.Nat.{ℕ, ◌+◌, ◌≤◌}
 use native.Mathlib.Omega.{arith}
 use native.Mathlib.Numerals.{add-one}
@@ -6,8 +7,6 @@ use mathlib.Core.Path.{◌≡◌, refl, sym, ap, ◌∙◌}
 use mathlib.Core.List.{List, [], ◌∷◌, ◌++◌, append_assoc}
 use lib.ListN.{length, set, length-append}
 use Rattle.rows.specs.Outcome.{outcome}
-use Rattle.decimal.specs.declared.OptionNumber.{OptionNumber}
-use Rattle.decimal.specs.declared.OptionNumber.TheVariants as number
 use Rattle.decimal.specs.Decimal.{digits_of}
 use Rattle.desk_lines.specs.Fields.{space}
 use Rattle.desk_lines.specs.Printed.{line_feed, printed_field, written_over}
@@ -22,9 +21,9 @@ pub two_bytes : (bytes : List ℕ) (at x y : ℕ) → outcome (at + 2) (set (set
 two_bytes bytes at x y = rw add-one
 
 -- How many bytes the parts have.
-pub idle_short : (idle : OptionNumber) → length (idle_printed idle) ≤ 21
-idle_short (number.Some n) = field_short n space
-idle_short number.None = omega arith
+pub idle_short : (idle : Option ℕ) → length (idle_printed idle) ≤ 21
+idle_short (Some n) = field_short n space
+idle_short None = omega arith
 
 pub four_short : (a b c d : ℕ) → length (four_printed a b c d) ≤ 84
 four_short a b c d =
@@ -43,9 +42,9 @@ four_short a b c d =
 shifted : (n : ℕ) (bs : List ℕ) → space ∷ (printed_field n space ++ bs) ≡ field n ++ (space ∷ bs)
 shifted n bs = ap (λ (x : List ℕ). space ∷ x) (append_assoc (digits_of n) (space ∷ []) bs)
 
-idle_shifted : (idle : OptionNumber) (bs : List ℕ) → space ∷ (idle_printed idle ++ bs) ≡ idle_field idle ++ (space ∷ bs)
-idle_shifted (number.Some n) bs = shifted n bs
-idle_shifted number.None bs = refl
+idle_shifted : (idle : Option ℕ) (bs : List ℕ) → space ∷ (idle_printed idle ++ bs) ≡ idle_field idle ++ (space ∷ bs)
+idle_shifted (Some n) bs = shifted n bs
+idle_shifted None bs = refl
 
 -- What is put is the line.
 spaced_then : (n : ℕ) (ns bs : List ℕ) → spaced (n ∷ ns) ++ bs ≡ field n ++ (spaced ns ++ bs)
@@ -68,7 +67,7 @@ four_shifted a b c d bs =
     ∙ shifted c (printed_field d space ++ bs)
     ∙ ap (λ (x : List ℕ). field c ++ x) (shifted d bs)))
 
-room_shifted : (modems shards : ℕ) (idle : OptionNumber) (rule : ℕ)
+room_shifted : (modems shards : ℕ) (idle : Option ℕ) (rule : ℕ)
     → space ∷ room_printed modems shards idle rule ≡ field modems ++ (field shards ++ (idle_field idle ++ (field rule ++ (line_feed ∷ []))))
 room_shifted modems shards idle rule =
     shifted modems (printed_field shards space ++ (idle_printed idle ++ printed_field rule line_feed))

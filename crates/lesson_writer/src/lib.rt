@@ -6,7 +6,6 @@ ghost use Rattle.rows.specs.Outcome.{outcome};
 ghost use Rattle.desk_lines.specs.Printed.{written_over};
 ghost use Rattle.lesson_writer.specs.Lines.{idle_printed, four_printed, room_printed, limits_line};
 
-use decimal::OptionNumber;
 use desk_lines::print;
 use lesson_lines::Limits;
 
@@ -65,7 +64,7 @@ fn put_room(
     at: usize,
     modems: u64,
     shards: u64,
-    idle: OptionNumber,
+    idle: Option<u64>,
     rule: u64,
 ) -> usize
     requires { at + 84 ≤ length out.old }
@@ -78,13 +77,13 @@ fn put_room(
 }
 
 // Puts an idle time with a space behind it, from a place on. Tells the place after it.
-fn put_idle(out: &mut [u8], at: usize, idle: OptionNumber) -> usize
+fn put_idle(out: &mut [u8], at: usize, idle: Option<u64>) -> usize
     requires { at + 21 ≤ length out.old }
     ensures { outcome result out.new ≡ written_over (idle_printed idle) at out.old }
 {
     match idle {
-        OptionNumber::Some(n) => print::field(out, at, n, b' '),
-        OptionNumber::None => put_dash(out, at),
+        Some(n) => print::field(out, at, n, b' '),
+        None => put_dash(out, at),
     }
 }
 

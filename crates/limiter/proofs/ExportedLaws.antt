@@ -1,12 +1,11 @@
 -- What the flags of a settings struct say, off and on, how an outcome of the rules is told, and the words to lend.
+use Rattle.std.proofs.Common.{Some, None}
 use Prim.Native.Nat.{ℕ, ◌≤◌, ◌<◌}
 use mathlib.Core.Path.{◌≡◌}
 use borrow.Author.Tests.{lt-ltb, le-ltb, eq-eqb, ne_eqb}
-use Rattle.units.specs.declared.OptionNanos.TheVariants as nanos
 use Rattle.units.specs.Units.{nanos_of}
 use Rattle.settings.specs.declared.Limit.TheVariants.{Closed, Open}
 use Rattle.settings.specs.declared.Settings.{Settings}
-use Rattle.settings.specs.declared.rate.OptionTokens.TheVariants as tokens
 use Rattle.settings.specs.Settings.{size_refusal}
 use Rattle.classes.specs.Classes.{most_classes}
 use Rattle.limiter.specs.declared.LimiterSettings.{LimiterSettings}
@@ -14,19 +13,19 @@ use Rattle.limiter.specs.Exported.{tokens_of, idle_of, rate_of, limit_of, words_
 use Rattle.store.specs.Memory.{memory_words}
 
 module _ (flag n : ℕ) where
-  pub tokens_unset : flag ≡ 0 → tokens.None ≡ tokens_of flag n
+  pub tokens_unset : flag ≡ 0 → None ≡ tokens_of flag n
   unfolding tokens_of
   tokens_unset off = rw (eq-eqb _ _ off)
 
-  pub tokens_set : (flag ≡ 0 → ⊥) → tokens.Some n ≡ tokens_of flag n
+  pub tokens_set : (flag ≡ 0 → ⊥) → Some n ≡ tokens_of flag n
   unfolding tokens_of
   tokens_set on = rw (ne_eqb _ _ on)
 
-  pub idle_unset : flag ≡ 0 → nanos.None ≡ idle_of flag n
+  pub idle_unset : flag ≡ 0 → None ≡ idle_of flag n
   unfolding idle_of
   idle_unset off = rw (eq-eqb _ _ off)
 
-  pub idle_set : (flag ≡ 0 → ⊥) → nanos.Some (nanos_of n) ≡ idle_of flag n
+  pub idle_set : (flag ≡ 0 → ⊥) → Some (nanos_of n) ≡ idle_of flag n
   unfolding idle_of
   idle_set on = rw (ne_eqb _ _ on)
 

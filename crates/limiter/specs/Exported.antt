@@ -1,14 +1,11 @@
 -- The limiter on plain numbers, as C and Rust call it: which settings the numbers of a settings struct are, the words to lend, the
 -- hash of a key, and the version of the interface.
-use Rattle.std.specs.Prelude.{ℕ, ◌+◌, ◌*◌, cond, ltb, eqb}
-use Rattle.units.specs.declared.OptionNanos.{OptionNanos}
-use Rattle.units.specs.declared.OptionNanos.TheVariants as nanos
+use Rattle.std.specs.Prelude.{ℕ, ◌+◌, ◌*◌, cond, ltb, eqb, Option, Some, None}
+use Rattle.units.specs.declared.Nanos.{Nanos}
 use Rattle.settings.specs.declared.Limit.{Limit}
 use Rattle.settings.specs.declared.Limit.TheVariants.{Closed, Open}
 use Rattle.settings.specs.declared.Settings.{Settings}
 use Rattle.settings.specs.declared.eviction.Eviction.{Eviction}
-use Rattle.settings.specs.declared.rate.OptionTokens.{OptionTokens}
-use Rattle.settings.specs.declared.rate.OptionTokens.TheVariants as tokens
 use Rattle.settings.specs.declared.rate.Rate.{Rate}
 use Rattle.settings.specs.declared.eviction.WhenFull.TheVariants.{RefuseNew}
 use Rattle.settings.specs.Eviction.{bounds, when_full_of, with_when_full}
@@ -20,11 +17,11 @@ use Rattle.limiter.specs.declared.LimiterSettings.{LimiterSettings}
 use Rattle.store.specs.Memory.{memory_words}
 
 -- A flag of 0 means unset, RefuseNew, or a rate; any other number means set, ForgetDebt, or no rate.
-unfoldable pub tokens_of : ℕ → ℕ → OptionTokens
-tokens_of flag n = cond (eqb flag 0) tokens.None (tokens.Some n)
+unfoldable pub tokens_of : ℕ → ℕ → Option ℕ
+tokens_of flag n = cond (eqb flag 0) None (Some n)
 
-unfoldable pub idle_of : ℕ → ℕ → OptionNanos
-idle_of flag n = cond (eqb flag 0) nanos.None (nanos.Some (record { 0 = n }))
+unfoldable pub idle_of : ℕ → ℕ → Option Nanos
+idle_of flag n = cond (eqb flag 0) None (Some (record { 0 = n }))
 
 abbrev pub rate_of : LimiterSettings → Rate
 rate_of s = record {

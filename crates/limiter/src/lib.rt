@@ -16,7 +16,7 @@ use requests::{Attempt, Why};
 use rules::Reply;
 use rules::codes::Told;
 use settings::eviction::{Eviction, WhenFull};
-use settings::rate::{OptionTokens, Rate};
+use settings::rate::Rate;
 use settings::{Limit, Settings};
 use shard::Identity;
 use units::Nanos;
@@ -208,7 +208,7 @@ pub fn limiter_words(settings: LimiterSettings) -> u64
     ensures { result ≡ words_to_lend (settings_of settings) }
 {
     let settings = settings_of(settings);
-    if settings.size_refusal() != 0 {
+    if settings.check_sizes().is_err() {
         return 0;
     }
     if classes::MOST_CLASSES < settings.classes as usize {
@@ -298,14 +298,10 @@ fn rate(settings: LimiterSettings) -> Rate
 }
 
 // A number of tokens, if its flag is set.
-fn tokens(flag: u32, tokens: u32) -> OptionTokens
+fn tokens(flag: u32, tokens: u32) -> Option<u32>
     ensures { result ≡ tokens_of flag tokens }
 {
-    if flag == 0 {
-        OptionTokens::None
-    } else {
-        OptionTokens::Some(tokens)
-    }
+    if flag == 0 { None } else { Some(tokens) }
 }
 
 // The bounds on the memory, with the rule when full.

@@ -12,7 +12,6 @@ ghost use Rattle.limiter.specs.Exported.{settings_of};
 ghost use Rattle.limiter_modems.specs.IdentityTold.{identity_told};
 
 use limiter::{LimiterSettings, settings_of};
-use modems::Identified;
 use rules::codes::Told;
 use units::Nanos;
 
@@ -100,12 +99,12 @@ pub fn limiter_modem_identity(address: &[u8]) -> LimiterIdentity
     ensures { result ≡ identity_told address.now }
 {
     match modems::identify(address) {
-        Identified::Refused(refusal) => LimiterIdentity {
-            code: 10 + (refusal as u64),
+        Err(refusal) => LimiterIdentity {
+            code: 10 + (u32::from(refusal) as u64),
             hash: 0,
             key: 0,
         },
-        Identified::Modem(identity) => LimiterIdentity {
+        Ok(identity) => LimiterIdentity {
             code: 0,
             hash: identity.hash,
             key: identity.key,

@@ -1,7 +1,12 @@
 -- Which number a slice is refused as, what a call tells with and without such a number, and one turn and the end of the loop that makes a key.
+use Rattle.std.proofs.Common.{Result, Ok, Err}
+use Rattle.settings.specs.declared.refusal.Refusal.{Refusal}
+use Rattle.settings.specs.declared.refusal.Refusal.TheVariants.{AddressLength, GroupAddress}
+use Rattle.settings.specs.Refusal.{number_of, numbered}
+use Rattle.std.specs.Result.{is_err}
 use Prim.Native.Nat.{ℕ, ◌+◌, ◌*◌, ◌^◌, ◌<◌, ◌≤◌}
-use mathlib.Core.Path.{◌≡◌, refl, sym}
-use mathlib.Core.Bool.{Bool, true, false, cond}
+use mathlib.Core.Path.{◌≡◌, refl, sym, ap, ◌∙◌}
+use mathlib.Core.Bool.{Bool, true, false, cond, true≢false}
 use mathlib.Core.List.{List}
 use lib.Dec.{eqb}
 use lib.ListN.{length, drop, get_or, drop_of_length-le}
@@ -14,8 +19,7 @@ use Rattle.rows.specs.Outcome.{Outcome, outcome}
 use Rattle.rules.specs.declared.Reply.{Reply}
 use Rattle.rules.specs.declared.Reply.TheVariants.{Refused}
 use Rattle.rules.specs.Rules.{unless_refused}
-use Rattle.modems.specs.Address.{address_bytes, key_from, group_bit, address_refusal, identity_of, identified}
-use Rattle.modems.specs.declared.Identified.TheVariants as names
+use Rattle.modems.specs.Address.{address_bytes, key_from, group_bit, address_refusal, identity_of, checked, identified}
 
 module _ (address : List ℕ) where
   -- A slice of another length is refused as 11, whatever its bytes.
@@ -42,27 +46,63 @@ module _ (address : List ℕ) where
       six true n none' = refl
       six false n none' = absurd (omega (arith, none'))
 
--- A call by address, as the code comes to it: it tells the number of its address and changes no word, or it is the limiter's call.
-module _ (address ws : List ℕ) {told : ℕ} (is : told ≡ address_refusal address) where
-  pub address_number_is_told : (accepted : Outcome Reply (List ℕ)) → (told ≡ 0 → ⊥)
-      → outcome (Refused told) ws ≡ unless_refused (address_refusal address) ws accepted
-  unfolding unless_refused
-  address_number_is_told accepted some = rw (sym is, ne_eqb _ _ some)
+-- The check with the refusal in the place of its number: what is not six bytes, the address of a group, and any other six bytes.
+module _ (address : List ℕ) where
+  pub other_lengths_are_no_address : (length address ≡ address_bytes → ⊥) → Err AddressLength ≡ checked address
+  unfolding checked
+  other_lengths_are_no_address other = rw (ne_eqb _ _ other)
 
-  pub limiters_call_is_made : {accepted : Outcome Reply (List ℕ)} {made : Outcome Reply (List ℕ)} → told ≡ 0
+  pub groups_are_no_modem : length address ≡ address_bytes → (group_bit address ≡ 0 → ⊥) → Err GroupAddress ≡ checked address
+  unfolding checked
+  groups_are_no_modem six group = rw (eq-eqb _ _ six, ne_eqb _ _ group)
+
+  pub modems_are_checked : length address ≡ address_bytes → group_bit address ≡ 0 → Ok (tt {0}) ≡ checked address
+  unfolding checked
+  modems_are_checked six single = rw (eq-eqb _ _ six, eq-eqb _ _ single)
+
+  pub checked_is_numbered : numbered (checked address) ≡ address_refusal address
+  unfolding checked address_refusal
+  checked_is_numbered = alike (eqb (length address) address_bytes) (eqb (group_bit address) 0)
+    where
+      alike : (six single : Bool) → numbered (cond six (cond single (Ok (tt {0})) (Err GroupAddress)) (Err AddressLength)) ≡ cond six (cond single 0 12) 11
+      alike true true = refl
+      alike true false = refl
+      alike false single = refl
+
+  refused_has_a_number : {refusal : Refusal} → Err refusal ≡ checked address → number_of refusal ≡ 0 → ⊥
+  unfolding checked
+  refused_has_a_number is = has_one (eqb (length address) address_bytes) (eqb (group_bit address) 0) is
+    where
+      has_one : (six single : Bool) {r : Refusal} → Err r ≡ cond six (cond single (Ok (tt {0})) (Err GroupAddress)) (Err AddressLength) → number_of r ≡ 0 → ⊥
+      has_one true true is' none = absurd (true≢false (ap is_err is'))
+      has_one true false is' none = omega (arith, ap numbered is', none)
+      has_one false single is' none = omega (arith, ap numbered is', none)
+
+  pub checked_accepts : {accepted : Unit {0}} → Ok accepted ≡ checked address → address_refusal address ≡ 0
+  checked_accepts is = sym (ap numbered is ∙ checked_is_numbered)
+
+  -- What a slice names.
+  pub refused_names_no_modem : {refusal : Refusal} → Err refusal ≡ checked address → Err refusal ≡ identified address
+  unfolding identified
+  refused_names_no_modem is = rw (sym is)
+
+  pub not_refused_names_a_modem : {accepted : Unit {0}} → Ok accepted ≡ checked address → Ok (identity_of address) ≡ identified address
+  unfolding identified
+  not_refused_names_a_modem is = rw (sym is)
+
+-- A call by address, as the code comes to it: it tells the number of its address and changes no word, or it is the limiter's call.
+module _ (address ws : List ℕ) where
+  pub address_number_is_told : {refusal : Refusal} → Err refusal ≡ checked address → (accepted : Outcome Reply (List ℕ))
+      → outcome (Refused (number_of refusal)) ws ≡ unless_refused (address_refusal address) ws accepted
+  unfolding unless_refused
+  address_number_is_told {refusal = r} is accepted =
+      let number : number_of r ≡ address_refusal address = ap numbered is ∙ checked_is_numbered address in
+      rw (sym number, ne_eqb _ _ (refused_has_a_number address is))
+
+  pub limiters_call_is_made : {done : Unit {0}} → Ok done ≡ checked address → {accepted : Outcome Reply (List ℕ)} {made : Outcome Reply (List ℕ)}
       → made ≡ accepted → made ≡ unless_refused (address_refusal address) ws accepted
   unfolding unless_refused
-  limiters_call_is_made none gave = rw (sym is, eq-eqb _ _ none) gave
-
--- What a slice names, as the code comes to it: the number that it is refused as, or its identity.
-module _ (address : List ℕ) {told : ℕ} (is : told ≡ address_refusal address) where
-  pub refused_names_no_modem : (told ≡ 0 → ⊥) → names.Refused told ≡ identified address
-  unfolding identified
-  refused_names_no_modem some = rw (sym is, ne_eqb _ _ some)
-
-  pub not_refused_names_a_modem : told ≡ 0 → names.Modem (identity_of address) ≡ identified address
-  unfolding identified
-  not_refused_names_a_modem none = rw (sym is, eq-eqb _ _ none)
+  limiters_call_is_made is gave = rw (checked_accepts address is) gave
 
 -- Making the key from place i on takes the byte there, and goes on from the next place; past the last byte it is the number reached.
 pub key_takes_next_byte : (high : ℕ) (bytes : List ℕ) (i : ℕ) → i < length bytes

@@ -4,8 +4,9 @@ use mathlib.Core.List.{List, [], ◌∷◌}
 use Prim.Native.Nat.{ℕ}
 use lib.ListN.{replicate}
 use Rattle.hash.specs.Fnv.{mixed, hash_from}
-use Rattle.modems.specs.Address.{key_from, key_of, hash_of, address_refusal, identified}
-use Rattle.modems.specs.declared.Identified.TheVariants.{Refused, Modem}
+use Rattle.modems.specs.Address.{key_from, key_of, hash_of, address_refusal, checked, identified}
+use Rattle.std.proofs.Common.{Ok, Err}
+use Rattle.settings.specs.declared.refusal.Refusal.TheVariants.{GroupAddress}
 
 abbrev modem : List ℕ
 modem = 0x00 ∷ 0x1a ∷ 0x2b ∷ 0x3c ∷ 0x4d ∷ 0x5e ∷ []
@@ -35,12 +36,12 @@ unfolding address_refusal
 group_is_refused_12 = refl
 
 -- The modem is named by this hash and key; the group by no modem's.
-pub modem_is_identified : identified modem ≡ Modem (record { hash = 0xa6a11141cd935a8b; key = 0x001a2b3c4d5e })
-unfolding identified address_refusal key_from hash_from mixed
+pub modem_is_identified : identified modem ≡ Ok (record { hash = 0xa6a11141cd935a8b; key = 0x001a2b3c4d5e })
+unfolding identified checked key_from hash_from mixed
 modem_is_identified = refl
 
-pub group_is_not_identified : identified (0x01 ∷ 0x00 ∷ 0x5e ∷ 0x00 ∷ 0x00 ∷ 0x01 ∷ []) ≡ Refused 12
-unfolding identified address_refusal
+pub group_is_not_identified : identified (0x01 ∷ 0x00 ∷ 0x5e ∷ 0x00 ∷ 0x00 ∷ 0x01 ∷ []) ≡ Err GroupAddress
+unfolding identified checked
 group_is_not_identified = refl
 
 -- No bytes; and seven whose first has the group bit set: the length comes first.

@@ -1,16 +1,16 @@
 -- Modems by hardware address, over the rules of the limiter below: which slices are addresses, which key and hash an address has, and what each of the five
 -- calls by address answers and leaves. Numbers below 256 stand for bytes.
-use Rattle.std.specs.Prelude.{ℕ, ◌+◌, ◌*◌, ◌%◌, Bool, true, cond, ◌&&◌, List, [], ◌∷◌, eqb, ltb, length, get_or}
+use Rattle.std.specs.Prelude.{ℕ, Result, Ok, Err, ◌+◌, ◌*◌, ◌%◌, Bool, true, cond, ◌&&◌, List, [], ◌∷◌, eqb, ltb, length, get_or}
 use Rattle.rows.specs.Outcome.{Outcome}
 use Rattle.units.specs.declared.Nanos.{Nanos}
 use Rattle.settings.specs.declared.Settings.{Settings}
+use Rattle.settings.specs.declared.refusal.Refusal.{Refusal}
+use Rattle.settings.specs.declared.refusal.Refusal.TheVariants.{AddressLength, GroupAddress}
 use Rattle.hash.specs.Fnv.{fnv1a}
 use Rattle.shard.specs.declared.Identity.{Identity}
 use Rattle.rules.specs.declared.Reply.{Reply}
 use Rattle.rules.specs.Rules.{unless_refused}
 use Rattle.rules.specs.Rules as Rules
-use Rattle.modems.specs.declared.Identified.{Identified}
-use Rattle.modems.specs.declared.Identified.TheVariants.{Refused, Modem}
 
 -- An address has six bytes, and a byte is a number below 256.
 abbrev pub address_bytes : ℕ
@@ -43,9 +43,17 @@ group_bit address = get_or address 0 0 % 2
 unfoldable pub address_refusal : List ℕ → ℕ
 address_refusal address = cond (eqb (length address) address_bytes) (cond (eqb (group_bit address) 0) 0 12) 11
 
--- What a slice names: a modem by its identity, or no modem, by the number that the slice is refused as.
-unfoldable pub identified : List ℕ → Identified
-identified address = cond (eqb (address_refusal address) 0) (Modem (identity_of address)) (Refused (address_refusal address))
+-- The same check, with the refusal in the place of its number (`checked_is_numbered`).
+unfoldable pub checked : List ℕ → Result (Unit {0}) Refusal
+checked address = cond (eqb (length address) address_bytes) (cond (eqb (group_bit address) 0) (Ok (tt {0})) (Err GroupAddress)) (Err AddressLength)
+
+-- What a slice names: a modem by its identity, or no modem, for the refusal of the slice.
+abbrev named_by : Identity → Result (Unit {0}) Refusal → Result Identity Refusal
+named_by id (Ok accepted) = Ok id
+named_by id (Err refusal) = Err refusal
+
+unfoldable pub identified : List ℕ → Result Identity Refusal
+identified address = named_by (identity_of address) (checked address)
 
 -- A call by address is refused for its address before anything else is looked at, the settings too, and changes no word then. Any other is the limiter's call
 -- with the identity of the address: a try,

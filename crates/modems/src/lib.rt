@@ -8,18 +8,12 @@ ghost use Rattle.modems.specs.Address as Address;
 
 use rules::Reply;
 use settings::Settings;
+use settings::refusal::Refusal;
 use shard::Identity;
 use units::Nanos;
 
 // The bytes of an address.
 const ADDRESS_BYTES: usize = 6;
-
-// What a slice names: no modem, by the number that it is refused as, or the modem of this identity.
-#[derive(Clone, Copy)]
-pub enum Identified {
-    Refused(u32),
-    Modem(Identity),
-}
 
 // Takes tokens for a modem without waiting: granted, to be tried again after a wait, or impossible.
 pub fn try_acquire_with_cost(
@@ -31,9 +25,8 @@ pub fn try_acquire_with_cost(
 ) -> Reply
     ensures { outcome result ws.new ≡ Address.try_acquire settings at address.now cost ws.old }
 {
-    let refusal = address_refusal(address);
-    if refusal != 0 {
-        return Reply::Refused(refusal);
+    if let Err(refusal) = check_address(address) {
+        return refusal.into();
     }
     perkey::try_acquire_with_cost(settings, ws, at, identity(address), cost)
 }
@@ -49,9 +42,8 @@ pub fn reserve(
 ) -> Reply
     ensures { outcome result ws.new ≡ Address.reserve settings at address.now cost max_wait ws.old }
 {
-    let refusal = address_refusal(address);
-    if refusal != 0 {
-        return Reply::Refused(refusal);
+    if let Err(refusal) = check_address(address) {
+        return refusal.into();
     }
     perkey::reserve(settings, ws, at, identity(address), cost, max_wait)
 }
@@ -60,9 +52,8 @@ pub fn reserve(
 pub fn peek(settings: Settings, ws: &[u64], at: Nanos, address: &[u8], cost: u32) -> Reply
     ensures { outcome result ws.exit.now ≡ Address.peek settings at address.now cost ws.now }
 {
-    let refusal = address_refusal(address);
-    if refusal != 0 {
-        return Reply::Refused(refusal);
+    if let Err(refusal) = check_address(address) {
+        return refusal.into();
     }
     perkey::peek(settings, ws, at, identity(address), cost)
 }
@@ -71,9 +62,8 @@ pub fn peek(settings: Settings, ws: &[u64], at: Nanos, address: &[u8], cost: u32
 pub fn refund(settings: Settings, ws: &mut [u64], address: &[u8], cost: u32) -> Reply
     ensures { outcome result ws.new ≡ Address.refund settings address.now cost ws.old }
 {
-    let refusal = address_refusal(address);
-    if refusal != 0 {
-        return Reply::Refused(refusal);
+    if let Err(refusal) = check_address(address) {
+        return refusal.into();
     }
     perkey::refund(settings, ws, identity(address), cost)
 }
@@ -82,35 +72,31 @@ pub fn refund(settings: Settings, ws: &mut [u64], address: &[u8], cost: u32) -> 
 pub fn remove(settings: Settings, ws: &mut [u64], address: &[u8]) -> Reply
     ensures { outcome result ws.new ≡ Address.remove settings address.now ws.old }
 {
-    let refusal = address_refusal(address);
-    if refusal != 0 {
-        return Reply::Refused(refusal);
+    if let Err(refusal) = check_address(address) {
+        return refusal.into();
     }
     perkey::remove(settings, ws, identity(address))
 }
 
 // The identity that the five operations give a modem. A caller needs it for what is asked by hash and key alone, and to choose among several stores.
-pub fn identify(address: &[u8]) -> Identified
+pub fn identify(address: &[u8]) -> Result<Identity, Refusal>
     ensures { result ≡ Address.identified address.now }
 {
-    let refusal = address_refusal(address);
-    if refusal != 0 {
-        return Identified::Refused(refusal);
-    }
-    Identified::Modem(identity(address))
+    check_address(address)?;
+    Ok(identity(address))
 }
 
-// The number for a slice that is no address of a modem: 11 if it is not six bytes, else 12 if the group bit is set; 0 for an address.
-fn address_refusal(address: &[u8]) -> u32
-    ensures { result ≡ Address.address_refusal address.now }
+// Whether a slice is the address of a modem: six bytes, with the group bit not set.
+fn check_address(address: &[u8]) -> Result<(), Refusal>
+    ensures { result ≡ Address.checked address.now }
 {
     if address.len() != ADDRESS_BYTES {
-        return 11;
+        return Err(Refusal::AddressLength);
     }
     if address[0] % 2 != 0 {
-        return 12;
+        return Err(Refusal::GroupAddress);
     }
-    0
+    Ok(())
 }
 
 // The identity in the limiter of an address that is not refused: its hash and its key.

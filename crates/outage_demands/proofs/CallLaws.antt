@@ -1,10 +1,10 @@
 -- The calls of a run, one by one; a proof about a run by its tries; what holds of every call; the words that the run leaves.
+use Rattle.std.proofs.Common.{Some, None}
 use Prim.Native.Nat.{ℕ, zero, suc, ◌*◌}
 use mathlib.Core.Path.{◌≡◌, refl}
 use mathlib.Core.List.{List, [], ◌∷◌}
 use lib.ListN.{length}
 use Rattle.rows.specs.Outcome.{Outcome}
-use Rattle.rows.specs.declared.Place.TheVariants.{At, Nowhere}
 use Rattle.settings.specs.declared.Settings.{Settings}
 use Rattle.rules.specs.declared.Reply.{Reply}
 use Rattle.rules.specs.Calls.{Every}
@@ -30,26 +30,26 @@ module _ (s : Settings) where
   abbrev pub answered_in : ℕ → State → List Answered
   answered_in n v = replies rules (calls_in s n v) v.store v.store
 
-  calls_next : (n : ℕ) (v : State) (p : ℕ) → next v.rows ≡ At p → calls_in s (suc n) v ≡ call_of s (row_at v.rows p) ∷ calls_in s n (tried_at s v p)
+  calls_next : (n : ℕ) (v : State) (p : ℕ) → next v.rows ≡ Some p → calls_in s (suc n) v ≡ call_of s (row_at v.rows p) ∷ calls_in s n (tried_at s v p)
   unfolding calls_in
   calls_next n v p is = rw is
 
-  calls_none : (n : ℕ) (v : State) → next v.rows ≡ Nowhere → calls_in s (suc n) v ≡ []
+  calls_none : (n : ℕ) (v : State) → next v.rows ≡ None → calls_in s (suc n) v ≡ []
   unfolding calls_in
   calls_none n v is = rw is
 
-  answered_next : (n : ℕ) (v : State) (p : ℕ) → next v.rows ≡ At p → answered_in (suc n) v ≡ answered_try v p ∷ answered_in n (tried_at s v p)
+  answered_next : (n : ℕ) (v : State) (p : ℕ) → next v.rows ≡ Some p → answered_in (suc n) v ≡ answered_try v p ∷ answered_in n (tried_at s v p)
   unfolding Calls.replies tried_at unless_refused
   answered_next n v p is = rw (calls_next n v p is)
 
-  answered_none : (n : ℕ) (v : State) → next v.rows ≡ Nowhere → answered_in (suc n) v ≡ []
+  answered_none : (n : ℕ) (v : State) → next v.rows ≡ None → answered_in (suc n) v ≡ []
   unfolding Calls.replies
   answered_none n v is = rw (calls_none n v is)
 
   -- A claim about a state, the tries made from it, and the state that they lead to, holds of every run if it holds where no try is made, and of one try more
   -- in front.
   module _ (P : State → List Answered → State → Type 0) (stop : (v : State) → P v [] v)
-      (turn : (v : State) (p : ℕ) → next v.rows ≡ At p
+      (turn : (v : State) (p : ℕ) → next v.rows ≡ Some p
       → (rest : List Answered) (w : State) → P (tried_at s v p) rest w → P v (answered_try v p ∷ rest) w) where
     pub by_tries : (n : ℕ) (v : State) → P v (answered_in n v) (ran s n v)
     unfolding calls_in Calls.replies ran

@@ -1,4 +1,5 @@
 -- The window holds of every run of a village: it is the window of demand 3 for the calls that the run makes.
+use Rattle.std.proofs.Common.{Some}
 use Prim.Native.Nat.{ℕ, ◌+◌, ◌*◌, ◌-◌, ◌≤◌, ◌<◌}
 use native.Mathlib.Omega.{arith}
 use mathlib.Core.Path.{◌≡◌, refl, sym, ap, subst, ◌∙◌}
@@ -6,7 +7,6 @@ use mathlib.Core.Bool.{true}
 use mathlib.Core.List.{List, [], ◌∷◌}
 use lib.ListN.{length}
 use Rattle.arith.proofs.Cases.{by_eq}
-use Rattle.rows.specs.declared.Place.TheVariants.{At}
 use Rattle.rows.specs.Outcome.{Outcome}
 use Rattle.bucket.specs.declared.Request.TheVariants.{Acquire}
 use Rattle.settings.specs.declared.Limit.TheVariants.{Open}
@@ -88,7 +88,7 @@ module _ (s : Settings) where
   abbrev AskedNamed : (Identity → Type 0) → Row → Type 0
   AskedNamed Q row = Asked row → Q (identity_of row.key)
 
-  try_keeps_named : (Q : Identity → Type 0) (v : State) (p : ℕ) → next v.rows ≡ At p → AskedNamed Q (row_at v.rows p)
+  try_keeps_named : (Q : Identity → Type 0) (v : State) (p : ℕ) → next v.rows ≡ Some p → AskedNamed Q (row_at v.rows p)
       → AskedNamed Q (row_at (tried_at s v p).rows p)
   try_keeps_named Q v p is named =
       let f = next_found v.rows p is in

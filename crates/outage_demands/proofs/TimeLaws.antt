@@ -1,4 +1,5 @@
 -- The moments of a run never fall, on any memory: the next row has the least moment, and a told moment is never before its call.
+use Rattle.std.proofs.Common.{Some}
 use Prim.Native.Nat.{ℕ, ◌≤◌, ◌<◌}
 use native.Mathlib.Omega.{arith}
 use mathlib.Core.Path.{◌≡◌, sym}
@@ -7,7 +8,6 @@ use mathlib.Core.List.{List}
 use lib.ListN.{length}
 use Rattle.arith.proofs.Cases.{by_eq}
 use Rattle.rows.specs.Outcome.{Outcome}
-use Rattle.rows.specs.declared.Place.TheVariants.{At}
 use Rattle.settings.specs.declared.Settings.{Settings}
 use Rattle.rules.specs.declared.Reply.{Reply}
 use Rattle.rules.specs.Replies.{told_of}
@@ -43,7 +43,7 @@ clock_within true before at le = (le, omega arith)
 clock_within false before at le = (omega arith, le)
 
 module _ (s : Settings) where
-  waits_on : (v : State) (p before : ℕ) → next v.rows ≡ At p → before ≤ (row_at v.rows p).at.0 → Waits before (tried_at s v p).rows
+  waits_on : (v : State) (p before : ℕ) → next v.rows ≡ Some p → before ≤ (row_at v.rows p).at.0 → Waits before (tried_at s v p).rows
   waits_on v p before is le j b live =
       let f = next_found v.rows p is in
       let row = row_at v.rows p in

@@ -1,4 +1,5 @@
 -- The tokens of a run by its rows are the tokens of its calls: a row is granted at most once, and ends then.
+use Rattle.std.proofs.Common.{Some}
 use Prim.Native.Nat.{ℕ, zero, suc, ◌+◌, ◌<◌}
 use native.Mathlib.Omega.{arith}
 use mathlib.Core.Path.{◌≡◌, refl, sym, ◌∙◌}
@@ -9,7 +10,6 @@ use lib.ListN.{length, set}
 use borrow.Author.Tests.{eq-eqb, ne_eqb}
 use Rattle.arith.proofs.Cases.{by_test, by_eq}
 use Rattle.rows.specs.Outcome.{Outcome}
-use Rattle.rows.specs.declared.Place.TheVariants.{At}
 use Rattle.units.specs.declared.Nanos.{Nanos}
 use Rattle.settings.specs.declared.Settings.{Settings}
 use Rattle.hash.specs.Fnv.{key_hash}
@@ -80,7 +80,7 @@ module _ (key t u : ℕ) where
   tokens_after (row ∷ rows) (suc p) new b = omega (arith, tokens_after rows p new (omega arith))
 
   module _ (s : Settings) where
-    tried_tokens : (v : State) (p : ℕ) → next v.rows ≡ At p
+    tried_tokens : (v : State) (p : ℕ) → next v.rows ≡ Some p
         → tokens_granted key t u (tried_at s v p).rows
         ≡ tokens_of (identity_of key) t u (answered_try s v p).call (answered_try s v p).reply + tokens_granted key t u v.rows
     unfolding tried_at

@@ -15,10 +15,9 @@
 -- lines 2 to 201 as they end (`input_prints_its_village`), run on the words that the set_up_lem of line 1 left (`village_runs_fresh`), and they stay within the
 --   window. None of them was granted before (`lines_not_granted`).
 -- * `denied_line_made_all`: a line that is answered 1 has made 1,000 tries. After the run no row is live (`outage_ends_all` of `outage_rows`).
-use Rattle.std.specs.Prelude.{ℕ, zero, suc, ◌+◌, ◌*◌, ◌<◌, ◌≤◌, ◌≡◌, true, false, cond, List, [], ◌∷◌, ◌++◌, map, leb, eqb, length, take, drop}
+use Rattle.std.specs.Prelude.{ℕ, zero, suc, ◌+◌, ◌*◌, ◌<◌, ◌≤◌, ◌≡◌, true, false, cond, List, [], ◌∷◌, ◌++◌, map, leb, eqb, length, take, drop, Option, Some}
+use Rattle.std.specs.Prelude.{None}
 use Rattle.rows.specs.Outcome.{Outcome}
-use Rattle.rows.specs.declared.Place.{Place}
-use Rattle.rows.specs.declared.Place.TheVariants.{At, Nowhere}
 use Rattle.settings.specs.declared.Limit.TheVariants.{Open}
 use Rattle.settings.specs.declared.Settings.{Settings}
 use Rattle.settings.specs.declared.eviction.WhenFull.TheVariants.{RefuseNew}
@@ -47,9 +46,9 @@ abbrev pub call_of : Settings → Row → Call
 call_of s row = try s row.at (identity_of row.key) (cost_of row.cost)
 
 -- The calls of so many steps; and of the whole run.
-abbrev pub calls_at : Settings → State → Place → List Call → List Call
-calls_at s v Nowhere rest = []
-calls_at s v (At p) rest = call_of s (row_at v.rows p) ∷ rest
+abbrev pub calls_at : Settings → State → Option ℕ → List Call → List Call
+calls_at s v None rest = []
+calls_at s v (Some p) rest = call_of s (row_at v.rows p) ∷ rest
 
 unfoldable pub calls_in : Settings → ℕ → State → List Call
 calls_in s zero v = []

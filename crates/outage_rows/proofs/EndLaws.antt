@@ -1,4 +1,5 @@
 -- What the run leaves of each row: its key and its cost stay; a row that has ended stays as it is; a row that ends with code 1 has made all its tries.
+use Rattle.std.proofs.Common.{Some}
 use Prim.Native.Nat.{ℕ, zero, suc, ◌≤◌, ◌<◌}
 use native.Mathlib.Omega.{arith}
 use mathlib.Core.Path.{◌≡◌, refl, sym, ap, ◌∙◌}
@@ -7,8 +8,6 @@ use lib.ListN.{length}
 use lib.Seq.{get_or-set_same, get_or-set_other}
 use borrow.Author.Tests.{ltb-false}
 use Rattle.arith.proofs.Cases.{by_test, by_eq}
-use Rattle.rows.specs.Outcome.{Outcome}
-use Rattle.rows.specs.declared.Place.TheVariants.{At}
 use Rattle.settings.specs.declared.Settings.{Settings}
 use Rattle.rules.specs.declared.codes.Told.{Told}
 use Rattle.desk_answers.specs.Desk.{tried}
@@ -36,7 +35,7 @@ module _ (s : Settings) where
 
   -- What a try keeps of a live row the run keeps of every row.
   module _ (Q : Row → Type 0) (keeps : (row : Row) (told : Told) → is_live row ≡ true → Q row → Q (after_try row told)) where
-    pub tried_keeps : (v : State) (p : ℕ) → next v.rows ≡ At p → (j : ℕ) → Q (row_at v.rows j) → Q (row_at (tried_at s v p).rows j)
+    pub tried_keeps : (v : State) (p : ℕ) → next v.rows ≡ Some p → (j : ℕ) → Q (row_at v.rows j) → Q (row_at (tried_at s v p).rows j)
     tried_keeps v p is j q =
         let f = next_found v.rows p is in
         by_eq j p

@@ -1,4 +1,5 @@
 -- The run: each try takes one of the tries that are left, so the run ends, with no row live.
+use Rattle.std.proofs.Common.{Some, None}
 use Prim.Native.Nat.{ℕ, zero, suc, ◌+◌, ◌*◌, ◌-◌, ◌≤◌, ◌<◌, min}
 use native.Mathlib.Omega.{arith}
 use mathlib.Core.Path.{◌≡◌, refl, sym, ap, ◌∙◌}
@@ -8,16 +9,14 @@ use lib.ListN.{length, set, length-set}
 use lib.Dec.{ltb, eqb}
 use borrow.Author.Tests.{ltb-true, eqb-true, ne_eqb}
 use Rattle.arith.proofs.Cases.{by_test}
-use Rattle.rows.specs.Outcome.{Outcome, outcome}
-use Rattle.rows.specs.declared.Place.{Place}
-use Rattle.rows.specs.declared.Place.TheVariants.{At, Nowhere}
+use Rattle.rows.specs.Outcome.{outcome}
 use Rattle.settings.specs.declared.Settings.{Settings}
 use Rattle.rules.specs.declared.codes.Told.{Told}
 use Rattle.desk_answers.specs.Desk.{tried}
 use Rattle.outage_rows.specs.declared.Row.{Row}
 use Rattle.outage_rows.specs.Model.{State, most_tries, row_at, is_live, next, request_of, again, made, waiting, ended, after_try, tried_at, ran, outage}
 use Rattle.outage_rows.specs.Model.{rows_run}
-use Rattle.outage_rows.proofs.NextLaws.{First, by_place, next_found, next_nowhere}
+use Rattle.outage_rows.proofs.NextLaws.{by_place, next_found, next_nowhere}
 
 -- The tries that a row has left; and those of all rows. A live row that has made too many has one.
 unfoldable pub left_of : Row → ℕ
@@ -90,7 +89,7 @@ left_after (row ∷ rows) zero new b = omega arith
 left_after (row ∷ rows) (suc p) new b = omega (arith, left_after rows p new (omega arith))
 
 -- Where no try is left no row is next.
-none_left : (rows : List Row) → tries_left rows ≡ 0 → next rows ≡ Nowhere
+none_left : (rows : List Row) → tries_left rows ≡ 0 → next rows ≡ None
 none_left rows none =
     by_place (next rows)
     (λ p is. let f = next_found rows p is in absurd (omega (arith, live_has_some (row_at rows p) f.live, left_of_one rows p f.below)))
@@ -102,7 +101,7 @@ module _ (s : Settings) where
   tried_rows v p = simp length-set
 
   -- A step takes a try.
-  pub try_falls : (v : State) (p : ℕ) → next v.rows ≡ At p → tries_left (tried_at s v p).rows < tries_left v.rows
+  pub try_falls : (v : State) (p : ℕ) → next v.rows ≡ Some p → tries_left (tried_at s v p).rows < tries_left v.rows
   unfolding tried_at
   try_falls v p is =
       let f = next_found v.rows p is in
@@ -111,11 +110,11 @@ module _ (s : Settings) where
       omega (arith, left_after v.rows p (after_try row told) f.below, try_takes_one row told f.live)
 
   -- Steps, one by one.
-  pub ran_next : (n : ℕ) (v : State) (p : ℕ) → next v.rows ≡ At p → ran s (suc n) v ≡ ran s n (tried_at s v p)
+  pub ran_next : (n : ℕ) (v : State) (p : ℕ) → next v.rows ≡ Some p → ran s (suc n) v ≡ ran s n (tried_at s v p)
   unfolding ran
   ran_next n v p is = rw is
 
-  pub ran_still : (n : ℕ) (v : State) → next v.rows ≡ Nowhere → ran s n v ≡ v
+  pub ran_still : (n : ℕ) (v : State) → next v.rows ≡ None → ran s n v ≡ v
   unfolding ran
   ran_still zero v is = refl
   ran_still (suc n) v is = rw is (ran_still n v is)
@@ -131,7 +130,7 @@ module _ (s : Settings) where
       ran_next n v p is ∙ ran_enough n m (tried_at s v p) (omega arith) (omega arith) ∙ sym (ran_next m v p is))
       (λ is. ran_still (suc n) v is ∙ sym (ran_still (suc m) v is))
 
-  pub ran_ends : (n : ℕ) (v : State) → tries_left v.rows ≤ n → next (ran s n v).rows ≡ Nowhere
+  pub ran_ends : (n : ℕ) (v : State) → tries_left v.rows ≤ n → next (ran s n v).rows ≡ None
   ran_ends zero v a = let is = none_left v.rows (omega arith) in rw (ran_still 0 v is) is
   ran_ends (suc n) v a =
       by_place (next v.rows)
@@ -160,16 +159,16 @@ module _ (s : Settings) where
   pub runs_from_start : (v : State) → RunsTo v (outage s v)
   runs_from_start v k enough = ran_enough k (most_tries * length v.rows) v enough (left_at_most v.rows)
 
-  pub takes_a_try : (v v' : State) (p : ℕ) → next v.rows ≡ At p → v' ≡ tried_at s v p → tries_left v'.rows < tries_left v.rows
+  pub takes_a_try : (v v' : State) (p : ℕ) → next v.rows ≡ Some p → v' ≡ tried_at s v p → tries_left v'.rows < tries_left v.rows
   takes_a_try v v' p is tries = rw tries (try_falls v p is)
 
-  pub runs_on : (v v' w : State) (p : ℕ) → next v.rows ≡ At p → v' ≡ tried_at s v p → RunsTo v w → RunsTo v' w
+  pub runs_on : (v v' w : State) (p : ℕ) → next v.rows ≡ Some p → v' ≡ tried_at s v p → RunsTo v w → RunsTo v' w
   runs_on v v' w p is tries same k enough =
       let left : ℕ = tries_left v.rows in
       let falls = takes_a_try v v' p is tries in
       ran_enough k left v' enough (omega arith) ∙ ap (ran s left) tries ∙ sym (ran_next left v p is) ∙ same (suc left) (omega arith)
 
-  pub runs_out : (v w : State) → next v.rows ≡ Nowhere → RunsTo v w → v ≡ w
+  pub runs_out : (v w : State) → next v.rows ≡ None → RunsTo v w → v ≡ w
   runs_out v w is same = sym (ran_still (tries_left v.rows) v is) ∙ same (tries_left v.rows) (omega arith)
 
   -- The words past the last row do not matter to the run.

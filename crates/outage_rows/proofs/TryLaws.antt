@@ -1,16 +1,16 @@
 -- A try as the code makes it: a row is loaded, tried, and stored as it is then.
+use Rattle.std.proofs.Common.{Some}
 use Prim.Native.Nat.{ℕ, ◌*◌, ◌<◌, ◌/◌}
 use mathlib.Core.Path.{◌≡◌, ◌∙◌}
 use mathlib.Core.List.{List}
 use lib.ListN.{length, set, drop}
-use Rattle.rows.specs.Outcome.{Outcome, outcome}
+use Rattle.rows.specs.Outcome.{outcome}
 use Rattle.rows.proofs.OutcomeLaws.{answer_is, after_is}
-use Rattle.rows.specs.declared.Place.TheVariants.{At}
 use Rattle.settings.specs.declared.Settings.{Settings}
 use Rattle.rules.specs.declared.codes.Told.{Told}
 use Rattle.desk_answers.specs.Desk.{tried}
 use Rattle.outage_rows.specs.declared.Row.{Row}
-use Rattle.outage_rows.specs.Model.{State, row_at, next, request_of, after_try, tried_at, outage}
+use Rattle.outage_rows.specs.Model.{row_at, next, request_of, after_try, tried_at, outage}
 use Rattle.outage_rows.specs.Layout.{row_width, rows_in, state_in, state_of}
 use Rattle.outage_rows.proofs.LayoutLaws.{rows_count}
 use Rattle.outage_rows.proofs.NextLaws.{next_found}
@@ -26,7 +26,7 @@ state_tried s n p rs rs' ws ws' row told is gave put others =
     λ j. record { rows = rows_are j; others = others j; store = after_is gave' j }
 
 -- The next row is one of the rows in the words.
-pub next_in_words : (n p : ℕ) (rs : List ℕ) → next (rows_in n rs) ≡ At p → p < n
+pub next_in_words : (n p : ℕ) (rs : List ℕ) → next (rows_in n rs) ≡ Some p → p < n
 next_in_words n p rs is = rw (rows_count n rs) at (next_found (rows_in n rs) p is).below
 
 -- As many rows as there are words for, before the run and after it.

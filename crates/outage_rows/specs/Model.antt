@@ -1,8 +1,6 @@
 -- The run of a village that comes up: rows of tries, which row is tried next, what becomes of it, and the run to its end.
-use Rattle.std.specs.Prelude.{ℕ, zero, suc, ◌+◌, ◌*◌, ◌-◌, ◌^◌, ◌<◌, min, Bool, false, cond, List, [], ltb, eqb, length, get_or, set}
+use Rattle.std.specs.Prelude.{ℕ, zero, suc, ◌+◌, ◌*◌, ◌-◌, ◌^◌, ◌<◌, min, Bool, false, cond, List, [], ltb, eqb, length, get_or, set, Option, Some, None}
 use Rattle.rows.specs.Outcome.{Outcome, outcome}
-use Rattle.rows.specs.declared.Place.{Place}
-use Rattle.rows.specs.declared.Place.TheVariants.{At, Nowhere}
 use Rattle.settings.specs.declared.Settings.{Settings}
 use Rattle.rules.specs.declared.codes.Told.{Told}
 use Rattle.desk_lines.specs.declared.Request.{Request}
@@ -35,27 +33,27 @@ abbrev pub is_live : Row → Bool
 is_live row = ltb 0 row.live
 
 -- The earlier of two live rows, the lower of equals; the first of them is the earliest so far, if there was one.
-unfoldable pub earlier : List Row → Place → ℕ → Place
-earlier rows Nowhere i = At i
-earlier rows (At best) i = cond (ltb (row_at rows i).at.0 (row_at rows best).at.0) (At i) (At best)
+unfoldable pub earlier : List Row → Option ℕ → ℕ → Option ℕ
+earlier rows None i = Some i
+earlier rows (Some best) i = cond (ltb (row_at rows i).at.0 (row_at rows best).at.0) (Some i) (Some best)
 
 -- The earliest live row so far, once the row at place i is looked at too.
-unfoldable pub sooner : List Row → Place → ℕ → Place
+unfoldable pub sooner : List Row → Option ℕ → ℕ → Option ℕ
 sooner rows best i = cond (is_live (row_at rows i)) (earlier rows best i) best
 
 -- The earliest so far, once as many places from i on are looked at.
-unfoldable pub next_from : List Row → ℕ → ℕ → Place → Place
+unfoldable pub next_from : List Row → ℕ → ℕ → Option ℕ → Option ℕ
 next_from rows i zero best = best
 next_from rows i (suc left) best = next_from rows (i + 1) left (sooner rows best i)
 
 -- A place, if it is one, is one of the first n.
-abbrev pub Below : ℕ → Place → Type 0
-Below n Nowhere = Unit {0}
-Below n (At p) = p < n
+abbrev pub Below : ℕ → Option ℕ → Type 0
+Below n None = Unit {0}
+Below n (Some p) = p < n
 
 -- The row that is tried next: the live row of the least moment, the lowest of equals.
-abbrev pub next : List Row → Place
-next rows = next_from rows 0 (length rows) Nowhere
+abbrev pub next : List Row → Option ℕ
+next rows = next_from rows 0 (length rows) None
 
 -- The cost that a word is.
 abbrev pub cost_of : ℕ → ℕ
@@ -95,9 +93,9 @@ tried_at s v p =
     record { rows = set v.rows p (after_try row o.answer); others = v.others; store = o.after }
 
 -- A step of the run: the next row is tried. Where no row is live, nothing changes.
-abbrev pub step_at : Settings → State → Place → State
-step_at s v Nowhere = v
-step_at s v (At p) = tried_at s v p
+abbrev pub step_at : Settings → State → Option ℕ → State
+step_at s v None = v
+step_at s v (Some p) = tried_at s v p
 
 abbrev pub step : Settings → State → State
 step s v = step_at s v (next v.rows)

@@ -7,7 +7,6 @@ ghost use Rattle.outage_rows.specs.Layout.{row_width, rows_in, state_in, state_o
 ghost use Rattle.outage_rows.specs.Model.{Below};
 
 use desk_lines::Request;
-use rows::Place;
 use rules::codes::Told;
 use settings::Settings;
 use units::Nanos;
@@ -58,10 +57,7 @@ fn run_rows(settings: Settings, rs: &mut [u64], n: usize, ws: &mut [u64])
     requires { row_width * n ≤ length rs.old }
     ensures { state_in n rs.new ws.new ≡ Model.outage settings (state_in n rs.old ws.old) }
 {
-    loop {
-        let Place::At(p) = next(rs, n) else {
-            return;
-        };
+    while let Some(p) = next(rs, n) {
         try_at(settings, rs, n, p, ws);
     }
 }
@@ -80,12 +76,10 @@ fn try_at(settings: Settings, rs: &mut [u64], n: usize, p: usize, ws: &mut [u64]
 fn request(row: Row) -> Request
     ensures { result ≡ Model.request_of row }
 {
-    let at = row.at;
-    let cost = cost_of(row.cost);
     Request {
-        at,
+        at: row.at,
         key: row.key,
-        cost,
+        cost: cost_of(row.cost),
     }
 }
 
@@ -108,21 +102,17 @@ fn after_try(row: Row, told: Told) -> Row
     if again(tries, told) {
         return Row {
             at: Nanos(told.moment),
-            key: row.key,
-            cost: row.cost,
             tries,
             code: told.code,
             live: 1,
+            ..row
         };
     }
-    let last = row.at;
     Row {
-        at: last,
-        key: row.key,
-        cost: row.cost,
         tries,
         code: told.code,
         live: 0,
+        ..row
     }
 }
 
@@ -148,21 +138,19 @@ fn one_more(tries: u64) -> u64
 }
 
 // The place of the row that is tried next: the live row of the least moment, the lowest of equals.
-fn next(rs: &[u64], n: usize) -> Place
+fn next(rs: &[u64], n: usize) -> Option<usize>
     requires { row_width * n ≤ length rs.now }
     ensures { result ≡ Model.next (rows_in n rs.now) }
 {
-    let mut best = Place::Nowhere;
-    let mut i: usize = 0;
-    while i < n {
+    let mut best = None;
+    for i in 0..n {
         best = sooner(rs, n, best, i);
-        i += 1;
     }
     best
 }
 
 // The earliest live row so far, once the row at place i is looked at too.
-fn sooner(rs: &[u64], n: usize, best: Place, i: usize) -> Place
+fn sooner(rs: &[u64], n: usize, best: Option<usize>, i: usize) -> Option<usize>
     requires { (row_width * n ≤ length rs.now) × (i < n) × Below n best }
     ensures { result ≡ Model.sooner (rows_in n rs.now) best i }
 {
@@ -171,13 +159,13 @@ fn sooner(rs: &[u64], n: usize, best: Place, i: usize) -> Place
         return best;
     }
     match best {
-        Place::Nowhere => Place::At(i),
-        Place::At(b) => {
+        None => Some(i),
+        Some(b) => {
             let first = words::load(rs, n, b);
             if row.at.0 < first.at.0 {
-                Place::At(i)
+                Some(i)
             } else {
-                Place::At(b)
+                Some(b)
             }
         }
     }

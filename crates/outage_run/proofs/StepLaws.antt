@@ -197,14 +197,14 @@ module _ (s : Settings) (number : ℕ) (line : Line) (v : Village) where
   pub row_is_further : (v.room ≡ 0 → ⊥) → row_taken number line v ≡ further_taken s number line v
   row_is_further some = rw (ne_eqb v.room 0 some)
 
-module _ (line : List ℕ) (v : Village) {number : ℕ} (counts : number ≡ next_number v.number) where
-  pub first_is_line : v.stage ≡ First → first_taken number (line_of line) v ≡ line_taken line v
+module _ (line : List ℕ) (v : Village) where
+  pub first_is_line : v.stage ≡ First → first_taken (next_number v.number) (line_of line) v ≡ line_taken line v
   unfolding line_taken
-  first_is_line is = rw (is, counts)
+  first_is_line is = rw is
 
-  pub further_is_line : (s : Settings) → v.stage ≡ Open s → further_taken s number (line_of line) v ≡ line_taken line v
+  pub further_is_line : (s : Settings) → v.stage ≡ Open s → further_taken s (next_number v.number) (line_of line) v ≡ line_taken line v
   unfolding line_taken
-  further_is_line s is = rw (is, counts)
+  further_is_line s is = rw is
 
 -- No line is taken once the run has ended; and where it has not begun, or has ended, no row waits at the end of the input.
 pub nothing_took : (lines : ℕ) (step : Village → Outcome (List ℕ) Village) (f : Feed) (rs memory output : List ℕ)

@@ -139,7 +139,7 @@ fn take_line(line: &[u8], output: &mut [u8], rs: &mut [u64], memory: &mut [u64],
     ensures { Took 1 (line_taken line.now) feed rs.old memory.old output.old result rs.new
         memory.new output.new }
 {
-    let number = std::num::wrapping_add_u64(feed.number, 1);
+    let number = feed.number.wrapping_add(1);
     let stage = feed.stage;
     match stage {
         Stage::First => first(number, line, output, memory, feed),

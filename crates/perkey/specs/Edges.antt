@@ -1,13 +1,11 @@
 -- The edges of document 01 that are theorems, and some of our own beside them (keys that share a hash, the wait of a key's own bucket), as a table: a row has
 -- its settings, its calls and what they come to. One test goes over all rows.
-use Rattle.std.specs.Prelude.{ℕ, Bool, true, false, ◌&&◌, List, [], ◌∷◌, eqb, replicate}
+use Rattle.std.specs.Prelude.{ℕ, Bool, true, false, ◌&&◌, List, [], ◌∷◌, eqb, replicate, Option, Some, None}
+use Rattle.units.specs.declared.Millis.{Millis}
 use Rattle.rows.specs.Outcome.{Outcome}
-use Rattle.units.specs.declared.OptionMillis.{OptionMillis}
-use Rattle.units.specs.declared.OptionMillis.TheVariants as millis
 use Rattle.settings.specs.declared.Limit.TheVariants.{Open}
 use Rattle.settings.specs.declared.Settings.{Settings}
 use Rattle.settings.specs.declared.eviction.Eviction.{Eviction}
-use Rattle.settings.specs.declared.rate.OptionTokens.TheVariants.{None, Some}
 use Rattle.settings.specs.declared.rate.Rate.{Rate}
 use Rattle.settings.specs.Eviction.{capacity_of, bounded_by}
 use Rattle.settings.specs.Settings.{shard_count, cap_of, idle_limit}
@@ -101,9 +99,9 @@ same_words [] (y ∷ ys) = false
 same_words (x ∷ xs) [] = false
 same_words (x ∷ xs) (y ∷ ys) = eqb x y && same_words xs ys
 
-abbrev limit_is : OptionMillis → ℕ → Bool
-limit_is millis.None limit = false
-limit_is (millis.Some ms) limit = eqb ms.0 limit
+abbrev limit_is : Option Millis → ℕ → Bool
+limit_is None limit = false
+limit_is (Some ms) limit = eqb ms.0 limit
 
 abbrev tells : Reply → ℕ → ℕ → ℕ → Bool
 tells reply code number moment = eqb (code_of reply) code && eqb (number_of reply) number && eqb (moment_of reply) moment

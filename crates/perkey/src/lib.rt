@@ -15,13 +15,11 @@ ghost use Rattle.rules.specs.Rules as Rules;
 
 use bucket::{Due, Request};
 use requests::Attempt;
-use rows::Place;
 use rules::Reply;
 use settings::decision::Decision;
 use settings::rate::Rate;
 use settings::{Limit, Settings};
 use shard::Identity;
-use store::lending::Lending;
 use store::{Part, lending, refusals};
 use units::Nanos;
 
@@ -29,9 +27,8 @@ use units::Nanos;
 pub fn set_up(settings: Settings, ws: &mut [u64]) -> Reply
     ensures { outcome result ws.new ≡ Rules.set_up settings ws.old }
 {
-    let refusal = refusals::set_up_refusal(settings, 0, ws);
-    if refusal != 0 {
-        return Reply::Refused(refusal);
+    if let Err(refusal) = refusals::check_set_up(settings, 0, ws) {
+        return refusal.into();
     }
     store::clear(ws);
     Reply::Done
@@ -78,17 +75,15 @@ pub fn reserve(
 pub fn peek(settings: Settings, ws: &[u64], at: Nanos, id: Identity, cost: u32) -> Reply
     ensures { outcome result ws.exit.now ≡ Rules.peek settings at id cost ws.now }
 {
-    let limit = settings.limit;
-    match limit {
+    match settings.limit {
         Limit::Closed => {
-            let late = refusals::moment_refusal(at);
             let told = Reply::Tried(rules::closed(at, cost));
             rules::unless_refused(
-                settings.refusal(),
+                settings.check(),
                 settings.shape(),
                 ws,
                 id.hash,
-                late,
+                refusals::check_moment(at),
                 told,
             )
         }
@@ -108,9 +103,9 @@ fn peek_open(
     requires { settings.limit ≡ Open rate }
     ensures { outcome result ws.exit.now ≡ Rules.peek settings at id cost ws.now }
 {
-    match lending::lend_for(settings, ws, id.hash, refusals::moment_refusal(at)) {
-        Lending::Refused(refusal) => Reply::Refused(refusal),
-        Lending::Lent(part) => peek_bucket(rate, ws, part, at, id, cost),
+    match lending::lend_for(settings, ws, id.hash, refusals::check_moment(at)) {
+        Err(refusal) => refusal.into(),
+        Ok(part) => peek_bucket(rate, ws, part, at, id, cost),
     }
 }
 
@@ -124,11 +119,11 @@ fn peek_bucket(rate: Rate, ws: &[u64], part: Part, at: Nanos, id: Identity, cost
         return Reply::Tried(Decision::Impossible);
     }
     match store::position(ws, part, id) {
-        Place::At(pos) => {
+        Some(pos) => {
             let bucket = store::bucket_at(ws, part, pos);
             due_reply(bucket.due_at(rate.config(), cost, at))
         }
-        Place::Nowhere => {
+        None => {
             let config = rate.config();
             let bucket = store::returning_bucket(ws, part, config, id.hash, at);
             due_reply(bucket.due_at(config, cost, at))
@@ -151,10 +146,9 @@ fn due_reply(due: Due) -> Reply
 pub fn available(settings: Settings, ws: &[u64], at: Nanos, id: Identity) -> Reply
     ensures { outcome result ws.exit.now ≡ Rules.available settings at id ws.now }
 {
-    let limit = settings.limit;
-    match lending::lend_for(settings, ws, id.hash, refusals::moment_refusal(at)) {
-        Lending::Refused(refusal) => Reply::Refused(refusal),
-        Lending::Lent(part) => Reply::Count(tokens_in(limit, ws, part, at, id)),
+    match lending::lend_for(settings, ws, id.hash, refusals::check_moment(at)) {
+        Err(refusal) => refusal.into(),
+        Ok(part) => Reply::Count(tokens_in(settings.limit, ws, part, at, id)),
     }
 }
 
@@ -177,9 +171,9 @@ fn tokens_in(limit: Limit, ws: &[u64], part: Part, at: Nanos, id: Identity) -> u
 pub fn turned_away(settings: Settings, ws: &[u64], id: Identity) -> Reply
     ensures { outcome result ws.exit.now ≡ Rules.times_turned_away settings id ws.now }
 {
-    match lending::lend_for(settings, ws, id.hash, 0) {
-        Lending::Refused(refusal) => Reply::Refused(refusal),
-        Lending::Lent(part) => Reply::Count(store::turned_away(ws, part, id)),
+    match lending::lend_for(settings, ws, id.hash, Ok(())) {
+        Err(refusal) => refusal.into(),
+        Ok(part) => Reply::Count(store::turned_away(ws, part, id)),
     }
 }
 
@@ -187,12 +181,15 @@ pub fn turned_away(settings: Settings, ws: &[u64], id: Identity) -> Reply
 pub fn refund(settings: Settings, ws: &mut [u64], id: Identity, cost: u32) -> Reply
     ensures { outcome result ws.new ≡ Rules.refund settings id cost ws.old }
 {
-    let limit = settings.limit;
-    match limit {
-        Limit::Closed => {
-            let told = Reply::Nothing;
-            rules::unless_refused(settings.refusal(), settings.shape(), ws, id.hash, 0, told)
-        }
+    match settings.limit {
+        Limit::Closed => rules::unless_refused(
+            settings.check(),
+            settings.shape(),
+            ws,
+            id.hash,
+            Ok(()),
+            Reply::Nothing,
+        ),
         Limit::Open(rate) => refund_open(settings, rate, ws, id, cost),
     }
 }
@@ -202,9 +199,9 @@ fn refund_open(settings: Settings, rate: Rate, ws: &mut [u64], id: Identity, cos
     requires { settings.limit ≡ Open rate }
     ensures { outcome result ws.new ≡ Rules.refund settings id cost ws.old }
 {
-    match lending::lend_for(settings, ws, id.hash, 0) {
-        Lending::Refused(refusal) => Reply::Refused(refusal),
-        Lending::Lent(part) => give_back(rate, ws, part, id, cost),
+    match lending::lend_for(settings, ws, id.hash, Ok(())) {
+        Err(refusal) => refusal.into(),
+        Ok(part) => give_back(rate, ws, part, id, cost),
     }
 }
 
@@ -221,9 +218,9 @@ fn give_back(rate: Rate, ws: &mut [u64], part: Part, id: Identity, cost: u32) ->
 pub fn remove(settings: Settings, ws: &mut [u64], id: Identity) -> Reply
     ensures { outcome result ws.new ≡ Rules.remove settings id ws.old }
 {
-    match lending::lend_for(settings, ws, id.hash, 0) {
-        Lending::Refused(refusal) => Reply::Refused(refusal),
-        Lending::Lent(part) => known_reply(store::remove(ws, part, id)),
+    match lending::lend_for(settings, ws, id.hash, Ok(())) {
+        Err(refusal) => refusal.into(),
+        Ok(part) => known_reply(store::remove(ws, part, id)),
     }
 }
 
@@ -245,9 +242,8 @@ pub fn clear(settings: Settings, ws: &mut [u64]) -> Reply
 pub fn len(settings: Settings, ws: &[u64]) -> Reply
     ensures { outcome result ws.exit.now ≡ Rules.len settings ws.now }
 {
-    let refusal = refusals::len_refusal(settings, ws);
-    if refusal != 0 {
-        return Reply::Refused(refusal);
+    if let Err(refusal) = refusals::check_len(settings, ws) {
+        return refusal.into();
     }
     Reply::Count(store::len(ws))
 }

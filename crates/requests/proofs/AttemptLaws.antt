@@ -1,11 +1,10 @@
 -- What an attempt comes to, case by case, for a try and a reservation alike: it gives the answer of the rule, or leaves the request.
+use Rattle.std.proofs.Common.{Option, Some, None, Result}
 use Prim.Native.Nat.{ℕ, ◌≤◌, ◌<◌}
 use mathlib.Core.Path.{◌≡◌, refl, sym, ap, ◌∙◌}
 use mathlib.Core.List.{List}
 use borrow.Author.Tests.{le-leb, lt-leb, eq-eqb, ne_eqb}
 use Rattle.rows.specs.Outcome.{Outcome, outcome}
-use Rattle.rows.specs.declared.Place.{Place}
-use Rattle.rows.specs.declared.Place.TheVariants.{At, Nowhere}
 use Rattle.units.specs.declared.Nanos.{Nanos}
 use Rattle.bucket.specs.declared.Request.{Request}
 use Rattle.settings.specs.declared.Limit.{Limit}
@@ -19,8 +18,8 @@ use Rattle.settings.proofs.SettingsLaws.{neither_refuses}
 use Rattle.shard.specs.declared.Identity.{Identity}
 use Rattle.shard_map.specs.Model.{place_of}
 use Rattle.store.specs.declared.Part.{Part}
-use Rattle.store.specs.declared.lending.Lending.{Lending}
-use Rattle.store.specs.Lending.{lent_unless}
+use Rattle.settings.specs.declared.refusal.Refusal.{Refusal}
+use Rattle.settings.specs.Refusal.{GivenUnless}
 use Rattle.store.specs.Memory.{part_in, part_of, shard_in, shard_at}
 use Rattle.store.specs.Refusals.{shape_refusal}
 use Rattle.store.proofs.LendingLaws.{lent_by_settings}
@@ -36,10 +35,10 @@ use Rattle.requests.proofs.RequestLaws.{Asking, asked_is_ruled, too_much_is_told
 
 -- What `lend` lends a request, and the number of settings that are refused.
 module _ (r : Request) (s : Settings) (at : Nanos) (id : Identity) (ws : List ℕ) where
-  pub request_lending : {shape : Shape} {further : ℕ} {lending : Lending} → settings_refusal s ≡ 0 → shape ≡ shape_of s → further ≡ further_to r at
-      → lending ≡ lent_unless (first_refusal (shape_refusal shape id.hash ws) further) (part_in shape id.hash)
-      → lending ≡ lent_unless (refusal_to r s at id ws) (part_of s id.hash)
-  request_lending {further = further} none shaped is_further is = rw is_further at (lent_by_settings s id.hash ws none shaped further is)
+  pub request_lending : {shape : Shape} {further : ℕ} → settings_refusal s ≡ 0 → shape ≡ shape_of s → further ≡ further_to r at
+      → (lending : Result Part Refusal) → GivenUnless (first_refusal (shape_refusal shape id.hash ws) further) (part_in shape id.hash) lending
+      → GivenUnless (refusal_to r s at id ws) (part_of s id.hash) lending
+  request_lending {further = further} none shaped is_further lending is = rw is_further at (lent_by_settings s id.hash ws none shaped lending further is)
 
   pub settings_refuse_request : {told : ℕ} → told ≡ settings_refusal s → (told ≡ 0 → ⊥) → told ≡ refusal_to r s at id ws
   settings_refuse_request is some = first_is_told _ (settings_refuse_keyed s id.hash ws is some) some
@@ -78,12 +77,12 @@ module _ (r : Request) (s : Settings) (at : Nanos) (id : Identity) (cost : ℕ) 
           by_limit is_limit (rw (eq-eqb _ _ none, le-leb _ _ within, eq-eqb _ _ no_cost) (ap answered ruled))
 
 -- Any other goes by what lookup finds in the key's part: a known key is answered, and a new key is left.
-module _ (r : Request) (at : Nanos) {s : Settings} {id : Identity} {cost : ℕ} {ws : List ℕ} {rate : Rate} {part' : Part} {place : Place}
+module _ (r : Request) (at : Nanos) {s : Settings} {id : Identity} {cost : ℕ} {ws : List ℕ} {rate : Rate} {part' : Part} {place : Option ℕ}
     (a : Asking s id cost ws rate part') (none : refusal_to r s at id ws ≡ 0) (is_place : place ≡ place_of (shard_in part' ws) id.hash id.key) where
   in_shard_lem : place_of (shard_at s id.hash ws) id.hash id.key ≡ place
   in_shard_lem = rw a.is_part at (sym is_place)
 
-  pub known_is_answered : (i : ℕ) {reply : Reply} {ws' : List ℕ} → place ≡ At i → outcome reply ws' ≡ keyed_outcome (shape_of s) s id (requests r at cost) ws
+  pub known_is_answered : (i : ℕ) {reply : Reply} {ws' : List ℕ} → place ≡ Some i → outcome reply ws' ≡ keyed_outcome (shape_of s) s id (requests r at cost) ws
       → outcome (Answered reply) ws' ≡ attempted r s at id cost ws
   unfolding attempted_by needs_slot
   known_is_answered i found gave =
@@ -91,7 +90,7 @@ module _ (r : Request) (at : Nanos) {s : Settings} {id : Identity} {cost : ℕ} 
       by_limit r s at id cost ws a.is_limit
       (rw (eq-eqb _ _ none, le-leb _ _ a.within, ne_eqb _ _ a.some, in_shard_lem ∙ found) (ap answered ruled))
 
-  pub new_is_left : place ≡ Nowhere → outcome (Left New) ws ≡ attempted r s at id cost ws
+  pub new_is_left : place ≡ None → outcome (Left New) ws ≡ attempted r s at id cost ws
   unfolding attempted_by needs_slot
   new_is_left missed =
       by_limit r s at id cost ws a.is_limit (rw (eq-eqb _ _ none, le-leb _ _ a.within, ne_eqb _ _ a.some, in_shard_lem ∙ missed))

@@ -1,4 +1,5 @@
 -- The second half of a request: what was left may be finished, and what it is answered then is what the rule answers.
+use Rattle.std.proofs.Common.{Option, Some, None}
 use Prim.Native.Nat.{ℕ, ◌≤◌}
 use mathlib.Core.Path.{◌≡◌, refl, sym, ap, ◌∙◌}
 use mathlib.Core.Bool.{Bool, true, false, not, true≢false, ◌&&◌}
@@ -7,8 +8,6 @@ use lib.Dec.{leb, eqb}
 use borrow.Author.Tests.{leb-true, eqb-false, not-true, eq-eqb, ne_eqb}
 use Rattle.arith.proofs.Cases.{by_test, by_eq}
 use Rattle.rows.specs.Outcome.{Outcome, outcome}
-use Rattle.rows.specs.declared.Place.{Place}
-use Rattle.rows.specs.declared.Place.TheVariants.{At, Nowhere}
 use Rattle.units.specs.declared.Nanos.{Nanos}
 use Rattle.bucket.specs.declared.BucketDecision.{BucketDecision}
 use Rattle.bucket.specs.declared.Request.{Request}
@@ -43,12 +42,12 @@ both_true : (a b : Bool) → (a && b) ≡ true → (a ≡ true) × (b ≡ true)
 both_true true b holds = (refl, holds)
 both_true false b holds = absurd (true≢false (sym holds))
 
-nowhere_is : (p : Place) → is_nowhere p ≡ true → p ≡ Nowhere
-nowhere_is (At i) holds = absurd (true≢false (sym holds))
-nowhere_is Nowhere holds = refl
+nowhere_is : (p : Option ℕ) → is_nowhere p ≡ true → p ≡ None
+nowhere_is (Some i) holds = absurd (true≢false (sym holds))
+nowhere_is None holds = refl
 
 slot_is_needed : (rate : Rate) (id : Identity) (cost : ℕ) (sh : Shard) → needs_slot rate id cost sh ≡ true
-    → (cost ≤ burst_of rate) × (cost ≡ 0 → ⊥) × (place_of sh id.hash id.key ≡ Nowhere)
+    → (cost ≤ burst_of rate) × (cost ≡ 0 → ⊥) × (place_of sh id.hash id.key ≡ None)
 unfolding needs_slot
 slot_is_needed rate id cost sh needs =
     let all = both_true (leb cost (burst_of rate) && not (eqb cost 0)) (is_nowhere (place_of sh id.hash id.key)) needs in

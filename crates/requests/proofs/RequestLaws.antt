@@ -1,11 +1,10 @@
 -- A request, a try and a reservation alike: what it may ask of its shard, and what it is answered.
+use Rattle.std.proofs.Common.{Option, Some, None}
 use Prim.Native.Nat.{ℕ, ◌≤◌, ◌<◌}
 use mathlib.Core.Path.{◌≡◌, refl, sym, ap, ◌∙◌}
 use mathlib.Core.List.{List}
 use borrow.Author.Tests.{le-ltb, lt-ltb, eq-eqb, ne_eqb}
 use Rattle.rows.specs.Outcome.{Outcome, outcome}
-use Rattle.rows.specs.declared.Place.{Place}
-use Rattle.rows.specs.declared.Place.TheVariants.{At, Nowhere}
 use Rattle.units.specs.declared.Nanos.{Nanos}
 use Rattle.bucket.specs.declared.BucketDecision.{BucketDecision}
 use Rattle.bucket.specs.declared.Request.{Request}
@@ -89,8 +88,8 @@ module _ {s : Settings} {id : Identity} {cost : ℕ} {ws : List ℕ} {rate : Rat
       let counted = accepted_count s id.hash ws a.accepted a.is_part in
       (place_may_be_asked.0, place_may_be_asked.1, rw is_policy rated, rw is_policy a.within, counted)
 
-  module _ {policy : Policy} {place : Place} (is_policy : policy ≡ policy_of s rate) (is_place : place ≡ place_of (shard_in part' ws) id.hash id.key) where
-    pub known_may_be_asked : (i : ℕ) → place ≡ At i
+  module _ {policy : Policy} {place : Option ℕ} (is_policy : policy ≡ policy_of s rate) (is_place : place ≡ place_of (shard_in part' ws) id.hash id.key) where
+    pub known_may_be_asked : (i : ℕ) → place ≡ Some i
         → Placed part' ws × Sound (shard_in part' ws) × Bucket.Accepted policy.config × (cost ≤ policy.config.capacity) × (i < part'.cap)
     known_may_be_asked i found =
         let asked = new_may_be_asked is_policy in
@@ -105,13 +104,13 @@ module _ {s : Settings} {id : Identity} {cost : ℕ} {ws : List ℕ} {rate : Rat
           rw (a.is_limit, le-ltb _ _ a.within, ne_eqb _ _ a.some)
           (rw is_reply (ap (λ (o : Outcome BucketDecision (List ℕ)). outcome (reply_to (manner_of r) o.answer) o.after) (rw is_policy at gave)))
 
-      pub known_is_told : (i : ℕ) → place ≡ At i → outcome decision ws' ≡ in_part part' ws (OneShard.with_existing policy r cost at (shard_in part' ws) i)
+      pub known_is_told : (i : ℕ) → place ≡ Some i → outcome decision ws' ≡ in_part part' ws (OneShard.with_existing policy r cost at (shard_in part' ws) i)
           → outcome told ws' ≡ keyed_outcome (shape_of s) s id (requests r at cost) ws
       known_is_told i found gave =
           let with_slot = ask_with_slot policy id r cost at (shard_at s id.hash ws) i (rw a.is_part at (sym is_place ∙ found)) in
           request_is_told ((rw a.is_part at gave) ∙ ap (in_shard s id.hash ws) with_slot)
 
-      pub new_is_told : place ≡ Nowhere → outcome decision ws' ≡ in_part part' ws (OneShard.admit policy id r cost at (shard_in part' ws))
+      pub new_is_told : place ≡ None → outcome decision ws' ≡ in_part part' ws (OneShard.admit policy id r cost at (shard_in part' ws))
           → outcome told ws' ≡ keyed_outcome (shape_of s) s id (requests r at cost) ws
       new_is_told missed gave =
           let without_slot = ask_without_slot policy id r cost at (shard_at s id.hash ws) (rw a.is_part at (sym is_place ∙ missed)) in

@@ -7,22 +7,23 @@ ghost use Rattle.std.specs.Prelude.{◌≡◌};
 ghost use Rattle.rows.specs.Outcome.{outcome};
 ghost use Rattle.bucket.specs.declared.Request.TheVariants.{Acquire, Reserve};
 ghost use Rattle.settings.specs.declared.Limit.TheVariants.{Open};
+ghost use Rattle.settings.specs.Refusal.{numbered};
 ghost use Rattle.settings.specs.Settings.{first_refusal};
 ghost use Rattle.store.specs.Memory.{part_of};
 ghost use Rattle.store.specs.Refusals.{keyed_refusal, moment_refusal, wait_refusal};
+ghost use Rattle.rules.specs.declared.Reply.TheVariants.{Refused};
 ghost use Rattle.rules.specs.Asks as Asks;
 ghost use Rattle.rules.specs.Asks.{further_to, manner_of, as_try, as_reservation};
 ghost use Rattle.requests.specs.code.Attempts.{LeftFor, NewKey, attempted, refusal_to, rule_to};
 
 use bucket::{BucketDecision, Request};
-use rows::Place;
 use rules::Reply;
 use settings::decision::Decision;
 use settings::eviction::WhenFull;
 use settings::rate::Rate;
+use settings::refusal::Refusal;
 use settings::{Limit, Settings};
 use shard::{Identity, Policy};
-use store::lending::Lending;
 use store::{Part, lending, refusals};
 use units::Nanos;
 
@@ -53,17 +54,15 @@ pub fn attempt_try(
 ) -> Attempt
     ensures { outcome result ws.new ≡ attempted Acquire settings at id cost ws.old }
 {
-    let limit = settings.limit;
-    match limit {
+    match settings.limit {
         Limit::Closed => {
-            let late = refusals::moment_refusal(at);
             let told = Reply::Tried(rules::closed(at, cost));
             let reply = rules::unless_refused(
-                settings.refusal(),
+                settings.check(),
                 settings.shape(),
                 ws,
                 id.hash,
-                late,
+                refusals::check_moment(at),
                 told,
             );
             Attempt::Answered(reply)
@@ -85,16 +84,16 @@ fn try_open(
     requires { settings.limit ≡ Open rate }
     ensures { outcome result ws.new ≡ attempted Acquire settings at id cost ws.old }
 {
-    if settings.refusal() != 0 {
+    if settings.check().is_err() {
         return Attempt::Left(Why::Refused);
     }
-    let late = refusals::moment_refusal(at);
-    if late != 0 {
+    let in_time = refusals::check_moment(at);
+    if in_time.is_err() {
         return Attempt::Left(Why::Refused);
     }
-    match lending::lend(settings.shape(), ws, id.hash, late) {
-        Lending::Refused(_) => Attempt::Left(Why::Refused),
-        Lending::Lent(part) => decide(settings, rate, ws, part, at, id, cost),
+    match lending::lend(settings.shape(), ws, id.hash, in_time) {
+        Err(_) => Attempt::Left(Why::Refused),
+        Ok(part) => decide(settings, rate, ws, part, at, id, cost),
     }
 }
 
@@ -119,7 +118,7 @@ fn decide(
         return Attempt::Answered(Reply::Tried(Decision::Acquired(rules::due_now(at))));
     }
     match store::position(ws, part, id) {
-        Place::At(pos) => {
+        Some(pos) => {
             let request = Request::Acquire;
             let decision = store::with_existing(
                 ws,
@@ -132,7 +131,7 @@ fn decide(
             );
             Attempt::Answered(try_reply(decision))
         }
-        Place::Nowhere => Attempt::Left(Why::New),
+        None => Attempt::Left(Why::New),
     }
 }
 
@@ -147,18 +146,15 @@ pub fn attempt_reserve(
 ) -> Attempt
     ensures { outcome result ws.new ≡ attempted (Reserve max_wait) settings at id cost ws.old }
 {
-    let limit = settings.limit;
-    match limit {
+    match settings.limit {
         Limit::Closed => {
-            let further = reserve_further(at, max_wait);
-            let told = Reply::Nothing;
             let reply = rules::unless_refused(
-                settings.refusal(),
+                settings.check(),
                 settings.shape(),
                 ws,
                 id.hash,
-                further,
-                told,
+                check_reservation(at, max_wait),
+                Reply::Nothing,
             );
             Attempt::Answered(reply)
         }
@@ -179,13 +175,17 @@ fn reserve_open(
     requires { settings.limit ≡ Open rate }
     ensures { outcome result ws.new ≡ attempted (Reserve max_wait) settings at id cost ws.old }
 {
-    if settings.refusal() != 0 {
+    if settings.check().is_err() {
         return Attempt::Left(Why::Refused);
     }
-    let further = reserve_further(at, max_wait);
-    match lending::lend(settings.shape(), ws, id.hash, further) {
-        Lending::Refused(_) => Attempt::Left(Why::Refused),
-        Lending::Lent(part) => reserve_within(settings, rate, ws, part, at, id, cost, max_wait),
+    match lending::lend(
+        settings.shape(),
+        ws,
+        id.hash,
+        check_reservation(at, max_wait),
+    ) {
+        Err(_) => Attempt::Left(Why::Refused),
+        Ok(part) => reserve_within(settings, rate, ws, part, at, id, cost, max_wait),
     }
 }
 
@@ -210,7 +210,7 @@ fn reserve_within(
         return Attempt::Answered(Reply::Reserved(rules::due_now(at)));
     }
     match store::position(ws, part, id) {
-        Place::At(pos) => {
+        Some(pos) => {
             let request = Request::Reserve(max_wait);
             let decision = store::with_existing(
                 ws,
@@ -223,7 +223,7 @@ fn reserve_within(
             );
             Attempt::Answered(reserve_reply(decision))
         }
-        Place::Nowhere => Attempt::Left(Why::New),
+        None => Attempt::Left(Why::New),
     }
 }
 
@@ -241,10 +241,7 @@ pub fn finish(
     ensures { outcome result ws.new ≡ rule_to request settings at id cost ws.old }
 {
     match why {
-        Why::Refused => {
-            let further = further_refusal(request, at);
-            Reply::Refused(refusal_of(settings, ws, id.hash, further))
-        }
+        Why::Refused => refuse(settings, ws, id.hash, check_further(request, at)),
         Why::New => {
             let decision = admit(settings, ws, at, id, request, cost);
             reply_to(request, decision)
@@ -252,35 +249,35 @@ pub fn finish(
     }
 }
 
-// The number by which a call on a key is refused; 0 if it is not. `further` is the number for its other arguments.
-fn refusal_of(settings: Settings, ws: &[u64], hash: u64, further: u32) -> u32
-    ensures { result ≡ first_refusal (keyed_refusal settings hash ws.now) further }
+// The refusal of a call on a key, as a reply. `further` is the check of its other arguments. A call that is lent a part is not refused, so the second arm is
+// never taken.
+fn refuse(settings: Settings, ws: &[u64], hash: u64, further: Result<(), Refusal>) -> Reply
+    requires { first_refusal (keyed_refusal settings hash ws.now) (numbered further) ≡ 0 → ⊥ }
+    ensures { result ≡ Refused (first_refusal (keyed_refusal settings hash ws.now) (numbered further)) }
 {
     match lending::lend_for(settings, ws, hash, further) {
-        Lending::Refused(number) => number,
-        Lending::Lent(_) => 0,
+        Err(refusal) => refusal.into(),
+        Ok(_) => unreachable!(),
     }
 }
 
-// The number for a late moment, else for a longest wait that is too long; 0 for neither.
-fn further_refusal(request: Request, at: Nanos) -> u32
-    ensures { result ≡ further_to request at }
+// Whether a moment is not too late, and the longest wait of a reservation not too long.
+fn check_further(request: Request, at: Nanos) -> Result<(), Refusal>
+    ensures { numbered result ≡ further_to request at }
 {
     match request {
-        Request::Acquire => refusals::moment_refusal(at),
-        Request::Reserve(max_wait) => reserve_further(at, max_wait),
-        Request::Through(_) => refusals::moment_refusal(at),
+        Request::Acquire => refusals::check_moment(at),
+        Request::Reserve(max_wait) => check_reservation(at, max_wait),
+        Request::Through(_) => refusals::check_moment(at),
     }
 }
 
 // The same of a reservation.
-fn reserve_further(at: Nanos, max_wait: Nanos) -> u32
-    ensures { result ≡ first_refusal (moment_refusal at) (wait_refusal max_wait) }
+fn check_reservation(at: Nanos, max_wait: Nanos) -> Result<(), Refusal>
+    ensures { numbered result ≡ first_refusal (moment_refusal at) (wait_refusal max_wait) }
 {
-    refusals::first_refusal(
-        refusals::moment_refusal(at),
-        refusals::wait_refusal(max_wait),
-    )
+    refusals::check_moment(at)?;
+    refusals::check_wait(max_wait)
 }
 
 // A request of a new key. There is a rate then: the arm of a closed limiter is never taken.
@@ -295,8 +292,7 @@ fn admit(
     requires { NewKey request settings at id cost ws.old }
     ensures { outcome (Asks.reply_to (manner_of request) result) ws.new ≡ rule_to request settings at id cost ws.old }
 {
-    let limit = settings.limit;
-    match limit {
+    match settings.limit {
         Limit::Closed => BucketDecision::Denied(rules::due_now(at)),
         Limit::Open(rate) => {
             let part = store::part_of(settings.shape(), id.hash);
@@ -340,14 +336,10 @@ fn reserve_reply(decision: BucketDecision) -> Reply
 pub fn policy(settings: Settings, rate: Rate) -> Policy
     ensures { result ≡ Asks.policy_of settings rate }
 {
-    let eviction = settings.eviction;
-    let when_full = eviction.when_full;
-    let idle_ttl = eviction.idle_ttl;
-    let config = rate.config();
     Policy {
-        config,
-        idle_ttl,
-        forget_debt: forgets(when_full),
+        config: rate.config(),
+        idle_ttl: settings.eviction.idle_ttl,
+        forget_debt: forgets(settings.eviction.when_full),
     }
 }
 

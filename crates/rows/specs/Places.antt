@@ -1,15 +1,13 @@
 -- Over the first places: the lowest that passes a test, and a sum.
-use Rattle.std.specs.Prelude.{ℕ, zero, suc, ◌+◌, Bool, cond}
-use Rattle.rows.specs.declared.Place.{Place}
-use Rattle.rows.specs.declared.Place.TheVariants.{At, Nowhere}
+use Rattle.std.specs.Prelude.{ℕ, zero, suc, ◌+◌, Bool, cond, Option, Some, None}
 
 -- The lowest place from i on that passes a test, within so many places.
-unfoldable pub lowest_from : (ℕ → Bool) → ℕ → ℕ → Place
-lowest_from test i zero = Nowhere
-lowest_from test i (suc left) = cond (test i) (At i) (lowest_from test (i + 1) left)
+unfoldable pub lowest_from : (ℕ → Bool) → ℕ → ℕ → Option ℕ
+lowest_from test i zero = None
+lowest_from test i (suc left) = cond (test i) (Some i) (lowest_from test (i + 1) left)
 
 -- The lowest of the first n places that passes a test.
-abbrev pub lowest : ℕ → (ℕ → Bool) → Place
+abbrev pub lowest : ℕ → (ℕ → Bool) → Option ℕ
 lowest n test = lowest_from test 0 n
 
 -- A sum over the first n places.

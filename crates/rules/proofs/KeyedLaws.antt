@@ -1,4 +1,5 @@
 -- A call on a key: it is refused by its number and leaves the words as they are, or it does what it asks in the shard of its key.
+use Rattle.std.proofs.Common.{Result, Ok, Err}
 use Prim.Native.Nat.{ℕ, ◌≤◌}
 use native.Mathlib.Omega.{arith}
 use mathlib.Core.Path.{◌≡◌, refl, sym, ap, ◌∙◌}
@@ -19,8 +20,8 @@ use Rattle.classes.specs.Classes.{table_refusal, number_refusal}
 use Rattle.shard_map.specs.Model.{Sound}
 use Rattle.shard.specs.declared.Identity.{Identity}
 use Rattle.store.specs.declared.Part.{Part}
-use Rattle.store.specs.declared.lending.Lending.{Lending}
-use Rattle.store.specs.Lending.{lent_unless}
+use Rattle.settings.specs.declared.refusal.Refusal.{Refusal}
+use Rattle.settings.specs.Refusal.{number_of, GivenUnless}
 use Rattle.store.specs.Memory.{Placed, Counted, part_of, shard_in, shard_at, in_part, in_shard, buckets_at, memory_words}
 use Rattle.store.specs.Refusals.{latest_moment, longest_max_wait, memory_refusal, counts_refusal, shape_refusal, keyed_refusal, moment_refusal, wait_refusal}
 use Rattle.store.proofs.LendingLaws.{lent_part, accepted_part, accepted_count, in_part_unchanged}
@@ -86,13 +87,13 @@ module _ (s : Settings) (id : Identity) (ask : Ask) (ws : List ℕ) where
   refusal_is_told is some = rw is (sym (refused_is_numbered (λ none. some (is ∙ none))))
 
   -- and by what the call was lent: nothing, and the number by which it is refused,
-  module _ {lending : Lending} (is : lending ≡ lent_unless (ask_refusal s id ask ws) (part_of s id.hash)) where
-    pub unlent_is_told : {told : ℕ} → lending ≡ Lending.Refused told → outcome (Refused told) ws ≡ keyed_rule s id ask ws
+  module _ {lending : Result Part Refusal} (is : GivenUnless (ask_refusal s id ask ws) (part_of s id.hash) lending) where
+    pub unlent_is_told : {r : Refusal} → lending ≡ Err r → outcome (Refused (number_of r)) ws ≡ keyed_rule s id ask ws
     unfolding keyed_rule_in
     unlent_is_told gave = unlent_is_refused (ask_refusal s id ask ws) ws (keyed_outcome (shape_of s) s id ask ws) (part_of s id.hash) is gave
 
     -- or the part of its key's shard. That lies in the memory, its shard is sound, and the limit is accepted.
-    module _ {part' : Part} (gave : lending ≡ Lending.Lent part') where
+    module _ {part' : Part} (gave : lending ≡ Ok part') where
       pub none_refuses : (ask_refusal s id ask ws ≡ 0) × (part' ≡ part_of s id.hash)
       none_refuses = lent_part (ask_refusal s id ask ws) (part_of s id.hash) is gave
 
@@ -121,9 +122,9 @@ pub in_shard_unchanged : {A : Type 0} (s : Settings) (hash : ℕ) (ws : List ℕ
 in_shard_unchanged s hash ws accepted a = in_part_unchanged (part_placed s hash ws accepted.set_up_lem.size) a
 
 -- So it is with a look, as the code comes to it.
-pub lent_look_is_told : (s : Settings) (id : Identity) (l : Look) (ws : List ℕ) {lending : Lending}
-    → lending ≡ lent_unless (ask_refusal s id (looks l) ws) (part_of s id.hash)
-    → {part' : Part} → lending ≡ Lending.Lent part' → {reply : Reply} → reply ≡ looked_in l s.limit id (shard_in part' ws)
+pub lent_look_is_told : (s : Settings) (id : Identity) (l : Look) (ws : List ℕ) {lending : Result Part Refusal}
+    → GivenUnless (ask_refusal s id (looks l) ws) (part_of s id.hash) lending
+    → {part' : Part} → lending ≡ Ok part' → {reply : Reply} → reply ≡ looked_in l s.limit id (shard_in part' ws)
     → outcome reply ws ≡ keyed_rule s id (looks l) ws
 lent_look_is_told s id l ws is gave answered =
     let placed = (lent_may_be_asked s id (looks l) ws is gave).0 in

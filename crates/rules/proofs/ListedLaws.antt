@@ -1,5 +1,6 @@
 -- The list of a shard's debts says what the shard itself goes by: each unsettled debt is listed once, and a key whose debt is listed lacks tokens when it
 -- comes back.
+use Rattle.std.proofs.Common.{Option, Some, None}
 use Prim.Native.Nat.{ℕ, zero, suc, ◌+◌, ◌*◌, ◌-◌, ◌/◌, ◌≤◌, ◌<◌, min, max}
 use native.Mathlib.Nat.{sub_self, le_of_lt, mul-div_cancel, mul-le-mul_right, mul-pos}
 use native.Mathlib.Omega.{arith}
@@ -10,16 +11,12 @@ use borrow.Author.Tests.{eq-eqb, ne_eqb, le-leb, lt-leb}
 use Rattle.arith.proofs.Cases.{by_test, by_le, by_eq}
 use Rattle.arith.proofs.DivisionLaws.{ceil_div_reaches}
 use Rattle.units.specs.declared.Nanos.{Nanos}
-use Rattle.units.specs.declared.OptionNanos.{OptionNanos}
-use Rattle.units.specs.declared.OptionNanos.TheVariants.{None, Some}
 use Rattle.bucket.specs.declared.BucketConfig.{BucketConfig}
 use Rattle.bucket.specs.declared.BucketCore.{BucketCore}
 use Rattle.bucket.specs.Bucket.{Accepted, parts_of, full_parts, most_shortfall, shortfall_at, available_at, fresh}
 use Rattle.bucket.specs.Debt.{missing_tokens, restored}
 use Rattle.bucket.proofs.BucketLaws.{parts_within, available_by_parts}
 use Rattle.bucket.proofs.DebtLaws.{restored_settled, restored_fresh, fresh_available}
-use Rattle.rows.specs.declared.Place.{Place}
-use Rattle.rows.specs.declared.Place.TheVariants.{At, Nowhere}
 use Rattle.settings.specs.declared.Limit.TheVariants.{Open}
 use Rattle.settings.specs.declared.rate.Rate.{Rate}
 use Rattle.settings.specs.Rate.{config_of}
@@ -106,12 +103,12 @@ module _ (own : Shard) (each : FindsEach own) (at : Nanos) where
   unfolding unsettled
   listed_is_owed hash = go (Ledger.place_of own.ledger hash) refl
     where
-      go : (place : Place) → Ledger.place_of own.ledger hash ≡ place
+      go : (place : Option ℕ) → Ledger.place_of own.ledger hash ≡ place
           → of_hash hash (listed at own.ledger) ≡ owed_after at hash (owed_by own.ledger hash)
-      go (At p) found =
+      go (Some p) found =
           let debt = found_owes own.ledger hash p found in
           rw (sym (owed_where own.ledger hash found), sym debt.own) (listed_at p debt.below)
-      go Nowhere missed =
+      go None missed =
           let l = own.ledger in
           rw (sym (owed_where l hash missed)) (listed_by_hash at l hash
           ∙ ap (unsettled at) (none_of_hash hash l.debts.count l.debts.places (nowhere_owes_none l each.ledger.complete hash missed)))
@@ -172,7 +169,7 @@ pub data Returns (c : BucketConfig) (at : Nanos) (records : List Debt) (tokens :
   fresh_returns : records ≡ [] → tokens ≡ c.initial → Returns c at records tokens
   debtor_returns : (d : Debt) → records ≡ d ∷ [] → at.0 < d.settles.0 → tokens ≡ tokens_left c at d → Returns c at records tokens
 
-returns_as_owed : {c : BucketConfig} (at : Nanos) (hash : ℕ) (owed : OptionNanos) → Accepted c
+returns_as_owed : {c : BucketConfig} (at : Nanos) (hash : ℕ) (owed : Option Nanos) → Accepted c
     → Returns c at (owed_after at hash owed) (available_at c (returning c at owed) at)
 returns_as_owed at hash None a = fresh_returns refl (fresh_available at a)
 returns_as_owed {c} at hash (Some settles) a =
@@ -200,7 +197,7 @@ module _ {c : BucketConfig} {at : Nanos} {records : List Debt} {tokens : ℕ} wh
 
 -- A key without a slot, at an accepted rate.
 module _ (rate : Rate) (a : Accepted (config_of rate)) (own : Shard) (each : FindsEach own) (at : Nanos) (id : Identity)
-    (new : place_of own id.hash id.key ≡ Nowhere) where
+    (new : place_of own id.hash id.key ≡ None) where
   -- It comes back as the list says.
   pub returns_as_listed : Returns (config_of rate) at (of_hash id.hash (listed at own.ledger)) (tokens_in (Open rate) at id own)
   returns_as_listed =

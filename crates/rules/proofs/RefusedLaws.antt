@@ -1,5 +1,6 @@
 -- The two cases of a call: refused by number or not.
 use Prim.Native.Nat.{ℕ}
+use Rattle.std.proofs.Common.{Result, Ok, Err}
 use mathlib.Core.Path.{◌≡◌, refl, sym, ◌∙◌}
 use mathlib.Core.List.{List, []}
 use lib.ListN.{length, replicate}
@@ -13,8 +14,8 @@ use Rattle.settings.proofs.SettingsLaws.{first_refusal_stands, no_refusal_hands_
 use Rattle.classes.specs.Classes.{count_refusal, first_from, table_refusal}
 use Rattle.classes.specs.Layout.{classes_in}
 use Rattle.store.specs.declared.Part.{Part}
-use Rattle.store.specs.declared.lending.Lending.{Lending}
-use Rattle.store.specs.Lending.{lent_unless}
+use Rattle.settings.specs.declared.refusal.Refusal.{Refusal}
+use Rattle.settings.specs.Refusal.{number_of, GivenUnless}
 use Rattle.store.specs.Memory.{memory_words}
 use Rattle.store.specs.Refusals.{set_up_refusal}
 use Rattle.store.proofs.LendingLaws.{refused_number}
@@ -38,8 +39,8 @@ module _ (refusal : ℕ) {A : Type 0} (ws : A) (accepted : Outcome Reply A) wher
   pub number_is_told : {told : ℕ} → told ≡ refusal → (told ≡ 0 → ⊥) → outcome (Refused told) ws ≡ unless_refused refusal ws accepted
   number_is_told is some = rw is (sym (unless_refused_refuses (λ none. some (is ∙ none))))
 
-  pub unlent_is_refused : {lending : Lending} (part' : Part) → lending ≡ lent_unless refusal part' → {told : ℕ} → lending ≡ Lending.Refused told
-      → outcome (Refused told) ws ≡ unless_refused refusal ws accepted
+  pub unlent_is_refused : {lending : Result Part Refusal} (part' : Part) → GivenUnless refusal part' lending → {r : Refusal} → lending ≡ Err r
+      → outcome (Refused (number_of r)) ws ≡ unless_refused refusal ws accepted
   unlent_is_refused part' is gave = let number = refused_number refusal part' is gave in number_is_told number.0 number.1
 
 -- Of two numbers, as the code comes to them: the first that is not 0 is told, and where both are 0 the call is accepted.

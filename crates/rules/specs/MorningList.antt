@@ -1,9 +1,7 @@
 -- What the list of debts is compared with: the debts that the store itself finds, and the tokens of a key that comes back. No operation uses
 -- these definitions: they stand in claims.
-use Rattle.std.specs.Prelude.{ℕ, ◌-◌, min, cond, List, [], ◌∷◌}
+use Rattle.std.specs.Prelude.{ℕ, ◌-◌, min, cond, List, [], ◌∷◌, Option, Some, None}
 use Rattle.units.specs.declared.Nanos.{Nanos}
-use Rattle.units.specs.declared.OptionNanos.{OptionNanos}
-use Rattle.units.specs.declared.OptionNanos.TheVariants.{None, Some}
 use Rattle.bucket.specs.declared.BucketConfig.{BucketConfig}
 use Rattle.bucket.specs.Debt.{missing_tokens}
 use Rattle.ledger.specs.declared.Debt.{Debt}
@@ -16,7 +14,7 @@ of_hash hash [] = []
 of_hash hash (d ∷ ds) = cond (owes hash d) (d ∷ of_hash hash ds) (of_hash hash ds)
 
 -- What lookup found of a hash, as records: one record if the hash has a debt that settles after the moment, else none.
-abbrev pub owed_after : Nanos → ℕ → OptionNanos → List Debt
+abbrev pub owed_after : Nanos → ℕ → Option Nanos → List Debt
 owed_after at hash None = []
 owed_after at hash (Some settles) = unsettled at (record { hash = hash; settles = settles } ∷ [])
 

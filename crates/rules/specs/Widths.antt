@@ -1,14 +1,11 @@
 -- What code can be given: numbers within the widths of their types, in settings, in what is asked and in lent words.
-use Rattle.std.specs.Prelude.{ℕ, ◌^◌, Bool, true, false, ◌&&◌, List, [], ◌∷◌, ltb, length}
-use Rattle.units.specs.declared.OptionNanos.{OptionNanos}
-use Rattle.units.specs.declared.OptionNanos.TheVariants as nanos
+use Rattle.std.specs.Prelude.{ℕ, ◌^◌, Bool, true, false, ◌&&◌, List, [], ◌∷◌, ltb, length, Option, Some, None}
+use Rattle.units.specs.declared.Nanos.{Nanos}
 use Rattle.bucket.specs.declared.Request.{Request}
 use Rattle.bucket.specs.declared.Request.TheVariants.{Acquire, Reserve, Through}
 use Rattle.settings.specs.declared.Limit.{Limit}
 use Rattle.settings.specs.declared.Limit.TheVariants.{Closed, Open}
 use Rattle.settings.specs.declared.Settings.{Settings}
-use Rattle.settings.specs.declared.rate.OptionTokens.{OptionTokens}
-use Rattle.settings.specs.declared.rate.OptionTokens.TheVariants as burst
 use Rattle.settings.specs.declared.rate.Rate.{Rate}
 use Rattle.ledger.specs.declared.Debt.{Debt}
 use Rattle.shard.specs.declared.Identity.{Identity}
@@ -22,13 +19,13 @@ abbrev pub fits32 : ℕ → Bool
 fits32 n = ltb n (2 ^ 32)
 
 -- The numbers of a settings record fit.
-abbrev pub tokens_fit : OptionTokens → Bool
-tokens_fit burst.None = true
-tokens_fit (burst.Some n) = fits32 n
+abbrev pub tokens_fit : Option ℕ → Bool
+tokens_fit None = true
+tokens_fit (Some n) = fits32 n
 
-abbrev pub IdleFits : OptionNanos → Bool
-IdleFits nanos.None = true
-IdleFits (nanos.Some span) = fits64 span.0
+abbrev pub IdleFits : Option Nanos → Bool
+IdleFits None = true
+IdleFits (Some span) = fits64 span.0
 
 abbrev pub rate_fits : Rate → Bool
 rate_fits r = fits32 r.amount && fits64 r.period.0 && tokens_fit r.burst && tokens_fit r.initial

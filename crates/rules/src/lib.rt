@@ -3,16 +3,18 @@
 
 ghost use Rattle.std.specs.Prelude.{◌≡◌};
 ghost use Rattle.rows.specs.Outcome.{outcome};
+ghost use Rattle.settings.specs.Refusal.{number_of, numbered};
 ghost use Rattle.settings.specs.Settings.{ShapeOfAccepted, first_refusal};
 ghost use Rattle.store.specs.Refusals.{shape_refusal};
 ghost use Rattle.rules.specs.Asks as Asks;
 ghost use Rattle.rules.specs.Rules.{unless_refused};
+ghost use Rattle.rules.specs.declared.Reply.TheVariants.{Refused};
 
 use bucket::Due;
 use settings::Shape;
 use settings::decision::Decision;
+use settings::refusal::Refusal;
 use store::lending;
-use store::lending::Lending;
 use units::Nanos;
 
 pub mod codes;
@@ -34,6 +36,15 @@ pub enum Reply {
     Refused(u32),
 }
 
+impl From<Refusal> for Reply {
+    ghost from_gives = { λ refusal reply. reply ≡ Refused (number_of refusal) };
+
+    // Refused by its number.
+    fn from(refusal: Refusal) -> Reply {
+        Reply::Refused(refusal.into())
+    }
+}
+
 // Due at the moment itself, without a wait.
 pub fn due_now(at: Nanos) -> Due
     ensures { result ≡ Asks.due_now at }
@@ -52,26 +63,26 @@ pub fn closed(at: Nanos, cost: u32) -> Decision
     }
 }
 
-// A closed limiter's reply to a call on a key: the number by which the call is refused, else `told`. `refusal` and `shape` are those of the settings, `further`
-// is the number for the call's other arguments.
+// A closed limiter's reply to a call on a key: the refusal, else `told`. `accepted` is the check of the settings, `shape` is theirs, and `further` is the check
+// of the call's other arguments.
 pub fn unless_refused(
-    refusal: u32,
+    accepted: Result<(), Refusal>,
     shape: Shape,
     ws: &[u64],
     hash: u64,
-    further: u32,
+    further: Result<(), Refusal>,
     told: Reply,
 ) -> Reply
-    requires { refusal ≡ 0 → ShapeOfAccepted shape }
+    requires { numbered accepted ≡ 0 → ShapeOfAccepted shape }
     ensures { outcome result ws.now ≡
-        unless_refused (first_refusal refusal (first_refusal (shape_refusal shape hash ws.now) further)) ws.now
+        unless_refused (first_refusal (numbered accepted) (first_refusal (shape_refusal shape hash ws.now) (numbered further))) ws.now
         (outcome told ws.now) }
 {
-    if refusal != 0 {
-        return Reply::Refused(refusal);
+    if let Err(refusal) = accepted {
+        return refusal.into();
     }
     match lending::lend(shape, ws, hash, further) {
-        Lending::Refused(refusal) => Reply::Refused(refusal),
-        Lending::Lent(_) => told,
+        Err(refusal) => refusal.into(),
+        Ok(_) => told,
     }
 }

@@ -11,12 +11,10 @@ pub fn find(bytes: &[u8], from: usize, to: usize, byte: u8) -> usize
     ensures first { result ≡ from + index_of byte (slice from to bytes.now) }
     ensures range { result ≤ to }
 {
-    let mut at = from;
-    while at < to {
+    for at in from..to {
         if bytes[at] == byte {
             return at;
         }
-        at += 1;
     }
-    at
+    to
 }

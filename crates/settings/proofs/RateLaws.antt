@@ -1,6 +1,6 @@
 -- The refusals of a rate: which check gives which number, and what holds of a rate that none of them refuses.
 use Prim.Native.Nat.{ℕ, ◌≤◌, ◌<◌}
-use mathlib.Core.Path.{◌≡◌, sym, ◌∙◌}
+use mathlib.Core.Path.{◌≡◌, sym, ap, ◌∙◌}
 use mathlib.Core.Logic.{◌⊎◌, inl, inr}
 use native.Mathlib.Nat.{min-le_right}
 use native.Mathlib.Omega.{arith}
@@ -9,6 +9,8 @@ use Rattle.arith.proofs.Cases.{by_le}
 use Rattle.bucket.specs.Bucket.{Accepted}
 use Rattle.settings.specs.declared.rate.Rate.{Rate}
 use Rattle.settings.specs.Rate.{burst_of, config_of, most_tokens, longest_period, unless_within, rate_refusal}
+use Rattle.settings.specs.Settings.{first_refusal}
+use Rattle.settings.proofs.SettingsLaws.{first_refusal_stands, no_refusal_hands_on}
 
 -- A value is outside its range where it is 0 or more than the most, and within it otherwise.
 abbrev pub Outside : ℕ → ℕ → Type 0
@@ -20,13 +22,13 @@ Within value most = (1 ≤ value) × (value ≤ most)
 -- One check of a range.
 module _ (value most refusal rest : ℕ) where
   -- For a value outside it gives its own refusal.
-  outside_is_refused : Outside value most → unless_within value most refusal rest ≡ refusal
+  pub outside_is_refused : Outside value most → unless_within value most refusal rest ≡ refusal
   unfolding unless_within
   outside_is_refused (inl none) = rw (lt-ltb _ _ none)
   outside_is_refused (inr more) = rw (le-ltb value 1 (omega arith), lt-ltb _ _ more)
 
   -- For a value within it gives what the checks after it say.
-  within_is_passed : Within value most → unless_within value most refusal rest ≡ rest
+  pub within_is_passed : Within value most → unless_within value most refusal rest ≡ rest
   unfolding unless_within
   within_is_passed within = rw (le-ltb value 1 within.0, le-ltb most value within.1)
 
@@ -38,25 +40,26 @@ module _ (value most refusal rest : ℕ) where
       (λ some. by_le value most (λ few. ((some, few), sym (within_is_passed (some, few)) ∙ passed)) (λ more. absurd (never (inr more))))
       (λ none. absurd (never (inl none)))
 
--- The three checks in turn. Each law counts on the checks before its own being passed.
-module _ (r : Rate) where
-  pub outside_amount_is_refused_1 : Outside r.amount most_tokens → rate_refusal r ≡ 1
-  unfolding rate_refusal
-  outside_amount_is_refused_1 outside = outside_is_refused _ _ _ _ outside
+-- A check with others after it refuses as the check alone does, and else as they do.
+check_and_rest : (value most refusal rest : ℕ) → 0 < refusal → unless_within value most refusal rest ≡ first_refusal (unless_within value most refusal 0) rest
+check_and_rest value most refusal rest numbered =
+    let refused : Outside value most → unless_within value most refusal rest ≡ first_refusal (unless_within value most refusal 0) rest = λ outside.
+    outside_is_refused value most refusal rest outside
+    ∙ sym (ap (λ n. first_refusal n rest) (outside_is_refused value most refusal 0 outside)
+    ∙ first_refusal_stands refusal rest (λ none. omega (arith, none))) in
+    by_le 1 value
+    (λ some. by_le value most
+    (λ few. within_is_passed value most refusal rest (some, few)
+    ∙ sym (no_refusal_hands_on _ rest (within_is_passed value most refusal 0 (some, few))))
+    (λ more. refused (inr more)))
+    (λ none. refused (inl none))
 
-  module _ (amount : Within r.amount most_tokens) where
-    pub outside_period_is_refused_2 : Outside r.period.0 longest_period → rate_refusal r ≡ 2
-    unfolding rate_refusal
-    outside_period_is_refused_2 outside = within_is_passed _ _ _ _ amount ∙ outside_is_refused _ _ _ _ outside
-
-    module _ (period : Within r.period.0 longest_period) where
-      pub outside_burst_is_refused_3 : Outside (burst_of r) most_tokens → rate_refusal r ≡ 3
-      unfolding rate_refusal
-      outside_burst_is_refused_3 outside = within_is_passed _ _ _ _ amount ∙ within_is_passed _ _ _ _ period ∙ outside_is_refused _ _ _ _ outside
-
-      pub within_all_is_accepted : Within (burst_of r) most_tokens → rate_refusal r ≡ 0
-      unfolding rate_refusal
-      within_all_is_accepted burst = within_is_passed _ _ _ _ amount ∙ within_is_passed _ _ _ _ period ∙ within_is_passed _ _ _ _ burst
+-- The three checks of a rate, in turn.
+pub checks_in_turn : (r : Rate) → rate_refusal r
+    ≡ first_refusal (unless_within r.amount most_tokens 1 0)
+    (first_refusal (unless_within r.period.0 longest_period 2 0) (unless_within (burst_of r) most_tokens 3 0))
+unfolding rate_refusal
+checks_in_turn r = check_and_rest _ _ 1 _ (omega arith) ∙ ap (first_refusal _) (check_and_rest _ _ 2 _ (omega arith))
 
 -- A rate that is not refused makes a configuration that every function of the bucket takes.
 pub accepted_rate : (r : Rate) → rate_refusal r ≡ 0 → Accepted (config_of r)

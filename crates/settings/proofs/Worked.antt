@@ -1,13 +1,11 @@
 -- Worked settings, each computed from the definitions.
+use Rattle.std.proofs.Common.{Some, None}
 use Prim.Native.Nat.{ℕ, zero, suc}
 use mathlib.Core.Path.{◌≡◌, refl}
 use mathlib.Core.List.{List, [], ◌∷◌, ◌++◌}
 use lib.ListN.{replicate}
 use Rattle.arith.specs.Arith.{ceil_div}
-use Rattle.units.specs.declared.OptionNanos.TheVariants as nanos
-use Rattle.units.specs.declared.OptionMillis.TheVariants as millis
 use Rattle.settings.specs.declared.eviction.WhenFull.TheVariants.{RefuseNew}
-use Rattle.settings.specs.declared.rate.OptionTokens.TheVariants.{None, Some}
 use Rattle.settings.specs.declared.rate.Rate.{Rate}
 use Rattle.settings.specs.declared.Limit.{Limit}
 use Rattle.settings.specs.declared.Limit.TheVariants.{Closed, Open}
@@ -23,10 +21,10 @@ abbrev two_a_second : Rate
 two_a_second = record { amount = 2; period = record { 0 = 1000000000 }; burst = Some 4; initial = None }
 
 abbrev sized : Limit → ℕ → ℕ → Settings
-sized limit keys shards = record { limit = limit; eviction = bounds keys nanos.None RefuseNew; shards = shards; classes = 0 }
+sized limit keys shards = record { limit = limit; eviction = bounds keys None RefuseNew; shards = shards; classes = 0 }
 
 abbrev idle_for : ℕ → Settings
-idle_for ttl = record { limit = Open two_a_second; eviction = bounds 4 (nanos.Some (record { 0 = ttl })) RefuseNew; shards = 1; classes = 0 }
+idle_for ttl = record { limit = Open two_a_second; eviction = bounds 4 (Some (record { 0 = ttl })) RefuseNew; shards = 1; classes = 0 }
 
 -- Shards and places per shard.
 pub nothing_asked_for : (shard_count (sized Closed 0 0) ≡ 1) × (cap_of (sized Closed 0 0) ≡ 1)
@@ -79,11 +77,11 @@ unfolding exponent_from exponent_for ceil_div
 keys_65536 = refl
 
 -- The idle limit: the time to be full where the idle time is shorter, the idle time where it is longer.
-pub idle_shorter_than_full : idle_limit (idle_for 1) ≡ millis.Some (record { 0 = 2001 })
+pub idle_shorter_than_full : idle_limit (idle_for 1) ≡ Some (record { 0 = 2001 })
 unfolding ceil_div
 idle_shorter_than_full = refl
 
-pub idle_longer_than_full : idle_limit (idle_for 2000000001) ≡ millis.Some (record { 0 = 2002 })
+pub idle_longer_than_full : idle_limit (idle_for 2000000001) ≡ Some (record { 0 = 2002 })
 unfolding ceil_div
 idle_longer_than_full = refl
 

@@ -1,7 +1,6 @@
 -- What a decision says.
-use Rattle.std.specs.Prelude.{Bool, true, false}
-use Rattle.units.specs.declared.OptionNanos.{OptionNanos}
-use Rattle.units.specs.declared.OptionNanos.TheVariants.{None, Some}
+use Rattle.std.specs.Prelude.{Bool, true, false, Option, Some, None}
+use Rattle.units.specs.declared.Nanos.{Nanos}
 use Rattle.settings.specs.declared.decision.Decision.{Decision}
 use Rattle.settings.specs.declared.decision.Decision.TheVariants.{Acquired, Retry, Impossible}
 
@@ -12,7 +11,7 @@ acquired (Retry due) = false
 acquired Impossible = false
 
 -- The wait that a retry is told, and none otherwise.
-abbrev pub retry_after : Decision → OptionNanos
+abbrev pub retry_after : Decision → Option Nanos
 retry_after (Acquired due) = None
 retry_after (Retry due) = Some due.wait
 retry_after Impossible = None

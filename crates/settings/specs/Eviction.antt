@@ -1,8 +1,6 @@
 -- The numbers of looks, and the bounds that the builders of `Eviction` make. `capacity`, `idle` and `new` set RefuseNew; each with_ builder changes one field.
-use Rattle.std.specs.Prelude.{ℕ, cond, eqb}
+use Rattle.std.specs.Prelude.{ℕ, cond, eqb, Option, Some, None}
 use Rattle.units.specs.declared.Nanos.{Nanos}
-use Rattle.units.specs.declared.OptionNanos.{OptionNanos}
-use Rattle.units.specs.declared.OptionNanos.TheVariants.{None, Some}
 use Rattle.settings.specs.declared.eviction.Eviction.{Eviction}
 use Rattle.settings.specs.declared.eviction.WhenFull.{WhenFull}
 use Rattle.settings.specs.declared.eviction.WhenFull.TheVariants.{RefuseNew, ForgetDebt}
@@ -23,7 +21,7 @@ clock_scan = 32
 abbrev pub default_max_keys : ℕ
 default_max_keys = 1048576
 
-abbrev pub bounds : ℕ → OptionNanos → WhenFull → Eviction
+abbrev pub bounds : ℕ → Option Nanos → WhenFull → Eviction
 bounds keys idle full = record { max_keys = keys; idle_ttl = idle; when_full = full }
 
 abbrev pub capacity_of : ℕ → Eviction

@@ -1,14 +1,12 @@
 -- The rate: which are refused, and the bucket configuration that an accepted one comes to.
-use Rattle.std.specs.Prelude.{ℕ, ◌^◌, min, cond, ltb}
+use Rattle.std.specs.Prelude.{ℕ, ◌^◌, min, cond, ltb, Option, Some, None}
 use Rattle.arith.specs.Arith.{ceil_div}
 use Rattle.bucket.specs.declared.BucketConfig.{BucketConfig}
 use Rattle.bucket.specs.Bucket.{full_parts}
-use Rattle.settings.specs.declared.rate.OptionTokens.{OptionTokens}
-use Rattle.settings.specs.declared.rate.OptionTokens.TheVariants.{None, Some}
 use Rattle.settings.specs.declared.rate.Rate.{Rate}
 
 -- The number that is set, else the other one.
-abbrev pub given : OptionTokens → ℕ → ℕ
+abbrev pub given : Option ℕ → ℕ → ℕ
 given None other = other
 given (Some tokens) other = tokens
 

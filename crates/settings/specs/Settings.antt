@@ -1,14 +1,10 @@
 -- The settings of a whole store: refusals, shards, places per shard, the number of classes, and the idle limit.
-use Rattle.std.specs.Prelude.{ℕ, ◌+◌, ◌-◌, ◌/◌, ◌≤◌, ◌^◌, min, max, ◌≡◌, cond, ltb, eqb}
+use Rattle.std.specs.Prelude.{ℕ, ◌+◌, ◌-◌, ◌/◌, ◌≤◌, ◌^◌, min, max, ◌≡◌, cond, ltb, eqb, Option, Some, None}
 use Rattle.std.specs.Int.Bits.{bit_and}
 use Rattle.arith.specs.Arith.{ceil_div}
 use Rattle.units.specs.Units.{nanos_per_milli}
 use Rattle.units.specs.declared.Nanos.{Nanos}
 use Rattle.units.specs.declared.Millis.{Millis}
-use Rattle.units.specs.declared.OptionNanos.{OptionNanos}
-use Rattle.units.specs.declared.OptionNanos.TheVariants as nanos
-use Rattle.units.specs.declared.OptionMillis.{OptionMillis}
-use Rattle.units.specs.declared.OptionMillis.TheVariants as millis
 use Rattle.settings.specs.declared.Limit.{Limit}
 use Rattle.settings.specs.declared.Limit.TheVariants.{Closed, Open}
 use Rattle.settings.specs.declared.Settings.{Settings}
@@ -111,10 +107,10 @@ abbrev pub idle_limit_for : Nanos → ℕ → Millis
 idle_limit_for ttl least = record { 0 = idle_limit_millis (max ttl.0 least) }
 
 -- There is none where no idle time is set.
-abbrev pub idle_limit_of : OptionNanos → ℕ → OptionMillis
-idle_limit_of nanos.None least = millis.None
-idle_limit_of (nanos.Some ttl) least = millis.Some (idle_limit_for ttl least)
+abbrev pub idle_limit_of : Option Nanos → ℕ → Option Millis
+idle_limit_of None least = None
+idle_limit_of (Some ttl) least = Some (idle_limit_for ttl least)
 
 -- The idle limit of settings.
-abbrev pub idle_limit : Settings → OptionMillis
+abbrev pub idle_limit : Settings → Option Millis
 idle_limit s = idle_limit_of s.eviction.idle_ttl (least_idle s.limit)

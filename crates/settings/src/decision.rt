@@ -3,7 +3,7 @@ ghost use Rattle.std.specs.Prelude.{◌≡◌};
 ghost use Rattle.settings.specs.Decision.{acquired, retry_after};
 
 use bucket::Due;
-use units::OptionNanos;
+use units::Nanos;
 
 // Granted, due at once; to be asked for again when it is due; or never to be granted, since the cost is more than a full bucket or the limiter is closed.
 #[derive(Clone, Copy)]
@@ -26,16 +26,16 @@ impl Decision {
     }
 
     // The wait after which to ask again, if there is one.
-    pub fn retry_after(self) -> OptionNanos
+    pub fn retry_after(self) -> Option<Nanos>
         ensures { result ≡ retry_after self }
     {
         match self {
-            Decision::Acquired(_) => OptionNanos::None,
+            Decision::Acquired(_) => None,
             Decision::Retry { after } => {
                 let wait = after.wait;
-                OptionNanos::Some(wait)
+                Some(wait)
             }
-            Decision::Impossible => OptionNanos::None,
+            Decision::Impossible => None,
         }
     }
 }

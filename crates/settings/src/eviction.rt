@@ -3,7 +3,7 @@ ghost use Rattle.std.specs.Prelude.{◌≡◌};
 ghost use Rattle.settings.specs.Eviction.{ttl_sweep, ledger_scan, clock_scan};
 ghost use Rattle.settings.specs.Eviction.{capacity_of, idle_of, bounded_by, with_capacity, with_idle, with_when_full, when_full_of};
 
-use units::{Nanos, OptionNanos};
+use units::Nanos;
 
 // The cap on keys where none is named. It is more than this store accepts.
 pub const DEFAULT_MAX_KEYS: usize = 1048576;
@@ -33,7 +33,7 @@ impl WhenFull {
 #[derive(Clone, Copy)]
 pub struct Eviction {
     pub max_keys: usize,
-    pub idle_ttl: OptionNanos,
+    pub idle_ttl: Option<Nanos>,
     pub when_full: WhenFull,
 }
 
@@ -74,7 +74,7 @@ impl Eviction {
     {
         Eviction {
             max_keys,
-            idle_ttl: OptionNanos::None,
+            idle_ttl: None,
             when_full: WhenFull::RefuseNew,
         }
     }
@@ -92,7 +92,7 @@ impl Eviction {
     {
         Eviction {
             max_keys,
-            idle_ttl: OptionNanos::Some(ttl),
+            idle_ttl: Some(ttl),
             when_full: WhenFull::RefuseNew,
         }
     }
@@ -117,7 +117,7 @@ impl Eviction {
         let when_full = self.when_full;
         Eviction {
             max_keys: self.max_keys,
-            idle_ttl: OptionNanos::Some(ttl),
+            idle_ttl: Some(ttl),
             when_full,
         }
     }

@@ -1,23 +1,31 @@
 // What a limiter is set to: the rate, the bounds on its memory, and what follows from them for the store: how many shards it has, how many keys
-// each holds, and after how long an idle key may go. A settings record may hold anything; `refusal` says whether it is accepted.
+// each holds, and after how long an idle key may go. A settings record may hold anything; `check` says whether it is accepted.
 #![tactic(auto)]
 
 ghost use Rattle.std.specs.Prelude.{◌≡◌, ◌≤◌, ◌^◌};
 ghost use Rattle.bucket.specs.Bucket.{Accepted};
 ghost use Rattle.settings.specs.Powers.{exponent_for};
 ghost use Rattle.settings.specs.Rate.{time_to_full};
+ghost use Rattle.settings.specs.Refusal.{numbered};
 ghost use Rattle.settings.specs.Settings.{limit_refusal, size_refusal, settings_refusal, share, shard_exponent, shape_of, shape_with, ShapeOfAccepted};
 ghost use Rattle.settings.specs.Settings.{index_in};
 ghost use Rattle.settings.specs.Settings.{idle_limit_for, idle_limit_millis};
 
 use crate::eviction::Eviction;
 use crate::rate::Rate;
+use crate::refusal::Refusal;
 use bucket::BucketConfig;
 use units::{Millis, Nanos};
 
 pub mod decision;
 pub mod eviction;
 pub mod rate;
+pub mod refusal;
+
+// The most keys and shards that settings may ask for.
+const MOST_KEYS: usize = 65536;
+
+const MOST_SHARDS: usize = 64;
 
 // The rate, if there is one. A closed limiter has none: it grants tries of cost 0, and nothing else.
 #[derive(Clone, Copy)]
@@ -44,41 +52,37 @@ pub struct Shape {
 }
 
 impl Limit {
-    // The number by which the rate is refused; 0 if it is accepted or there is none.
-    pub fn refusal(self) -> u32
-        ensures { result ≡ limit_refusal self }
+    // What is wrong with the rate, if there is one.
+    pub fn check(self) -> Result<(), Refusal>
+        ensures { numbered result ≡ limit_refusal self }
     {
         match self {
-            Limit::Closed => 0,
-            Limit::Open(rate) => rate.refusal(),
+            Limit::Closed => Ok(()),
+            Limit::Open(rate) => rate.check(),
         }
     }
 }
 
 impl Settings {
-    // The number by which the settings are refused; 0 if they are accepted.
-    pub fn refusal(self) -> u32
-        ensures { result ≡ settings_refusal self }
+    // What is wrong with the settings: the rate comes first.
+    pub fn check(self) -> Result<(), Refusal>
+        ensures { numbered result ≡ settings_refusal self }
     {
-        let limit = self.limit;
-        let refusal = limit.refusal();
-        if refusal != 0 {
-            return refusal;
-        }
-        self.size_refusal()
+        self.limit.check()?;
+        self.check_sizes()
     }
 
-    // 4 if more keys or shards are asked for than there may be, else 0. The shards are not yet raised.
-    pub fn size_refusal(self) -> u32
-        ensures { result ≡ size_refusal self }
+    // Whether more keys or shards are asked for than there may be. The shards are not yet raised.
+    pub fn check_sizes(self) -> Result<(), Refusal>
+        ensures { numbered result ≡ size_refusal self }
     {
-        if 65536 < self.eviction.max_keys {
-            return 4;
+        if MOST_KEYS < self.eviction.max_keys {
+            return Err(Refusal::Sizes);
         }
-        if 64 < self.shards {
-            return 4;
+        if MOST_SHARDS < self.shards {
+            return Err(Refusal::Sizes);
         }
-        0
+        Ok(())
     }
 
     // The exponent of the number of shards, which is a power of two. The number asked for is first raised, so that a shard need not hold more than
@@ -87,7 +91,7 @@ impl Settings {
         ensures { result ≡ shard_exponent self }
     {
         let least = share(self.eviction.max_keys as u64, 14);
-        exponent_for(arith::smaller(arith::larger(self.shards as u64, least), 64))
+        exponent_for((self.shards as u64).max(least).min(64))
     }
 
     // The shards, and an equal share of the keys for each.
@@ -130,7 +134,7 @@ fn share(keys: u64, exponent: u32) -> u64
     requires { exponent ≤ 14 }
     ensures { result ≡ share keys (2 ^ exponent) }
 {
-    (arith::saturating_sub(keys, 1) >> exponent) + 1
+    (keys.saturating_sub(1) >> exponent) + 1
 }
 
 // The least exponent whose power of two is not below n: the length of n - 1 in bits, with 0 for n - 1 where n is 0. It is the place, counted from 0, of the
@@ -139,7 +143,7 @@ fn exponent_for(n: u64) -> u32
     requires { n ≤ 64 }
     ensures { result ≡ exponent_for n }
 {
-    63 - u64::leading_zeros(2 * arith::saturating_sub(n, 1) + 1)
+    63 - u64::leading_zeros(2 * n.saturating_sub(1) + 1)
 }
 
 // The idle limit for an idle time: that time or the time to be full, whichever is longer, rounded up to milliseconds, and 1 more.
@@ -148,7 +152,7 @@ pub fn idle_limit(ttl: Nanos, config: BucketConfig) -> Millis
     ensures { result ≡ idle_limit_for ttl (time_to_full config) }
 {
     let least = rate::time_to_full(config);
-    idle_limit_millis(Nanos(arith::larger(ttl.0, least.0)))
+    idle_limit_millis(Nanos(ttl.0.max(least.0)))
 }
 
 // A span as an idle limit: the milliseconds that it takes, rounded up, and 1 more.

@@ -1,37 +1,25 @@
 // The rate of a limiter, and the bucket configuration that it comes to.
 ghost use Rattle.std.specs.Prelude.{◌≡◌};
 ghost use Rattle.bucket.specs.Bucket.{Accepted};
-ghost use Rattle.settings.specs.Rate.{given, burst_of, initial_of, config_of, rate_refusal, time_to_full};
+ghost use Rattle.settings.specs.Rate.{given, burst_of, initial_of, config_of, rate_refusal, unless_within, time_to_full};
+ghost use Rattle.settings.specs.Refusal.{number_of, numbered};
 
+use crate::refusal::Refusal;
 use bucket::BucketConfig;
 use units::Nanos;
 
-// A number of tokens that may be left unset.
-#[derive(Clone, Copy)]
-pub enum OptionTokens {
-    None,
-    Some(u32),
-}
+// The largest amount and burst, and the longest period in nanoseconds.
+const MOST_TOKENS: u64 = 65535;
+
+const LONGEST_PERIOD: u64 = 0x4000_0000_0000;
 
 // `amount` tokens come back every `period`. `burst` is the most that gather; unset, it is the amount. A fresh bucket holds `initial`; unset, the burst.
 #[derive(Clone, Copy)]
 pub struct Rate {
     pub amount: u32,
     pub period: Nanos,
-    pub burst: OptionTokens,
-    pub initial: OptionTokens,
-}
-
-impl OptionTokens {
-    // The number, or the other one where it is unset.
-    pub fn unwrap_or(self, other: u32) -> u32
-        ensures { result ≡ given self other }
-    {
-        match self {
-            OptionTokens::None => other,
-            OptionTokens::Some(tokens) => tokens,
-        }
-    }
+    pub burst: Option<u32>,
+    pub initial: Option<u32>,
 }
 
 impl Rate {
@@ -39,17 +27,15 @@ impl Rate {
     pub fn capacity(self) -> u32
         ensures { result ≡ burst_of self }
     {
-        let burst = self.burst;
-        burst.unwrap_or(self.amount)
+        self.burst.unwrap_or(self.amount)
     }
 
     // The tokens of a fresh bucket: as set, cut to the burst.
     pub fn initial_tokens(self) -> u32
         ensures { result ≡ initial_of self }
     {
-        let initial = self.initial;
         let capacity = self.capacity();
-        let tokens = initial.unwrap_or(capacity);
+        let tokens = self.initial.unwrap_or(capacity);
         if tokens <= capacity { tokens } else { capacity }
     }
 
@@ -57,40 +43,35 @@ impl Rate {
     pub fn config(self) -> BucketConfig
         ensures { result ≡ config_of self }
     {
-        let period = self.period;
         BucketConfig {
             capacity: self.capacity(),
             amount: self.amount,
-            period,
+            period: self.period,
             initial: self.initial_tokens(),
         }
     }
 
-    // The number by which the rate is refused; 0 if it is accepted.
-    pub fn refusal(self) -> u32
-        ensures { result ≡ rate_refusal self }
+    // What is wrong with the rate: first its amount, then its period, then its burst.
+    pub fn check(self) -> Result<(), Refusal>
+        ensures { numbered result ≡ rate_refusal self }
     {
-        if self.amount < 1 {
-            return 1;
-        }
-        if 65535 < self.amount {
-            return 1;
-        }
-        if self.period.0 < 1 {
-            return 2;
-        }
-        if 0x4000_0000_0000 < self.period.0 {
-            return 2;
-        }
-        let capacity = self.capacity();
-        if capacity < 1 {
-            return 3;
-        }
-        if 65535 < capacity {
-            return 3;
-        }
-        0
+        check_range(self.amount as u64, MOST_TOKENS, Refusal::Amount)?;
+        check_range(self.period.0, LONGEST_PERIOD, Refusal::Period)?;
+        check_range(self.capacity() as u64, MOST_TOKENS, Refusal::Burst)
     }
+}
+
+// Whether a value lies from 1 to the most; else the refusal.
+fn check_range(value: u64, most: u64, refusal: Refusal) -> Result<(), Refusal>
+    ensures { numbered result ≡ unless_within value most (number_of refusal) 0 }
+{
+    if value < 1 {
+        return Err(refusal);
+    }
+    if most < value {
+        return Err(refusal);
+    }
+    Ok(())
 }
 
 // How long an empty bucket takes to be full.
@@ -98,5 +79,5 @@ pub fn time_to_full(config: BucketConfig) -> Nanos
     requires { Accepted config }
     ensures { result.0 ≡ time_to_full config }
 {
-    Nanos(arith::div_ceil(config.full_parts(), config.amount as u64))
+    config.recovery_of(config.full_parts())
 }

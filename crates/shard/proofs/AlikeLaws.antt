@@ -1,28 +1,23 @@
 -- Operations on two shards that are alike to a view, in which lookup finds one place for each key, give one answer and leave shards that are alike. Laws above
 -- cite `every_operation_alike` and open none of the operations.
+use Rattle.std.proofs.Common.{Option, Some, None, Ok, Err}
+use Rattle.units.specs.declared.Millis.{Millis}
 use Prim.Native.Nat.{ℕ}
 use mathlib.Core.Path.{◌≡◌, refl, ap}
 use mathlib.Core.Bool.{false}
 use lib.Dec.{ltb}
 use Rattle.units.specs.declared.Nanos.{Nanos}
-use Rattle.units.specs.declared.OptionNanos.{OptionNanos}
-use Rattle.units.specs.declared.OptionNanos.TheVariants as nanos
-use Rattle.units.specs.declared.OptionMillis.{OptionMillis}
-use Rattle.units.specs.declared.OptionMillis.TheVariants as millis
 use Rattle.bucket.specs.declared.BucketConfig.{BucketConfig}
 use Rattle.bucket.specs.declared.BucketCore.{BucketCore}
 use Rattle.bucket.specs.declared.Request.{Request}
 use Rattle.bucket.specs.Bucket as Bucket
-use Rattle.rows.specs.declared.Place.{Place}
-use Rattle.rows.specs.declared.Place.TheVariants.{At, Nowhere}
 use Rattle.settings.specs.Eviction.{ttl_sweep, ledger_scan}
 use Rattle.held.proofs.AlikeLaws.{SameOutcome, alike_by_test}
 use Rattle.slot.specs.declared.Slot.{Slot}
 use Rattle.ledger.specs.Model as Ledger
 use Rattle.shard_map.specs.Model.{Shard, cap_of, place_of}
 use Rattle.shard_map.proofs.AlikeLaws.{View, AlikeShards, slot_alike, ledger_alike, change_alike, removal_alike, insert_alike, sweep_idle_alike}
-use Rattle.evict.specs.declared.Room.{Room}
-use Rattle.evict.specs.declared.Room.TheVariants.{Made, Refused}
+use Rattle.evict.specs.Evict.{Room}
 use Rattle.evict.proofs.AlikeLaws.{evict_alike}
 use Rattle.shard.specs.declared.Identity.{Identity}
 use Rattle.shard.specs.declared.Policy.{Policy}
@@ -35,9 +30,9 @@ module _ (v : View) where
   Like = AlikeShards v
 
   -- Making room: the sweeps, and an eviction if the shard is full.
-  swept_idle_alike : (p : Policy) (at : Nanos) {s t : Shard} → Like s t → (limit : OptionMillis) → Like (swept_idle p at s limit) (swept_idle p at t limit)
-  swept_idle_alike p at like millis.None = like
-  swept_idle_alike p at like (millis.Some limit) = sweep_idle_alike v like p.config at limit ttl_sweep
+  swept_idle_alike : (p : Policy) (at : Nanos) {s t : Shard} → Like s t → (limit : Option Millis) → Like (swept_idle p at s limit) (swept_idle p at t limit)
+  swept_idle_alike p at like None = like
+  swept_idle_alike p at like (Some limit) = sweep_idle_alike v like p.config at limit ttl_sweep
 
   swept_alike : (p : Policy) (at : Nanos) {s t : Shard} → Like s t → Like (swept p at s) (swept p at t)
   swept_alike p at like =
@@ -65,15 +60,15 @@ module _ (v : View) where
               (v.asks (v.touches slot at (tracks p.idle_ttl)) (ap (λ (b : BucketCore). Bucket.asked p.config request b cost at) bucket));
         }
 
-    put_back_alike : {s t : Shard} → Like s t → (owed : OptionNanos) → Like (put_back id.hash at owed s) (put_back id.hash at owed t)
-    put_back_alike like nanos.None = like
-    put_back_alike like (nanos.Some settles) =
+    put_back_alike : {s t : Shard} → Like s t → (owed : Option Nanos) → Like (put_back id.hash at owed s) (put_back id.hash at owed t)
+    put_back_alike like None = like
+    put_back_alike like (Some settles) =
         ledger_alike v like (v.ledgers.records like.ledger (record { hash = id.hash; settles = settles }) at false).after
 
-    admitted_alike : {s t : Shard} → Like s t → (owed : OptionNanos) (room : Room)
+    admitted_alike : {s t : Shard} → Like s t → (owed : Option Nanos) (room : Room)
         → SameOutcome Like (admitted p id request cost at owed s room) (admitted p id request cost at owed t room)
-    admitted_alike like owed Made = record { answer = refl; after = insert_alike v like _ }
-    admitted_alike like owed (Refused due) = record { answer = refl; after = put_back_alike like owed }
+    admitted_alike like owed (Ok _) = record { answer = refl; after = insert_alike v like _ }
+    admitted_alike like owed (Err due) = record { answer = refl; after = put_back_alike like owed }
 
     admit_alike : {s t : Shard} → Like s t → SameOutcome Like (admit p id request cost at s) (admit p id request cost at t)
     unfolding admit
@@ -89,17 +84,17 @@ module _ (v : View) where
     unfolding with_or_insert
     ask_alike p request cost at = rw found (go (place_of t id.hash id.key))
       where
-        go : (place : Place) → SameOutcome Like (asked_from p id request cost at s place) (asked_from p id request cost at t place)
-        go (At i) = existing_alike p id request cost at like i
-        go Nowhere = admit_alike p id request cost at like
+        go : (place : Option ℕ) → SameOutcome Like (asked_from p id request cost at s place) (asked_from p id request cost at t place)
+        go (Some i) = existing_alike p id request cost at like i
+        go None = admit_alike p id request cost at like
 
     view_alike : (c : BucketConfig) (at : Nanos) → viewed c id at s ≡ viewed c id at t
     unfolding viewed
     view_alike c at = rw found (go (place_of t id.hash id.key))
       where
-        go : (place : Place) → viewed_from c id at s place ≡ viewed_from c id at t place
-        go (At i) = (v.reads (slot_alike v like refl)).bucket
-        go Nowhere = ap (returning c at) (v.ledgers.owed like.ledger id.hash)
+        go : (place : Option ℕ) → viewed_from c id at s place ≡ viewed_from c id at t place
+        go (Some i) = (v.reads (slot_alike v like refl)).bucket
+        go None = ap (returning c at) (v.ledgers.owed like.ledger id.hash)
 
     holds_alike : holds id s ≡ holds id t
     unfolding holds
@@ -109,15 +104,15 @@ module _ (v : View) where
     unfolding refunded
     refund_alike c cost = rw found (go (place_of t id.hash id.key))
       where
-        go : (place : Place) → SameOutcome Like (refunded_from c id cost s place) (refunded_from c id cost t place)
-        go (At i) =
+        go : (place : Option ℕ) → SameOutcome Like (refunded_from c id cost s place) (refunded_from c id cost t place)
+        go (Some i) =
             let slot = slot_alike v like {p = i} refl in
             record {
               answer = refl;
               after = change_alike v like refl
                   (v.refills slot (ap (λ (b : BucketCore). Bucket.refunded c b cost) (v.reads slot).bucket));
             }
-        go Nowhere =
+        go None =
             let paid = v.ledgers.pays like.ledger id.hash cost c in
             record { answer = paid.answer; after = ledger_alike v like paid.after }
 
@@ -131,19 +126,19 @@ module _ (v : View) where
         left : Like (debt_taken id s) (debt_taken id t)
         left = ledger_alike v like own.after
 
-        go : (place : Place) → SameOutcome Like (removed_from (debt_taken id s) (has_debt (Ledger.taken t.ledger id.hash).answer) place)
+        go : (place : Option ℕ) → SameOutcome Like (removed_from (debt_taken id s) (has_debt (Ledger.taken t.ledger id.hash).answer) place)
             (removed_from (debt_taken id t) (has_debt (Ledger.taken t.ledger id.hash).answer) place)
-        go (At i) = record { answer = refl; after = removal_alike v left i }
-        go Nowhere = record { answer = refl; after = left }
+        go (Some i) = record { answer = refl; after = removal_alike v left i }
+        go None = record { answer = refl; after = left }
 
     -- The count is the same too, for a view that tells counts apart.
     pub count_alike : ((x y : Slot) → v.Same x y → x.turned_away ≡ y.turned_away) → turn_aways id s ≡ turn_aways id t
     unfolding turn_aways
     count_alike counts = rw found (go (place_of t id.hash id.key))
       where
-        go : (place : Place) → turned_away_at s place ≡ turned_away_at t place
-        go (At i) = rw (counts _ _ (slot_alike v like {p = i} refl))
-        go Nowhere = refl
+        go : (place : Option ℕ) → turned_away_at s place ≡ turned_away_at t place
+        go (Some i) = rw (counts _ _ (slot_alike v like {p = i} refl))
+        go None = refl
 
 -- So it is for every operation, the look at a count apart.
 pub record EveryOperationAlike (v : View) (s t : Shard) : Type 0 where

@@ -1,4 +1,5 @@
 -- Every answer to a request tells the moment of the call plus its wait, on any shard.
+use Rattle.std.proofs.Common.{Option, Some, None}
 use Prim.Native.Nat.{ℕ, ◌≤◌}
 use native.Mathlib.Omega.{arith}
 use borrow.Author.Tests.{lt-ltb, le-ltb}
@@ -12,13 +13,10 @@ use Rattle.bucket.specs.declared.Request.{Request}
 use Rattle.bucket.specs.declared.Request.TheVariants.{Acquire, Reserve, Through}
 use Rattle.bucket.specs.Bucket.{due_after, longest_wait, wait_at, wait_to, request_wait, asked}
 use Rattle.bucket.proofs.BucketLaws.{granted_within_longest, denied_beyond_longest}
-use Rattle.rows.specs.declared.Place.{Place}
-use Rattle.rows.specs.declared.Place.TheVariants.{At, Nowhere}
 use Rattle.shard_map.specs.Model.{Shard, cap_of, place_of, with_ledger}
 use Rattle.ledger.specs.Model as Ledger
-use Rattle.evict.specs.declared.Room.{Room}
+use Rattle.evict.specs.Evict.{Room}
 use Rattle.evict.proofs.RefusalLaws.{TellsRoom, room_made, room_refused, eviction_tells_its_moment}
-use Rattle.units.specs.declared.OptionNanos.{OptionNanos}
 use Rattle.shard.specs.declared.Identity.{Identity}
 use Rattle.shard.specs.declared.Policy.{Policy}
 use Rattle.shard.specs.Model.{with_existing, swept, make_room, admitted, admit, asked_from, with_or_insert}
@@ -56,15 +54,15 @@ making_room_tells_its_moment p at s =
     (λ below. rw (lt-ltb _ _ below) room_made)
 
 module _ (p : Policy) (id : Identity) (request : Request) (cost : ℕ) (at : Nanos) where
-  room_tells_its_moment : (owed : OptionNanos) (s : Shard) {room : Room} → TellsRoom at room
+  room_tells_its_moment : (owed : Option Nanos) (s : Shard) {room : Room} → TellsRoom at room
       → TellsItsMoment request at (admitted p id request cost at owed s room).answer
   room_tells_its_moment owed s room_made = bucket_tells_its_moment p.config request _ cost at
   room_tells_its_moment owed s (room_refused wait) = denied wait
 
-  place_tells_its_moment : (s : Shard) (place : Place) → TellsItsMoment request at (asked_from p id request cost at s place).answer
+  place_tells_its_moment : (s : Shard) (place : Option ℕ) → TellsItsMoment request at (asked_from p id request cost at s place).answer
   unfolding with_existing admit
-  place_tells_its_moment s (At i) = bucket_tells_its_moment p.config request _ cost at
-  place_tells_its_moment s Nowhere =
+  place_tells_its_moment s (Some i) = bucket_tells_its_moment p.config request _ cost at
+  place_tells_its_moment s None =
       let own = Ledger.taken s.ledger id.hash in
       let room = make_room p at (with_ledger s own.after) in
       room_tells_its_moment own.answer room.after (making_room_tells_its_moment p at (with_ledger s own.after))

@@ -1,6 +1,7 @@
 -- Making room for a new key: an idle sweep where an idle time is set, the ledger's sweep, and an eviction if the shard is full all the same. What these
 -- three steps keep, making room keeps; and it is refused only where the ledger is full and nothing may be forgotten. Laws above go by this and open none
 -- of the steps.
+use Rattle.std.proofs.Common.{Option, Some, None, Ok, Err}
 use Prim.Native.Nat.{ℕ, ◌≤◌, ◌<◌, ◌^◌}
 use mathlib.Core.Path.{◌≡◌, refl, sym, ◌∙◌}
 use mathlib.Core.Bool.{true, false, true≢false}
@@ -10,8 +11,6 @@ use borrow.Author.Tests.{ltb-true, ltb-false}
 use Rattle.arith.proofs.Cases.{by_test}
 use Rattle.units.specs.declared.Nanos.{Nanos}
 use Rattle.units.specs.declared.Millis.{Millis}
-use Rattle.units.specs.declared.OptionMillis.{OptionMillis}
-use Rattle.units.specs.declared.OptionMillis.TheVariants as millis
 use Rattle.bucket.specs.declared.BucketConfig.{BucketConfig}
 use Rattle.bucket.specs.declared.Due.{Due}
 use Rattle.bucket.specs.Bucket.{Accepted}
@@ -22,9 +21,7 @@ use Rattle.ledger.proofs.StepLaws as LedgerSteps
 use Rattle.shard_map.specs.Model.{Shard, Sound, cap_of, with_ledger, sweep_idle}
 use Rattle.shard_map.proofs.StepLaws.{ledger_sound, sweep_idle_sound, sweep_idle_ledger}
 use Rattle.shard_map.proofs.KeptLaws.{Keeps, keeps_refl, keeps_trans, sweep_idle_keeps_shortage, ledger_sweep_keeps_shortage}
-use Rattle.evict.specs.declared.Room.{Room}
-use Rattle.evict.specs.declared.Room.TheVariants.{Made, Refused}
-use Rattle.evict.specs.Evict.{min_refusal_wait, evicted}
+use Rattle.evict.specs.Evict.{Room, min_refusal_wait, evicted}
 use Rattle.evict.proofs.CaseLaws.{made_is_no_refusal, never_refused_is_made, evict_made_leaves_room}
 use Rattle.evict.proofs.RefusalLaws.{evict_refusal}
 use Rattle.evict.proofs.RoomLaws.{evict_same_room}
@@ -60,17 +57,17 @@ pub record RoomRefusal (p : Policy) (s : Shard) (wait : Nanos) : Type 0 where
 
 module _ (p : Policy) (at : Nanos) (s : Shard) (u : Sound s) where
   -- The idle sweep, which runs only where an idle time is set.
-  swept_idle_keeps : (Q : Shard → Type 0) → KeptBySweeps p at Q → Q s → (limit : OptionMillis) → Q (swept_idle p at s limit)
-  swept_idle_keeps Q k q millis.None = q
-  swept_idle_keeps Q k q (millis.Some limit) = k.idle s limit u q
+  swept_idle_keeps : (Q : Shard → Type 0) → KeptBySweeps p at Q → Q s → (limit : Option Millis) → Q (swept_idle p at s limit)
+  swept_idle_keeps Q k q None = q
+  swept_idle_keeps Q k q (Some limit) = k.idle s limit u q
 
-  pub swept_idle_sound : (limit : OptionMillis) → Sound (swept_idle p at s limit)
+  pub swept_idle_sound : (limit : Option Millis) → Sound (swept_idle p at s limit)
   swept_idle_sound limit = swept_idle_keeps Sound (sound_by_sweeps p at) u limit
 
   -- What the sweeps keep holds after both.
   pub swept_keeps : (Q : Shard → Type 0) → KeptBySweeps p at Q → Q s → Q (swept p at s)
   swept_keeps Q k q =
-      let limit : OptionMillis = idle_limit_in p in
+      let limit : Option Millis = idle_limit_in p in
       k.ledger (swept_idle p at s limit) (swept_idle_sound limit) (swept_idle_keeps Q k q limit)
 
   pub swept_sound : Sound (swept p at s)
@@ -88,7 +85,7 @@ module _ (p : Policy) (at : Nanos) (s : Shard) (u : Sound s) where
       (refl, omega arith)
 
   -- How making room ends: the sweeps left room, or the shard is full and an eviction decides.
-  room_cases : (Q : Outcome Room Shard → Type 0) → ((swept p at s).slots.count < cap_of (swept p at s) → Q (outcome Made (swept p at s)))
+  room_cases : (Q : Outcome Room Shard → Type 0) → ((swept p at s).slots.count < cap_of (swept p at s) → Q (outcome (Ok tt) (swept p at s)))
       → (0 < (swept p at s).slots.count → Q (evicted p.config at p.forget_debt (swept p at s))) → Q (make_room p at s)
   unfolding make_room
   room_cases Q free full =
@@ -120,23 +117,23 @@ module _ (p : Policy) (at : Nanos) (s : Shard) (u : Sound s) where
       c = p.config
 
   -- Where room was made there is room for a slot.
-  pub room_made_leaves_room : (make_room p at s).answer ≡ Made → (make_room p at s).after.slots.count < cap_of (make_room p at s).after
+  pub room_made_leaves_room : (make_room p at s).answer ≡ Ok tt → (make_room p at s).after.slots.count < cap_of (make_room p at s).after
   room_made_leaves_room =
-      room_cases (λ o. o.answer ≡ Made → o.after.slots.count < cap_of o.after)
+      room_cases (λ o. o.answer ≡ Ok tt → o.after.slots.count < cap_of o.after)
       (λ free made. free)
       (λ some made. evict_made_leaves_room p.config at p.forget_debt (swept p at s) swept_sound some made)
 
-  pub room_refusal : (due : Due) → (make_room p at s).answer ≡ Refused due → RoomRefusal p s due.wait
+  pub room_refusal : (due : Due) → (make_room p at s).answer ≡ Err due → RoomRefusal p s due.wait
   room_refusal due =
-      room_cases (λ o. o.answer ≡ Refused due → RoomRefusal p s due.wait)
+      room_cases (λ o. o.answer ≡ Err due → RoomRefusal p s due.wait)
       (λ free e. made_is_no_refusal e)
       (λ some e.
       let r = evict_refusal p.config at p.forget_debt (swept p at s) swept_sound some due e in
       record { full = omega (arith, r.full, swept_ledger_lem.0, swept_ledger_lem.1); never = r.never; least = r.least })
 
   -- So room is made while the ledger is below its cap, and wherever debts may be forgotten.
-  pub room_below_ledger_cap_never_refuses : s.ledger.debts.count < Ledger.cap_of s.ledger → (make_room p at s).answer ≡ Made
+  pub room_below_ledger_cap_never_refuses : s.ledger.debts.count < Ledger.cap_of s.ledger → (make_room p at s).answer ≡ Ok tt
   room_below_ledger_cap_never_refuses below = never_refused_is_made _ (λ due e. omega (arith, (room_refusal due e).full))
 
-  pub room_forgetting_never_refuses : p.forget_debt ≡ true → (make_room p at s).answer ≡ Made
+  pub room_forgetting_never_refuses : p.forget_debt ≡ true → (make_room p at s).answer ≡ Ok tt
   room_forgetting_never_refuses forgets = never_refused_is_made _ (λ due e. true≢false (sym forgets ∙ (room_refusal due e).never))

@@ -1,12 +1,11 @@
 -- How a request, a refund and a removal end, by cases, and that each leaves a sound shard with the same room. Laws above go by these cases and open none of
 -- the operations.
+use Rattle.std.proofs.Common.{Option, Some, None, Ok, Err}
 use Prim.Native.Nat.{ℕ, ◌≤◌, ◌<◌}
 use native.Mathlib.Omega.{arith}
 use mathlib.Core.Path.{◌≡◌, refl, sym, ◌∙◌, ap}
 use mathlib.Core.Bool.{Bool, true}
 use Rattle.units.specs.declared.Nanos.{Nanos}
-use Rattle.units.specs.declared.OptionNanos.{OptionNanos}
-use Rattle.units.specs.declared.OptionNanos.TheVariants as nanos
 use Rattle.bucket.specs.declared.BucketConfig.{BucketConfig}
 use Rattle.bucket.specs.declared.Due.{Due}
 use Rattle.bucket.specs.declared.BucketCore.{BucketCore}
@@ -14,8 +13,6 @@ use Rattle.bucket.specs.declared.BucketDecision.{BucketDecision}
 use Rattle.bucket.specs.declared.BucketDecision.TheVariants.{Denied}
 use Rattle.bucket.specs.declared.Request.{Request}
 use Rattle.bucket.specs.Bucket as Bucket
-use Rattle.rows.specs.declared.Place.{Place}
-use Rattle.rows.specs.declared.Place.TheVariants.{At, Nowhere}
 use Rattle.rows.specs.Outcome.{Outcome, outcome}
 use Rattle.settings.specs.Eviction.{ttl_sweep, ledger_scan}
 use Rattle.held.specs.Held.{Held}
@@ -31,8 +28,7 @@ use Rattle.shard_map.proofs.RoomLaws.{identity_of, found_is_complete, SlotsFrom,
 use Rattle.shard_map.proofs.RoomLaws.{same_room}
 use Rattle.shard_map.proofs.RoomLaws.{change_same_room, removal_same_room, idle_same_room, insert_same_room}
 pub use Rattle.shard_map.proofs.RoomLaws.{SameRoom}
-use Rattle.evict.specs.declared.Room.{Room}
-use Rattle.evict.specs.declared.Room.TheVariants.{Made, Refused}
+use Rattle.evict.specs.Evict.{Room}
 use Rattle.evict.proofs.CaseLaws.{made_is_no_refusal}
 use Rattle.evict.proofs.RoomLaws.{evict_slots_from, evict_same_room}
 use Rattle.shard.specs.declared.Identity.{Identity}
@@ -60,19 +56,19 @@ debt_taken_sound id s u = ledger_sound s _ u ((taken_room s.ledger id.hash).soun
 -- How a request ends: the key's slot is asked; the key is new, and joins once there is room; or there is no room. A key that is refused for space has
 -- neither a slot nor a debt, so no debt was taken out and none is put back: what is left is what making room left.
 pub data Asking (p : Policy) (id : Identity) (request : Request) (cost : ℕ) (at : Nanos) (s : Shard) : Outcome BucketDecision Shard → Type 0 where
-  slot_asked : (i : ℕ) (slot : Slot) → place_of s id.hash id.key ≡ At i → Holding s id.hash id.key i
+  slot_asked : (i : ℕ) (slot : Slot) → place_of s id.hash id.key ≡ Some i → Holding s id.hash id.key i
       → Rebucketed (slot_at s i) (Bucket.asked p.config request (slot_at s i).bucket cost at).bucket slot
       → Asking p id request cost at s (outcome (Bucket.asked p.config request (slot_at s i).bucket cost at).decision (with_slot s i slot))
-  key_joins : place_of s id.hash id.key ≡ Nowhere → (room_for p id at s).answer ≡ Made
+  key_joins : place_of s id.hash id.key ≡ None → (room_for p id at s).answer ≡ Ok tt
       → Asking p id request cost at s (joined p id request cost at (Ledger.taken s.ledger id.hash).answer (room_for p id at s).after)
-  no_space_lem : (due : Due) → place_of s id.hash id.key ≡ Nowhere → Ledger.owed_by s.ledger id.hash ≡ nanos.None → (make_room p at s).answer ≡ Refused due
+  no_space_lem : (due : Due) → place_of s id.hash id.key ≡ None → Ledger.owed_by s.ledger id.hash ≡ None → (make_room p at s).answer ≡ Err due
       → Asking p id request cost at s (outcome (Denied due) (make_room p at s).after)
 
 -- Where room is refused no debt was taken out: one that was taken out would have left the ledger below its cap.
-pub refused_took_nothing : (p : Policy) (id : Identity) (at : Nanos) (s : Shard) (due : Due) → Sound s → (room_for p id at s).answer ≡ Refused due
-    → Ledger.taken s.ledger id.hash ≡ outcome nanos.None s.ledger
+pub refused_took_nothing : (p : Policy) (id : Identity) (at : Nanos) (s : Shard) (due : Due) → Sound s → (room_for p id at s).answer ≡ Err due
+    → Ledger.taken s.ledger id.hash ≡ outcome None s.ledger
 refused_took_nothing p id at s due u =
-    taken_cases s.ledger id.hash (λ o. (make_room p at (with_ledger s o.after)).answer ≡ Refused due → o ≡ outcome nanos.None s.ledger)
+    taken_cases s.ledger id.hash (λ o. (make_room p at (with_ledger s o.after)).answer ≡ Err due → o ≡ outcome None s.ledger)
     (λ q e told.
     let l : Ledger.Ledger = Ledger.remove_at s.ledger q in
     let below : l.debts.count < Ledger.cap_of l =
@@ -84,21 +80,21 @@ refused_took_nothing p id at s due u =
 
 module _ (p : Policy) (id : Identity) (request : Request) (cost : ℕ) (at : Nanos) (s : Shard) (u : Sound s) where
   -- The touch of a known key alters neither its identity nor its bucket.
-  known_cases : (i : ℕ) → place_of s id.hash id.key ≡ At i → Asking p id request cost at s (with_existing p request cost at s i)
+  known_cases : (i : ℕ) → place_of s id.hash id.key ≡ Some i → Asking p id request cost at s (with_existing p request cost at s i)
   unfolding with_existing
   known_cases i e = slot_asked i _ e (found_holds s id.hash id.key i e) (record { hash = refl; key = refl; bucket = refl })
 
-  new_cases : place_of s id.hash id.key ≡ Nowhere → Asking p id request cost at s (admit p id request cost at s)
+  new_cases : place_of s id.hash id.key ≡ None → Asking p id request cost at s (admit p id request cost at s)
   unfolding admit
   new_cases e = go (room_for p id at s).answer refl
     where
       go : (answer : Room) → (room_for p id at s).answer ≡ answer
           → Asking p id request cost at s (admitted p id request cost at (Ledger.taken s.ledger id.hash).answer (room_for p id at s).after answer)
-      go Made made = key_joins e made
-      go (Refused due) told =
-          let nothing : Ledger.taken s.ledger id.hash ≡ outcome nanos.None s.ledger = refused_took_nothing p id at s due u told in
-          let no_debt_lem : Ledger.owed_by s.ledger id.hash ≡ nanos.None =
-          sym (taken_tells s.ledger id.hash) ∙ ap (λ (o : Outcome OptionNanos Ledger.Ledger). o.answer) nothing in
+      go (Ok _) made = key_joins e made
+      go (Err due) told =
+          let nothing : Ledger.taken s.ledger id.hash ≡ outcome None s.ledger = refused_took_nothing p id at s due u told in
+          let no_debt_lem : Ledger.owed_by s.ledger id.hash ≡ None =
+          sym (taken_tells s.ledger id.hash) ∙ ap (λ (o : Outcome (Option Nanos) Ledger.Ledger). o.answer) nothing in
           rw nothing (no_space_lem due e no_debt_lem (rw nothing at told))
 
   -- The cases of a request.
@@ -106,37 +102,37 @@ module _ (p : Policy) (id : Identity) (request : Request) (cost : ℕ) (at : Nan
   unfolding with_or_insert
   ask_cases = go (place_of s id.hash id.key) refl
     where
-      go : (place : Place) → place_of s id.hash id.key ≡ place → Asking p id request cost at s (asked_from p id request cost at s place)
-      go (At i) e = known_cases i e
-      go Nowhere e = new_cases e
+      go : (place : Option ℕ) → place_of s id.hash id.key ≡ place → Asking p id request cost at s (asked_from p id request cost at s place)
+      go (Some i) e = known_cases i e
+      go None e = new_cases e
 
 -- How a refund ends: the slot's bucket is refunded, or the debt of the hash, if there is one, is paid down.
 pub data Refunding (c : BucketConfig) (id : Identity) (cost : ℕ) (s : Shard) : Outcome Bool Shard → Type 0 where
-  slot_refunded : (i : ℕ) (slot : Slot) → place_of s id.hash id.key ≡ At i → Holding s id.hash id.key i
+  slot_refunded : (i : ℕ) (slot : Slot) → place_of s id.hash id.key ≡ Some i → Holding s id.hash id.key i
       → Rebucketed (slot_at s i) (Bucket.refunded c (slot_at s i).bucket cost) slot → Refunding c id cost s (outcome true (with_slot s i slot))
-  debt_paid : place_of s id.hash id.key ≡ Nowhere → Refunding c id cost s (in_ledger s (Ledger.paid_down s.ledger id.hash cost c))
+  debt_paid : place_of s id.hash id.key ≡ None → Refunding c id cost s (in_ledger s (Ledger.paid_down s.ledger id.hash cost c))
 
 pub refund_cases : (c : BucketConfig) (id : Identity) (cost : ℕ) (s : Shard) → Refunding c id cost s (refunded c id cost s)
 unfolding refunded
 refund_cases c id cost s = go (place_of s id.hash id.key) refl
   where
-    go : (place : Place) → place_of s id.hash id.key ≡ place → Refunding c id cost s (refunded_from c id cost s place)
-    go (At i) e = slot_refunded i _ e (found_holds s id.hash id.key i e) (record { hash = refl; key = refl; bucket = refl })
-    go Nowhere e = debt_paid e
+    go : (place : Option ℕ) → place_of s id.hash id.key ≡ place → Refunding c id cost s (refunded_from c id cost s place)
+    go (Some i) e = slot_refunded i _ e (found_holds s id.hash id.key i e) (record { hash = refl; key = refl; bucket = refl })
+    go None e = debt_paid e
 
 -- How a removal ends: the debt of the hash is gone, and the slot too if there is one.
 pub data Removing (id : Identity) (s : Shard) : Outcome Bool Shard → Type 0 where
-  slot_removed : (i : ℕ) → place_of s id.hash id.key ≡ At i → Holding s id.hash id.key i → Removing id s (outcome true (remove_at (debt_taken id s) i))
-  no_slot : place_of s id.hash id.key ≡ Nowhere → Removing id s (outcome (has_debt (Ledger.taken s.ledger id.hash).answer) (debt_taken id s))
+  slot_removed : (i : ℕ) → place_of s id.hash id.key ≡ Some i → Holding s id.hash id.key i → Removing id s (outcome true (remove_at (debt_taken id s) i))
+  no_slot : place_of s id.hash id.key ≡ None → Removing id s (outcome (has_debt (Ledger.taken s.ledger id.hash).answer) (debt_taken id s))
 
 pub remove_cases : (id : Identity) (s : Shard) → Removing id s (removed id s)
 unfolding removed
 remove_cases id s = go (place_of s id.hash id.key) refl
   where
-    go : (place : Place) → place_of s id.hash id.key ≡ place
+    go : (place : Option ℕ) → place_of s id.hash id.key ≡ place
         → Removing id s (removed_from (debt_taken id s) (has_debt (Ledger.taken s.ledger id.hash).answer) place)
-    go (At i) e = slot_removed i e (found_holds s id.hash id.key i e)
-    go Nowhere e = no_slot e
+    go (Some i) e = slot_removed i e (found_holds s id.hash id.key i e)
+    go None e = no_slot e
 
 -- Making room keeps what every step keeps, and its slots come from those before.
 module _ (p : Policy) (at : Nanos) (s : Shard) (u : Sound s) where
@@ -161,9 +157,9 @@ module _ (p : Policy) (at : Nanos) (s : Shard) (u : Sound s) where
       trans = comes_from_trans slot_items identity_of
 
 -- A debt that goes back into the ledger changes no slot.
-put_back_keeps_slots : (hash : ℕ) (at : Nanos) (owed : OptionNanos) (s : Shard) → (put_back hash at owed s).slots ≡ s.slots
-put_back_keeps_slots hash at nanos.None s = refl
-put_back_keeps_slots hash at (nanos.Some settles) s = refl
+put_back_keeps_slots : (hash : ℕ) (at : Nanos) (owed : Option Nanos) (s : Shard) → (put_back hash at owed s).slots ≡ s.slots
+put_back_keeps_slots hash at None s = refl
+put_back_keeps_slots hash at (Some settles) s = refl
 
 -- And so does every operation, whatever it answers.
 module _ (s : Shard) (u : Sound s) where
@@ -197,13 +193,13 @@ module _ (s : Shard) (u : Sound s) where
       room : SameRoom (debt_taken id s) (room_for p id at s).after
       room = room_same_room p at (debt_taken id s) v
 
-      owed : OptionNanos
+      owed : Option Nanos
       owed = (Ledger.taken s.ledger id.hash).answer
 
       go : (answer : Room) → (room_for p id at s).answer ≡ answer
           → (admitted p id request cost at owed (room_for p id at s).after answer).after.slots.count ≤ cap_of s
-      go Made made = omega (arith, room_made_leaves_room p at (debt_taken id s) v made, room.cap)
-      go (Refused due) told = rw (put_back_keeps_slots id.hash at owed (room_for p id at s).after) (omega (arith, room.sound.count_fits, room.cap))
+      go (Ok _) made = omega (arith, room_made_leaves_room p at (debt_taken id s) v made, room.cap)
+      go (Err due) told = rw (put_back_keeps_slots id.hash at owed (room_for p id at s).after) (omega (arith, room.sound.count_fits, room.cap))
 
   pub refund_same_room : (c : BucketConfig) (id : Identity) (cost : ℕ) → SameRoom s (refunded c id cost s).after
   refund_same_room c id cost = go (refund_cases c id cost s)

@@ -4,19 +4,16 @@
 ghost use Rattle.std.specs.Prelude.{◌≡◌, ◌≤◌, ◌<◌};
 ghost use Rattle.rows.specs.Outcome.{outcome};
 ghost use Rattle.bucket.specs.Bucket.{Accepted};
-ghost use Rattle.slot.specs.Slot.{with_bucket};
 ghost use Rattle.ledger.specs.Model as Ledger;
 ghost use Rattle.shard_map.specs.Model.{slot_at};
 ghost use Rattle.shard_map.specs.Layout.{shard, Intact};
 ghost use Rattle.shard.specs.Model as Model;
 
-use bucket::{BucketConfig, BucketCore, BucketDecision, Request};
-use evict::Room;
-use rows::Place;
+use bucket::{BucketConfig, BucketCore, BucketDecision, Due, Request};
 use settings::eviction::Eviction;
 use shard_map::debts;
 use slot::Slot;
-use units::{Nanos, OptionNanos};
+use units::Nanos;
 
 // A key: its hash and the key itself, together.
 #[derive(Clone, Copy)]
@@ -29,7 +26,7 @@ pub struct Identity {
 #[derive(Clone, Copy)]
 pub struct Policy {
     pub config: BucketConfig,
-    pub idle_ttl: OptionNanos,
+    pub idle_ttl: Option<Nanos>,
     pub forget_debt: bool,
 }
 
@@ -38,11 +35,7 @@ impl Policy {
     pub fn tracks_idle(self) -> bool
         ensures { result ≡ Model.tracks self.idle_ttl }
     {
-        let idle_ttl = self.idle_ttl;
-        match idle_ttl {
-            OptionNanos::None => false,
-            OptionNanos::Some(_) => true,
-        }
+        self.idle_ttl.is_some()
     }
 }
 
@@ -61,27 +54,9 @@ pub fn with_existing(
 {
     let stored = shard_map::get(ws, cap, pos);
     let slot = slot::touch_value(stored, at, policy.tracks_idle());
-    let bucket = slot.bucket;
-    let config = policy.config;
-    let asked = bucket.ask_at(config, request, cost, at);
-    let decision = asked.decision;
+    let asked = slot.bucket.ask_at(policy.config, request, cost, at);
     shard_map::set(ws, cap, pos, slot.asked(asked));
-    decision
-}
-
-// The slot with another bucket.
-fn with_bucket(slot: Slot, bucket: BucketCore) -> Slot
-    ensures { result ≡ with_bucket slot bucket }
-{
-    let seen = slot.seen;
-    Slot {
-        hash: slot.hash,
-        key: slot.key,
-        bucket,
-        mark: slot.mark,
-        seen,
-        turned_away: slot.turned_away,
-    }
+    asked.decision
 }
 
 // A request of a new key. The key's own debt is taken out first: its place in the ledger is then free for the debt of a slot that has to go. So a key that
@@ -100,8 +75,8 @@ pub fn admit(
 {
     let owed = debts::take(ws, cap, id.hash);
     match make_room(ws, cap, policy, at) {
-        Room::Made => join(ws, cap, policy, id, request, cost, at, owed),
-        Room::Refused(due) => BucketDecision::Denied(due),
+        Ok(()) => join(ws, cap, policy, id, request, cost, at, owed),
+        Err(due) => BucketDecision::Denied(due),
     }
 }
 
@@ -114,7 +89,7 @@ fn join(
     request: Request,
     cost: u32,
     at: Nanos,
-    owed: OptionNanos,
+    owed: Option<Nanos>,
 ) -> BucketDecision
     requires { Intact cap ws.old × Accepted policy.config × (cost ≤ policy.config.capacity) × ((shard cap ws.old).slots.count < cap) }
     ensures { outcome result (shard cap ws.new) ≡ Model.joined policy id request cost at owed (shard cap ws.old) }
@@ -122,39 +97,33 @@ fn join(
     let config = policy.config;
     let returned = returning(config, at, owed);
     let asked = returned.ask_at(config, request, cost, at);
-    let decision = asked.decision;
     let slot = Slot::new(id.hash, id.key, returned, at.millis());
     shard_map::insert(ws, cap, slot.asked(asked));
-    decision
+    asked.decision
 }
 
 // The bucket of a key without a slot: a fresh one, in its debt if it left one.
-fn returning(config: BucketConfig, at: Nanos, owed: OptionNanos) -> BucketCore
+fn returning(config: BucketConfig, at: Nanos, owed: Option<Nanos>) -> BucketCore
     requires { Accepted config }
     ensures { result ≡ Model.returning config at owed }
 {
+    let fresh = BucketCore::new(config, at);
     match owed {
-        OptionNanos::None => BucketCore::new(config, at),
-        OptionNanos::Some(settles) => bucket::restore_debt(
-            BucketCore::new(config, at),
-            config,
-            at,
-            settles,
-        ),
+        None => fresh,
+        Some(settles) => bucket::restore_debt(fresh, config, at, settles),
     }
 }
 
 // Makes room in a shard that is about to receive a new key: the idle sweep, the ledger's sweep, and one eviction if the shard is full all the same.
-fn make_room(ws: &mut [u64], cap: usize, policy: Policy, at: Nanos) -> Room
+fn make_room(ws: &mut [u64], cap: usize, policy: Policy, at: Nanos) -> Result<(), Due>
     requires { Intact cap ws.old × Accepted policy.config }
     ensures { outcome result (shard cap ws.new) ≡ Model.make_room policy at (shard cap ws.old) }
 {
     sweep(ws, cap, policy, at);
     if shard_map::len(ws, cap) < cap {
-        return Room::Made;
+        return Ok(());
     }
-    let config = policy.config;
-    evict::evict_one(ws, cap, config, at, policy.forget_debt)
+    evict::evict_one(ws, cap, policy.config, at, policy.forget_debt)
 }
 
 // The two sweeps.
@@ -171,14 +140,10 @@ fn sweep_idle(ws: &mut [u64], cap: usize, policy: Policy, at: Nanos)
     requires { Intact cap ws.old × Accepted policy.config }
     ensures { shard cap ws.new ≡ Model.swept_idle policy at (shard cap ws.old) (Model.idle_limit_in policy) }
 {
-    let config = policy.config;
-    let idle_ttl = policy.idle_ttl;
-    match idle_ttl {
-        OptionNanos::None => {}
-        OptionNanos::Some(ttl) => {
-            let limit = settings::idle_limit(ttl, config);
-            shard_map::sweep_idle(ws, cap, config, at, limit, Eviction::idle_looks());
-        }
+    if let Some(ttl) = policy.idle_ttl {
+        let config = policy.config;
+        let limit = settings::idle_limit(ttl, config);
+        shard_map::sweep_idle(ws, cap, config, at, limit, Eviction::idle_looks());
     }
 }
 
@@ -188,8 +153,8 @@ pub fn view(ws: &[u64], cap: usize, config: BucketConfig, id: Identity, at: Nano
     ensures { result ≡ Model.viewed config id at (shard cap ws.now) }
 {
     match shard_map::position(ws, cap, id.hash, id.key) {
-        Place::At(pos) => bucket_at(ws, cap, pos),
-        Place::Nowhere => returning_bucket(ws, cap, config, id.hash, at),
+        Some(pos) => bucket_at(ws, cap, pos),
+        None => returning_bucket(ws, cap, config, id.hash, at),
     }
 }
 
@@ -198,8 +163,7 @@ pub fn bucket_at(ws: &[u64], cap: usize, pos: usize) -> BucketCore
     requires { Intact cap ws.now × (pos < cap) }
     ensures { result ≡ (slot_at (shard cap ws.now) pos).bucket }
 {
-    let slot = shard_map::get(ws, cap, pos);
-    slot.bucket
+    shard_map::get(ws, cap, pos).bucket
 }
 
 // The bucket that a key without a slot would have if it came in now.
@@ -222,11 +186,8 @@ pub fn turned_away(ws: &[u64], cap: usize, id: Identity) -> u64
     ensures { result ≡ Model.turn_aways id (shard cap ws.now) }
 {
     match shard_map::position(ws, cap, id.hash, id.key) {
-        Place::At(pos) => {
-            let slot = shard_map::get(ws, cap, pos);
-            slot.times_turned_away()
-        }
-        Place::Nowhere => 0,
+        Some(pos) => shard_map::get(ws, cap, pos).times_turned_away(),
+        None => 0,
     }
 }
 
@@ -236,13 +197,13 @@ pub fn refund(ws: &mut [u64], cap: usize, config: BucketConfig, id: Identity, co
     ensures { outcome result (shard cap ws.new) ≡ Model.refunded config id cost (shard cap ws.old) }
 {
     match shard_map::position(ws, cap, id.hash, id.key) {
-        Place::At(pos) => {
+        Some(pos) => {
             let slot = shard_map::get(ws, cap, pos);
-            let bucket = slot.bucket;
-            shard_map::set(ws, cap, pos, with_bucket(slot, bucket.refund(config, cost)));
+            let bucket = slot.bucket.refund(config, cost);
+            shard_map::set(ws, cap, pos, Slot { bucket, ..slot });
             true
         }
-        Place::Nowhere => debts::pay_down(ws, cap, id.hash, cost, config),
+        None => debts::pay_down(ws, cap, id.hash, cost, config),
     }
 }
 
@@ -254,20 +215,10 @@ pub fn remove(ws: &mut [u64], cap: usize, id: Identity) -> bool
     let place = shard_map::position(ws, cap, id.hash, id.key);
     let debt = debts::take(ws, cap, id.hash);
     match place {
-        Place::At(pos) => {
+        Some(pos) => {
             shard_map::remove_at(ws, cap, pos);
             true
         }
-        Place::Nowhere => had(debt),
-    }
-}
-
-// Whether there was a debt.
-fn had(debt: OptionNanos) -> bool
-    ensures { result ≡ Model.has_debt debt }
-{
-    match debt {
-        OptionNanos::None => false,
-        OptionNanos::Some(_) => true,
+        None => debt.is_some(),
     }
 }

@@ -1,6 +1,7 @@
 -- Two sums over all that a shard has of one hash. `count` is how many items there are, where a slot of another key with the same hash counts as two: while
 -- it is at most 1, the key's slot or its debt is all that there is. `shortage` is what they lack at a moment. A step that grants the key nothing never raises
 -- the first and, while that is at most 1, never lowers the second: this is how no debt is lost. Layers above add up these laws and look at no place.
+use Rattle.std.proofs.Common.{None}
 use Prim.Native.Nat.{ℕ, ◌+◌, ◌*◌, ◌-◌, ◌≤◌, ◌<◌, min}
 use mathlib.Core.Path.{◌≡◌, ◌∙◌, ap}
 use mathlib.Core.Bool.{true, cond}
@@ -17,7 +18,6 @@ use Rattle.bucket.specs.Bucket.{Accepted, most_shortfall, shortfall_at, fresh}
 use Rattle.bucket.specs.Debt.{restored}
 use Rattle.bucket.proofs.BucketLaws.{shortfall_falls_slowly}
 use Rattle.bucket.proofs.DebtLaws.{restored_fresh}
-use Rattle.rows.specs.declared.Place.TheVariants.{Nowhere}
 use Rattle.held.specs.Held.{total}
 use Rattle.rows.proofs.SumLaws.{sum_le, term_le_sum, sum_of_zeros}
 use Rattle.held.proofs.RoundLaws as RoundLaws
@@ -231,7 +231,7 @@ module _ (c : BucketConfig) (h k : ℕ) where
       sum_of_zeros s.slots.count (λ i. short c h at (slot_at s i)) (λ i below. short_other c h at (slot_at s i) (weightless_has_no_slot s none i below))
 
   -- Where lookup misses no slot, none of the key is found and the count is at most 1, no slot has its hash: what is held is the debt's.
-  pub nowhere_weighs_nothing : (s : Shard) → Complete s → place_of s h k ≡ Nowhere → count h k s ≤ 1 → over_slots (weight h k) s ≡ 0
+  pub nowhere_weighs_nothing : (s : Shard) → Complete s → place_of s h k ≡ None → count h k s ≤ 1 → over_slots (weight h k) s ≡ 0
   nowhere_weighs_nothing s complete e single =
       sum_of_zeros s.slots.count (λ i. weight h k (slot_at s i))
       (λ i below. weight_other h k (slot_at s i) (λ own.
@@ -241,7 +241,7 @@ module _ (c : BucketConfig) (h k : ℕ) where
         term_le_sum s.slots.count (λ j. weight h k (slot_at s j)) i below,
       )))
 
-  pub nowhere_holds_the_debt : (at : Nanos) (s : Shard) → Complete s → place_of s h k ≡ Nowhere → count h k s ≤ 1
+  pub nowhere_holds_the_debt : (at : Nanos) (s : Shard) → Complete s → place_of s h k ≡ None → count h k s ≤ 1
       → shortage c h at s ≡ owed h (unpaid c at) s.ledger
   nowhere_holds_the_debt at s complete e single = omega (arith, weightless_holds_nothing at s (nowhere_weighs_nothing s complete e single))
 

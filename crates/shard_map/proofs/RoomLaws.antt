@@ -1,4 +1,5 @@
 -- What every step on a shard keeps, in one relation. What the steps keep, the operations above keep: they add up such steps and open none of them.
+use Rattle.std.proofs.Common.{None}
 use Prim.Native.Nat.{ℕ, ◌<◌}
 use mathlib.Core.Path.{◌≡◌, refl, ap, ◌∙◌}
 use native.Mathlib.Omega.{arith}
@@ -6,7 +7,6 @@ use lib.ListN.{length-set}
 use Rattle.units.specs.declared.Nanos.{Nanos}
 use Rattle.units.specs.declared.Millis.{Millis}
 use Rattle.bucket.specs.declared.BucketConfig.{BucketConfig}
-use Rattle.rows.specs.declared.Place.TheVariants.{Nowhere}
 use Rattle.held.proofs.HeldLaws.{appended_sound, removed_length, removed_sound}
 use Rattle.held.proofs.FindingLaws.{kind_of, added_kind, removed_kind, stored_complete, appended_complete, removed_complete}
 use Rattle.held.proofs.RoundLaws.{sweep_length, sweep_kind, sweep_complete}
@@ -49,7 +49,7 @@ abbrev pub SlotsFrom : Shard → Shard → Type 0
 SlotsFrom s t = ComesFrom slot_items identity_of s.slots t.slots
 
 -- Where it finds none, no slot has the hash and the key.
-pub nowhere_lacks : (s : Shard) → Complete s → (h k : ℕ) → place_of s h k ≡ Nowhere → Lacks slot_items identity_of (h, k) s.slots
+pub nowhere_lacks : (s : Shard) → Complete s → (h k : ℕ) → place_of s h k ≡ None → Lacks slot_items identity_of (h, k) s.slots
 nowhere_lacks s complete h k new i below own = nowhere_holds_none s complete h k new i below (ap (λ x. x.0) own) (ap (λ x. x.1) own)
 
 -- The slots that a removal and an idle sweep leave come from those before.

@@ -1,4 +1,5 @@
 -- What lookup by hash and key says, and what the steps leave of the room.
+use Rattle.std.proofs.Common.{Some, None}
 use Prim.Native.Nat.{ℕ, ◌-◌, ◌<◌}
 use mathlib.Core.Path.{◌≡◌, refl, sym, ◌∙◌}
 use mathlib.Core.Bool.{true, false, true≢false}
@@ -9,7 +10,6 @@ use Rattle.units.specs.declared.Millis.{Millis}
 use Rattle.units.specs.Units.{millis_of}
 use Rattle.bucket.specs.declared.BucketConfig.{BucketConfig}
 use Rattle.bucket.specs.Bucket.{shortfall_at}
-use Rattle.rows.specs.declared.Place.TheVariants.{At, Nowhere}
 use Rattle.held.specs.Held as Held
 use Rattle.held.specs.Round as Round
 use Rattle.held.proofs.RoundLaws as RoundLaws
@@ -36,14 +36,14 @@ pub record Holding (s : Shard) (h k p : ℕ) : Type 0 where
   pub hash : (slot_at s p).hash ≡ h
   pub key : (slot_at s p).key ≡ k
 
-pub found_holds : (s : Shard) (h k p : ℕ) → place_of s h k ≡ At p → Holding s h k p
+pub found_holds : (s : Shard) (h k p : ℕ) → place_of s h k ≡ Some p → Holding s h k p
 unfolding place_of
 found_holds s h k p e =
     let f = found_passes slot_items s.slots h (is_key h k) p e in
     let own : ((slot_at s p).hash ≡ h) × ((slot_at s p).key ≡ k) = (is_key_iff h k (slot_at s p)).0 f.passes in
     record { below = f.below; hash = own.0; key = own.1 }
 
-pub nowhere_holds_none : (s : Shard) → Complete s → (h k : ℕ) → place_of s h k ≡ Nowhere
+pub nowhere_holds_none : (s : Shard) → Complete s → (h k : ℕ) → place_of s h k ≡ None
     → (i : ℕ) → i < s.slots.count → (slot_at s i).hash ≡ h → (slot_at s i).key ≡ k → ⊥
 unfolding place_of
 nowhere_holds_none s complete h k e i below hash key =

@@ -1,5 +1,6 @@
 -- A shard in its words, found by the index in them; and the sentences of document 01 on the idle sweep, each worked on a small shard in place order. There a
 -- slot's hash and key are the same small number, its stamp is moment 0, and a free place is `no_slot`. Two parts come back each nanosecond.
+use Rattle.std.proofs.Common.{Some, None}
 use Prim.Native.Nat.{ℕ, ◌+◌}
 use mathlib.Core.Path.{◌≡◌, refl}
 use mathlib.Core.List.{List, [], ◌∷◌}
@@ -10,7 +11,6 @@ use Rattle.bucket.specs.declared.BucketConfig.{BucketConfig}
 use Rattle.bucket.specs.Bucket.{shortfall_at}
 use Rattle.settings.specs.Eviction.{ttl_sweep}
 use Rattle.rows.specs.Rows.{rows, unrow}
-use Rattle.rows.specs.declared.Place.TheVariants.{At, Nowhere}
 use Rattle.index.specs.Walk as Index
 use Rattle.held.specs.Held.{in_order, by_index, removed}
 use Rattle.held.specs.Layout.{table_in}
@@ -72,11 +72,11 @@ a_shard_as_words : Layout.words_of indexed ≡ in_words
 unfolding Layout.words_of LedgerLayout.words_of unrow
 a_shard_as_words = refl
 
-found_by_the_index : place_of indexed 5 7 ≡ At 0
+found_by_the_index : place_of indexed 5 7 ≡ Some 0
 unfolding place_of Index.find Index.find_from Index.walk_from Index.onward
 found_by_the_index = refl
 
-another_key_is_not_found : place_of indexed 5 8 ≡ Nowhere
+another_key_is_not_found : place_of indexed 5 8 ≡ None
 unfolding place_of Index.find Index.find_from Index.walk_from Index.onward
 another_key_is_not_found = refl
 

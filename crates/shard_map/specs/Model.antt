@@ -1,10 +1,9 @@
 -- One shard: the slots of its keys, the hand and the sweep that go round them, and the ledger. No word offset stands here.
-use Rattle.std.specs.Prelude.{ℕ, ◌≤◌, ◌<◌, Bool, false, cond, length}
+use Rattle.std.specs.Prelude.{ℕ, ◌≤◌, ◌<◌, Bool, false, cond, length, Option}
 use Rattle.units.specs.declared.Nanos.{Nanos}
 use Rattle.units.specs.declared.Millis.{Millis}
 use Rattle.units.specs.Units.{millis_of}
 use Rattle.bucket.specs.declared.BucketConfig.{BucketConfig}
-use Rattle.rows.specs.declared.Place.{Place}
 use Rattle.held.specs.Held.{Held, Items, Finding, wrapped, item_at, position, removed, appended, stored, found_otherwise}
 use Rattle.held.specs.Held as Held
 use Rattle.held.specs.Round.{Round}
@@ -88,7 +87,7 @@ abbrev pub sweep_of : Shard → ℕ
 sweep_of s = wrapped s.sweep s.slots.count
 
 -- Lookup by hash and key: the first place with both on the walk of the hash, or the lowest where there is no index.
-unfoldable pub place_of : Shard → ℕ → ℕ → Place
+unfoldable pub place_of : Shard → ℕ → ℕ → Option ℕ
 place_of s hash key = position slot_items s.slots hash (is_key hash key)
 
 -- A slot leaves, and the last one moves into the gap. A new slot comes last.

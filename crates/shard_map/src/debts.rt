@@ -10,9 +10,8 @@ ghost use Rattle.shard_map.specs.Layout.{shard, shard_words, Intact};
 
 use crate::words;
 use bucket::BucketConfig;
-use ledger::{Debt, Prepared, Recorded};
-use rows::Place;
-use units::{Nanos, OptionNanos};
+use ledger::{Debt, NoRoom};
+use units::Nanos;
 
 // How many debts are held. Like `shard_map::len`, it requires the length alone.
 pub fn len(ws: &[u64], cap: usize) -> usize
@@ -33,7 +32,7 @@ pub fn load(ws: &[u64], cap: usize, i: usize) -> Debt
 }
 
 // When the debt of the hash settles, if there is one.
-pub fn owed_by(ws: &[u64], cap: usize, hash: u64) -> OptionNanos
+pub fn owed_by(ws: &[u64], cap: usize, hash: u64) -> Option<Nanos>
     requires { Intact cap ws.now }
     ensures { result ≡ Ledger.owed_by (shard cap ws.now).ledger hash }
 {
@@ -42,7 +41,7 @@ pub fn owed_by(ws: &[u64], cap: usize, hash: u64) -> OptionNanos
 }
 
 // Takes out the debt of the hash, if there is one.
-pub fn take(ws: &mut [u64], cap: usize, hash: u64) -> OptionNanos
+pub fn take(ws: &mut [u64], cap: usize, hash: u64) -> Option<Nanos>
     requires { Intact cap ws.old }
     ensures { outcome result (shard cap ws.new)
         ≡ Model.in_ledger (shard cap ws.old) (Ledger.taken (shard cap ws.old).ledger hash) }
@@ -52,7 +51,13 @@ pub fn take(ws: &mut [u64], cap: usize, hash: u64) -> OptionNanos
 }
 
 // Makes the ledger ready for the debt of a hash.
-pub fn prepare(ws: &mut [u64], cap: usize, hash: u64, at: Nanos, forget: bool) -> Prepared
+pub fn prepare(
+    ws: &mut [u64],
+    cap: usize,
+    hash: u64,
+    at: Nanos,
+    forget: bool,
+) -> Result<Option<usize>, NoRoom>
     requires { Intact cap ws.old }
     ensures { outcome result (shard cap ws.new)
         ≡ Model.in_ledger (shard cap ws.old) (prepared (shard cap ws.old).ledger hash at forget) }
@@ -62,7 +67,7 @@ pub fn prepare(ws: &mut [u64], cap: usize, hash: u64, at: Nanos, forget: bool) -
 }
 
 // Writes a debt that the ledger is ready for.
-pub fn write(ws: &mut [u64], cap: usize, place: Place, debt: Debt)
+pub fn write(ws: &mut [u64], cap: usize, place: Option<usize>, debt: Debt)
     requires { Intact cap ws.old × writable (shard cap ws.old).ledger place }
     ensures { shard cap ws.new
         ≡ Model.with_ledger (shard cap ws.old) (written (shard cap ws.old).ledger place debt) }
@@ -72,7 +77,7 @@ pub fn write(ws: &mut [u64], cap: usize, place: Place, debt: Debt)
 }
 
 // Records a debt.
-pub fn record(ws: &mut [u64], cap: usize, debt: Debt, at: Nanos, forget: bool) -> Recorded
+pub fn record(ws: &mut [u64], cap: usize, debt: Debt, at: Nanos, forget: bool) -> Result<(), NoRoom>
     requires { Intact cap ws.old }
     ensures { outcome result (shard cap ws.new)
         ≡ Model.in_ledger (shard cap ws.old) (Ledger.recorded (shard cap ws.old).ledger debt at forget) }

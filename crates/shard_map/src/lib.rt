@@ -7,8 +7,7 @@ ghost use Rattle.held.specs.Held.{with_added, without_item};
 ghost use Rattle.shard_map.specs.Model as Model;
 ghost use Rattle.shard_map.specs.Layout.{shard, shard_words, Intact};
 
-use bucket::BucketConfig;
-use rows::Place;
+use bucket::{BucketConfig, BucketCore};
 use slot::Slot;
 use units::{Millis, Nanos};
 
@@ -16,7 +15,7 @@ pub mod debts;
 pub mod words;
 
 // The place of the first slot on the hash's walk that has the hash and the key.
-pub fn position(ws: &[u64], cap: usize, hash: u64, key: u64) -> Place
+pub fn position(ws: &[u64], cap: usize, hash: u64, key: u64) -> Option<usize>
     requires { Intact cap ws.now }
     ensures { result ≡ Model.place_of (shard cap ws.now) hash key }
 {
@@ -86,9 +85,8 @@ pub fn remove_at(ws: &mut [u64], cap: usize, pos: usize)
     remove_from_index(ws, cap, pos);
     let last = words::count(ws, cap) - 1;
     let moved = words::load(ws, cap, last);
-    let free = free_slot();
     words::put(ws, cap, pos, moved);
-    words::put(ws, cap, last, free);
+    words::put(ws, cap, last, free_slot());
     words::set_count(ws, cap, last);
 }
 
@@ -96,14 +94,13 @@ pub fn remove_at(ws: &mut [u64], cap: usize, pos: usize)
 fn free_slot() -> Slot
     ensures { result ≡ Model.no_slot }
 {
-    let bucket = bucket::BucketCore {
-        shortfall: 0,
-        stamp: Nanos(0),
-    };
     Slot {
         hash: 0,
         key: 0,
-        bucket,
+        bucket: BucketCore {
+            shortfall: 0,
+            stamp: Nanos(0),
+        },
         mark: 0,
         seen: Millis(0),
         turned_away: 0,
@@ -115,10 +112,7 @@ fn is_reclaimable(slot: Slot, config: BucketConfig, at: Nanos, ttl_ms: Millis) -
     requires { Accepted config }
     ensures { result ≡ Model.reclaimable config at ttl_ms slot }
 {
-    if slot.is_expired(at.millis(), ttl_ms) {
-        return slot.is_lossless(config, at);
-    }
-    false
+    slot.is_expired(at.millis(), ttl_ms) && slot.is_lossless(config, at)
 }
 
 // One look of the idle sweep, at a shard that holds a slot.
@@ -147,12 +141,10 @@ pub fn sweep_idle(
     requires { Intact cap ws.old × Accepted config }
     ensures { shard cap ws.new ≡ Model.sweep_idle config at ttl_ms budget (shard cap ws.old) }
 {
-    let mut left = budget;
-    while 0 < left {
+    for _ in 0..budget {
         if words::count(ws, cap) == 0 {
             break;
         }
         idle_look(ws, cap, config, at, ttl_ms);
-        left -= 1;
     }
 }

@@ -105,14 +105,13 @@ pub(crate) fn load(ws: &[u64], cap: usize, i: usize) -> Slot
     ensures { result ≡ Model.slot_at (shard cap ws.now) i }
 {
     let first = SLOTS + SLOT_WIDTH * i;
-    let bucket = BucketCore {
-        shortfall: ws[first + SHORTFALL],
-        stamp: Nanos(ws[first + STAMP]),
-    };
     Slot {
         hash: ws[first],
         key: ws[first + KEY],
-        bucket,
+        bucket: BucketCore {
+            shortfall: ws[first + SHORTFALL],
+            stamp: Nanos(ws[first + STAMP]),
+        },
         mark: ws[first + MARK],
         seen: Millis(ws[first + SEEN]),
         turned_away: ws[first + TURNED_AWAY],
@@ -149,15 +148,12 @@ pub(crate) fn put(ws: &mut [u64], cap: usize, i: usize, slot: Slot)
     ensures { shard cap ws.new ≡ Model.with_slot (shard cap ws.old) i slot }
 {
     let first = SLOTS + SLOT_WIDTH * i;
-    let bucket = slot.bucket;
-    let stamp = bucket.stamp;
-    let seen = slot.seen;
     ws[first] = slot.hash;
     ws[first + KEY] = slot.key;
-    ws[first + SHORTFALL] = bucket.shortfall;
-    ws[first + STAMP] = stamp.0;
+    ws[first + SHORTFALL] = slot.bucket.shortfall;
+    ws[first + STAMP] = slot.bucket.stamp.0;
     ws[first + MARK] = slot.mark;
-    ws[first + SEEN] = seen.0;
+    ws[first + SEEN] = slot.seen.0;
     ws[first + TURNED_AWAY] = slot.turned_away;
 }
 

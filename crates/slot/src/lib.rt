@@ -42,15 +42,10 @@ impl Slot {
     pub fn touched(self, at: Nanos, track_idle: bool) -> Slot
         ensures { result ≡ Model.touched self at track_idle }
     {
-        let bucket = self.bucket;
-        let seen = self.seen_after(at, track_idle);
         Slot {
-            hash: self.hash,
-            key: self.key,
-            bucket,
             mark: 1,
-            seen,
-            turned_away: self.turned_away,
+            seen: self.seen_after(at, track_idle),
+            ..self
         }
     }
 
@@ -58,15 +53,10 @@ impl Slot {
     pub fn asked(self, outcome: BucketOutcome) -> Slot
         ensures { result ≡ Model.with_asked self outcome }
     {
-        let bucket = outcome.bucket;
-        let seen = self.seen;
         Slot {
-            hash: self.hash,
-            key: self.key,
-            bucket,
-            mark: self.mark,
-            seen,
+            bucket: outcome.bucket,
             turned_away: self.count_after(outcome.turns_away),
+            ..self
         }
     }
 
@@ -76,7 +66,7 @@ impl Slot {
     {
         let count = self.turned_away;
         if turns_away {
-            return arith::smaller(count, MOST_TURNED_AWAY - 1) + 1;
+            return count.min(MOST_TURNED_AWAY - 1) + 1;
         }
         count
     }
@@ -85,27 +75,25 @@ impl Slot {
     pub fn times_turned_away(self) -> u64
         ensures { result ≡ Model.read_turned_away self }
     {
-        arith::smaller(self.turned_away, MOST_TURNED_AWAY)
+        self.turned_away.min(MOST_TURNED_AWAY)
     }
 
     // Last-seen after an access: raised to the idle stamp of the moment where idle times are tracked. Only then is the stamp worked out.
     fn seen_after(self, at: Nanos, track_idle: bool) -> Millis
         ensures { result ≡ (Model.touched self at track_idle).seen }
     {
-        let seen = self.seen;
         if track_idle {
             let stamp = at.millis();
-            return Millis(arith::larger(seen.0, stamp.0));
+            return Millis(self.seen.0.max(stamp.0));
         }
-        seen
+        self.seen
     }
 
     // Whether the key has been idle for at least `ttl_ms`.
     pub fn is_expired(self, now_ms: Millis, ttl_ms: Millis) -> bool
         ensures { result ≡ Model.expired self now_ms ttl_ms }
     {
-        let seen = self.seen;
-        ttl_ms.0 <= arith::saturating_sub(now_ms.0, seen.0)
+        ttl_ms.0 <= now_ms.0.saturating_sub(self.seen.0)
     }
 
     // Whether the slot can go without loss: its bucket is full.
@@ -113,8 +101,7 @@ impl Slot {
         requires { Accepted config }
         ensures { result ≡ Model.lossless config self at }
     {
-        let bucket = self.bucket;
-        bucket.is_full_at(config, at)
+        self.bucket.is_full_at(config, at)
     }
 
     // How long until the bucket is full again.
@@ -122,8 +109,7 @@ impl Slot {
         requires { Accepted config }
         ensures { result.0 ≡ Model.recovery config self at }
     {
-        let bucket = self.bucket;
-        bucket.recovers_in(config, at)
+        self.bucket.recovers_in(config, at)
     }
 }
 

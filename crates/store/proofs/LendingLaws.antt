@@ -1,5 +1,6 @@
 -- A part as it is lent, from its start to its end: it lies in the memory, and what comes back in its place is an operation on the shard. And what a
 -- call on a key is lent.
+use Rattle.std.proofs.Common.{Option, Some, None, Result, Ok, Err}
 use Prim.Native.Nat.{ℕ, ◌+◌, ◌-◌, ◌≤◌, ◌<◌}
 use native.Mathlib.Omega.{arith}
 use native.Mathlib.Nat.{le-add_right}
@@ -16,10 +17,11 @@ use Rattle.rows.specs.Outcome.{Outcome, outcome}
 use Rattle.rows.proofs.SegmentLaws.{segment_length, segment_back, word_kept}
 use Rattle.settings.specs.declared.Settings.{Settings}
 use Rattle.settings.specs.declared.Shape.{Shape}
+use Rattle.settings.specs.declared.refusal.Refusal.{Refusal}
+use Rattle.settings.specs.Refusal.{number_of, GivenUnless}
 use Rattle.settings.specs.Settings.{settings_refusal, first_refusal, ShapeOfAccepted, shape_of, most_counted}
+use Rattle.settings.proofs.RefusalLaws.{has_a_number}
 use Rattle.settings.proofs.SettingsLaws.{accepted_parts, shape_of_accepted, no_refusal_hands_on}
-use Rattle.rows.specs.declared.Place.{Place}
-use Rattle.rows.specs.declared.Place.TheVariants.{At, Nowhere}
 use Rattle.units.specs.declared.Nanos.{Nanos}
 use Rattle.bucket.specs.declared.BucketConfig.{BucketConfig}
 use Rattle.bucket.specs.declared.Request.{Request}
@@ -32,11 +34,8 @@ use Rattle.shard.specs.Model as OneShard
 use Rattle.shard.proofs.ModelLaws.{found_below_cap}
 use Rattle.shard.proofs.ShardLaws.{remove_same_room}
 use Rattle.store.specs.declared.Part.{Part}
-use Rattle.store.specs.declared.lending.Lending.{Lending}
-use Rattle.store.specs.declared.lending.Lending.TheVariants.{Refused, Lent}
 use Rattle.store.specs.Memory.{with_segment, total_at, total_of, total_after, Placed, Counted, part_in, part_of, shard_in, in_part, room_in}
 use Rattle.store.specs.Refusals.{shape_refusal, count_refusal, counts_refusal, keyed_refusal}
-use Rattle.store.specs.Lending.{lent_unless}
 use Rattle.store.proofs.MemoryLaws.{part_placed, room_small}
 use Rattle.store.proofs.RefusalLaws.{Accepted, length_is_accepted}
 use Rattle.shard_map.specs.Layout.{shard_words}
@@ -63,7 +62,7 @@ module _ {p : Part} {ws : List ℕ} (placed : Placed p ws) where
   intact_of_sound sound = record { size = lent_length; sound = rw lent_shard sound }
 
   -- A place that lookup found in it stands below the cap.
-  pub found_place_below : (h k i : ℕ) → Shard.Sound (shard_in p ws) → Shard.place_of (shard_in p ws) h k ≡ At i → i < p.cap
+  pub found_place_below : (h k i : ℕ) → Shard.Sound (shard_in p ws) → Shard.place_of (shard_in p ws) h k ≡ Some i → i < p.cap
   found_place_below h k i sound found = found_below_cap h k i (intact_of_sound sound) (rw lent_shard found)
 
   -- Other words have come back in its place, with an answer: that is the operation on the shard, before the total is stored.
@@ -150,55 +149,26 @@ module _ {shape : Shape} (hash : ℕ) (ws : List ℕ) (shaped : ShapeOfAccepted 
   pub part_is_placed : Placed part' ws
   part_is_placed = rw (is, shaped.is) (part_placed shaped.settings hash ws (rw shaped.is at size))
 
-  -- What the counts of the shard, the total and a further refusal come to is then the refusal.
-  pub counts_refuse : (further : ℕ) {room counted told : ℕ} → room ≡ room_in shape
+  -- What the counts of the shard and the total come to is then the refusal of the memory.
+  pub counts_refuse : {room counted : ℕ} → room ≡ room_in shape
       → counted ≡ count_refusal part'.cap room (total_of ws) (Layout.shard part'.cap (lent_words part_is_placed))
-      → told ≡ first_refusal counted further
-      → told ≡ first_refusal (shape_refusal shape hash ws) further
-  counts_refuse further {counted = counted} room counts gave =
+      → counted ≡ shape_refusal shape hash ws
+  counts_refuse {counted = counted} room counts =
       let refused : counted ≡ counts_refusal shape hash ws = rw (is, room) at (rw (lent_shard part_is_placed) at counts) in
-      gave ∙ ap (λ (n : ℕ). first_refusal n further) (refused ∙ sym (no_refusal_hands_on _ _ (length_is_accepted (words_in shape) ws size)))
+      refused ∙ sym (no_refusal_hands_on _ _ (length_is_accepted (words_in shape) ws size))
 
--- A call that is refused is lent nothing, one that is not is lent the part; here as the code comes to it.
-module _ {told refusal : ℕ} (part' : Part) (is : told ≡ refusal) where
-  pub refused_lends_nothing : (told ≡ 0 → ⊥) → Refused told ≡ lent_unless refusal part'
-  unfolding lent_unless
-  refused_lends_nothing some = rw (is, ne_eqb refusal 0 (λ none. some (is ∙ none)))
+-- What was lent tells whether the call is refused: `refusal` is the number, or 0.
+module _ {lending : Result Part Refusal} (refusal : ℕ) (part' : Part) (is : GivenUnless refusal part' lending) where
+  pub lent_part : {p : Part} → lending ≡ Ok p → (refusal ≡ 0) × (p ≡ part')
+  lent_part gave = rw gave at is
 
-  pub not_refused_lends : told ≡ 0 → Lent part' ≡ lent_unless refusal part'
-  unfolding lent_unless
-  not_refused_lends none = rw (eq-eqb refusal 0 (sym is ∙ none))
-
--- And back: what was lent tells whether the call is refused.
-abbrev is_lent : Lending → Bool
-is_lent (Refused n) = false
-is_lent (Lent p) = true
-
-abbrev refusal_of : Lending → ℕ
-refusal_of (Refused n) = n
-refusal_of (Lent p) = 0
-
-abbrev part_or : Part → Lending → Part
-part_or other (Refused n) = other
-part_or other (Lent p) = p
-
-module _ {lending : Lending} (refusal : ℕ) (part' : Part) (is : lending ≡ lent_unless refusal part') where
-  pub lent_part : {p : Part} → lending ≡ Lent p → (refusal ≡ 0) × (p ≡ part')
-  lent_part {p} gave =
-      by_eq refusal 0
-      (λ none. (none, ap (part_or p) (sym gave ∙ is ∙ sym (not_refused_lends part' refl none))))
-      (λ some. absurd (true≢false (ap is_lent (sym gave ∙ is ∙ sym (refused_lends_nothing part' refl some)))))
-
-  pub refused_number : {n : ℕ} → lending ≡ Refused n → (n ≡ refusal) × (n ≡ 0 → ⊥)
-  refused_number {n} gave =
-      by_eq refusal 0
-      (λ none. absurd (true≢false (ap is_lent (not_refused_lends part' refl none ∙ sym is ∙ gave))))
-      (λ some. let same : n ≡ refusal = ap refusal_of (sym gave ∙ is ∙ sym (refused_lends_nothing part' refl some)) in (same, λ none. some (sym same ∙ none)))
+  pub refused_number : {r : Refusal} → lending ≡ Err r → (number_of r ≡ refusal) × (number_of r ≡ 0 → ⊥)
+  refused_number {r} gave = (rw gave at is, has_a_number r)
 
 -- The same for a call on a key, where the settings are accepted.
-module _ (s : Settings) (hash : ℕ) (ws : List ℕ) (none : settings_refusal s ≡ 0) {shape : Shape} (shaped : shape ≡ shape_of s) {lending : Lending} (further : ℕ)
-    (is : lending ≡ lent_unless (first_refusal (shape_refusal shape hash ws) further) (part_in shape hash)) where
-  pub lent_by_settings : lending ≡ lent_unless (first_refusal (keyed_refusal s hash ws) further) (part_of s hash)
+module _ (s : Settings) (hash : ℕ) (ws : List ℕ) (none : settings_refusal s ≡ 0) {shape : Shape} (shaped : shape ≡ shape_of s) (lending : Result Part Refusal)
+    (further : ℕ) (is : GivenUnless (first_refusal (shape_refusal shape hash ws) further) (part_in shape hash) lending) where
+  pub lent_by_settings : GivenUnless (first_refusal (keyed_refusal s hash ws) further) (part_of s hash) lending
   lent_by_settings = rw (memory_refuses s none hash ws) (rw shaped at is)
 
 -- The part of an accepted call lies in the memory, and its shard is sound.
@@ -211,10 +181,10 @@ accepted_count s hash ws call is =
     let few = room_small s (accepted_parts s call.set_up_lem.settings).1 in
     rw is (record { covers = call.covers; small = omega (arith, call.within, few) })
 
-refund_from_keeps_count : (c : BucketConfig) (id : Identity) (cost : ℕ) (s : Shard.Shard) (place : Place)
+refund_from_keeps_count : (c : BucketConfig) (id : Identity) (cost : ℕ) (s : Shard.Shard) (place : Option ℕ)
     → (OneShard.refunded_from c id cost s place).after.slots.count ≡ s.slots.count
-refund_from_keeps_count c id cost s (At i) = refl
-refund_from_keeps_count c id cost s Nowhere = refl
+refund_from_keeps_count c id cost s (Some i) = refl
+refund_from_keeps_count c id cost s None = refl
 
 -- A request of a known key and a refund keep the number of slots, and so the total.
 pub existing_keeps_count : (p : Policy) (r : Request) (cost : ℕ) (at : Nanos) (s : Shard.Shard) (i : ℕ)

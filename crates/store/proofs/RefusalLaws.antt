@@ -61,6 +61,9 @@ module _ (room total : ℕ) where
   unfolding total_refusal
   total_over_is_refused over = rw (lt-ltb _ _ over)
 
+  total_is_refused_5 : (total_refusal room total ≡ 0 → ⊥) → total_refusal room total ≡ 5
+  total_is_refused_5 some = by_le total room (λ within. absurd (some (total_is_accepted within))) total_over_is_refused
+
 -- The two counts of a shard, and the total.
 pub record CountsFit (cap room total : ℕ) (sh : Shard.Shard) : Type 0 where
   pub slots : sh.slots.count ≤ cap
@@ -103,6 +106,9 @@ module _ (cap room total : ℕ) (sh : Shard.Shard) where
       (λ within. absurd (some (total_is_accepted room total within)))
       (λ over. refused_anyway cap sh.slots.count
       (refused_anyway cap sh.ledger.debts.count (refused_anyway total sh.slots.count (total_over_is_refused room total over))))
+
+  pub total_alone_refused : (total_refusal room total ≡ 0 → ⊥) → total_refusal room total ≡ count_refusal cap room total sh
+  total_alone_refused some = total_is_refused_5 room total some ∙ sym (total_over_the_room_is_refused some)
 
 -- A moment, and the longest wait of a reservation.
 module _ (t : Nanos) where

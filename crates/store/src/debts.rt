@@ -12,9 +12,7 @@ pub fn len(ws: &[u64], part: Part) -> usize
     requires { Placed part ws.now }
     ensures { result ≡ (shard_in part ws.now).ledger.debts.count }
 {
-    let start = part.start;
-    let end = part.end;
-    debts::len(&ws[start..end], part.cap)
+    debts::len(&ws[part.start..part.end], part.cap)
 }
 
 // The debt at a place.
@@ -22,7 +20,5 @@ pub fn load(ws: &[u64], part: Part, i: usize) -> Debt
     requires { Placed part ws.now × (i < part.cap) }
     ensures { result ≡ Ledger.debt_at (shard_in part ws.now).ledger i }
 {
-    let start = part.start;
-    let end = part.end;
-    debts::load(&ws[start..end], part.cap, i)
+    debts::load(&ws[part.start..part.end], part.cap, i)
 }

@@ -11,7 +11,6 @@ ghost use Rattle.shard.specs.Model as OneShard;
 ghost use Rattle.store.specs.Memory.{total_at, total_of, Placed, Counted, shard_in, part_at, part_in, in_part};
 
 use bucket::{BucketConfig, BucketCore, BucketDecision, Request};
-use rows::Place;
 use settings::Shape;
 use shard::{Identity, Policy};
 use units::Nanos;
@@ -51,13 +50,11 @@ pub fn part_of(shape: Shape, hash: u64) -> Part
 }
 
 // The place of a key's slot.
-pub fn position(ws: &[u64], part: Part, id: Identity) -> Place
+pub fn position(ws: &[u64], part: Part, id: Identity) -> Option<usize>
     requires { Placed part ws.now × Sound (shard_in part ws.now) }
     ensures { result ≡ place_of (shard_in part ws.now) id.hash id.key }
 {
-    let start = part.start;
-    let end = part.end;
-    shard_map::position(&ws[start..end], part.cap, id.hash, id.key)
+    shard_map::position(&ws[part.start..part.end], part.cap, id.hash, id.key)
 }
 
 // Runs a request on the bucket of a known key, by its place.
@@ -74,10 +71,8 @@ pub fn with_existing(
     ensures { outcome result ws.new
         ≡ in_part part ws.old (OneShard.with_existing policy request cost at (shard_in part ws.old) pos) }
 {
-    let start = part.start;
-    let end = part.end;
     shard::with_existing(
-        &mut ws[start..end],
+        &mut ws[part.start..part.end],
         part.cap,
         policy,
         pos,
@@ -101,10 +96,16 @@ pub fn admit(
         × Counted part ws.old }
     ensures { outcome result ws.new ≡ in_part part ws.old (OneShard.admit policy id request cost at (shard_in part ws.old)) }
 {
-    let start = part.start;
-    let end = part.end;
     let others = other_slots(ws, part);
-    let decision = shard::admit(&mut ws[start..end], part.cap, policy, id, request, cost, at);
+    let decision = shard::admit(
+        &mut ws[part.start..part.end],
+        part.cap,
+        policy,
+        id,
+        request,
+        cost,
+        at,
+    );
     move_total(ws, part, others);
     decision
 }
@@ -114,9 +115,7 @@ fn other_slots(ws: &[u64], part: Part) -> u64
     requires { Placed part ws.now × Counted part ws.now }
     ensures { result ≡ total_of ws.now - (shard_in part ws.now).slots.count }
 {
-    let start = part.start;
-    let end = part.end;
-    ws[words::TOTAL_AT] - (shard_map::len(&ws[start..end], part.cap) as u64)
+    ws[words::TOTAL_AT] - (shard_map::len(&ws[part.start..part.end], part.cap) as u64)
 }
 
 // Stores the total: the slots of the other shards, and those of the shard in the part.
@@ -124,9 +123,7 @@ fn move_total(ws: &mut [u64], part: Part, others: u64)
     requires { Placed part ws.old × (others + (shard_in part ws.old).slots.count < 2 ^ 64) }
     ensures { ws.new ≡ set ws.old total_at (others + (shard_in part ws.old).slots.count) }
 {
-    let start = part.start;
-    let end = part.end;
-    let own = shard_map::len(&ws[start..end], part.cap) as u64;
+    let own = shard_map::len(&ws[part.start..part.end], part.cap) as u64;
     ws[words::TOTAL_AT] = others + own;
 }
 
@@ -135,9 +132,7 @@ pub fn view(ws: &[u64], part: Part, config: BucketConfig, id: Identity, at: Nano
     requires { Placed part ws.now × Sound (shard_in part ws.now) × Accepted config }
     ensures { result ≡ OneShard.viewed config id at (shard_in part ws.now) }
 {
-    let start = part.start;
-    let end = part.end;
-    shard::view(&ws[start..end], part.cap, config, id, at)
+    shard::view(&ws[part.start..part.end], part.cap, config, id, at)
 }
 
 // How many tries of a key its bucket has turned away.
@@ -145,9 +140,7 @@ pub fn turned_away(ws: &[u64], part: Part, id: Identity) -> u64
     requires { Placed part ws.now × Sound (shard_in part ws.now) }
     ensures { result ≡ OneShard.turn_aways id (shard_in part ws.now) }
 {
-    let start = part.start;
-    let end = part.end;
-    shard::turned_away(&ws[start..end], part.cap, id)
+    shard::turned_away(&ws[part.start..part.end], part.cap, id)
 }
 
 // The bucket of the slot at a place.
@@ -155,9 +148,7 @@ pub fn bucket_at(ws: &[u64], part: Part, pos: usize) -> BucketCore
     requires { Placed part ws.now × Sound (shard_in part ws.now) × (pos < part.cap) }
     ensures { result ≡ (slot_at (shard_in part ws.now) pos).bucket }
 {
-    let start = part.start;
-    let end = part.end;
-    shard::bucket_at(&ws[start..end], part.cap, pos)
+    shard::bucket_at(&ws[part.start..part.end], part.cap, pos)
 }
 
 // The bucket that a key without a slot would have if it came in now.
@@ -171,9 +162,7 @@ pub fn returning_bucket(
     requires { Placed part ws.now × Sound (shard_in part ws.now) × Accepted config }
     ensures { result ≡ OneShard.returning config at (Ledger.owed_by (shard_in part ws.now).ledger hash) }
 {
-    let start = part.start;
-    let end = part.end;
-    shard::returning_bucket(&ws[start..end], part.cap, config, hash, at)
+    shard::returning_bucket(&ws[part.start..part.end], part.cap, config, hash, at)
 }
 
 // Gives tokens back to a key. Tells whether it had a slot or a debt.
@@ -181,9 +170,7 @@ pub fn refund(ws: &mut [u64], part: Part, config: BucketConfig, id: Identity, co
     requires { Placed part ws.old × Sound (shard_in part ws.old) × Accepted config }
     ensures { outcome result ws.new ≡ in_part part ws.old (OneShard.refunded config id cost (shard_in part ws.old)) }
 {
-    let start = part.start;
-    let end = part.end;
-    shard::refund(&mut ws[start..end], part.cap, config, id, cost)
+    shard::refund(&mut ws[part.start..part.end], part.cap, config, id, cost)
 }
 
 // Forgets a key. Tells whether it had a slot or a debt. The total moves with the slots.
@@ -191,10 +178,8 @@ pub fn remove(ws: &mut [u64], part: Part, id: Identity) -> bool
     requires { Placed part ws.old × Sound (shard_in part ws.old) × Counted part ws.old }
     ensures { outcome result ws.new ≡ in_part part ws.old (OneShard.removed id (shard_in part ws.old)) }
 {
-    let start = part.start;
-    let end = part.end;
     let others = other_slots(ws, part);
-    let known = shard::remove(&mut ws[start..end], part.cap, id);
+    let known = shard::remove(&mut ws[part.start..part.end], part.cap, id);
     move_total(ws, part, others);
     known
 }
@@ -211,9 +196,5 @@ pub fn len(ws: &[u64]) -> u64
 pub fn clear(ws: &mut [u64])
     ensures { ws.new ≡ replicate (length ws.old) 0 }
 {
-    let mut i: usize = 0;
-    while i < ws.len() {
-        ws[i] = 0;
-        i += 1;
-    }
+    ws.fill(0);
 }

@@ -1,6 +1,7 @@
 // Settings: shards, cap and words; refusals.
 use settings::eviction::{Eviction, WhenFull};
-use settings::rate::{OptionTokens, Rate};
+use settings::rate::Rate;
+use settings::refusal::Refusal;
 use settings::{Limit, Settings};
 use std::io;
 use units::Nanos;
@@ -10,8 +11,8 @@ fn two_per_second() -> Rate {
     Rate {
         amount: 2,
         period: Nanos(1000000000),
-        burst: OptionTokens::Some(4),
-        initial: OptionTokens::None,
+        burst: Some(4),
+        initial: None,
     }
 }
 
@@ -27,6 +28,14 @@ fn open(max_keys: usize, shards: usize) -> Settings {
 // A line with a name and a number.
 pub(crate) fn line(out: &impl Print, name: &str, number: u64) -> io::Result<()> {
     println!(out; "{name} {number}")
+}
+
+// The number of a refusal, or 0.
+fn number(checked: Result<(), Refusal>) -> u64 {
+    match checked {
+        Ok(()) => 0,
+        Err(refusal) => u32::from(refusal) as u64,
+    }
 }
 
 // Shards, places per shard and words.
@@ -49,7 +58,7 @@ fn size(out: &impl Print, max_keys: usize, shards: usize) -> io::Result<()> {
     let shape = settings.shape();
     line(out, "shards", shape.shards as u64)?;
     line(out, "cap", shape.cap as u64)?;
-    if settings.size_refusal() == 0 {
+    if settings.check_sizes().is_ok() {
         line(out, "words", store::words::memory_words(settings) as u64)?;
     }
     Ok(())
@@ -65,28 +74,28 @@ pub(crate) fn refused_rates(out: &impl Print) -> io::Result<()> {
     rate(out, 1, 0x4000_0000_0001, 0)?;
     rate(out, 1, 1, 0)?;
     rate(out, 1, 1, 65536)?;
-    line(out, "closed", Limit::Closed.refusal() as u64)
+    line(out, "closed", number(Limit::Closed.check()))
 }
 
 fn rate(out: &impl Print, amount: u32, period: u64, burst: u32) -> io::Result<()> {
     let rate = Rate {
         amount,
         period: Nanos(period),
-        burst: OptionTokens::Some(burst),
-        initial: OptionTokens::None,
+        burst: Some(burst),
+        initial: None,
     };
-    line(out, "rate", rate.refusal() as u64)
+    line(out, "rate", number(rate.check()))
 }
 
 pub(crate) fn refused_sizes(out: &impl Print) -> io::Result<()> {
-    line(out, "keys 65536", open(65536, 1).refusal() as u64)?;
-    line(out, "keys 65537", open(65537, 1).refusal() as u64)?;
-    line(out, "shards 64", open(1, 64).refusal() as u64)?;
-    line(out, "shards 65", open(1, 65).refusal() as u64)?;
+    line(out, "keys 65536", number(open(65536, 1).check()))?;
+    line(out, "keys 65537", number(open(65537, 1).check()))?;
+    line(out, "shards 64", number(open(1, 64).check()))?;
+    line(out, "shards 65", number(open(1, 65).check()))?;
     line(
         out,
         "keys 65536, shards 65",
-        open(65536, 65).refusal() as u64,
+        number(open(65536, 65).check()),
     )?;
     let idle = Settings {
         limit: Limit::Closed,
@@ -94,7 +103,7 @@ pub(crate) fn refused_sizes(out: &impl Print) -> io::Result<()> {
         shards: 1,
         classes: 0,
     };
-    line(out, "idle alone", idle.refusal() as u64)
+    line(out, "idle alone", number(idle.check()))
 }
 
 // The look counts.
@@ -106,10 +115,10 @@ pub(crate) fn looks(out: &impl Print) -> io::Result<()> {
 
 // Burst and initial: unset, set, and an initial above the burst.
 pub(crate) fn configs(out: &impl Print) -> io::Result<()> {
-    config(out, OptionTokens::None, OptionTokens::None)?;
-    config(out, OptionTokens::Some(4), OptionTokens::None)?;
-    config(out, OptionTokens::Some(4), OptionTokens::Some(3))?;
-    config(out, OptionTokens::Some(4), OptionTokens::Some(u32::MAX))?;
+    config(out, None, None)?;
+    config(out, Some(4), None)?;
+    config(out, Some(4), Some(3))?;
+    config(out, Some(4), Some(u32::MAX))?;
     let built = Eviction::capacity(9)
         .with_capacity(7)
         .with_idle(Nanos(5))
@@ -117,7 +126,7 @@ pub(crate) fn configs(out: &impl Print) -> io::Result<()> {
     line(out, "built keys", built.max_keys as u64)
 }
 
-fn config(out: &impl Print, burst: OptionTokens, initial: OptionTokens) -> io::Result<()> {
+fn config(out: &impl Print, burst: Option<u32>, initial: Option<u32>) -> io::Result<()> {
     let rate = Rate {
         amount: 2,
         period: Nanos(1),

@@ -45,13 +45,11 @@ fn run(out: &impl Print, text: &[u8], words: &mut [u64]) -> io::Result<()> {
         cap: 1,
         config: configured(1, 1, 1, 1),
     };
-    let mut turns = text.len();
-    while 0 < turns {
+    for _ in 0..text.len() {
         if text.len() <= state.at {
             break;
         }
         state = step(out, text, words, state)?;
-        turns -= 1;
     }
     Ok(())
 }
@@ -59,12 +57,9 @@ fn run(out: &impl Print, text: &[u8], words: &mut [u64]) -> io::Result<()> {
 // Runs one line.
 fn step(out: &impl Print, text: &[u8], words: &mut [u64], state: State) -> io::Result<State> {
     let line = line::read_line(text, state.at);
-    let cap = state.cap;
-    let config = state.config;
     let next = State {
         at: line.at,
-        cap,
-        config,
+        ..state
     };
     if line.operation == operations::CONFIG {
         return configure(out, next, line);
@@ -80,9 +75,8 @@ fn step(out: &impl Print, text: &[u8], words: &mut [u64], state: State) -> io::R
 fn configure(out: &impl Print, state: State, line: Line) -> io::Result<State> {
     print::answer(out, 0, 0)?;
     Ok(State {
-        at: state.at,
-        cap: state.cap,
         config: configured(line.a, line.b, line.c, line.d),
+        ..state
     })
 }
 
@@ -105,10 +99,9 @@ fn load(
     line: Line,
 ) -> io::Result<State> {
     let cap = line.a as usize;
-    let config = state.config;
     let at = read_shard(text, state.at, words, cap);
     print::answer(out, 0, 0)?;
-    Ok(State { at, cap, config })
+    Ok(State { at, cap, ..state })
 }
 
 // Reads the words of a shard of so many places, and tells where the reading stands then.
@@ -125,12 +118,10 @@ fn read_shard(text: &[u8], from: usize, words: &mut [u64], cap: usize) -> usize 
 // Reads numbers into all words, and tells where the reading stands then.
 fn fill(text: &[u8], from: usize, ws: &mut [u64]) -> usize {
     let mut at = from;
-    let mut i: usize = 0;
-    while i < ws.len() {
+    for word in ws {
         let number = test_scan::read_number(text, at);
-        ws[i] = number.value;
+        *word = number.value;
         at = number.at;
-        i += 1;
     }
     at
 }
@@ -138,11 +129,10 @@ fn fill(text: &[u8], from: usize, ws: &mut [u64]) -> usize {
 // Runs an operation on the words of the shard.
 fn on_shard(out: &impl Print, words: &mut [u64], state: State, line: Line) -> io::Result<()> {
     let cap = state.cap;
-    let config = state.config;
     if cap <= MOST_PLACES {
         let size = words::shard_words(cap);
         if size <= words.len() {
-            return checked(out, &mut words[0..size], cap, config, line);
+            return checked(out, &mut words[0..size], cap, state.config, line);
         }
     }
     print::skipped(out)

@@ -5,13 +5,11 @@ ghost use Rattle.shard_map.specs.Layout.{Intact};
 use crate::line::Line;
 use crate::print;
 use bucket::BucketConfig;
-use evict::Room;
-use ledger::{Debt, Recorded};
-use rows::Place;
+use ledger::{Debt, NoRoom};
 use settings::eviction::Eviction;
 use shard_map::debts;
 use std::io;
-use units::{Millis, Nanos, OptionNanos};
+use units::{Millis, Nanos};
 
 // The numbers of the operations.
 pub(crate) const CONFIG: u64 = 0;
@@ -90,8 +88,8 @@ fn take(out: &impl Print, ws: &mut [u64], cap: usize, hash: u64) -> io::Result<(
     requires { Intact cap ws.old }
 {
     match debts::take(ws, cap, hash) {
-        OptionNanos::Some(settles) => print::answer(out, 0, settles.0),
-        OptionNanos::None => print::answer(out, 3, 0),
+        Some(settles) => print::answer(out, 0, settles.0),
+        None => print::answer(out, 3, 0),
     }
 }
 
@@ -104,8 +102,8 @@ fn record(out: &impl Print, ws: &mut [u64], cap: usize, line: Line) -> io::Resul
         settles: Nanos(line.c),
     };
     match debts::record(ws, cap, debt, Nanos(line.a), line.d != 0) {
-        Recorded::Done => print::answer(out, 0, 0),
-        Recorded::NoRoom(wait) => print::answer(out, 1, wait.0),
+        Ok(()) => print::answer(out, 0, 0),
+        Err(NoRoom { wait }) => print::answer(out, 1, wait.0),
     }
 }
 
@@ -145,7 +143,7 @@ fn idle(
         Millis(line.b),
         Eviction::TTL_SWEEP,
     );
-    print::answer(out, 0, arith::saturating_sub(before, ws[0]))
+    print::answer(out, 0, before.saturating_sub(ws[0]))
 }
 
 // evict NOW FORGET: code 1 and the wait where no slot can go. The function asks for a slot, and for a moment of at most 2^62.
@@ -165,8 +163,8 @@ fn evict_one(
         return print::skipped(out);
     }
     match evict::evict_one(ws, cap, config, Nanos(line.a), line.b != 0) {
-        Room::Made => print::answer(out, 0, 0),
-        Room::Refused(due) => print::answer(out, 1, due.wait.0),
+        Ok(()) => print::answer(out, 0, 0),
+        Err(due) => print::answer(out, 1, due.wait.0),
     }
 }
 
@@ -175,7 +173,7 @@ fn position(out: &impl Print, ws: &[u64], cap: usize, line: Line) -> io::Result<
     requires { Intact cap ws.now }
 {
     match shard_map::position(ws, cap, line.a, line.b) {
-        Place::At(place) => print::answer(out, 0, arith::saturating_add(place as u64, 1)),
-        Place::Nowhere => print::answer(out, 3, 0),
+        Some(place) => print::answer(out, 0, (place as u64).saturating_add(1)),
+        None => print::answer(out, 3, 0),
     }
 }

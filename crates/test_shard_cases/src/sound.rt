@@ -29,17 +29,16 @@ pub(crate) fn is_intact(ws: &[u64], cap: usize) -> bool
 pub(crate) fn is_accepted(config: BucketConfig) -> bool
     ensures { result ≡ true → Accepted config }
 {
-    let period = config.period;
     if config.amount < 1 {
         return false;
     }
     if 65535 < config.amount {
         return false;
     }
-    if period.0 < 1 {
+    if config.period.0 < 1 {
         return false;
     }
-    if 0x4000_0000_0000 < period.0 {
+    if 0x4000_0000_0000 < config.period.0 {
         return false;
     }
     if config.capacity < 1 {

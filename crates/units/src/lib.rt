@@ -1,5 +1,5 @@
 // The two units of time, as types of their own, so that a count of nanoseconds is never taken for one of milliseconds.
-// Rust's `Duration` and `Option<Duration>` become these.
+// Rust's `Duration` becomes these.
 #![tactic(auto)]
 
 ghost use Rattle.std.specs.Prelude.{◌≡◌};
@@ -13,20 +13,6 @@ pub struct Nanos(pub u64);
 // A moment or a span in whole milliseconds: what the idle stamps count.
 #[derive(Clone, Copy)]
 pub struct Millis(pub u64);
-
-// A span or a moment that may be missing.
-#[derive(Clone, Copy)]
-pub enum OptionNanos {
-    None,
-    Some(Nanos),
-}
-
-// A span in milliseconds that may be missing. The definitions use it for the idle limit.
-#[derive(Clone, Copy)]
-pub enum OptionMillis {
-    None,
-    Some(Millis),
-}
 
 impl Nanos {
     // The whole milliseconds in a count of nanoseconds. Every way from the one unit to the other goes through this function.

@@ -1,7 +1,6 @@
 -- No promise rests on this page: it serves the inner contracts of the code.
 -- The lengths of chains that the check of a table keeps, one for each class: 0 where a length is not known.
-use Rattle.std.specs.Prelude.{ℕ, ◌+◌, ◌-◌, ◌≤◌, ◌<◌, ◌≡◌, true, false, cond, List, eqb, leb, length, get_or}
-use Rattle.classes.specs.declared.OptionClass.TheVariants.{Some}
+use Rattle.std.specs.Prelude.{ℕ, ◌+◌, ◌-◌, ◌≤◌, ◌<◌, ◌≡◌, true, false, cond, List, eqb, leb, length, get_or, Some}
 use Rattle.classes.specs.declared.Class.{Class}
 use Rattle.classes.specs.Classes.{most_classes, longest_chain, class_at, ends}
 

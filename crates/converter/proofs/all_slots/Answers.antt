@@ -1,7 +1,5 @@
-use Prim.Native.Nat.{◌-◌}
 use native.Mathlib.Omega.{arith}
-use Rattle.converter.proofs.ShardLaws.{part_ends, Summing, summing_start, summing_fits, summing_next, summing_over}
-use borrow.Author.Rules.{rules}
+use Rattle.converter.proofs.ShardLaws.{part_ends, summing_start, summing_fits, summing_next, summing_over}
 use Rattle.converter.proofs.all_slots.Goals as goal
 
 pub loop-i-init : goal.loop-i-init

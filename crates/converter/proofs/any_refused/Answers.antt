@@ -1,9 +1,5 @@
-use Prim.Native.Nat.{◌-◌}
-use Rattle.converter.specs.Conversion.{refused_by}
-use Rattle.converter.specs.Layouts.{shard_at}
-use Rattle.converter_shards.proofs.CheckLaws.{NoneBelow, none_start, none_next, none_found, none_over, none_passes}
+use Rattle.converter_shards.proofs.CheckLaws.{none_start, none_next, none_found, none_over, none_passes}
 use Rattle.converter.proofs.ShardLaws.{part_ends}
-use borrow.Author.Rules.{rules}
 use Rattle.converter.proofs.any_refused.Goals as goal
 
 pub loop-i-init : goal.loop-i-init

@@ -1,7 +1,5 @@
-use Prim.Native.Nat.{◌-◌}
-use Rattle.converter.proofs.MoveLaws.{Moving, moving_start, target_part_ends, source_undamaged_at, moving_next, moving_over}
+use Rattle.converter.proofs.MoveLaws.{moving_start, target_part_ends, source_undamaged_at, moving_next, moving_over}
 use Rattle.converter.proofs.ShardLaws.{part_ends}
-use borrow.Author.Rules.{rules}
 use Rattle.converter.proofs.move_all.Goals as goal
 
 pub loop-i-init : goal.loop-i-init

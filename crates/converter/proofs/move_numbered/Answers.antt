@@ -5,7 +5,6 @@ use mathlib.Core.Path.{ap, ◌∙◌}
 use Rattle.converter.specs.Layouts.{damaged}
 use Rattle.converter.proofs.MoveLaws.{part_moved}
 use Rattle.converter.proofs.ShardLaws.{lent_long, lent_shard}
-use borrow.Author.Rules.{rules}
 use Rattle.converter.proofs.move_numbered.Goals as goal
 
 pub start_of-onto-requires : goal.start_of-onto-requires

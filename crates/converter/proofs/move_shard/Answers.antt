@@ -1,5 +1,4 @@
 -- `move_shard` goes by the layout.
-use borrow.Author.Rules.{rules}
 use Rattle.converter.proofs.move_shard.Goals as goal
 
 pub forth-requires : goal.forth-requires

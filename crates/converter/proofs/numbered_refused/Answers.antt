@@ -1,9 +1,8 @@
 -- `numbered_refused` lends the part of a shard.
 use mathlib.Core.Path.{ap, ◌∙◌}
-use native.Mathlib.Omega.{arith}
+use Rattle.settings.specs.Refusal.{number_of}
 use Rattle.converter.specs.Conversion.{refused_by}
 use Rattle.converter.proofs.ShardLaws.{lent_long, lent_shard}
-use borrow.Author.Rules.{rules}
 use Rattle.converter.proofs.numbered_refused.Goals as goal
 
 pub shard_refused-requires : goal.shard_refused-requires
@@ -16,5 +15,5 @@ shard_refused-requires c = let start-of' = c.start_of-start in let shard-size' =
 )
 
 pub returns : goal.returns
-returns c = c.shard_refused.ensures ∙ ap (refused_by c.args.layout c.args.number c.args.cap) (lent_shard c.args.layout
+returns c = c.shard_refused.ensures ∙ ap (refused_by c.args.layout (number_of c.args.refusal) c.args.cap) (lent_shard c.args.layout
     c.args.cap c.args.i c.args.ws.now c.start_of-start.ensures c.shard_size.ensures)

@@ -1,5 +1,4 @@
 -- `shard_refused` goes by the layout.
-use borrow.Author.Rules.{rules}
 use Rattle.converter.proofs.shard_refused.Goals as goal
 
 pub refused_old-requires : goal.refused_old-requires

@@ -1,5 +1,4 @@
 -- `shard_size` is that of the layout's own function.
-use borrow.Author.Rules.{rules}
 use Rattle.converter.proofs.shard_size.Goals as goal
 
 pub shard_words_01-requires : goal.shard_words_01-requires

@@ -1,5 +1,4 @@
 -- `slot_count` goes by the layout.
-use borrow.Author.Rules.{rules}
 use Rattle.converter.proofs.slot_count.Goals as goal
 
 pub slot_count-requires : goal.slot_count-requires

@@ -2,7 +2,6 @@
 use mathlib.Core.Path.{ap, ◌∙◌}
 use Rattle.shard_map.specs.Model.{Shard}
 use Rattle.converter.proofs.ShardLaws.{lent_long, lent_shard}
-use borrow.Author.Rules.{rules}
 use Rattle.converter.proofs.slots_numbered.Goals as goal
 
 pub slot_count-requires : goal.slot_count-requires

@@ -1,6 +1,5 @@
 -- `start_of` multiplies: the word after the shard fits, so its first word does.
 use native.Mathlib.Omega.{arith}
-use borrow.Author.Rules.{rules}
 use Rattle.converter.proofs.start_of.Goals as goal
 
 pub overflow_mul-result : goal.overflow_mul-result

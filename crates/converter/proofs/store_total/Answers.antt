@@ -1,6 +1,5 @@
 -- `store_total` stores the sum of the slots going forth, and nothing going back.
 use native.Mathlib.Omega.{arith}
-use borrow.Author.Rules.{rules}
 use Rattle.converter.proofs.store_total.Goals as goal
 
 pub all_slots-slots-requires : goal.all_slots-slots-requires

@@ -1,6 +1,5 @@
 -- `words_for` are the words before the shard that there is no more.
 use Rattle.converter.proofs.ShardLaws.{words_few}
-use borrow.Author.Rules.{rules}
 use Rattle.converter.proofs.words_for.Goals as goal
 
 pub start_of-requires : goal.start_of-requires

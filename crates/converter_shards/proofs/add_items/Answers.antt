@@ -1,7 +1,5 @@
-use Rattle.converter_shards.proofs.ForthLaws.{Adding, adding_start, adding_fits, adding_long, adding_next, adding_over}
+use Rattle.converter_shards.proofs.ForthLaws.{adding_start, adding_fits, adding_long, adding_next, adding_over}
 use native.Mathlib.Omega.{arith}
-use Prim.Native.Nat.{◌-◌}
-use borrow.Author.Rules.{rules}
 use Rattle.converter_shards.proofs.add_items.Goals as goal
 
 pub loop-i-init : goal.loop-i-init

@@ -2,6 +2,7 @@
 use Rattle.converter_shards.proofs.CheckLaws.{alike_by_key, alike_not}
 use native.Mathlib.Omega.{arith}
 use mathlib.Core.Path.{◌∙◌, sym}
+use borrow.Author.Tests.{ne_eqb}
 use Rattle.converter_shards.proofs.alike.Goals as goal
 
 pub row_word-requires : goal.row_word-requires
@@ -20,5 +21,5 @@ pub returns-then-row_word : goal.returns-then-row_word
 returns-then-row_word c = rw (c.row_word-then-row_word-2.ensures, c.row_word-then-row_word.ensures) (alike_by_key _ _ _ _ (sym c.row_word.ensures
     ∙ c.if-row_word.true ∙ c.row_word-2.ensures))
 
-pub returns : goal.returns
-returns c = alike_not _ _ _ _ (rw (c.row_word.ensures, c.row_word-2.ensures) at c.if-row_word.false)
+pub returns-else-row_word : goal.returns-else-row_word
+returns-else-row_word c = ne_eqb _ _ c.if-row_word.false ∙ alike_not _ _ _ _ (rw (c.row_word.ensures, c.row_word-2.ensures) at c.if-row_word.false)

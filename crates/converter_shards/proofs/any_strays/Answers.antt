@@ -1,8 +1,4 @@
-use Rattle.converter_shards.proofs.CheckLaws.{NoneBelow, none_start, none_next, none_found, none_over}
-use Rattle.converter_shards.specs.code.RowChecks.{strays}
-use Rattle.index.specs.Layout.{hash_of, key_of, places_of}
-use Prim.Native.Nat.{◌-◌}
-use borrow.Author.Rules.{rules}
+use Rattle.converter_shards.proofs.CheckLaws.{none_start, none_next, none_found, none_over}
 use Rattle.converter_shards.proofs.any_strays.Goals as goal
 
 pub loop-i-init : goal.loop-i-init

@@ -1,13 +1,8 @@
 -- `any_strays` goes through the items; the loop holds that none so far strays.
-use Rattle.converter_shards.proofs.CheckLaws.{NoneBelow, none_start, none_next, none_found, none_over}
+use Rattle.converter_shards.proofs.CheckLaws.{NoneBelow}
 use Rattle.converter_shards.specs.code.RowChecks.{strays}
 use Rattle.index.specs.Layout.{hash_of, key_of, places_of}
-use Prim.Native.Nat.{◌-◌}
-use borrow.Author.Rules.{rules}
 use Rattle.converter_shards.proofs.any_strays.Given as goal
 
 abbrev pub invariant-loop-i : goal.invariant-loop-i
 invariant-loop-i l = NoneBelow (strays (hash_of l.index l.ws) (key_of l.index l.ws) l.n (places_of l.index l.ws)) l.n l.i
-
-abbrev pub decreases-loop-i : goal.decreases-loop-i
-decreases-loop-i l = l.n - l.i

@@ -1,7 +1,6 @@
 -- `back` copies all but the seventh words and the indexes.
 use mathlib.Core.Path.{◌∙◌}
 use Rattle.converter_shards.proofs.ForthLaws.{after_back}
-use borrow.Author.Rules.{rules}
 use Rattle.converter_shards.proofs.back.Goals as goal
 
 pub returns : goal.returns

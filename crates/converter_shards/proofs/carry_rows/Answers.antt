@@ -1,8 +1,6 @@
 use Rattle.converter_shards.proofs.CarryLaws.{rows_again}
-use Prim.Native.Nat.{◌-◌}
 use native.Mathlib.Omega.{arith}
-use Rattle.converter_shards.proofs.CarryLaws.{CarryingRows, rows_start, source_row_ends, target_row_ends, rows_next, rows_over}
-use borrow.Author.Rules.{rules}
+use Rattle.converter_shards.proofs.CarryLaws.{rows_start, source_row_ends, target_row_ends, rows_over}
 use Rattle.converter_shards.proofs.carry_rows.Goals as goal
 
 pub loop-i-init : goal.loop-i-init

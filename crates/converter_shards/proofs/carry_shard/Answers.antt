@@ -1,6 +1,5 @@
 -- `carry_shard` carries the words before the slots, the slots row by row, and the rest.
 use Rattle.converter_shards.proofs.CarryLaws.{shard_lent}
-use borrow.Author.Rules.{rules}
 use Rattle.converter_shards.proofs.carry_shard.Goals as goal
 
 pub returns : goal.returns

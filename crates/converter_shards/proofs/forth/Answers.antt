@@ -1,6 +1,5 @@
 -- `forth` copies, and then adds the slots to their index and the debts to theirs.
 use Rattle.converter_shards.proofs.ForthLaws.{slots_fits, debts_fits, after_debts}
-use borrow.Author.Rules.{rules}
 use Rattle.converter_shards.proofs.forth.Goals as goal
 
 pub add_items-requires : goal.add_items-requires

@@ -1,8 +1,5 @@
-use Rattle.converter_shards.proofs.CheckLaws.{NoneBelow, none_start, none_next, none_found, none_over}
-use Rattle.converter_shards.specs.code.RowChecks.{alike_rows}
+use Rattle.converter_shards.proofs.CheckLaws.{none_start, none_next, none_found, none_over}
 use native.Mathlib.Omega.{arith}
-use Prim.Native.Nat.{◌-◌}
-use borrow.Author.Rules.{rules}
 use Rattle.converter_shards.proofs.has_twin.Goals as goal
 
 pub loop-j-init : goal.loop-j-init

@@ -1,7 +1,6 @@
 -- `rows_past_used` lends the words past the first n rows.
 use native.Mathlib.Nat.{mul-le-mul_left}
 use native.Mathlib.Omega.{arith}
-use borrow.Author.Rules.{rules}
 use Rattle.converter_shards.proofs.rows_past_used.Goals as goal
 
 pub overflow_mul-from : goal.overflow_mul-from

@@ -1,7 +1,6 @@
 -- `word_or_zero` reads past the last word as the definition does.
 use lib.ListN.{get_or-eq_default}
 use mathlib.Core.Path.{sym}
-use borrow.Author.Rules.{rules}
 use Rattle.converter_shards.proofs.word_or_zero.Goals as goal
 
 pub returns : goal.returns

@@ -1,8 +1,6 @@
 -- No promise rests on this page: it serves the inner contracts of the code.
 -- The checks as the code makes them: on rows of words, and by the lookup of each item.
-use Rattle.std.specs.Prelude.{ℕ, ◌+◌, ◌-◌, ◌*◌, ◌≤◌, ◌<◌, ◌≡◌, Bool, true, false, cond, List, eqb, length, get_or, take, drop}
-use Rattle.rows.specs.declared.Place.{Place}
-use Rattle.rows.specs.declared.Place.TheVariants.{At, Nowhere}
+use Rattle.std.specs.Prelude.{ℕ, ◌+◌, ◌-◌, ◌*◌, ◌≤◌, ◌<◌, ◌≡◌, Bool, true, false, cond, List, eqb, length, get_or, take, drop, Option, Some, None}
 use Rattle.index.specs.Walk.{find}
 use Rattle.converter_shards.specs.declared.Rows.{Rows}
 use Rattle.converter_shards.specs.Layout01.{slots_at01, slot_width01, debts_at01, debt_width01, ledger_start01, shard_words01, shard01}
@@ -37,9 +35,9 @@ pub record RowsFit (rows : Rows) (n : ℕ) (ws : List ℕ) : Type 0 where
   pub within : rows.key < rows.width
 
 -- Does the lookup of an item's own hash and key give another place than the item's, or none?
-abbrev pub strayed : ℕ → Place → Bool
-strayed i (At j) = cond (eqb j i) false true
-strayed i Nowhere = true
+abbrev pub strayed : ℕ → Option ℕ → Bool
+strayed i (Some j) = cond (eqb j i) false true
+strayed i None = true
 
 -- With an exact index an item strays where another one is like it (`strays_are_twins`), so that no pairs need be compared.
 unfoldable pub strays : (ℕ → ℕ) → (ℕ → ℕ) → ℕ → List ℕ → ℕ → Bool

@@ -1,5 +1,5 @@
 -- `count_unsettled` has counted the debts before its place: with those listed from there on they are all that are listed.
-use Prim.Native.Nat.{◌-◌, ◌+◌, ◌≤◌}
+use Prim.Native.Nat.{◌+◌, ◌≤◌}
 use mathlib.Core.Path.{◌≡◌}
 use lib.ListN.{length}
 use Rattle.debt_calls.specs.code.Listing.{ledger_in, listed_from}
@@ -7,7 +7,4 @@ use Rattle.debt_calls.proofs.count_unsettled.Given as goal
 
 abbrev pub invariant-loop-i : goal.invariant-loop-i
 invariant-loop-i l =
-    (l.i ≤ l.held) × (l.count ≤ l.i) × (l.count + length (listed_from l.at (ledger_in l.part l.ws) l.i) ≡ length (listed_from l.at (ledger_in l.part l.ws) 0))
-
-abbrev pub decreases-loop-i : goal.decreases-loop-i
-decreases-loop-i l = l.held - l.i
+    (l.count ≤ l.i) × (l.count + length (listed_from l.at (ledger_in l.part l.ws) l.i) ≡ length (listed_from l.at (ledger_in l.part l.ws) 0))

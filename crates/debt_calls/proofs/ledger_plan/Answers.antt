@@ -1,25 +1,23 @@
 -- `ledger_plan` looks at the debt count first; where it is not refused the debts can be counted, and their number is held against the records.
-use mathlib.Core.Path.{sym, ◌∙◌}
-use Rattle.store.proofs.RefusalLaws.{first_is_told, second_is_told}
+use mathlib.Core.Path.{refl, sym}
+use Rattle.settings.proofs.RefusalLaws.{stands, second_decides, gives_nothing}
 use Rattle.rules.proofs.DebtLaws.{debt_count_not_refused}
-use Rattle.debt_calls.proofs.PlanLaws.{plan_refused, plan_made}
 use Rattle.debt_calls.proofs.ledger_plan.Goals as goal
 
-pub returns-then-refusal-ne0 : goal.returns-then-refusal-ne0
-returns-then-refusal-ne0 c =
-    c.refused.ensures ∙ plan_refused _ _ (first_is_told _ c.debt_count_refusal-refusal.ensures c.if-refusal-ne0.true) c.if-refusal-ne0.true
+pub returns-in_err-check_debt_count : goal.returns-in_err-check_debt_count
+returns-in_err-check_debt_count c = gives_nothing c.from_residual.result _ _ c.from_residual.ensures.1 (stands _ _ c.in_err-check_debt_count.ensures)
 
 pub count_unsettled-count-requires : goal.count_unsettled-count-requires
 count_unsettled-count-requires c = record {
   placed = c.requires;
-  few = debt_count_not_refused _ _ (sym c.debt_count_refusal-refusal.ensures ∙ c.if-refusal-ne0.false);
+  few = debt_count_not_refused _ _ (sym c.in_ok-check_debt_count.ensures);
 }
 
-pub returns-then-refusal-ne0-2 : goal.returns-then-refusal-ne0-2
-returns-then-refusal-ne0-2 c = let told = rw c.count_unsettled-count.ensures at c.records_refusal-refusal.ensures in
-    c.refused-then-refusal-ne0-2.ensures
-    ∙ plan_refused _ _ (second_is_told c.debt_count_refusal-refusal.ensures c.if-refusal-ne0.false told) c.if-refusal-ne0-2.true
+pub returns-in_err-check_records : goal.returns-in_err-check_records
+returns-in_err-check_records c = let handed = c.from_residual-in_err-check_records in
+    let number = rw c.count_unsettled-count.ensures at c.in_err-check_records.ensures in
+    gives_nothing handed.result _ _ handed.ensures.1 (second_decides c.in_ok-check_debt_count.ensures number)
 
 pub returns : goal.returns
-returns c = let told = rw c.count_unsettled-count.ensures at c.records_refusal-refusal.ensures in
-    plan_made _ _ (second_is_told c.debt_count_refusal-refusal.ensures c.if-refusal-ne0.false told) c.if-refusal-ne0-2.false c.count_unsettled-count.ensures
+returns c = let none = rw c.count_unsettled-count.ensures at c.in_ok-check_records.ensures in
+    (sym (second_decides c.in_ok-check_debt_count.ensures none), rw c.count_unsettled-count.ensures refl)

@@ -1,5 +1,5 @@
 -- What a call that lists debts comes to, from step to step. No promise rests on this page: it serves the inner contracts of the code.
-use Rattle.std.specs.Prelude.{ℕ, ◌≤◌, ◌<◌, cond, List, eqb, length, take, drop}
+use Rattle.std.specs.Prelude.{ℕ, ◌≤◌, ◌<◌, List, length, take, drop}
 use Rattle.units.specs.declared.Nanos.{Nanos}
 use Rattle.settings.specs.declared.Settings.{Settings}
 use Rattle.settings.specs.Settings.{first_refusal, shape_of}
@@ -8,9 +8,7 @@ use Rattle.ledger.specs.Model.{Ledger}
 use Rattle.store.specs.declared.Part.{Part}
 use Rattle.store.specs.Memory.{Placed, part_at, shard_in}
 use Rattle.store.specs.Refusals.{set_up_refusal, moment_refusal}
-use Rattle.rules.specs.declared.Reply.{Reply}
-use Rattle.rules.specs.declared.Reply.TheVariants.{Count, Refused}
-use Rattle.rules.specs.Debts.{unsettled, listed, shard_refusal, ledger_refusal, debts_refusal_in}
+use Rattle.rules.specs.Debts.{unsettled, listed, shard_refusal}
 use Rattle.debt_calls.specs.declared.Plan.{Plan}
 
 -- The ledger in a part.
@@ -35,24 +33,10 @@ pub record Fillable (part : Part) (ws : List ℕ) (at : Nanos) (n : ℕ) : Type 
 abbrev pub call_refusal : Settings → Nanos → ℕ → List ℕ → ℕ
 call_refusal s at i ws = first_refusal (set_up_refusal s ws) (first_refusal (moment_refusal at) (shard_refusal (shape_of s) i))
 
--- The plan of a call that is refused by a number: nothing is written.
-abbrev pub refused_plan : ℕ → Plan
-refused_plan refusal = record { part = record { start = 0; end = 0; cap = 0 }; count = 0; refusal = refusal }
+-- The plan by the ledger in a part: its listed debts are written.
+abbrev pub plan_in : Part → Nanos → List ℕ → Plan
+plan_in part at ws = record { part = part; count = length (listed at (ledger_in part ws)) }
 
--- The plan of a call by its refusal, 0 for none: else so many debts of the part are written.
-unfoldable pub plan_for : ℕ → Part → ℕ → Plan
-plan_for refusal part n = cond (eqb refusal 0) (record { part = part; count = n; refusal = 0 }) (refused_plan refusal)
-
--- The plan by the ledger alone, and that of the call.
-abbrev pub ledger_plan : Part → Nanos → ℕ → Ledger → Plan
-ledger_plan part at room l =
-    plan_for (ledger_refusal part.cap at room l) part (length (listed at l))
-
-abbrev pub plan_of : Settings → Nanos → ℕ → ℕ → List ℕ → Plan
-plan_of s at i room ws =
-    let part = part_at (shape_of s) i in
-    plan_for (debts_refusal_in (shape_of s) s at i room ws) part (length (listed at (ledger_in part ws)))
-
--- The reply to a call that is refused by a number, 0 for none, or wrote so many records.
-unfoldable pub reply_to : ℕ → ℕ → Reply
-reply_to refusal n = cond (eqb refusal 0) (Count n) (Refused refusal)
+-- The plan of a call that is not refused: by the ledger of the shard.
+abbrev pub plan_of : Settings → Nanos → ℕ → List ℕ → Plan
+plan_of s at i ws = plan_in (part_at (shape_of s) i) at ws

@@ -5,7 +5,7 @@ use mathlib.Core.Path.{◌≡◌, sym, ◌∙◌}
 use lib.ListN.{length, get_or}
 use Rattle.arith.proofs.Cases.{by_le}
 use Rattle.decimal.specs.Decimal.{front_of}
-use Rattle.decimal.proofs.ReadLaws.{digit, below_is_no_digit, above_is_no_digit, front_full, front_of_all, front_ends, front_goes_on}
+use Rattle.decimal.proofs.ReadLaws.{digit, digit_as_std, front_full, front_of_all, front_ends, front_goes_on}
 use Rattle.decimal.proofs.ReadLaws.{one_digit_more_fits, fewer_digits_fit}
 use Rattle.decimal.proofs.front.Invariants.{Reading}
 use Rattle.decimal.proofs.front.Goals as goal
@@ -41,14 +41,16 @@ stops bytes from value end r none =
     (λ more. sym (front_of_all value bytes end (from + 19 - end) (none more)) ∙ r.keeps)
 
 -- Before a 19th digit the number has at most 18.
-small : (c : goal.Else-byte-gt57) → c.loop-end.value < 10 ^ 18
-small c = let loop' = c.loop-end in fewer_digits_fit loop'.value _ 18 loop'.invariant.fits (omega arith)
+small : (c : goal.Else-not-is_ascii_digit) → c.loop-end.value < 10 ^ 18
+small c = let turn = c.loop-end in fewer_digits_fit turn.value _ 18 turn.invariant.fits (omega arith)
 
 pub loop-end-init : goal.loop-end-init
 loop-end-init c = begins _ _ c.requires
 
-pub overflow_cast-byte : goal.overflow_cast-byte
-overflow_cast-byte c = omega (arith, c.type_inv.bytes c.loop-end.end)
+pub returns-then-not-is_ascii_digit : goal.returns-then-not-is_ascii_digit
+returns-then-not-is_ascii_digit c = let turn = c.loop-end in
+    let other = digit_as_std _ c.is_ascii_digit.ensures.value c.if-not-is_ascii_digit.true in
+    sym (front_ends turn.value _ turn.end _ (omega arith) other) ∙ turn.invariant.keeps
 
 pub overflow_mul-value : goal.overflow_mul-value
 overflow_mul-value c = record { fits = omega (arith, small c) }
@@ -57,15 +59,9 @@ pub overflow_add-value : goal.overflow_add-value
 overflow_add-value c = record { fits = omega (arith, small c) }
 
 pub loop-end-preserved : goal.loop-end-preserved
-loop-end-preserved c = goes_on _ _ _ _ c.loop-end.invariant (omega arith) (omega arith) (omega arith) (omega arith)
+loop-end-preserved c = let is_digit = c.if-not-is_ascii_digit.ensures.cases in
+    goes_on _ _ _ _ c.loop-end.invariant (omega arith) (omega arith) is_digit.0 is_digit.1
 
-pub returns-after-loop-end : goal.returns-after-loop-end
-returns-after-loop-end c = stops _ _ _ _ c.loop-end.invariant (λ more. omega arith)
-
-pub returns-then-byte-lt48 : goal.returns-then-byte-lt48
-returns-then-byte-lt48 c = let loop' = c.loop-end in
-    sym (front_ends loop'.value _ loop'.end _ (omega arith) (below_is_no_digit _ (omega arith))) ∙ loop'.invariant.keeps
-
-pub returns-then-byte-gt57 : goal.returns-then-byte-gt57
-returns-then-byte-gt57 c = let loop' = c.loop-end in
-    sym (front_ends loop'.value _ loop'.end _ (omega arith) (above_is_no_digit _ (omega arith))) ∙ loop'.invariant.keeps
+pub returns : goal.returns
+returns c = let all : c.loop-end.end ≡ c.args.from + c.min.result = omega arith in
+    rw (← all) (stops _ _ _ _ c.loop-end.invariant (λ more. omega arith))

@@ -15,6 +15,3 @@ pub record Reading (bytes : List ℕ) (from value end : ℕ) : Type 0 where
 
 abbrev pub invariant-loop-end : goal.invariant-loop-end
 invariant-loop-end l = Reading l.bytes l.from l.value l.end
-
-abbrev pub decreases-loop-end : goal.decreases-loop-end
-decreases-loop-end l = length l.bytes - l.end

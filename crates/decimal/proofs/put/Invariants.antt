@@ -17,6 +17,3 @@ pub record Writing (out₀ out : List ℕ) (place n i rest : ℕ) : Type 0 where
 
 abbrev pub invariant-loop-i : goal.invariant-loop-i
 invariant-loop-i l = Writing l.initial.out l.out l.at l.n l.i l.rest
-
-abbrev pub decreases-loop-i : goal.decreases-loop-i
-decreases-loop-i l = l.i

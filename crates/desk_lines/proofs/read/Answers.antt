@@ -13,4 +13,6 @@ pub bounds-line-0 : goal.bounds-line-0
 bounds-line-0 c = letter_inside c.args.line.now c.if-line-gt-LONGEST_LINE.false (sym c.end.ensures ∙ c.if-end-ne1.false)
 
 pub returns : goal.returns
-returns c = c.of_letter.ensures ∙ by_letter_lem c.args.line.now c.if-line-gt-LONGEST_LINE.false (sym c.end.ensures ∙ c.if-end-ne1.false)
+returns c =
+    c.unwrap_or.ensures ∙ rw c.new.ensures at c.of_letter.ensures
+    ∙ by_letter_lem c.args.line.now c.if-line-gt-LONGEST_LINE.false (sym c.end.ensures ∙ c.if-end-ne1.false)

@@ -3,9 +3,9 @@ use mathlib.Core.Path.{sym, ◌∙◌}
 use Rattle.desk_reasons.proofs.WalkLaws.{fine_by_place, faulty_anywhere}
 use Rattle.desk_reasons.proofs.reason_at.Goals as goal
 
-pub returns-then-is_fine : goal.returns-then-is_fine
-returns-then-is_fine c = let fine = sym c.is_fine.ensures ∙ c.if-is_fine.true in
-    fine_by_place _ _ fine c.reason_of-reason.ensures c.out_of_place.ensures c.is_set_up.ensures c.read.ensures
+pub returns-in-Some : goal.returns-in-Some
+returns-in-Some c = faulty_anywhere c.args.first c.args.line.now (sym c.reason_of.ensures ∙ c.in-Some.is)
 
 pub returns : goal.returns
-returns c = faulty_anywhere _ _ (sym c.is_fine.ensures ∙ c.if-is_fine.false) c.reason_of-reason.ensures
+returns c =
+    fine_by_place c.args.first c.args.line.now (sym c.reason_of.ensures ∙ c.in_default.is) c.read.ensures (rw c.is_set_up.ensures at c.out_of_place.ensures)

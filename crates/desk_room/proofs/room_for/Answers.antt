@@ -1,27 +1,24 @@
-use borrow.Author.Tests.{not-true, not-false}
 use mathlib.Core.Path.{◌≡◌, refl, sym, ◌∙◌}
 use native.Mathlib.Omega.{arith}
-use Prim.Native.Nat.{◌-◌, ◌≤◌}
 use Rattle.settings.specs.Settings.{most_keys}
-use Rattle.desk_room.specs.Room.{room_from, room_for}
 use Rattle.desk_room.proofs.RoomLaws.{one_more, one_too_many_lem, none_left}
-use borrow.Author.Rules.{rules}
 use Rattle.desk_room.proofs.room_for.Goals as goal
 
 pub loop-keys-init : goal.loop-keys-init
-loop-keys-init c = (omega arith, refl)
+loop-keys-init c = refl
 
 pub returns-then-not-fits : goal.returns-then-not-fits
 returns-then-not-fits c = let a = c.args in
     let loop' = c.loop-keys in
-    one_too_many_lem loop'.keys a.words a.shards (omega arith) (sym c.fits.ensures ∙ c.if-not-fits.true) ∙ loop'.invariant.1
+    one_too_many_lem loop'.keys a.words a.shards (omega arith) (sym c.fits.ensures ∙ c.if-not-fits.true) ∙ loop'.invariant
 
 pub loop-keys-preserved : goal.loop-keys-preserved
 loop-keys-preserved c = let a = c.args in
     let loop' = c.loop-keys in
-    (omega arith, one_more loop'.keys a.words a.shards (omega arith) (sym c.fits.ensures ∙ c.if-not-fits.false) ∙ loop'.invariant.1)
+    one_more loop'.keys a.words a.shards (omega arith) (sym c.fits.ensures ∙ c.if-not-fits.false) ∙ loop'.invariant
 
 pub returns : goal.returns
 returns c = let a = c.args in
     let loop' = c.loop-keys in
-    none_left loop'.keys a.words a.shards (omega arith) ∙ loop'.invariant.1
+    let end : loop'.keys ≡ most_keys = omega arith in
+    sym end ∙ none_left loop'.keys a.words a.shards (omega arith) ∙ loop'.invariant

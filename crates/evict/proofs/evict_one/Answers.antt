@@ -58,7 +58,7 @@ walk-ended c = let inv = c.loop-left.invariant in
       })
     ]
 
-walk-ended_2 : (c : goal.After-choose) → let a = c.args in
+walk-ended_2 : (c : goal.After-evict_victim-arg-2-1) → let a = c.args in
     Ended a.ws.now a.cap a.config a.at c.if-left-eq0.ws c.if-left-eq0.ended c.loop-left.walk
 walk-ended_2 c = let inv = c.loop-left.invariant in
     elim c.if-left-eq0.branch [
@@ -71,7 +71,7 @@ walk-ended_2 c = let inv = c.loop-left.invariant in
     ]
 
 -- So the words are still lent there, and the victim is held.
-walk-left : (c : goal.After-choose) → let a = c.args in
+walk-left : (c : goal.After-evict_victim-arg-2-1) → let a = c.args in
     let walk = c.loop-left.walk in
     AfterWalk a.cap c.if-left-eq0.ws (victim_of c.if-left-eq0.ended walk.full walk.unmarked (hand_of (shard a.cap a.ws.now)))
 walk-left c = let pre' = c.requires in
@@ -83,7 +83,7 @@ loop-left-init c = let pre' = c.requires in
       intact = pre'.0;
       some = pre'.2;
       long = refl;
-      same = rw (c.new-walk.ensures, c.fewer-left.ensures, c.len.ensures, c.hand_looks.ensures) (walk_start _ _ _);
+      same = rw (c.new-walk.ensures, c.min-left.ensures, c.len.ensures, c.hand_looks.ensures) (walk_start _ _ _);
     }
 
 pub hand_look-slot-requires : goal.hand_look-slot-requires
@@ -117,11 +117,11 @@ loop-left-preserved c = let passed = c.pass_owing-row.ensures in
 pub evict_victim-requires : goal.evict_victim-requires
 evict_victim-requires c = let pre' = c.requires in
     let after = walk-left c in
-    (after.intact, pre'.1, rw (c.choose.ensures, c.hand-first.ensures) after.held)
+    (after.intact, pre'.1, rw (c.choose-victim.ensures, c.hand-first.ensures) after.held)
 
 pub shape_of-ws : goal.shape_of-ws
 shape_of-ws c = c.evict_victim.auto.ws ∙ (walk-ended c).long
 
 pub returns : goal.returns
 returns c = let hand = c.hand-first.ensures in
-    evicted_in_steps _ _ _ _ (walk-ended c).same hand c.choose.ensures c.evict_victim.ensures
+    evicted_in_steps _ _ _ _ (walk-ended c).same hand c.choose-victim.ensures c.evict_victim.ensures

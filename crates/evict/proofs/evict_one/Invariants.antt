@@ -1,12 +1,12 @@
 -- `evict_one` is the walk and what follows from it. The loop holds that the looks left, made from here, give the walk from the start; where its two
 -- ways out meet, the place that it yields and the shard are the walk's own. Then the victim is chosen and what is to happen to it happens.
+use Rattle.std.proofs.Common.{Option}
 use Prim.Native.Nat.{ℕ, ◌<◌}
 use mathlib.Core.Path.{◌≡◌}
 use mathlib.Core.List.{List}
 use lib.ListN.{length}
 use Rattle.units.specs.declared.Nanos.{Nanos}
 use Rattle.bucket.specs.declared.BucketConfig.{BucketConfig}
-use Rattle.rows.specs.declared.Place.{Place}
 use Rattle.shard_map.specs.Layout.{shard, Intact}
 use Rattle.evict.specs.declared.Walk.{Walk}
 use Rattle.evict.specs.Evict.{walk_from, walked}
@@ -21,7 +21,7 @@ pub record Walking (ws₀ : List ℕ) (cap : ℕ) (c : BucketConfig) (at : Nanos
   pub same : walk_from c at left (shard cap ws) (notes_of c walk) ≡ walked c at (shard cap ws₀)
 
 -- Where the two ways out of the loop meet: what it yields, what was noted and the shard are those of the walk.
-pub record Ended (ws₀ : List ℕ) (cap : ℕ) (c : BucketConfig) (at : Nanos) (ws : List ℕ) (ended : Place) (walk : Walk) : Type 0 where
+pub record Ended (ws₀ : List ℕ) (cap : ℕ) (c : BucketConfig) (at : Nanos) (ws : List ℕ) (ended : Option ℕ) (walk : Walk) : Type 0 where
   pub long : length ws ≡ length ws₀
   pub same : walked c at (shard cap ws₀) ≡ record { ended = ended; notes = notes_of c walk; after = shard cap ws }
 

@@ -6,5 +6,5 @@ use Rattle.evict.proofs.goes_at_once.Goals as goal
 pub returns-then-is_lossless : goal.returns-then-is_lossless
 returns-then-is_lossless c = simp (sym c.is_lossless.ensures ∙ c.if-is_lossless.true, not-not)
 
-pub returns : goal.returns
-returns c = simp (sym c.is_lossless.ensures ∙ c.if-is_lossless.false)
+pub returns-else-is_lossless : goal.returns-else-is_lossless
+returns-else-is_lossless c = simp (c.if-is_lossless.false, sym c.is_lossless.ensures ∙ c.if-is_lossless.false)

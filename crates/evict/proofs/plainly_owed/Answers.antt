@@ -6,8 +6,8 @@ use Rattle.evict.proofs.plainly_owed.Goals as goal
 pub returns-then-slot-ne0 : goal.returns-then-slot-ne0
 returns-then-slot-ne0 c = marked_owes_none _ _ _ c.if-slot-ne0.true
 
-pub returns-then-at-bucket : goal.returns-then-at-bucket
-returns-then-at-bucket c = ahead_owes_none _ _ _ c.if-slot-ne0.false c.if-at-bucket.true
+pub returns-then-at-slot : goal.returns-then-at-slot
+returns-then-at-slot c = ahead_owes_none _ _ _ c.if-slot-ne0.false c.if-at-slot.true
 
 pub returns : goal.returns
-returns c = rw c.shortfall_at.ensures (owes_its_shortfall _ _ _ c.if-slot-ne0.false (omega (arith, c.if-at-bucket.false)))
+returns c = rw c.shortfall_at.ensures (owes_its_shortfall _ _ _ c.if-slot-ne0.false (omega (arith, c.if-at-slot.false)))

@@ -1,12 +1,11 @@
 -- No promise rests on this page: it serves the inner contracts of the code.
 -- The code does not work out the recovery of each slot that it looks at, since that takes a division. Where a stamp is not after the moment, the slot with the
 -- least shortfall recovers the soonest. So the code notes the least shortfall, and divides once, on a refusal (`awaited_recovers_soonest`).
-use Rattle.std.specs.Prelude.{ℕ, min, cond, leb, eqb}
+use Rattle.std.specs.Prelude.{ℕ, min, cond, leb, eqb, None}
 use Rattle.units.specs.declared.Nanos.{Nanos}
 use Rattle.bucket.specs.declared.BucketConfig.{BucketConfig}
 use Rattle.bucket.specs.declared.BucketCore.{BucketCore}
 use Rattle.bucket.specs.Bucket.{shortfall_at, recovery_of, recovery_at}
-use Rattle.rows.specs.declared.Place.TheVariants.{Nowhere}
 use Rattle.slot.specs.declared.Slot.{Slot}
 use Rattle.slot.specs.Slot.{lossless}
 use Rattle.evict.specs.declared.Awaited.{Awaited}
@@ -30,7 +29,7 @@ notes_of c w = record { full = w.full; unmarked = w.unmarked; soonest = soonest_
 
 -- The code's walk before its first look.
 abbrev pub new_walk : Walk
-new_walk = record { full = Nowhere; unmarked = Nowhere; awaited = record { least = last_word; later = last_word } }
+new_walk = record { full = None; unmarked = None; awaited = record { least = last_word; later = last_word } }
 
 -- The code's walk after one more look: it notes the places that the definition notes.
 abbrev pub walk_noted : BucketConfig → Nanos → Walk → ℕ → Slot → Walk

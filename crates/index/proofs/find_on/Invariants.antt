@@ -6,14 +6,10 @@ use Rattle.index.specs.Layout.{places_of, keyed}
 use Rattle.index.proofs.find_on.Given as goal
 
 -- The place is one of the index, and the lookup from here gives what it gives from the place after the home.
-pub record Walking (ws : List ℕ) (index : Index) (n hash key home size q left : ℕ) : Type 0 where
-  pub below : q < size
-  pub sized : size ≡ index.size
+pub record Walking (ws : List ℕ) (index : Index) (n hash key home q left : ℕ) : Type 0 where
+  pub below : q < index.size
   pub same : find_from n (keyed index ws hash key) (places_of index ws) q left
       ≡ find_from n (keyed index ws hash key) (places_of index ws) (onward index.size home) (index.size - 1)
 
-abbrev pub invariant-loop-left : goal.invariant-loop-left
-invariant-loop-left l = Walking l.ws l.index l.n l.hash l.key l.home l.size l.q l.left
-
-abbrev pub decreases-loop-left : goal.decreases-loop-left
-decreases-loop-left l = l.left
+abbrev pub invariant-loop : goal.invariant-loop
+invariant-loop l = Walking l.ws l.index l.n l.hash l.key l.home l.q (l.index.size - 1 - l.counter)

@@ -16,7 +16,7 @@ overflow_add-pass c = omega (arith, c.requires.4.bounded)
 
 pub returns-then-back-pass : goal.returns-then-back-pass
 returns-then-back-pass c = let pre' = c.requires in
-    rw c.fewer.ensures
+    rw c.min.ensures
     (pass_moves pre' c.from_home-back.ensures c.if-back-pass.true _ _ _ c.by_home.ensures c.move_word.ensures
     c.by_home-then-back-pass.ensures c.by_home-then-back-pass-2.ensures)
 

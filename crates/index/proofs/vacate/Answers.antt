@@ -2,6 +2,7 @@
 use Rattle.std.proofs.Common.{sym, ◌∙◌}
 use Rattle.index.proofs.LayoutLaws.{then_fits, set_length, vacated_empty, vacated_past, vacated_used}
 use Rattle.index.proofs.PassLaws.{emptied_place}
+use Rattle.index.proofs.vacate.Goals.{else-z-index-via-then-z-index+else-word_at-ne0, else-z-index-via-else-z-index}
 use Rattle.index.proofs.vacate.Goals as goal
 
 pub rehome-requires : goal.rehome-requires
@@ -14,8 +15,8 @@ returns-then-word_at-ne0 c = let used = rw c.word_at.ensures at c.if-word_at-ne0
     let pre' = c.requires in
     vacated_used pre' _ used c.empty.ensures c.rehome.ensures
 
-pub returns-else-word_at-ne0 : goal.returns-else-word_at-ne0
-returns-else-word_at-ne0 c = vacated_empty c.requires _ (sym c.word_at.ensures ∙ c.if-word_at-ne0.false)
-
 pub returns-else-z-index : goal.returns-else-z-index
-returns-else-z-index c = vacated_past c.requires _ c.if-z-index.false
+returns-else-z-index c = elim c.else-z-index.branch [
+  | else-z-index-via-then-z-index+else-word_at-ne0 w ↦ vacated_empty c.requires _ (sym w.word_at.ensures ∙ w.if-word_at-ne0.false)
+  | else-z-index-via-else-z-index w ↦ vacated_past c.requires _ w.if-z-index.false
+]

@@ -3,6 +3,6 @@ use Rattle.ledger.proofs.keep_later.Goals as goal
 
 pub returns : goal.returns
 returns c = let put' = c.put in
-    let larger' = c.larger in
+    let max' = c.max in
     let load' = c.load-held in
-    rw (put'.ensures, larger'.ensures, load'.ensures)
+    rw (put'.ensures, max'.ensures, load'.ensures)

@@ -5,14 +5,11 @@ use Rattle.ledger.proofs.ModelLaws.{found_below}
 use Rattle.ledger.proofs.owed_by.Goals as goal
 
 pub settles_at-requires : goal.settles_at-requires
-settles_at-requires c = let pre' = c.requires in
-    let position' = c.position in
-    (pre'.size, found_below _ pre' position'.ensures c.in-At.is)
+settles_at-requires c = let intact = c.requires in
+    (intact.size, found_below _ intact c.position.ensures c.in_ok-pos.was)
 
-pub returns-in-At : goal.returns-in-At
-returns-in-At c = let settles-at' = c.settles_at in
-    let position' = c.position in
-    rw settles-at'.ensures (owed_where _ _ (sym position'.ensures ∙ c.in-At.is))
+pub returns : goal.returns
+returns c = rw c.settles_at.ensures (owed_where _ _ (sym c.position.ensures ∙ c.in_ok-pos.was))
 
-pub returns-in-Nowhere : goal.returns-in-Nowhere
-returns-in-Nowhere c = owed_where _ _ (sym c.position.ensures ∙ c.in-Nowhere.is)
+pub returns-in_err-pos : goal.returns-in_err-pos
+returns-in_err-pos c = rw c.from_residual.ensures (owed_where _ _ (sym c.position.ensures ∙ c.in_err-pos.was))

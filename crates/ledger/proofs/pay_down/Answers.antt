@@ -7,12 +7,12 @@ use Rattle.ledger.proofs.ModelLaws.{paid_where, found_below}
 use Rattle.ledger.proofs.pay_down.Goals as goal
 
 -- The words are as many as a ledger has, and the place found stands below the cap.
-held : (c : goal.After-saturating_mul) → let a = c.args in (length a.ws.now ≡ ledger_words a.cap) × (c.in-At.pos < a.cap)
-held c = let intact = c.requires.0 in (intact.size, found_below _ intact c.position.ensures c.in-At.is)
+held : (c : goal.After-saturating_mul-credit) → let a = c.args in (length a.ws.now ≡ ledger_words a.cap) × (c.in-Some.pos < a.cap)
+held c = let intact = c.requires.0 in (intact.size, found_below _ intact c.position.ensures c.in-Some.is)
 
 -- The words are as many as a ledger has, and the place found stands below the cap.
-held_2 : (c : goal.After-put-arg-1) → let a = c.args in (length a.ws.now ≡ ledger_words a.cap) × (c.in-At.pos < a.cap)
-held_2 c = let intact = c.requires.0 in (intact.size, found_below _ intact c.position.ensures c.in-At.is)
+held_2 : (c : goal.After-put-arg-1) → let a = c.args in (length a.ws.now ≡ ledger_words a.cap) × (c.in-Some.pos < a.cap)
+held_2 c = let intact = c.requires.0 in (intact.size, found_below _ intact c.position.ensures c.in-Some.is)
 
 pub load-held-requires : goal.load-held-requires
 load-held-requires c = held c
@@ -20,9 +20,9 @@ load-held-requires c = held c
 pub put-requires : goal.put-requires
 put-requires c = held_2 c
 
-pub returns-in-At : goal.returns-in-At
-returns-in-At c = let paid = paid_where _ _ c.position.ensures c.in-At.is _ _ in
-    rw (c.put.ensures, c.saturating_sub.ensures, c.load-held.ensures, c.saturating_mul.ensures) paid
+pub returns : goal.returns
+returns c = let paid = paid_where _ _ c.position.ensures c.in-Some.is _ _ in
+    rw (c.put.ensures, c.saturating_sub.ensures, c.load-held.ensures, c.saturating_mul-credit.ensures) paid
 
-pub returns-in-Nowhere : goal.returns-in-Nowhere
-returns-in-Nowhere c = paid_where _ _ c.position.ensures c.in-Nowhere.is _ _
+pub returns-in_default : goal.returns-in_default
+returns-in_default c = paid_where _ _ c.position.ensures c.in_default.is _ _

@@ -2,7 +2,7 @@
 use mathlib.Core.Path.{◌≡◌}
 use mathlib.Core.List.{List}
 use lib.ListN.{length}
-use Prim.Native.Nat.{ℕ, ◌<◌}
+use Prim.Native.Nat.{ℕ, ◌-◌, ◌<◌}
 use Rattle.units.specs.declared.Nanos.{Nanos}
 use Rattle.ledger.specs.Layout.{ledger, Intact}
 use Rattle.ledger.specs.Model.{scan, scan_from}
@@ -16,8 +16,8 @@ pub record Scanning (ws₀ : List ℕ) (cap : ℕ) (at : Nanos) (ws : List ℕ) 
   pub below : best < (ledger cap ws).debts.count
   pub same : scan_from at left (ledger cap ws) best ≡ scan at (ledger cap ws₀)
 
-abbrev pub invariant-loop-left : goal.invariant-loop-left
-invariant-loop-left l = Scanning l.initial.ws l.cap l.at l.ws l.left l.best
+abbrev pub invariant-loop : goal.invariant-loop
+invariant-loop l = Scanning l.initial.ws l.cap l.at l.ws (l.looks - l.counter) l.best
 
-abbrev pub decreases-loop-left : goal.decreases-loop-left
-decreases-loop-left l = l.left
+abbrev pub decreases-loop : goal.decreases-loop
+decreases-loop l = l.looks - l.counter

@@ -4,13 +4,13 @@ use Rattle.ledger.proofs.ModelLaws.{intact_below, intact_cap}
 use Rattle.ledger.proofs.write.Goals as goal
 
 pub keep_later-requires : goal.keep_later-requires
-keep_later-requires c = (c.requires.0, intact_below c.requires.0 (rw c.in-At.is at c.requires.1))
+keep_later-requires c = (c.requires.0, intact_below c.requires.0 (rw c.in-Some.is at c.requires.1))
 
 pub append-requires : goal.append-requires
-append-requires c = (c.requires.0, omega (arith, rw c.in-Nowhere.is at c.requires.1, intact_cap c.requires.0))
+append-requires c = (c.requires.0, omega (arith, rw c.in-None.is at c.requires.1, intact_cap c.requires.0))
 
-pub returns-in-At : goal.returns-in-At
-returns-in-At c = rw (c.keep_later.ensures, c.in-At.is)
+pub returns-in-Some : goal.returns-in-Some
+returns-in-Some c = rw (c.keep_later.ensures, c.in-Some.is)
 
-pub returns-in-Nowhere : goal.returns-in-Nowhere
-returns-in-Nowhere c = rw (c.append.ensures, c.in-Nowhere.is)
+pub returns-in-None : goal.returns-in-None
+returns-in-None c = rw (c.append.ensures, c.in-None.is)

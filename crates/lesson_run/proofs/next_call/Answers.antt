@@ -20,5 +20,4 @@ returns c = let args' = c.args in
           line_is_some _ o c.requires.0 is;
       short = omega (arith, line_is_inside _ o c.requires.0 is, write'.auto.out);
       quiet = refl;
-      going = refl;
     }

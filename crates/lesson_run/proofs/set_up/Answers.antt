@@ -19,5 +19,4 @@ returns c = let args' = c.args in
         put-limits'.auto.out,
       );
       quiet = refl;
-      going = refl;
     }

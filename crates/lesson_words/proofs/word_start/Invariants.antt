@@ -1,11 +1,8 @@
 use Rattle.lesson_words.specs.Words.{blanks_ahead}
 use mathlib.Core.Path.{◌≡◌}
-use lib.ListN.{length, drop}
-use Prim.Native.Nat.{◌+◌, ◌-◌, ◌≤◌}
+use lib.ListN.{drop}
+use Prim.Native.Nat.{◌+◌}
 use Rattle.lesson_words.proofs.word_start.Given as goal
 
 abbrev pub invariant-loop-at : goal.invariant-loop-at
-invariant-loop-at l = (l.at ≤ length l.line) × (l.at + blanks_ahead (drop l.at l.line) ≡ l.from + blanks_ahead (drop l.from l.line))
-
-abbrev pub decreases-loop-at : goal.decreases-loop-at
-decreases-loop-at l = length l.line - l.at
+invariant-loop-at l = l.at + blanks_ahead (drop l.at l.line) ≡ l.from + blanks_ahead (drop l.from l.line)

@@ -3,10 +3,10 @@ use borrow.Author.Rules.{rules}
 use Rattle.limiter_modems.specs.IdentityTold.{told_identity}
 use Rattle.limiter_modems.proofs.limiter_modem_identity.Goals as goal
 
-pub returns-in-Refused : goal.returns-in-Refused
+pub returns-in-Err : goal.returns-in-Err
 unfolding told_identity
-returns-in-Refused c = rw (← c.identify.ensures, c.in-Refused.is)
+returns-in-Err c = rw (← c.identify.ensures, c.from.ensures, c.in-Err.is)
 
-pub returns-in-Modem : goal.returns-in-Modem
+pub returns-in-Ok : goal.returns-in-Ok
 unfolding told_identity
-returns-in-Modem c = rw (← c.identify.ensures, c.in-Modem.is)
+returns-in-Ok c = rw (← c.identify.ensures, c.in-Ok.is)

@@ -1,14 +1,15 @@
--- `identify` gives the number that the slice is refused as, else its identity.
+-- `identify` gives the refusal of the slice, else its identity.
 use mathlib.Core.Path.{sym, ◌∙◌}
-use Rattle.modems.proofs.AddressLaws.{refused_names_no_modem, not_refused_names_a_modem}
-use borrow.Author.Rules.{rules}
+use Rattle.std.proofs.lemmas.Result.{err_from_is_err_and}
+use Rattle.modems.proofs.AddressLaws.{refused_names_no_modem, not_refused_names_a_modem, checked_accepts}
 use Rattle.modems.proofs.identify.Goals as goal
 
-pub returns-then-refusal-ne0 : goal.returns-then-refusal-ne0
-returns-then-refusal-ne0 c = refused_names_no_modem _ c.address_refusal-refusal.ensures c.if-refusal-ne0.true
+pub returns-in_err-check_address : goal.returns-in_err-check_address
+returns-in_err-check_address c = let p = err_from_is_err_and c.from_residual.result c.from_residual.ensures.1 in
+    rw (p.1, p.2) (refused_names_no_modem _ c.in_err-check_address.ensures)
 
 pub identity-requires : goal.identity-requires
-identity-requires c = sym c.address_refusal-refusal.ensures ∙ c.if-refusal-ne0.false
+identity-requires c = checked_accepts _ c.in_ok-check_address.ensures
 
 pub returns : goal.returns
-returns c = rw c.identity.ensures (not_refused_names_a_modem _ c.address_refusal-refusal.ensures c.if-refusal-ne0.false)
+returns c = rw c.identity.ensures (not_refused_names_a_modem _ c.in_ok-check_address.ensures)

@@ -1,7 +1,6 @@
 -- `after_try` has a case for a row that is tried again and one for a row that ends.
 use Rattle.outage_rows.proofs.RunLaws.{waits_again, ends_now}
 use mathlib.Core.Path.{sym, ◌∙◌}
-use borrow.Author.Rules.{rules}
 use Rattle.outage_rows.proofs.after_try.Goals as goal
 
 pub returns-then-again : goal.returns-then-again

@@ -1,7 +1,6 @@
 -- `keep` stores the row at the place behind the n rows.
 use mathlib.Core.Path.{◌∙◌}
 use Rattle.outage_rows.proofs.LayoutLaws.{one_row_more}
-use borrow.Author.Rules.{rules}
 use Rattle.outage_rows.proofs.keep.Goals as goal
 
 pub returns : goal.returns

@@ -1,18 +1,11 @@
-use native.Mathlib.Omega.{arith}
 use Rattle.outage_rows.proofs.NextLaws.{next_start, next_turn, next_end, sooner_below}
 use Rattle.outage_rows.proofs.LayoutLaws.{rows_count}
 use Rattle.outage_rows.specs.Layout.{rows_in}
-use Rattle.outage_rows.specs.Model.{next_from, Below}
-use Rattle.outage_rows.specs.Model as Model
-use Rattle.rows.specs.declared.Place.{Place}
-use mathlib.Core.List.{List}
-use mathlib.Core.Path.{◌≡◌, sym, ◌∙◌}
-use Prim.Native.Nat.{ℕ, ◌-◌, ◌≤◌}
-use borrow.Author.Rules.{rules}
+use mathlib.Core.Path.{sym, ◌∙◌}
 use Rattle.outage_rows.proofs.next.Goals as goal
 
 pub loop-i-init : goal.loop-i-init
-loop-i-init c = record { inside = omega arith; known = tt; same = next_start (rows_in _ _) _ (rows_count _ _) }
+loop-i-init c = record { known = tt; same = next_start (rows_in _ _) _ (rows_count _ _) }
 
 pub sooner-best-requires : goal.sooner-best-requires
 sooner-best-requires c = (c.requires, c.loop-i-test.true, c.loop-i.invariant.known)
@@ -21,7 +14,6 @@ pub loop-i-preserved : goal.loop-i-preserved
 loop-i-preserved c = let inside = c.loop-i-test.true in
     let inv = c.loop-i.invariant in
     record {
-      inside = omega arith;
       known = rw c.sooner-best.ensures (sooner_below _ _ _ _ inside inv.known);
       same = rw c.sooner-best.ensures (sym (next_turn _ _ _ _ inside) ∙ inv.same);
     }

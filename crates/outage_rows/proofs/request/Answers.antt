@@ -1,6 +1,5 @@
 -- `request` reads the cost as `cost_of` does.
-use borrow.Author.Rules.{rules}
 use Rattle.outage_rows.proofs.request.Goals as goal
 
 pub returns : goal.returns
-returns c = rw c.cost_of-cost.ensures
+returns c = rw c.cost_of.ensures

@@ -1,6 +1,5 @@
 -- `run` runs as many rows as there are words for.
 use Rattle.outage_rows.proofs.TryLaws.{run_of_all}
-use borrow.Author.Rules.{rules}
 use Rattle.outage_rows.proofs.run.Goals as goal
 
 pub run_rows-requires : goal.run_rows-requires

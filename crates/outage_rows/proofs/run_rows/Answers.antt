@@ -1,13 +1,7 @@
 use Rattle.outage_rows.proofs.TryLaws.{next_in_words}
-use Rattle.outage_rows.proofs.RunLaws.{tries_left, RunsTo, runs_from_start, runs_on, runs_out, takes_a_try}
-use Rattle.outage_rows.specs.Layout.{row_width, rows_in, state_in}
-use Rattle.outage_rows.specs.Model.{outage}
-use Rattle.settings.specs.declared.Settings.{Settings}
-use lib.ListN.{length}
-use mathlib.Core.List.{List}
-use mathlib.Core.Path.{◌≡◌, refl, sym, ◌∙◌}
-use Prim.Native.Nat.{ℕ, ◌*◌, ◌≤◌}
-use borrow.Author.Rules.{rules}
+use Rattle.outage_rows.proofs.RunLaws.{runs_from_start, runs_on, runs_out, takes_a_try}
+use Rattle.outage_rows.specs.Layout.{state_in}
+use mathlib.Core.Path.{refl, sym, ◌∙◌}
 use Rattle.outage_rows.proofs.run_rows.Goals as goal
 
 pub loop-p-init : goal.loop-p-init
@@ -16,14 +10,14 @@ loop-p-init c = record { long = refl; wide = refl; room = c.requires; same = run
 pub next-requires : goal.next-requires
 next-requires c = c.loop-p.invariant.room
 
-pub returns-in_default : goal.returns-in_default
-returns-in_default c = runs_out _ _ _ (sym c.next.ensures ∙ c.in_default.is) c.loop-p.invariant.same
+pub returns : goal.returns
+returns c = runs_out _ _ _ (sym c.next.ensures ∙ c.in_default.is) c.loop-p.invariant.same
 
 pub try_at-requires : goal.try_at-requires
-try_at-requires c = (c.loop-p.invariant.room, next_in_words _ _ _ (sym c.next.ensures ∙ c.in-At.is))
+try_at-requires c = (c.loop-p.invariant.room, next_in_words _ _ _ (sym c.next.ensures ∙ c.in-Some.is))
 
 pub loop-p-smaller : goal.loop-p-smaller
-loop-p-smaller c = takes_a_try _ (state_in _ _ c.loop-p.ws) _ _ (sym c.next.ensures ∙ c.in-At.is) c.try_at.ensures
+loop-p-smaller c = takes_a_try _ (state_in _ _ c.loop-p.ws) _ _ (sym c.next.ensures ∙ c.in-Some.is) c.try_at.ensures
 
 pub loop-p-preserved : goal.loop-p-preserved
 loop-p-preserved c = let inv = c.loop-p.invariant in
@@ -32,5 +26,5 @@ loop-p-preserved c = let inv = c.loop-p.invariant in
       long = kept.rs ∙ inv.long;
       wide = kept.ws ∙ inv.wide;
       room = rw kept.rs inv.room;
-      same = runs_on _ _ _ _ _ (sym c.next.ensures ∙ c.in-At.is) c.try_at.ensures inv.same;
+      same = runs_on _ _ _ _ _ (sym c.next.ensures ∙ c.in-Some.is) c.try_at.ensures inv.same;
     }

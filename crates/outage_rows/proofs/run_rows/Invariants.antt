@@ -1,14 +1,12 @@
 -- `run_rows` tries row after row. The loop holds that the run from here comes to where it comes from the start; each try takes one of the tries left.
-use Rattle.outage_rows.proofs.TryLaws.{next_in_words}
-use Rattle.outage_rows.proofs.RunLaws.{tries_left, RunsTo, runs_from_start, runs_on, runs_out, takes_a_try}
+use Rattle.outage_rows.proofs.RunLaws.{tries_left, RunsTo}
 use Rattle.outage_rows.specs.Layout.{row_width, rows_in, state_in}
 use Rattle.outage_rows.specs.Model.{outage}
 use Rattle.settings.specs.declared.Settings.{Settings}
 use lib.ListN.{length}
 use mathlib.Core.List.{List}
-use mathlib.Core.Path.{◌≡◌, refl, sym, ◌∙◌}
+use mathlib.Core.Path.{◌≡◌}
 use Prim.Native.Nat.{ℕ, ◌*◌, ◌≤◌}
-use borrow.Author.Rules.{rules}
 use Rattle.outage_rows.proofs.run_rows.Given as goal
 
 -- From here the run comes to where it comes from the start, and the words are as long as then.

@@ -1,6 +1,5 @@
 -- `try_at` loads a row, tries it, and stores it as it is then.
 use Rattle.outage_rows.proofs.TryLaws.{state_tried}
-use borrow.Author.Rules.{rules}
 use Rattle.outage_rows.proofs.try_at.Goals as goal
 
 pub returns : goal.returns

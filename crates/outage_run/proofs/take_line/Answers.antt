@@ -5,18 +5,10 @@ use Rattle.std.proofs.Common.{rules}
 use Rattle.outage_run.proofs.take_line.Goals as goal
 
 pub returns-in-First : goal.returns-in-First
-returns-in-First c = took_as (line_taken c.args.line.now) (first_is_line c.args.line.now _
-    c.wrapping_add_u64-number.ensures.value
-    c.in-First.is) (c.first.ensures
-    c.args.rs.now)
+returns-in-First c = took_as (line_taken c.args.line.now) (first_is_line c.args.line.now _ c.in-First.is) (c.first.ensures c.args.rs.now)
 
 pub returns-in-Open : goal.returns-in-Open
-returns-in-Open c = let start' =
-    c in
-    took_as (line_taken start'.args.line.now) (further_is_line start'.args.line.now _
-    c.wrapping_add_u64-number.ensures.value _
-    c.in-Open.is)
-    c.further.ensures
+returns-in-Open c = took_as (line_taken c.args.line.now) (further_is_line c.args.line.now _ _ c.in-Open.is) c.further.ensures
 
 pub returns-in-Ended : goal.returns-in-Ended
 returns-in-Ended c = nothing_took 1 (line_taken c.args.line.now) c.args.feed c.args.rs.now c.args.memory.now c.args.output.now

@@ -11,7 +11,7 @@ use borrow.Author.Rules.{rules}
 use Rattle.perkey.proofs.peek.Goals as goal
 
 pub unless_refused-requires : goal.unless_refused-requires
-unless_refused-requires c = λ none. accepted_shape c.args.settings (sym c.refusal.ensures ∙ none) (omega (arith, c.well_formed)) c.shape.ensures
+unless_refused-requires c = λ none. accepted_shape c.args.settings (sym c.check.ensures ∙ none) (omega (arith, c.well_formed)) c.shape.ensures
 
 pub peek_open-requires : goal.peek_open-requires
 peek_open-requires c = c.in-Open.is
@@ -20,8 +20,8 @@ pub returns-in-Closed : goal.returns-in-Closed
 returns-in-Closed c = let a = c.args in
     let stays = closed_peek a.settings a.id a.at a.cost (buckets_at (shape_of a.settings) a.ws.now) _
     c.in-Closed.is c.closed.ensures in
-    unchanged_is_told a.settings a.id (looks (peeks a.at a.cost)) a.ws.now _ refl stays c.refusal.ensures c.shape.ensures
-    c.moment_refusal-late.ensures c.unless_refused.ensures
+    unchanged_is_told a.settings a.id (looks (peeks a.at a.cost)) a.ws.now _ refl stays c.check.ensures c.shape.ensures
+    c.check_moment.ensures c.unless_refused.ensures
 
 pub returns-in-Open : goal.returns-in-Open
 returns-in-Open c = c.peek_open.ensures

@@ -35,7 +35,7 @@ within_4 : (c : goal.After-due_reply) → c.args.cost ≤ burst_of c.args.rate
 within_4 c = omega (arith, c.if-capacity-cost.false, c.capacity.ensures)
 
 -- The cost is at most the burst.
-within_5 : (c : goal.After-due_reply-in-Nowhere) → c.args.cost ≤ burst_of c.args.rate
+within_5 : (c : goal.After-due_reply-in-None) → c.args.cost ≤ burst_of c.args.rate
 within_5 c = omega (arith, c.if-capacity-cost.false, c.capacity.ensures)
 
 -- So it may be asked of a bucket at the rate that is made.
@@ -62,7 +62,7 @@ told_of c is-config is-bucket is-due is-reply = let a = c.args in
     viewed_due_is_told a.rate a.at a.cost a.id (shard_in a.part a.ws.now) (within_4 c) is-config is-bucket is-due is-reply
 
 -- What is answered by the bucket viewed, by its due and its reply.
-told_of_2 : (c : goal.After-due_reply-in-Nowhere) {config : BucketConfig} {bucket : BucketCore} {due : Due} {told : Reply} → let a = c.args in
+told_of_2 : (c : goal.After-due_reply-in-None) {config : BucketConfig} {bucket : BucketCore} {due : Due} {told : Reply} → let a = c.args in
     config ≡ config_of a.rate → bucket ≡ OneShard.viewed config a.id a.at (shard_in a.part a.ws.now)
     → due ≡ due_at config bucket a.cost a.at → told ≡ due_reply due
     → told ≡ peeked_in (Open a.rate) a.at a.cost a.id (shard_in a.part a.ws.now)
@@ -74,7 +74,7 @@ returns-then-capacity-cost c = peek_of_too_much _ _ _ _ _ (rw c.capacity.ensures
 
 pub bucket_at-bucket-requires : goal.bucket_at-bucket-requires
 bucket_at-bucket-requires c = let may = c.requires in
-    (may.0, may.1, found_place_below may.0 _ _ _ may.1 (sym c.position.ensures ∙ c.in-At.is))
+    (may.0, may.1, found_place_below may.0 _ _ _ may.1 (sym c.position.ensures ∙ c.in-Some.is))
 
 pub due_at-requires : goal.due_at-requires
 due_at-requires c = may-be-asked c c.config.ensures
@@ -83,15 +83,15 @@ pub returning_bucket-bucket-requires : goal.returning_bucket-bucket-requires
 returning_bucket-bucket-requires c = let may = c.requires in
     (may.0, may.1, (may-be-asked_2 c c.config-config.ensures).0)
 
-pub due_at-requires-in-Nowhere : goal.due_at-requires-in-Nowhere
-due_at-requires-in-Nowhere c = may-be-asked_3 c c.config-config.ensures
+pub due_at-requires-in-None : goal.due_at-requires-in-None
+due_at-requires-in-None c = may-be-asked_3 c c.config-config.ensures
 
-pub returns-in-At : goal.returns-in-At
-returns-in-At c = let at_place = sym c.position.ensures ∙ c.in-At.is in
+pub returns-in-Some : goal.returns-in-Some
+returns-in-Some c = let at_place = sym c.position.ensures ∙ c.in-Some.is in
     told_of c c.config.ensures (c.bucket_at-bucket.ensures ∙ sym (view_of_slot _ _ _ _ _ at_place)) c.due_at.ensures
     c.due_reply.ensures
 
-pub returns-in-Nowhere : goal.returns-in-Nowhere
-returns-in-Nowhere c = let nowhere = sym c.position.ensures ∙ c.in-Nowhere.is in
-    told_of_2 c c.config-config.ensures (c.returning_bucket-bucket.ensures ∙ sym (view_without_slot _ _ _ _ nowhere)) c.due_at-in-Nowhere.ensures
-    c.due_reply-in-Nowhere.ensures
+pub returns-in-None : goal.returns-in-None
+returns-in-None c = let nowhere = sym c.position.ensures ∙ c.in-None.is in
+    told_of_2 c c.config-config.ensures (c.returning_bucket-bucket.ensures ∙ sym (view_without_slot _ _ _ _ nowhere)) c.due_at-in-None.ensures
+    c.due_reply-in-None.ensures

@@ -11,7 +11,7 @@ use borrow.Author.Rules.{rules}
 use Rattle.perkey.proofs.refund.Goals as goal
 
 pub unless_refused-requires : goal.unless_refused-requires
-unless_refused-requires c = λ none. accepted_shape c.args.settings (sym c.refusal.ensures ∙ none) (omega (arith, c.well_formed)) c.shape.ensures
+unless_refused-requires c = λ none. accepted_shape c.args.settings (sym c.check.ensures ∙ none) (omega (arith, c.well_formed)) c.shape.ensures
 
 pub refund_open-requires : goal.refund_open-requires
 refund_open-requires c = c.in-Open.is
@@ -19,7 +19,7 @@ refund_open-requires c = c.in-Open.is
 pub returns-in-Closed : goal.returns-in-Closed
 returns-in-Closed c = let a = c.args in
     let stays = closed_refund a.settings a.id a.cost (buckets_at (shape_of a.settings) a.ws.now) _ c.in-Closed.is in
-    unchanged_is_told a.settings a.id (undoes (refunds a.cost)) a.ws.now _ refl stays c.refusal.ensures c.shape.ensures
+    unchanged_is_told a.settings a.id (undoes (refunds a.cost)) a.ws.now _ refl stays c.check.ensures c.shape.ensures
     refl c.unless_refused.ensures
 
 pub returns-in-Open : goal.returns-in-Open

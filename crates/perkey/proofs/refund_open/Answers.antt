@@ -12,25 +12,25 @@ abbrev ask : goal.After-give_back-arg-1 → Ask
 ask c = undoes (refunds c.args.cost)
 
 -- What is asked; where the call began, as seen once `lend_for` has answered.
-abbrev ask_2 : goal.In-Refused → Ask
+abbrev ask_2 : goal.After-into → Ask
 ask_2 c = undoes (refunds c.args.cost)
 
 -- What is asked; where the call began, as seen once `lend_for` has answered.
-abbrev ask_3 : goal.After-slice_known-in-Lent-1 → Ask
+abbrev ask_3 : goal.After-slice_known-in-Ok-1 → Ask
 ask_3 c = undoes (refunds c.args.cost)
 
 pub give_back-requires : goal.give_back-requires
 give_back-requires c = let a = c.args in
-    let found = c.in-Lent.is in
+    let found = c.in-Ok.is in
     let may = lent_may_be_asked a.settings a.id (ask c) a.ws.now c.lend_for.ensures found in
     let limit = lent_limit_accepted a.settings a.id (ask c) a.ws.now c.lend_for.ensures found in
     (may.0, may.1, accepted_rate _ (rw c.requires at limit))
 
-pub returns-in-Refused : goal.returns-in-Refused
-returns-in-Refused c = let a = c.args in
-    unlent_is_told a.settings a.id (ask_2 c) a.ws.now c.lend_for.ensures c.in-Refused.is
+pub returns-in-Err : goal.returns-in-Err
+returns-in-Err c = let a = c.args in
+    rw c.into.ensures (unlent_is_told a.settings a.id (ask_2 c) a.ws.now c.lend_for.ensures c.in-Err.is)
 
-pub returns-in-Lent : goal.returns-in-Lent
-returns-in-Lent c = let a = c.args in
-    lent_is_told a.settings a.id (ask_3 c) a.ws.now c.lend_for.ensures c.in-Lent.is refl
-    (refund_by_limit a.settings a.id a.cost c.in-Lent.part a.ws.now c.requires c.give_back.ensures)
+pub returns-in-Ok : goal.returns-in-Ok
+returns-in-Ok c = let a = c.args in
+    lent_is_told a.settings a.id (ask_3 c) a.ws.now c.lend_for.ensures c.in-Ok.is refl
+    (refund_by_limit a.settings a.id a.cost c.in-Ok.part a.ws.now c.requires c.give_back.ensures)

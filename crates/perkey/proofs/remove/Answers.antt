@@ -12,15 +12,15 @@ ask = undoes removes
 
 pub remove-requires : goal.remove-requires
 remove-requires c = let a = c.args in
-    let lent = lent_may_be_asked a.settings a.id ask a.ws.now c.lend_for.ensures c.in-Lent.is in
-    let counted = lent_is_counted a.settings a.id ask a.ws.now c.lend_for.ensures c.in-Lent.is in
+    let lent = lent_may_be_asked a.settings a.id ask a.ws.now c.lend_for.ensures c.in-Ok.is in
+    let counted = lent_is_counted a.settings a.id ask a.ws.now c.lend_for.ensures c.in-Ok.is in
     (lent.0, lent.1, counted)
 
-pub returns-in-Refused : goal.returns-in-Refused
-returns-in-Refused c = let a = c.args in
-    unlent_is_told a.settings a.id ask a.ws.now c.lend_for.ensures c.in-Refused.is
+pub returns-in-Err : goal.returns-in-Err
+returns-in-Err c = let a = c.args in
+    rw c.into.ensures (unlent_is_told a.settings a.id ask a.ws.now c.lend_for.ensures c.in-Err.is)
 
-pub returns-in-Lent : goal.returns-in-Lent
-returns-in-Lent c = let a = c.args in
+pub returns-in-Ok : goal.returns-in-Ok
+returns-in-Ok c = let a = c.args in
     let removed = key_is_told c.remove.ensures c.known_reply.ensures in
-    lent_is_told a.settings a.id ask a.ws.now c.lend_for.ensures c.in-Lent.is refl removed
+    lent_is_told a.settings a.id ask a.ws.now c.lend_for.ensures c.in-Ok.is refl removed

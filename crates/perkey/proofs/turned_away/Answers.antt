@@ -12,13 +12,13 @@ ask = looks turn_aways
 
 pub turned_away-requires : goal.turned_away-requires
 turned_away-requires c = let a = c.args in
-    lent_may_be_asked a.settings a.id ask a.ws.now c.lend_for.ensures c.in-Lent.is
+    lent_may_be_asked a.settings a.id ask a.ws.now c.lend_for.ensures c.in-Ok.is
 
-pub returns-in-Refused : goal.returns-in-Refused
-returns-in-Refused c = let a = c.args in
-    unlent_is_told a.settings a.id ask a.ws.now c.lend_for.ensures c.in-Refused.is
+pub returns-in-Err : goal.returns-in-Err
+returns-in-Err c = let a = c.args in
+    rw c.into.ensures (unlent_is_told a.settings a.id ask a.ws.now c.lend_for.ensures c.in-Err.is)
 
-pub returns-in-Lent : goal.returns-in-Lent
-returns-in-Lent c = let a = c.args in
-    lent_look_is_told a.settings a.id turn_aways a.ws.now c.lend_for.ensures c.in-Lent.is
+pub returns-in-Ok : goal.returns-in-Ok
+returns-in-Ok c = let a = c.args in
+    lent_look_is_told a.settings a.id turn_aways a.ws.now c.lend_for.ensures c.in-Ok.is
     (ap Count c.turned_away.ensures)

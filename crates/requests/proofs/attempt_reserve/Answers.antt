@@ -9,7 +9,7 @@ use borrow.Author.Rules.{rules}
 use Rattle.requests.proofs.attempt_reserve.Goals as goal
 
 pub unless_refused-reply-requires : goal.unless_refused-reply-requires
-unless_refused-reply-requires c = λ none. accepted_shape c.args.settings (sym c.refusal.ensures ∙ none) (omega (arith, c.well_formed)) c.shape.ensures
+unless_refused-reply-requires c = λ none. accepted_shape c.args.settings (sym c.check.ensures ∙ none) (omega (arith, c.well_formed)) c.shape.ensures
 
 pub reserve_open-requires : goal.reserve_open-requires
 reserve_open-requires c = c.in-Open.is
@@ -18,7 +18,7 @@ pub returns-in-Closed : goal.returns-in-Closed
 returns-in-Closed c = let a = c.args in
     let ruled =
     closed_request_is_told (Reserve a.max_wait) a.settings a.at a.id a.cost a.ws.now c.in-Closed.is refl
-    c.refusal.ensures c.shape.ensures c.reserve_further-further.ensures c.unless_refused-reply.ensures in
+    c.check.ensures c.shape.ensures c.check_reservation.ensures c.unless_refused-reply.ensures in
     closed_is_answered (Reserve a.max_wait) a.settings a.at a.id a.cost a.ws.now c.in-Closed.is ruled
 
 pub returns-in-Open : goal.returns-in-Open

@@ -11,7 +11,7 @@ use borrow.Author.Rules.{rules}
 use Rattle.requests.proofs.attempt_try.Goals as goal
 
 pub unless_refused-reply-requires : goal.unless_refused-reply-requires
-unless_refused-reply-requires c = λ none. accepted_shape c.args.settings (sym c.refusal.ensures ∙ none) (omega (arith, c.well_formed)) c.shape.ensures
+unless_refused-reply-requires c = λ none. accepted_shape c.args.settings (sym c.check.ensures ∙ none) (omega (arith, c.well_formed)) c.shape.ensures
 
 pub try_open-requires : goal.try_open-requires
 try_open-requires c = c.in-Open.is
@@ -21,7 +21,7 @@ returns-in-Closed c = let a = c.args in
     let closed = ap (λ (d : Decision). Tried d) c.closed.ensures in
     let ruled =
     closed_request_is_told Acquire a.settings a.at a.id a.cost a.ws.now c.in-Closed.is closed
-    c.refusal.ensures c.shape.ensures c.moment_refusal-late.ensures c.unless_refused-reply.ensures in
+    c.check.ensures c.shape.ensures c.check_moment.ensures c.unless_refused-reply.ensures in
     closed_is_answered Acquire a.settings a.at a.id a.cost a.ws.now c.in-Closed.is ruled
 
 pub returns-in-Open : goal.returns-in-Open

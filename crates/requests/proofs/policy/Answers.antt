@@ -3,4 +3,4 @@ use borrow.Author.Rules.{rules}
 use Rattle.requests.proofs.policy.Goals as goal
 
 pub returns : goal.returns
-returns c = rw (c.forgets.ensures, c.config-config.ensures)
+returns c = rw (c.forgets.ensures, c.config.ensures)

@@ -24,7 +24,7 @@ abbrev request_3 : goal.After-reserve_reply → Request
 request_3 c = Reserve c.args.max_wait
 
 -- What is asked for.
-abbrev request_4 : goal.In-Nowhere → Request
+abbrev request_4 : goal.In-None → Request
 request_4 c = Reserve c.args.max_wait
 
 -- What is asked for.
@@ -56,7 +56,7 @@ asks_3 c = let a = c.args in
     let accepted = (ask_not_refused a.settings a.id (requests (request_3 c) a.at a.cost) a.ws.now pre'.0).0 in
     record { accepted = accepted; is_part = pre'.1; is_limit = pre'.2; within = within; some = c.if-cost-eq0.false }
 
-asks_4 : (c : goal.In-Nowhere) → let a = c.args in Asking a.settings a.id a.cost a.ws.now a.rate a.part
+asks_4 : (c : goal.In-None) → let a = c.args in Asking a.settings a.id a.cost a.ws.now a.rate a.part
 asks_4 c = let a = c.args in
     let pre' = c.requires in
     let within = rw c.capacity.ensures at c.if-capacity-cost.false in
@@ -78,14 +78,14 @@ pub position-requires : goal.position-requires
 position-requires c = place_may_be_asked (asks c)
 
 pub with_existing-decision-requires : goal.with_existing-decision-requires
-with_existing-decision-requires c = known_may_be_asked (asks_2 c) c.policy.ensures c.position.ensures _ c.in-At.is
+with_existing-decision-requires c = known_may_be_asked (asks_2 c) c.policy.ensures c.position.ensures _ c.in-Some.is
 
-pub returns-in-At : goal.returns-in-At
-returns-in-At c = let r = request_3 c in
-    let found' = c.in-At.is in
+pub returns-in-Some : goal.returns-in-Some
+returns-in-Some c = let r = request_3 c in
+    let found' = c.in-Some.is in
     let at' = c.args.at in
     let known = known_is_told (asks_3 c) c.policy.ensures c.position.ensures r at' c.reserve_reply.ensures in
     known_is_answered r at' (asks_3 c) c.requires.0 c.position.ensures _ found' (known _ found' c.with_existing-decision.ensures)
 
-pub returns-in-Nowhere : goal.returns-in-Nowhere
-returns-in-Nowhere c = new_is_left (request_4 c) c.args.at (asks_4 c) c.requires.0 c.position.ensures c.in-Nowhere.is
+pub returns-in-None : goal.returns-in-None
+returns-in-None c = new_is_left (request_4 c) c.args.at (asks_4 c) c.requires.0 c.position.ensures c.in-None.is

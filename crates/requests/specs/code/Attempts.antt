@@ -1,9 +1,7 @@
 -- A request, a try or a reservation, in two halves: what the first comes to, and what the second may rely on.
 -- No promise rests on this page: it serves the inner contracts of the code.
-use Rattle.std.specs.Prelude.{ℕ, ◌≤◌, ◌≡◌, Bool, true, false, not, cond, ◌&&◌, List, leb, eqb}
+use Rattle.std.specs.Prelude.{ℕ, ◌≤◌, ◌≡◌, Bool, true, false, not, cond, ◌&&◌, List, leb, eqb, Option, Some, None}
 use Rattle.rows.specs.Outcome.{Outcome, outcome}
-use Rattle.rows.specs.declared.Place.{Place}
-use Rattle.rows.specs.declared.Place.TheVariants.{At, Nowhere}
 use Rattle.units.specs.declared.Nanos.{Nanos}
 use Rattle.bucket.specs.declared.Request.{Request}
 use Rattle.settings.specs.declared.Limit.{Limit}
@@ -33,9 +31,9 @@ abbrev pub refusal_to : Request → Settings → Nanos → Identity → List ℕ
 refusal_to r s at id ws = first_refusal (keyed_refusal s id.hash ws) (further_to r at)
 
 -- Whether a lookup found no slot.
-abbrev pub is_nowhere : Place → Bool
-is_nowhere (At i) = false
-is_nowhere Nowhere = true
+abbrev pub is_nowhere : Option ℕ → Bool
+is_nowhere (Some i) = false
+is_nowhere None = true
 
 -- Whether a request at a rate has a cost from 1 to the burst, and lookup in its shard finds no slot of the key.
 unfoldable pub needs_slot : Rate → Identity → ℕ → Shard → Bool
@@ -64,7 +62,7 @@ pub record NewKey (r : Request) (s : Settings) (at : Nanos) (id : Identity) (cos
   pub is_limit : s.limit ≡ Open rate
   pub within : cost ≤ burst_of rate
   pub not_zero : cost ≡ 0 → ⊥
-  pub no_slot : place_of (shard_at s id.hash ws) id.hash id.key ≡ Nowhere
+  pub no_slot : place_of (shard_at s id.hash ws) id.hash id.key ≡ None
 
 -- What holds of a request that an attempt left, for each reason.
 abbrev pub LeftFor : Why → Request → Settings → Nanos → Identity → ℕ → List ℕ → Type 0

@@ -1,9 +1,7 @@
-use Rattle.std.proofs.Common.{◌-◌, ◌≡◌, ◌+◌, ◌≤◌}
+-- `scan::find` looks at each byte in turn: at each test of the loop, the first place from the start is the first place from here.
+use Rattle.std.proofs.Common.{◌≡◌, ◌+◌}
 use Rattle.scan.specs.Bytes.{index_of, slice}
 use Rattle.scan.proofs.find.Given as goal
 
 abbrev pub invariant-loop-at : goal.invariant-loop-at
-invariant-loop-at l = (l.at ≤ l.to) × (l.from + index_of l.byte (slice l.from l.to l.bytes) ≡ l.at + index_of l.byte (slice l.at l.to l.bytes))
-
-abbrev pub decreases-loop-at : goal.decreases-loop-at
-decreases-loop-at l = l.to - l.at
+invariant-loop-at l = l.from + index_of l.byte (slice l.from l.to l.bytes) ≡ l.at + index_of l.byte (slice l.at l.to l.bytes)

@@ -2,4 +2,4 @@
 use Rattle.settings.proofs.idle_limit.Goals as goal
 
 pub returns : goal.returns
-returns c = rw (c.idle_limit_millis.ensures, c.larger.ensures, c.time_to_full-least.ensures)
+returns c = rw (c.idle_limit_millis.ensures, c.max.ensures, c.time_to_full-least.ensures)

@@ -14,12 +14,12 @@ pub make_room-requires : goal.make_room-requires
 make_room-requires c = (still-intact c, c.requires.1)
 
 pub join-requires : goal.join-requires
-join-requires c = let told = c.in-Made.is in
+join-requires c = let told = c.in-Ok.is in
     let made = room_made_fits_a_slot (still-intact_2 c) c.make_room.auto.ws c.args.policy c.args.at c.make_room.ensures told in
     (made.0, c.requires.1, c.requires.2, made.1)
 
-pub returns-in-Made : goal.returns-in-Made
-returns-in-Made c = c.join.ensures ∙ new_joins _ _ _ _ _ _ c.take-owed.ensures c.make_room.ensures c.in-Made.is
+pub returns-in-Ok : goal.returns-in-Ok
+returns-in-Ok c = c.join.ensures ∙ new_joins _ _ _ _ _ _ c.take-owed.ensures c.make_room.ensures c.in-Ok.is
 
-pub returns-in-Refused : goal.returns-in-Refused
-returns-in-Refused c = new_refused _ _ _ _ _ _ c.take-owed.ensures c.make_room.ensures _ c.requires.0.sound c.in-Refused.is
+pub returns-in-Err : goal.returns-in-Err
+returns-in-Err c = new_refused _ _ _ _ _ _ c.take-owed.ensures c.make_room.ensures _ c.requires.0.sound c.in-Err.is

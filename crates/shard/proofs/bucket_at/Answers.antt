@@ -2,4 +2,4 @@
 use Rattle.shard.proofs.bucket_at.Goals as goal
 
 pub returns : goal.returns
-returns c = rw c.get-slot.ensures
+returns c = rw c.get.ensures

@@ -12,7 +12,7 @@ still-intact c = intact_after_sweeps c.requires.0 c.sweep.auto.ws c.args.policy 
 still-intact_2 : (c : goal.Then-len-cap) → Intact c.args.cap c.sweep.new.ws
 still-intact_2 c = intact_after_sweeps c.requires.0 c.sweep.auto.ws c.args.policy c.args.at c.sweep.ensures
 
-still-intact_3 : (c : goal.After-evict_one-arg-1) → Intact c.args.cap c.sweep.new.ws
+still-intact_3 : (c : goal.After-evict_one-arg-2-1) → Intact c.args.cap c.sweep.new.ws
 still-intact_3 c = intact_after_sweeps c.requires.0 c.sweep.auto.ws c.args.policy c.args.at c.sweep.ensures
 
 still-intact_4 : (c : goal.After-slice_known-3-1) → Intact c.args.cap c.sweep.new.ws

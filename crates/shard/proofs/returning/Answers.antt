@@ -2,7 +2,7 @@
 use Rattle.shard.proofs.returning.Goals as goal
 
 pub returns-in-None : goal.returns-in-None
-returns-in-None c = rw (c.new.ensures, c.in-None.is)
+returns-in-None c = rw (c.new-fresh.ensures, c.in-None.is)
 
 pub returns-in-Some : goal.returns-in-Some
-returns-in-Some c = rw (c.restore_debt.ensures, c.new-in-Some.ensures, c.in-Some.is)
+returns-in-Some c = rw (c.restore_debt.ensures, c.new-fresh.ensures, c.in-Some.is)

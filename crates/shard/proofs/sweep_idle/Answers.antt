@@ -1,8 +1,8 @@
 -- `sweep_idle` goes by the idle time, as its definition does.
 use Rattle.shard.proofs.sweep_idle.Goals as goal
 
-pub returns-in-None : goal.returns-in-None
-returns-in-None c = rw c.in-None.is
+pub returns-in_default : goal.returns-in_default
+returns-in_default c = rw c.in_default.is
 
 pub returns-in-Some : goal.returns-in-Some
 returns-in-Some c = let sweep-idle' = c.sweep_idle in

@@ -6,13 +6,13 @@ use Rattle.shard.proofs.view.Goals as goal
 
 pub bucket_at-requires : goal.bucket_at-requires
 bucket_at-requires c = let pre' = c.requires in
-    let found = sym c.position.ensures ∙ c.in-At.is in
+    let found = sym c.position.ensures ∙ c.in-Some.is in
     (pre'.0, found_below_cap _ _ _ pre'.0 found)
 
-pub returns-in-At : goal.returns-in-At
-returns-in-At c = let found = sym c.position.ensures ∙ c.in-At.is in
+pub returns-in-Some : goal.returns-in-Some
+returns-in-Some c = let found = sym c.position.ensures ∙ c.in-Some.is in
     rw c.bucket_at.ensures (sym (view_of_slot _ _ _ _ _ found))
 
-pub returns-in-Nowhere : goal.returns-in-Nowhere
-returns-in-Nowhere c = let missed = sym c.position.ensures ∙ c.in-Nowhere.is in
+pub returns-in-None : goal.returns-in-None
+returns-in-None c = let missed = sym c.position.ensures ∙ c.in-None.is in
     rw c.returning_bucket.ensures (sym (view_without_slot _ _ _ _ missed))

@@ -20,7 +20,7 @@ held_2 c = let pre' = c.requires in
     (omega (arith, same, pre'.1), omega (arith, same, pre'.0.sound.count_fits, intact_cap pre'.0))
 
 -- The index does not change how many slots there are: one stands at the place, and no more than the cap are held.
-held_3 : (c : goal.After-put-arg-2-1) → (c.args.pos < c.count-last.result) × (c.count-last.result ≤ c.args.cap)
+held_3 : (c : goal.After-free_slot) → (c.args.pos < c.count-last.result) × (c.count-last.result ≤ c.args.cap)
 held_3 c = let pre' = c.requires in
     let same = c.count-last.ensures ∙ ap (λ (s : Shard). s.slots.count) c.remove_from_index.ensures in
     (omega (arith, same, pre'.1), omega (arith, same, pre'.0.sound.count_fits, intact_cap pre'.0))
@@ -47,7 +47,7 @@ returns c = let stores = remove_by_stores _ _ in
       c.set_count.ensures,
       c.put-2.ensures,
       c.put.ensures,
-      c.free_slot-free.ensures,
+      c.free_slot.ensures,
       c.load-moved.ensures,
       c.count-last.ensures,
       c.remove_from_index.ensures,

@@ -8,8 +8,8 @@ use Rattle.store.proofs.admit.Goals as goal
 pub other_slots-others-requires : goal.other_slots-others-requires
 other_slots-others-requires c = let pre' = c.requires in (pre'.0, pre'.4)
 
-pub offset_bounds-ws-start : goal.offset_bounds-ws-start
-offset_bounds-ws-start c = let pre' = c.requires in record { fits = omega (arith, pre'.0.within, lent_starts pre'.0) }
+pub offset_bounds-ws-part : goal.offset_bounds-ws-part
+offset_bounds-ws-part c = let pre' = c.requires in record { fits = omega (arith, pre'.0.within, lent_starts pre'.0) }
 
 pub slice_bounds-admit-count : goal.slice_bounds-admit-count
 slice_bounds-admit-count c = lent_starts c.requires.0

@@ -3,8 +3,8 @@ use Rattle.store.proofs.LendingLaws.{lent_starts, lent_shard, intact_of_sound}
 use native.Mathlib.Omega.{arith}
 use Rattle.store.proofs.bucket_at.Goals as goal
 
-pub offset_bounds-ws-start : goal.offset_bounds-ws-start
-offset_bounds-ws-start c = record { fits = omega (arith, c.requires.0.within, lent_starts c.requires.0) }
+pub offset_bounds-ws-part : goal.offset_bounds-ws-part
+offset_bounds-ws-part c = record { fits = omega (arith, c.requires.0.within, lent_starts c.requires.0) }
 
 pub slice_bounds-bucket_at-count : goal.slice_bounds-bucket_at-count
 slice_bounds-bucket_at-count c = lent_starts c.requires.0

@@ -3,8 +3,8 @@ use Rattle.store.proofs.LendingLaws.{lent_starts, lent_length, lent_shard}
 use native.Mathlib.Omega.{arith}
 use Rattle.store.proofs.move_total.Goals as goal
 
-pub offset_bounds-ws-start : goal.offset_bounds-ws-start
-offset_bounds-ws-start c = let pre' = c.requires in
+pub offset_bounds-ws-part : goal.offset_bounds-ws-part
+offset_bounds-ws-part c = let pre' = c.requires in
     record { fits = omega (arith, pre'.0.within, lent_starts pre'.0) }
 
 pub slice_bounds-len-count : goal.slice_bounds-len-count

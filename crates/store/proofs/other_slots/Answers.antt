@@ -7,8 +7,8 @@ pub bounds-ws-0 : goal.bounds-ws-0
 bounds-ws-0 c = let pre' = c.requires in
     omega (arith, pre'.0.within, pre'.0.begins, lent_starts pre'.0)
 
-pub offset_bounds-ws-start : goal.offset_bounds-ws-start
-offset_bounds-ws-start c = let pre' = c.requires in
+pub offset_bounds-ws-part : goal.offset_bounds-ws-part
+offset_bounds-ws-part c = let pre' = c.requires in
     record { fits = omega (arith, pre'.0.within, lent_starts pre'.0) }
 
 pub slice_bounds-len-count : goal.slice_bounds-len-count

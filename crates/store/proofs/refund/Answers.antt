@@ -4,8 +4,8 @@ use Rattle.shard.specs.Model as OneShard
 use native.Mathlib.Omega.{arith}
 use Rattle.store.proofs.refund.Goals as goal
 
-pub offset_bounds-ws-start : goal.offset_bounds-ws-start
-offset_bounds-ws-start c = record { fits = omega (arith, c.requires.0.within, lent_starts c.requires.0) }
+pub offset_bounds-ws-part : goal.offset_bounds-ws-part
+offset_bounds-ws-part c = record { fits = omega (arith, c.requires.0.within, lent_starts c.requires.0) }
 
 pub slice_bounds-refund-count : goal.slice_bounds-refund-count
 slice_bounds-refund-count c = lent_starts c.requires.0

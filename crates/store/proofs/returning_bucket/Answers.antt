@@ -3,8 +3,8 @@ use Rattle.store.proofs.LendingLaws.{lent_starts, lent_shard, intact_of_sound}
 use native.Mathlib.Omega.{arith}
 use Rattle.store.proofs.returning_bucket.Goals as goal
 
-pub offset_bounds-ws-start : goal.offset_bounds-ws-start
-offset_bounds-ws-start c = record { fits = omega (arith, c.requires.0.within, lent_starts c.requires.0) }
+pub offset_bounds-ws-part : goal.offset_bounds-ws-part
+offset_bounds-ws-part c = record { fits = omega (arith, c.requires.0.within, lent_starts c.requires.0) }
 
 pub slice_bounds-returning_bucket-count : goal.slice_bounds-returning_bucket-count
 slice_bounds-returning_bucket-count c = lent_starts c.requires.0

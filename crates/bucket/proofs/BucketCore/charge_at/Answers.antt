@@ -6,7 +6,7 @@ use Rattle.bucket.proofs.BucketCore.charge_at.Goals as goal
 
 pub returns-then-most-period : goal.returns-then-most-period
 returns-then-most-period c = let most = c.most_shortfall-most.ensures in
-    rw (most, c.larger.ensures) (charge_beyond_most _ _ _ c.requires (rw most at c.if-most-period.true))
+    rw (most, c.max.ensures) (charge_beyond_most _ _ _ c.requires (rw most at c.if-most-period.true))
 
 pub overflow_mul-shortfall : goal.overflow_mul-shortfall
 overflow_mul-shortfall c = let few = rw c.most_shortfall-most.ensures at c.if-most-period.false in
@@ -17,4 +17,4 @@ overflow_add-shortfall c = let few = rw c.most_shortfall-most.ensures at c.if-mo
     omega (arith, charge_fits c.args.self c.args.tokens c.args.at c.requires few)
 
 pub returns : goal.returns
-returns c = simp (c.smaller.ensures, c.shortfall_at.ensures, c.most_shortfall-most.ensures, c.larger.ensures)
+returns c = simp (c.min.ensures, c.shortfall_at.ensures, c.most_shortfall-most.ensures, c.max.ensures)

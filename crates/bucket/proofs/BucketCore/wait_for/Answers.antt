@@ -9,4 +9,4 @@ pub returns-then-wanted-full : goal.returns-then-wanted-full
 returns-then-wanted-full c = enough_no_wait _ _ _ c.requires.0 (rw (c.requires.1, c.full_parts-full.ensures) at c.if-wanted-full.true)
 
 pub returns : goal.returns
-returns c = rw (c.grown_at.ensures, c.div_ceil.ensures, c.full_parts-full.ensures, c.requires.1) (wait_for_lack _ _ _ _ c.if-cost-eq0.false)
+returns c = rw (c.grown_at.ensures, c.recovery_of.ensures, c.full_parts-full.ensures, c.requires.1) (wait_for_lack _ _ _ _ c.if-cost-eq0.false)

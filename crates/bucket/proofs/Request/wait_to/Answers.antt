@@ -2,4 +2,4 @@
 use Rattle.bucket.proofs.Request.wait_to.Goals as goal
 
 pub returns-in-Through : goal.returns-in-Through
-returns-in-Through c = rw c.in-Through.is c.larger.ensures
+returns-in-Through c = rw c.in-Through.is c.max.ensures

@@ -1,6 +1,5 @@
 -- `words::debt_count` reads the first word of the ledger.
 use Rattle.converter_shards.proofs.ShardLaws.{debt_count01_read}
-use borrow.Author.Rules.{rules}
 use Rattle.converter_shards.proofs.words.debt_count.Goals as goal
 
 pub returns : goal.returns

@@ -1,11 +1,9 @@
 -- `words::debt_index` says where the index of the debts lies.
-use Prim.Native.Nat.{ℕ, ◌+◌, ◌*◌}
+use Prim.Native.Nat.{◌+◌, ◌*◌}
 use native.Mathlib.Omega.{arith}
 use mathlib.Core.Path.{◌≡◌}
 use Rattle.converter_shards.specs.code.Carried.{debt_index_in_shard}
-use Rattle.index.specs.declared.Index.{Index}
 use Rattle.index.specs.Layout.{places_for}
-use borrow.Author.Rules.{rules}
 use Rattle.converter_shards.proofs.words.debt_index.Goals as goal
 
 pub returns : goal.returns

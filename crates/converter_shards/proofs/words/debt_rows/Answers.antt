@@ -4,7 +4,6 @@ use Rattle.converter_shards.specs.declared.Rows.{Rows}
 use mathlib.Core.Path.{◌≡◌, ap}
 use native.Mathlib.Omega.{arith}
 use Prim.Native.Nat.{ℕ, ◌+◌, ◌*◌}
-use borrow.Author.Rules.{rules}
 use Rattle.converter_shards.proofs.words.debt_rows.Goals as goal
 
 pub returns : goal.returns

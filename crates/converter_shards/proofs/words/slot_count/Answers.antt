@@ -1,6 +1,5 @@
 -- `words::slot_count` reads the first word.
 use Rattle.converter_shards.proofs.ShardLaws.{count01_read}
-use borrow.Author.Rules.{rules}
 use Rattle.converter_shards.proofs.words.slot_count.Goals as goal
 
 pub returns : goal.returns

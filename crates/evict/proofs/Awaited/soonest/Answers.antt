@@ -6,4 +6,4 @@ pub returns-then-self-eq18446744073709551615 : goal.returns-then-self-eq18446744
 returns-then-self-eq18446744073709551615 c = soonest_of_the_later _ _ c.if-self-eq18446744073709551615.true
 
 pub returns : goal.returns
-returns c = rw (c.smaller.ensures, c.recovery_of-recovery.ensures) (soonest_of_both _ _ c.if-self-eq18446744073709551615.false)
+returns c = rw (c.min.ensures, c.recovery_of-recovery.ensures) (soonest_of_both _ _ c.if-self-eq18446744073709551615.false)

@@ -1,5 +1,5 @@
 -- src/times.rt:171:42
-use Rattle.lesson_words.proofs.TimeLaws.{power_positive, units_multiplied, units_divided, factor_fits, factor_positive, digits_times_unit}
+use Rattle.lesson_words.proofs.TimeLaws.{power_positive, units_multiplied, units_divided, factor_fits, digits_times_unit}
 use mathlib.Core.Path.{◌∙◌}
 use native.Mathlib.Omega.{arith}
 use Prim.Native.Nat.{◌-◌}
@@ -11,10 +11,6 @@ overflow_mul-unit c = let args' = c.args in
       fits = rw c.power.ensures
           (omega (arith, factor_fits args'.unit.by (args'.unit.tens - args'.places) c.requires.2 (omega (arith, c.requires.4))));
     }
-
-pub product-requires : goal.product-requires
-product-requires c = let args' = c.args in
-    rw c.power.ensures (factor_positive args'.unit.by (args'.unit.tens - args'.places) c.requires.3)
 
 pub returns-then-places-unit : goal.returns-then-places-unit
 returns-then-places-unit c = rw c.power.ensures at c.product.ensures

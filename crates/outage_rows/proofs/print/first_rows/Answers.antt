@@ -1,9 +1,6 @@
-use Rattle.outage_rows.proofs.PrintLaws.{Printing, none_printed, one_printed, all_printed}
+use Rattle.outage_rows.proofs.PrintLaws.{none_printed, one_printed, all_printed}
 use Rattle.outage_rows.proofs.LayoutLaws.{rows_count}
-use Rattle.outage_rows.specs.Layout.{rows_in}
 use native.Mathlib.Omega.{arith}
-use Prim.Native.Nat.{◌-◌}
-use borrow.Author.Rules.{rules}
 use Rattle.outage_rows.proofs.print.first_rows.Goals as goal
 
 pub loop-i-init : goal.loop-i-init

@@ -4,7 +4,6 @@ use Rattle.rows.proofs.OutcomeLaws.{answer_is}
 use Rattle.desk_lines.proofs.PrintLaws.{field_short}
 use Rattle.desk_lines.specs.Fields.{space}
 use native.Mathlib.Omega.{arith}
-use borrow.Author.Rules.{rules}
 use Rattle.outage_rows.proofs.print.row.Goals as goal
 
 pub line-requires : goal.line-requires

@@ -1,5 +1,4 @@
 -- `print::rows` writes as many rows as there are words for.
-use borrow.Author.Rules.{rules}
 use Rattle.outage_rows.proofs.print.rows.Goals as goal
 
 pub returns : goal.returns

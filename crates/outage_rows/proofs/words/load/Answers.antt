@@ -1,6 +1,5 @@
 -- `words::load` gives row i whole: the six words of its row.
 use Rattle.outage_rows.proofs.LayoutLaws.{row_read}
-use borrow.Author.Rules.{rules}
 use Rattle.outage_rows.proofs.words.load.Goals as goal
 
 pub returns : goal.returns

@@ -2,7 +2,6 @@
 use native.Mathlib.Omega.{arith}
 use lib.ListN.{length-set}
 use Rattle.outage_rows.proofs.LayoutLaws.{row_put, others_stay}
-use borrow.Author.Rules.{rules}
 use Rattle.outage_rows.proofs.words.put.Goals as goal
 
 pub bounds-rs-first-2 : goal.bounds-rs-first-2

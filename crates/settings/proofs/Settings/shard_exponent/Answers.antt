@@ -4,7 +4,7 @@ use native.Mathlib.Omega.{arith}
 use Rattle.settings.proofs.Settings.shard_exponent.Goals as goal
 
 pub exponent_for-requires : goal.exponent_for-requires
-exponent_for-requires c = omega (arith, c.smaller.ensures)
+exponent_for-requires c = omega (arith, c.min.ensures)
 
 pub returns : goal.returns
-returns c = rw (c.exponent_for.ensures, c.smaller.ensures, c.larger.ensures, c.share-least.ensures)
+returns c = rw (c.exponent_for.ensures, c.min.ensures, c.max.ensures, c.share-least.ensures)

@@ -3,8 +3,8 @@ use Rattle.store.proofs.LendingLaws.{lent_starts, lent_length, lent_shard}
 use native.Mathlib.Omega.{arith}
 use Rattle.store.proofs.debts.len.Goals as goal
 
-pub offset_bounds-ws-start : goal.offset_bounds-ws-start
-offset_bounds-ws-start c = record { fits = omega (arith, c.requires.within, lent_starts c.requires) }
+pub offset_bounds-ws-part : goal.offset_bounds-ws-part
+offset_bounds-ws-part c = record { fits = omega (arith, c.requires.within, lent_starts c.requires) }
 
 pub slice_bounds-len-count : goal.slice_bounds-len-count
 slice_bounds-len-count c = lent_starts c.requires
