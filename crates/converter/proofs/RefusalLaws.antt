@@ -6,16 +6,11 @@ use mathlib.Core.Bool.{Bool, true, false, cond, not}
 use mathlib.Core.List.{List}
 use lib.ListN.{length}
 use borrow.Author.Tests.{eq-eqb, ne_eqb, lt-ltb, le-ltb}
-use Rattle.std.specs.Result.{is_err}
-use Rattle.std.proofs.Common.{Result, Ok, Err}
 use lib.Dec.{eqb}
 use Rattle.arith.proofs.Cases.{by_test}
 use Rattle.settings.specs.declared.Settings.{Settings}
-use Rattle.settings.specs.declared.refusal.Refusal.{Refusal}
 use Rattle.settings.specs.declared.refusal.Refusal.TheVariants.{Memory}
-use Rattle.settings.specs.Refusal.{numbered}
-use Rattle.settings.proofs.RefusalLaws.{has_a_number, stands, second_decides}
-use Rattle.converter_shards.proofs.CheckLaws.{both_ways}
+use Rattle.settings.proofs.RefusalLaws.{stands, second_decides}
 use Rattle.settings.specs.Settings.{first_refusal, settings_refusal, size_refusal, shard_count, cap_of}
 use Rattle.settings.proofs.SettingsLaws.{neither_refuses, no_refusal_hands_on, accepted_parts, cap_least}
 use Rattle.store.specs.Memory.{total_of}
@@ -27,15 +22,6 @@ use Rattle.converter.specs.Layouts.{other, slots_of, total_wrong}
 use Rattle.converter.specs.Conversion.{any_refused_by, source_refusal, most_keys_moved, keys_refusal, old_words, words_for, lengths_refusal, refusal_of}
 use Rattle.converter.specs.code.Moving.{InShards}
 use Rattle.converter.specs.code.Moving.{Undamaged}
-
--- A check that answers an error refuses, and no other does.
-pub refuses : {A : Type 0} (result : Result A Refusal) → is_err result ≡ true → numbered result ≡ 0 → ⊥
-refuses (Ok accepted) err none = both_ways err refl
-refuses (Err refusal) err none = has_a_number refusal none
-
-pub accepts : {A : Type 0} (result : Result A Refusal) → is_err result ≡ false → numbered result ≡ 0
-accepts (Ok accepted) fine = refl
-accepts (Err refusal) fine = both_ways refl fine
 
 -- Too many keys.
 module _ (s : Settings) where
