@@ -18,6 +18,7 @@ use requests::Attempt;
 use rules::Reply;
 use settings::decision::Decision;
 use settings::rate::Rate;
+use settings::refusal::Refusal;
 use settings::{Limit, Settings};
 use shard::Identity;
 use store::{Part, lending, refusals};
@@ -171,7 +172,7 @@ fn tokens_in(limit: Limit, ws: &[u64], part: Part, at: Nanos, id: Identity) -> u
 pub fn turned_away(settings: Settings, ws: &[u64], id: Identity) -> Reply
     ensures { outcome result ws.exit.now ≡ Rules.times_turned_away settings id ws.now }
 {
-    match lending::lend_for(settings, ws, id.hash, Ok(())) {
+    match lending::lend_for(settings, ws, id.hash, Ok::<(), Refusal>(())) {
         Err(refusal) => refusal.into(),
         Ok(part) => Reply::Count(store::turned_away(ws, part, id)),
     }
@@ -199,7 +200,7 @@ fn refund_open(settings: Settings, rate: Rate, ws: &mut [u64], id: Identity, cos
     requires { settings.limit ≡ Open rate }
     ensures { outcome result ws.new ≡ Rules.refund settings id cost ws.old }
 {
-    match lending::lend_for(settings, ws, id.hash, Ok(())) {
+    match lending::lend_for(settings, ws, id.hash, Ok::<(), Refusal>(())) {
         Err(refusal) => refusal.into(),
         Ok(part) => give_back(rate, ws, part, id, cost),
     }
@@ -218,7 +219,7 @@ fn give_back(rate: Rate, ws: &mut [u64], part: Part, id: Identity, cost: u32) ->
 pub fn remove(settings: Settings, ws: &mut [u64], id: Identity) -> Reply
     ensures { outcome result ws.new ≡ Rules.remove settings id ws.old }
 {
-    match lending::lend_for(settings, ws, id.hash, Ok(())) {
+    match lending::lend_for(settings, ws, id.hash, Ok::<(), Refusal>(())) {
         Err(refusal) => refusal.into(),
         Ok(part) => known_reply(store::remove(ws, part, id)),
     }

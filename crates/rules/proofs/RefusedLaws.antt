@@ -15,10 +15,11 @@ use Rattle.classes.specs.Classes.{count_refusal, first_from, table_refusal}
 use Rattle.classes.specs.Layout.{classes_in}
 use Rattle.store.specs.declared.Part.{Part}
 use Rattle.settings.specs.declared.refusal.Refusal.{Refusal}
-use Rattle.settings.specs.Refusal.{number_of, GivenUnless}
+use Rattle.settings.specs.Refusal.{number_of, numbered, GivenUnless}
 use Rattle.store.specs.Memory.{memory_words}
 use Rattle.store.specs.Refusals.{set_up_refusal}
-use Rattle.store.proofs.LendingLaws.{refused_number}
+use Rattle.store.specs.Lending.{number_in}
+use Rattle.store.proofs.LendingLaws.{refused_number, numbered_by_refusals}
 use Rattle.store.proofs.RefusalLaws.{set_up_not_refused}
 use Rattle.rules.specs.declared.Reply.{Reply}
 use Rattle.rules.specs.declared.Reply.TheVariants.{Done, Refused}
@@ -100,3 +101,9 @@ module _ (s : Settings) (ws : List ℕ) {told : ℕ} (is : told ≡ set_up_refus
 
   pub set_up_zeroes : told ≡ 0 → outcome Done (replicate (length ws) 0) ≡ set_up s ws
   set_up_zeroes none = table_set_up_zeroes (with_table [] s) [] ws (sym is ∙ none) empty_table_is_accepted
+
+-- A reply by checks that know of the refusals of this library alone.
+pub refused_or_told : (accepted further : Result (Unit {0}) Refusal) (memory : ℕ) {A : Type 0} (ws : A) (told : Outcome Reply A) {o : Outcome Reply A}
+    → o ≡ unless_refused (first_refusal (number_in number_of accepted) (first_refusal memory (number_in number_of further))) ws told
+    → o ≡ unless_refused (first_refusal (numbered accepted) (first_refusal memory (numbered further))) ws told
+refused_or_told accepted further memory ws told is = rw (numbered_by_refusals accepted, numbered_by_refusals further) at is

@@ -3,8 +3,9 @@
 
 ghost use Rattle.std.specs.Prelude.{◌≡◌};
 ghost use Rattle.rows.specs.Outcome.{outcome};
-ghost use Rattle.settings.specs.Refusal.{number_of, numbered};
+ghost use Rattle.settings.specs.Refusal.{number_of};
 ghost use Rattle.settings.specs.Settings.{ShapeOfAccepted, first_refusal};
+ghost use Rattle.store.specs.Lending.{number_in};
 ghost use Rattle.store.specs.Refusals.{shape_refusal};
 ghost use Rattle.rules.specs.Asks as Asks;
 ghost use Rattle.rules.specs.Rules.{unless_refused};
@@ -15,6 +16,7 @@ use settings::Shape;
 use settings::decision::Decision;
 use settings::refusal::Refusal;
 use store::lending;
+use store::numbered::Numbered;
 use units::Nanos;
 
 pub mod codes;
@@ -64,25 +66,26 @@ pub fn closed(at: Nanos, cost: u32) -> Decision
 }
 
 // A closed limiter's reply to a call on a key: the refusal, else `told`. `accepted` is the check of the settings, `shape` is theirs, and `further` is the check
-// of the call's other arguments.
-pub fn unless_refused(
-    accepted: Result<(), Refusal>,
+// of the call's other arguments. It is inlined: where a caller's check refuses, the compiler then knows the refusal, and reads its number from no table.
+#[inline(always)]
+pub fn unless_refused<E: Numbered>(
+    accepted: Result<(), E>,
     shape: Shape,
     ws: &[u64],
     hash: u64,
-    further: Result<(), Refusal>,
+    further: Result<(), E>,
     told: Reply,
 ) -> Reply
-    requires { numbered accepted ≡ 0 → ShapeOfAccepted shape }
+    requires { number_in E.number accepted ≡ 0 → ShapeOfAccepted shape }
     ensures { outcome result ws.now ≡
-        unless_refused (first_refusal (numbered accepted) (first_refusal (shape_refusal shape hash ws.now) (numbered further))) ws.now
+        unless_refused (first_refusal (number_in E.number accepted) (first_refusal (shape_refusal shape hash ws.now) (number_in E.number further))) ws.now
         (outcome told ws.now) }
 {
     if let Err(refusal) = accepted {
-        return refusal.into();
+        return Reply::Refused(refusal.number());
     }
     match lending::lend(shape, ws, hash, further) {
-        Err(refusal) => refusal.into(),
+        Err(refusal) => Reply::Refused(refusal.number()),
         Ok(_) => told,
     }
 }

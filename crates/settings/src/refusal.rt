@@ -2,6 +2,8 @@
 ghost use Rattle.std.specs.Prelude.{◌≡◌};
 ghost use Rattle.settings.specs.Refusal.{number_of};
 
+use std::num::NonZeroU32;
+
 // The first thing that is wrong with a call.
 #[derive(Clone, Copy, PartialEq, Eq)]
 pub enum Refusal {
@@ -62,6 +64,22 @@ impl From<Refusal> for u32 {
             Refusal::Records => 17,
             Refusal::Twins => 18,
             Refusal::UsedPast => 19,
+        }
+    }
+}
+
+impl From<Refusal> for NonZeroU32 {
+    ghost use Rattle.std.specs.Prelude.{◌≡◌};
+    ghost use Rattle.std.specs.Int.NonZero.{non_zero_u32_get};
+    ghost use Rattle.settings.specs.Refusal.{number_of};
+
+    ghost from_gives = { λ refusal told. non_zero_u32_get told ≡ number_of refusal };
+
+    // The same number, which is not 0.
+    fn from(refusal: Refusal) -> NonZeroU32 {
+        match NonZeroU32::new(refusal.into()) {
+            Some(told) => told,
+            None => unreachable!(),
         }
     }
 }

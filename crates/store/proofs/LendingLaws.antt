@@ -1,6 +1,8 @@
 -- A part as it is lent, from its start to its end: it lies in the memory, and what comes back in its place is an operation on the shard. And what a
 -- call on a key is lent.
 use Rattle.std.proofs.Common.{Option, Some, None, Result, Ok, Err}
+use Rattle.std.specs.Result.{IsErrAnd}
+use Rattle.std.proofs.lemmas.Result.{err_from_is_err_and}
 use Prim.Native.Nat.{ℕ, ◌+◌, ◌-◌, ◌≤◌, ◌<◌}
 use native.Mathlib.Omega.{arith}
 use native.Mathlib.Nat.{le-add_right}
@@ -18,7 +20,7 @@ use Rattle.rows.proofs.SegmentLaws.{segment_length, segment_back, word_kept}
 use Rattle.settings.specs.declared.Settings.{Settings}
 use Rattle.settings.specs.declared.Shape.{Shape}
 use Rattle.settings.specs.declared.refusal.Refusal.{Refusal}
-use Rattle.settings.specs.Refusal.{number_of, GivenUnless}
+use Rattle.settings.specs.Refusal.{number_of, numbered, GivenUnless}
 use Rattle.settings.specs.Settings.{settings_refusal, first_refusal, ShapeOfAccepted, shape_of, most_counted}
 use Rattle.settings.proofs.RefusalLaws.{has_a_number}
 use Rattle.settings.proofs.SettingsLaws.{accepted_parts, shape_of_accepted, no_refusal_hands_on}
@@ -34,6 +36,7 @@ use Rattle.shard.specs.Model as OneShard
 use Rattle.shard.proofs.ModelLaws.{found_below_cap}
 use Rattle.shard.proofs.ShardLaws.{remove_same_room}
 use Rattle.store.specs.declared.Part.{Part}
+use Rattle.store.specs.Lending.{number_in, LentUnless}
 use Rattle.store.specs.Memory.{with_segment, total_at, total_of, total_after, Placed, Counted, part_in, part_of, shard_in, in_part, room_in}
 use Rattle.store.specs.Refusals.{shape_refusal, count_refusal, counts_refusal, keyed_refusal}
 use Rattle.store.proofs.MemoryLaws.{part_placed, room_small}
@@ -165,11 +168,49 @@ module _ {lending : Result Part Refusal} (refusal : ℕ) (part' : Part) (is : Gi
   pub refused_number : {r : Refusal} → lending ≡ Err r → (number_of r ≡ refusal) × (number_of r ≡ 0 → ⊥)
   refused_number {r} gave = (rw gave at is, has_a_number r)
 
+-- Nothing is lent where a check of this library refuses: the caller is told the refusal in its own type, with its number.
+pub refusal_lends_nothing : {E : Type 0} (number : E → ℕ) (lending : Result Part E) (refusal : Refusal) {told : ℕ} (part' : Part) {Gives : E → Type 0}
+    → IsErrAnd lending Gives → ((e : E) → Gives e → number e ≡ number_of refusal) → number_of refusal ≡ told → LentUnless number told part' lending
+refusal_lends_nothing number lending refusal part' is keeps same = let p = err_from_is_err_and lending is in rw p.1 (keeps _ p.2 ∙ same)
+
+-- Nor where the caller's own check does.
+pub own_refusal_lends_nothing : {E : Type 0} (number : E → ℕ) (lending : Result Part E) (e : E) {told : ℕ} (part' : Part) → IsErrAnd lending (λ r. r ≡ e)
+    → number e ≡ told → LentUnless number told part' lending
+own_refusal_lends_nothing number lending e part' is same = let p = err_from_is_err_and lending is in rw (p.1, p.2) same
+
 -- The same for a call on a key, where the settings are accepted.
-module _ (s : Settings) (hash : ℕ) (ws : List ℕ) (none : settings_refusal s ≡ 0) {shape : Shape} (shaped : shape ≡ shape_of s) (lending : Result Part Refusal)
-    (further : ℕ) (is : GivenUnless (first_refusal (shape_refusal shape hash ws) further) (part_in shape hash) lending) where
-  pub lent_by_settings : GivenUnless (first_refusal (keyed_refusal s hash ws) further) (part_of s hash) lending
-  lent_by_settings = rw (memory_refuses s none hash ws) (rw shaped at is)
+module _ (s : Settings) (hash : ℕ) (ws : List ℕ) (none : settings_refusal s ≡ 0) {shape : Shape} (shaped : shape ≡ shape_of s) where
+  pub lent_by_settings : (lending : Result Part Refusal) (further : ℕ)
+      → GivenUnless (first_refusal (shape_refusal shape hash ws) further) (part_in shape hash) lending
+      → GivenUnless (first_refusal (keyed_refusal s hash ws) further) (part_of s hash) lending
+  lent_by_settings lending further is = rw (memory_refuses s none hash ws) (rw shaped at is)
+
+  pub lent_to_caller : {E : Type 0} (number : E → ℕ) (lending : Result Part E) (further : ℕ)
+      → LentUnless number (first_refusal (shape_refusal shape hash ws) further) (part_in shape hash) lending
+      → LentUnless number (first_refusal (keyed_refusal s hash ws) further) (part_of s hash) lending
+  lent_to_caller number lending further is = rw (memory_refuses s none hash ws) (rw shaped at is)
+
+-- What was lent tells whether the call is refused, in the caller's type too.
+module _ {E : Type 0} (number : E → ℕ) {lending : Result Part E} (refusal : ℕ) (part' : Part) (is : LentUnless number refusal part' lending) where
+  pub lent_part_to_caller : {p : Part} → lending ≡ Ok p → (refusal ≡ 0) × (p ≡ part')
+  lent_part_to_caller gave = rw gave at is
+
+  pub refused_number_to_caller : {e : E} → lending ≡ Err e → number e ≡ refusal
+  refused_number_to_caller gave = rw gave at is
+
+-- Where the caller's check knows of the refusals of this library alone.
+pub numbered_by_refusals : (further : Result (Unit {0}) Refusal) → number_in number_of further ≡ numbered further
+numbered_by_refusals (Ok accepted) = refl
+numbered_by_refusals (Err refusal) = refl
+
+lent_as_given : (refusal : ℕ) (part' : Part) (lending : Result Part Refusal) → LentUnless number_of refusal part' lending → GivenUnless refusal part' lending
+lent_as_given refusal part' (Ok lent) is = is
+lent_as_given refusal part' (Err r) is = is
+
+pub given_unless : (first : ℕ) (further : Result (Unit {0}) Refusal) (part' : Part) (lending : Result Part Refusal)
+    → LentUnless number_of (first_refusal first (number_in number_of further)) part' lending
+    → GivenUnless (first_refusal first (numbered further)) part' lending
+given_unless first further part' lending is = rw (numbered_by_refusals further) at (lent_as_given _ _ lending is)
 
 -- The part of an accepted call lies in the memory, and its shard is sound.
 pub accepted_part : (s : Settings) (hash : ℕ) (ws : List ℕ) {p : Part} → Accepted s hash ws → p ≡ part_of s hash → Placed p ws × Shard.Sound (shard_in p ws)

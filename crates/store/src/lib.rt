@@ -17,6 +17,7 @@ use units::Nanos;
 
 pub mod debts;
 pub mod lending;
+pub mod numbered;
 pub mod refusals;
 pub mod words;
 

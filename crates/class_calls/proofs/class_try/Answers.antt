@@ -1,6 +1,7 @@
 -- `class_try` tells the refusal, else what `pass` tells.
 use native.Mathlib.Omega.{arith}
 use mathlib.Core.Path.{sym, ap, ◌∙◌}
+use Rattle.store.proofs.LendingLaws.{given_unless}
 use Rattle.settings.specs.Refusal.{numbered}
 use Rattle.settings.proofs.RefusalLaws.{has_a_number}
 use Rattle.class_calls.proofs.RefusedTries.{settings_refuse_try, try_has_shape, unlent_try_is_told, lent_try_passes}
@@ -19,10 +20,10 @@ lend-requires c = let a = c.args in
 pub pass-requires : goal.pass-requires
 pass-requires c = let a = c.args in
     lent_try_passes a.settings a.table.now a.at a.id a.class a.cost a.ws.now (sym c.check.ensures ∙ ap numbered c.in_default.is) c.shape.ensures
-    c.count.ensures c.with_classes-shape.ensures c.check_further.ensures c.lend.ensures c.in-Ok.is
+    c.count.ensures c.with_classes-shape.ensures c.check_further.ensures (given_unless _ _ _ _ c.lend.ensures) c.in-Ok.is
 
 pub returns-in-Err-lend : goal.returns-in-Err-lend
 returns-in-Err-lend c = let a = c.args in
     let told = unlent_try_is_told a.settings a.table.now a.at a.id a.class a.cost a.ws.now (sym c.check.ensures ∙ ap numbered c.in_default.is) c.shape.ensures
-    c.count.ensures c.with_classes-shape.ensures c.check_further.ensures c.lend.ensures c.in-Err-lend.is in
+    c.count.ensures c.with_classes-shape.ensures c.check_further.ensures (given_unless _ _ _ _ c.lend.ensures) c.in-Err-lend.is in
     rw c.into-in-Err-lend.ensures told

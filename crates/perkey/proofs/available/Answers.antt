@@ -1,5 +1,6 @@
 -- `available` answers the refusal, else the tokens that `tokens_in` counts.
 use mathlib.Core.Path.{◌≡◌, ap}
+use Rattle.store.proofs.LendingLaws.{given_unless}
 use Rattle.settings.specs.Refusal.{GivenUnless}
 use Rattle.store.specs.Memory.{part_of}
 use Rattle.rules.specs.declared.Reply.TheVariants.{Count}
@@ -23,15 +24,15 @@ look_3 c = tokens c.args.at
 
 lent : (c : goal.In-Ok) → let a = c.args in
     GivenUnless (ask_refusal a.settings a.id (looks (look c)) a.ws.now) (part_of a.settings a.id.hash) c.lend_for.result
-lent c = rw c.check_moment.ensures at c.lend_for.ensures
+lent c = rw c.check_moment.ensures at (given_unless _ _ _ _ c.lend_for.ensures)
 
 lent_2 : (c : goal.After-into) → let a = c.args in
     GivenUnless (ask_refusal a.settings a.id (looks (look_2 c)) a.ws.now) (part_of a.settings a.id.hash) c.lend_for.result
-lent_2 c = rw c.check_moment.ensures at c.lend_for.ensures
+lent_2 c = rw c.check_moment.ensures at (given_unless _ _ _ _ c.lend_for.ensures)
 
 lent_3 : (c : goal.After-tokens_in) → let a = c.args in
     GivenUnless (ask_refusal a.settings a.id (looks (look_3 c)) a.ws.now) (part_of a.settings a.id.hash) c.lend_for.result
-lent_3 c = rw c.check_moment.ensures at c.lend_for.ensures
+lent_3 c = rw c.check_moment.ensures at (given_unless _ _ _ _ c.lend_for.ensures)
 
 pub tokens_in-requires : goal.tokens_in-requires
 tokens_in-requires c = let a = c.args in

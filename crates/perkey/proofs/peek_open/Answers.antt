@@ -1,5 +1,6 @@
 -- `peek_open` answers the refusal, else what `peek_bucket` answers.
 use mathlib.Core.Path.{◌≡◌}
+use Rattle.store.proofs.LendingLaws.{given_unless}
 use Rattle.settings.proofs.RateLaws.{accepted_rate}
 use Rattle.settings.specs.Refusal.{GivenUnless}
 use Rattle.store.specs.Memory.{part_of}
@@ -24,15 +25,15 @@ look_3 c = peeks c.args.at c.args.cost
 
 lent : (c : goal.In-Ok) → let a = c.args in
     GivenUnless (ask_refusal a.settings a.id (looks (look c)) a.ws.now) (part_of a.settings a.id.hash) c.lend_for.result
-lent c = rw c.check_moment.ensures at c.lend_for.ensures
+lent c = rw c.check_moment.ensures at (given_unless _ _ _ _ c.lend_for.ensures)
 
 lent_2 : (c : goal.After-into) → let a = c.args in
     GivenUnless (ask_refusal a.settings a.id (looks (look_2 c)) a.ws.now) (part_of a.settings a.id.hash) c.lend_for.result
-lent_2 c = rw c.check_moment.ensures at c.lend_for.ensures
+lent_2 c = rw c.check_moment.ensures at (given_unless _ _ _ _ c.lend_for.ensures)
 
 lent_3 : (c : goal.After-peek_bucket) → let a = c.args in
     GivenUnless (ask_refusal a.settings a.id (looks (look_3 c)) a.ws.now) (part_of a.settings a.id.hash) c.lend_for.result
-lent_3 c = rw c.check_moment.ensures at c.lend_for.ensures
+lent_3 c = rw c.check_moment.ensures at (given_unless _ _ _ _ c.lend_for.ensures)
 
 pub peek_bucket-requires : goal.peek_bucket-requires
 peek_bucket-requires c = let a = c.args in
