@@ -1,7 +1,7 @@
 -- Division rounded up, for every divisor: what bounds it, what it is, and how it splits into a quotient and a rest.
 use Prim.Native.Nat.{ℕ, suc, ◌+◌, ◌*◌, ◌-◌, ◌/◌, ◌%◌, ◌≤◌, ◌<◌, min}
 use mathlib.Core.Path.{◌≡◌, sym}
-use native.Mathlib.Nat.{mod-lt, div-add-mod', le_of_suc-le-suc, lt_of_mul-lt-mul_right}
+use native.Mathlib.Nat.{mod-lt, div-add-mod', le_of_suc-le-suc, lt_of_mul-lt-mul_right, mul-le-mul_left}
 use native.Mathlib.Omega.{arith}
 use Rattle.std.proofs.lemmas.Grind.{div_ceil_times}
 use Rattle.arith.specs.Arith.{ceil_div}
@@ -36,6 +36,13 @@ ceil_div_only a b c h low high =
     let least : c ≤ ceil_div a b = le_of_suc-le-suc (lt_of_mul-lt-mul_right b {m = c} {n = suc (ceil_div a b)} (omega (arith, ceil_div_reaches a b h))) in
     omega arith
 
+-- Without a rest it is the quotient; with one, the quotient plus 1.
+pub ceil_div_no_rest : (a b : ℕ) → 0 < b → a % b ≡ 0 → ceil_div a b ≡ a / b
+ceil_div_no_rest a b h e = ceil_div_only a b (a / b) h (omega (arith, div-add-mod' a b)) (omega (arith, div-add-mod' a b))
+
+pub ceil_div_rest : (a b : ℕ) → 0 < b → 0 < a % b → ceil_div a b ≡ a / b + 1
+ceil_div_rest a b h e = ceil_div_only a b (a / b + 1) h (omega (arith, div-add-mod' a b, mod-lt a h)) (omega (arith, div-add-mod' a b))
+
 -- It is what std's `div_ceil` ensures.
 pub div_ceil_rounds_up : (a b : ℕ) → 0 < b → a / b + min 1 (a % b) ≡ ceil_div a b
 div_ceil_rounds_up a b h = let times = div_ceil_times a b h in sym (ceil_div_only a b (a / b + min 1 (a % b)) h times.0 times.1)
@@ -44,3 +51,7 @@ div_ceil_rounds_up a b h = let times = div_ceil_times a b h in sym (ceil_div_onl
 pub ceil_div_split : (q m a p : ℕ) → 0 < p → ceil_div ((q * p + m) * a) p ≡ q * a + ceil_div (m * a) p
 ceil_div_split q m a p h =
     ceil_div_only ((q * p + m) * a) p (q * a + ceil_div (m * a) p) h (omega (arith, ceil_div_reaches (m * a) p h)) (omega (arith, ceil_div_within (m * a) p h))
+
+-- A quotient with a rest is below what was divided.
+pub quotient_below : (a b : ℕ) → 0 < b → 0 < a % b → a / b < a
+quotient_below a b h e = omega (arith, div-add-mod' a b, mul-le-mul_left (a / b) h)

@@ -25,10 +25,10 @@ by_place None found none = none refl
 pub strayed_to : (i j : ℕ) → not (eqb j i) ≡ strayed i (Some j)
 strayed_to i j = by_test (eqb j i) (λ t. rw t) (λ t. rw t)
 
-strayed_own : (i j : ℕ) → j ≡ i → false ≡ strayed i (Some j)
+pub strayed_own : (i j : ℕ) → j ≡ i → false ≡ strayed i (Some j)
 strayed_own i j e = rw (eq-eqb j i e)
 
-strayed_other : (i j : ℕ) → (j ≡ i → ⊥) → true ≡ strayed i (Some j)
+pub strayed_other : (i j : ℕ) → (j ≡ i → ⊥) → true ≡ strayed i (Some j)
 strayed_other i j n = rw (ne_eqb j i n)
 
 module _ (hash key : ℕ → ℕ) (n : ℕ) (ix : List ℕ) (E : Exact hash n ix) where

@@ -99,11 +99,16 @@ writes_next n i records below is = let one : n - i ≡ suc (n - (i + 1)) = omega
 pub writes_none : (n : ℕ) (records ds : List Debt) → to_write n n records ds ≡ records
 writes_none n records ds = let none : n - n ≡ 0 = omega arith in rw none
 
+-- All of them written one by one stand over the first records.
+pub writes_all : (ds records : List Debt) → length ds ≤ length records → sets records 0 ds ≡ written ds records
+unfolding written
+writes_all ds records fits = simp zero-add at (sets-eq ds records 0 (omega (arith, fits)))
+
 -- All of them, written one by one over the first n records, with the records past them.
-pub writes_all : (n : ℕ) (records ds : List Debt) {first : List Debt} → n ≤ length ds → n ≤ length records
+pub writes_over_first : (n : ℕ) (records ds : List Debt) {first : List Debt} → n ≤ length ds → n ≤ length records
     → first ≡ sets (take n records) 0 (take n ds) → first ++ drop n records ≡ written (take n ds) records
 unfolding written
-writes_all n records ds enough fits wrote =
+writes_over_first n records ds enough fits wrote =
     let long = length-take-le n ds enough in
     let room = length-take-le n records fits in
     let whole : sets (take n records) 0 (take n ds) ≡ take n ds ++ drop (length (take n ds)) (take n records) =

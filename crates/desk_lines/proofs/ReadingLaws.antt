@@ -22,6 +22,10 @@ use borrow.Author.Tests.{le-leb, lt-leb, eq-eqb, ne_eqb, lt-ltb, le-ltb}
 
 -- A failed reading stays failed.
 module _ {r : Reading} (none : r ≡ failed) where
+  pub no_number_is_taken : (most : ℕ) → record { value = 0; rest = failed } ≡ taken most r
+  unfolding taken
+  no_number_is_taken most = rw none refl
+
   pub no_number : (most : ℕ) → (taken most r).rest ≡ failed
   unfolding taken
   no_number most = rw none refl
@@ -52,15 +56,22 @@ module _ (line : List ℕ) (at : ℕ) {fs : List (List ℕ)} (left' : fields_fro
   one_is : at ≤ length line → fs ≡ field_at line at ∷ fields_from line (field_end line at + 1)
   one_is inside = sym left' ∙ first_field line at inside
 
-  pub no_field_is_taken : (most : ℕ) → length line < at → (taken most (left fs)).rest ≡ failed
+  pub no_field_is_taken : (most : ℕ) → length line < at → record { value = 0; rest = failed } ≡ taken most (left fs)
   unfolding taken
   no_field_is_taken most past = rw (none_are past) refl
 
   pub number_is_taken : (most : ℕ) → at ≤ length line → {o : Option ℕ} → o ≡ number_of most (field_at line at) → {next : ℕ} → next ≡ field_end line at + 1
-      → Tells o (fields_from line next) (taken most (left fs))
+      → taken_number (fields_from line next) o ≡ taken most (left fs)
   unfolding taken
-  number_is_taken most inside is then =
-      rw (one_is inside, is, then) (number_told (number_of most (field_at line at)) (fields_from line (field_end line at + 1)))
+  number_is_taken most inside is then = rw (one_is inside, is, then) refl
+
+  -- The same as the contract of the code tells it.
+  pub no_field_is_told : (most : ℕ) → length line < at → (taken most (left fs)).rest ≡ failed
+  no_field_is_told most past = sym (ap (λ (t : Taken ℕ). t.rest) (no_field_is_taken most past))
+
+  pub number_is_told : (most : ℕ) → at ≤ length line → {o : Option ℕ} → o ≡ number_of most (field_at line at) → {next : ℕ} → next ≡ field_end line at + 1
+      → Tells o (fields_from line next) (taken most (left fs))
+  number_is_told most inside {o} is {next} then = rw (number_is_taken most inside is then) at (number_told o (fields_from line next))
 
   -- The reading is finished past the end.
   pub finished_by_place : ltb (length line) at ≡ is_finished (left fs)

@@ -25,12 +25,15 @@ reserve_as_request (suc (suc (suc (suc i)))) other =
     sym (none_past request_kinds place (omega arith)) ∙ none_past reserve_kinds place (omega arith)
 
 -- The places of a set-up line's fields that have the kind of the field beside them.
-pub set_up_32 : (i : ℕ) → 2 ≤ i → i < 4 → Some (Number most32) ≡ first_kind (drop i set_up_kinds)
-set_up_32 zero many few = absurd (omega arith)
-set_up_32 (suc zero) many few = absurd (omega arith)
-set_up_32 (suc (suc zero)) many few = refl
-set_up_32 (suc (suc (suc zero))) many few = refl
-set_up_32 (suc (suc (suc (suc i)))) many few = absurd (omega arith)
+pub set_up_32 : (i : ℕ) → (i ≡ 1 → ⊥) → i < 4 → Some (Number most32) ≡ first_kind (drop i set_up_kinds)
+set_up_32 zero other few = refl
+set_up_32 (suc zero) other few = absurd (other refl)
+set_up_32 (suc (suc zero)) other few = refl
+set_up_32 (suc (suc (suc zero))) other few = refl
+set_up_32 (suc (suc (suc (suc i)))) other few = absurd (omega arith)
+
+pub set_up_32_later : (i : ℕ) → 2 ≤ i → i < 4 → Some (Number most32) ≡ first_kind (drop i set_up_kinds)
+set_up_32_later i many few = set_up_32 i (λ one. omega (arith, one)) few
 
 pub set_up_64 : (i : ℕ) → 4 ≤ i → i < 6 → Some (Number most64) ≡ first_kind (drop i set_up_kinds)
 set_up_64 zero many few = absurd (omega arith)

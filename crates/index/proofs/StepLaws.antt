@@ -99,16 +99,22 @@ module _ (n : ℕ) (test : ℕ → Bool) (word : ℕ) where
   unfolding probed
   probed_no_item l = rw (ne_eqb word 0 (omega arith), lt-leb word n l)
 
--- A word less 1, with 0 wrapped round.
+-- A word less 1, with 0 wrapped round: below a count it is the item that the word names, and else the word names no item.
+pub less_one_names : (word item n : ℕ) → (item + 1) % 2 ^ 64 ≡ word → item < n → n < 2 ^ 64 → word ≡ item + 1
+less_one_names word item n e l f = omega arith
+
+pub less_one_over : (word item n : ℕ) → (item + 1) % 2 ^ 64 ≡ word → item < 2 ^ 64 → n ≤ item → (word ≡ 0 → ⊥) → n < word
+less_one_over word item n e f l k = omega arith
+
+-- The same of that item as the code works it out.
 abbrev less_one : ℕ → ℕ
 less_one word = (word + 18446744073709551615) % 2 ^ 64
 
--- It is below a count where it is the item that the word names, and else the word names no item.
-pub less_one_names : (word n : ℕ) → word < 2 ^ 64 → less_one word < n → n < 2 ^ 64 → word ≡ less_one word + 1
-less_one_names word n w l f = omega arith
+pub worked_out_names : (word n : ℕ) → word < 2 ^ 64 → less_one word < n → n < 2 ^ 64 → word ≡ less_one word + 1
+worked_out_names word n w l f = less_one_names word (less_one word) n (omega arith) l f
 
-pub less_one_over : (word n : ℕ) → word < 2 ^ 64 → n ≤ less_one word → (word ≡ 0 → ⊥) → n < word
-less_one_over word n w l k = omega arith
+pub worked_out_over : (word n : ℕ) → word < 2 ^ 64 → n ≤ less_one word → (word ≡ 0 → ⊥) → n < word
+worked_out_over word n w l k = less_one_over word (less_one word) n (omega arith) (omega arith) l k
 
 -- What a lookup gives after one look, where the rest of its walk gives a place.
 abbrev pub after_look : Probed → Option ℕ → Option ℕ

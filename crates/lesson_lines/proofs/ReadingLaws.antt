@@ -30,20 +30,30 @@ module _ (line : List ℕ) (at : ℕ) where
   pub word_between : {end : ℕ} → end ≡ word_end line at → Between at end (length line)
   word_between is = (omega arith, λ some. omega (arith, word_within (drop at line), length-drop at line))
 
-module _ (line : List ℕ) (from end : ℕ) (between : Between from end (length line)) where
-  pub missing_letter : end - from ≡ 0 → wrong_at from fault.Missing ≡ letter_at line from end
-  unfolding letter_at
-  missing_letter none = rw (eq-eqb from end (omega (arith, between.0)))
-
-  pub one_letter_lem : end - from ≡ 1 → Ok (record { value = small (get_or line from 0); from = from; end = end }) ≡ letter_at line from end
-  unfolding letter_at
-  one_letter_lem one = rw (ne_eqb from end (λ e. omega arith), eq-eqb (end - from) 1 one)
-
-  pub more_than_a_letter : (end - from ≡ 0 → ⊥) → (end - from ≡ 1 → ⊥) → wrong_at from fault.Letter ≡ letter_at line from end
-  unfolding letter_at
-  more_than_a_letter some more = rw (ne_eqb from end (λ e. some (omega arith)), ne_eqb (end - from) 1 more)
-
 module _ (line : List ℕ) (from end : ℕ) where
+  pub missing_letter : from ≡ end → wrong_at from fault.Missing ≡ letter_at line from end
+  unfolding letter_at
+  missing_letter none = rw (eq-eqb from end none)
+
+  pub one_letter_lem : (from ≡ end → ⊥) → end - from ≡ 1 → Ok (record { value = small (get_or line from 0); from = from; end = end }) ≡ letter_at line from end
+  unfolding letter_at
+  one_letter_lem some one = rw (ne_eqb from end some, eq-eqb (end - from) 1 one)
+
+  pub more_than_a_letter : (from ≡ end → ⊥) → (end - from ≡ 1 → ⊥) → wrong_at from fault.Letter ≡ letter_at line from end
+  unfolding letter_at
+  more_than_a_letter some more = rw (ne_eqb from end some, ne_eqb (end - from) 1 more)
+
+  -- The same by the size of the word, which the code goes by.
+  module _ (between : Between from end (length line)) where
+    pub no_letter_by_size : end - from ≡ 0 → wrong_at from fault.Missing ≡ letter_at line from end
+    no_letter_by_size none = missing_letter (omega (arith, between.0, none))
+
+    pub one_letter_by_size : end - from ≡ 1 → Ok (record { value = small (get_or line from 0); from = from; end = end }) ≡ letter_at line from end
+    one_letter_by_size one = one_letter_lem (λ e. omega (arith, e, one)) one
+
+    pub more_by_size : (end - from ≡ 0 → ⊥) → (end - from ≡ 1 → ⊥) → wrong_at from fault.Letter ≡ letter_at line from end
+    more_by_size some more = more_than_a_letter (λ e. some (omega (arith, e))) more
+
   pub dash_by_byte : end - from ≡ 1 → eqb (get_or line from 0) 45 ≡ dash_at line from end
   unfolding dash_at
   dash_by_byte one = rw (eq-eqb (end - from) 1 one)

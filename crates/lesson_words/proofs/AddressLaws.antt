@@ -5,10 +5,10 @@ use Rattle.std.specs.Option.{SomeIff, unwrap_or}
 use Rattle.std.specs.List.{list_all}
 use Rattle.std.proofs.lemmas.Bool.Decides.{nat_tests}
 use native.Mathlib.Omega.{arith}
-use Prim.Native.Nat.{ℕ, ◌+◌, ◌≤◌, ◌<◌}
+use Prim.Native.Nat.{ℕ, ◌+◌, ◌-◌, ◌≤◌, ◌<◌}
 use native.Mathlib.Numerals.{add-one}
-use mathlib.Core.Path.{◌≡◌, refl, ◌∙◌}
-use mathlib.Core.Bool.{true, false}
+use mathlib.Core.Path.{◌≡◌, refl, sym, ◌∙◌}
+use mathlib.Core.Bool.{true, false, true≢false}
 use mathlib.Core.List.{List, [], ◌∷◌}
 use lib.Dec.{leb}
 use lib.ListN.{length, drop, get_or, drop_of_length-le}
@@ -17,7 +17,35 @@ use Rattle.arith.proofs.Cases.{by_test}
 use Rattle.decimal.specs.Decimal.{is_digit, all_digits}
 use Rattle.lesson_words.specs.Words.{small}
 use Rattle.lesson_words.specs.Addresses.{is_hex, hex_of, fits_at, all_fit, six_bytes, address_of}
-use borrow.Author.Tests.{eq-eqb, ne_eqb}
+use borrow.Author.Tests.{leb-true, eq-eqb, ne_eqb}
+
+-- A hexadecimal digit is a digit or a letter up to `f`.
+pub digit_range : (b : ℕ) → is_digit b ≡ true → (48 ≤ b) × (b ≤ 57)
+unfolding is_digit
+digit_range b one =
+    by_test (leb 48 b)
+    (λ t. (leb-true 48 b t, leb-true b 57 (rw t at one)))
+    (λ t. absurd (true≢false (sym one ∙ rw t)))
+
+pub letter_range : (b : ℕ) → is_hex b ≡ true → is_digit b ≡ false → (97 ≤ small b) × (small b ≤ 102)
+unfolding is_hex
+letter_range b hex other =
+    by_test (leb 97 (small b))
+    (λ t. (leb-true 97 (small b) t, leb-true (small b) 102 (rw (other, t) at hex)))
+    (λ t. absurd (true≢false (sym hex ∙ rw (other, t))))
+
+module _ (b : ℕ) where
+  pub hex_of_another : is_hex b ≡ false → 0 ≡ hex_of b
+  unfolding hex_of
+  hex_of_another other = rw other
+
+  pub hex_of_digit : is_hex b ≡ true → is_digit b ≡ true → b - 48 ≡ hex_of b
+  unfolding hex_of
+  hex_of_digit hex digit = rw (hex, digit)
+
+  pub hex_of_letter : is_hex b ≡ true → is_digit b ≡ false → small b - 87 ≡ hex_of b
+  unfolding hex_of
+  hex_of_letter hex other = rw (hex, other)
 
 -- The digits of std are those of the definitions.
 pub digit_is : (b : ℕ) → is_ascii_digit b ≡ is_digit b

@@ -1,9 +1,9 @@
 -- Times, as the code comes to them.
 use Rattle.std.specs.Bool.{⊤}
-use Rattle.std.proofs.Common.{Option, Some, None, Err}
-use Prim.Native.Nat.{ℕ, zero, suc, ◌+◌, ◌*◌, ◌-◌, ◌^◌, ◌≤◌, ◌<◌}
+use Rattle.std.proofs.Common.{Option, Some, None, Ok, Err}
+use Prim.Native.Nat.{ℕ, zero, suc, ◌+◌, ◌*◌, ◌-◌, ◌/◌, ◌^◌, ◌≤◌, ◌<◌}
 use native.Mathlib.Omega.{arith}
-use native.Mathlib.Nat.{add-zero, mul-le-mul_right, mul-le-mul_left, pow-le-pow_right}
+use native.Mathlib.Nat.{add-zero, le-div_iff_mul-le, div-lt_iff_lt-mul, mul-le-mul_right, mul-le-mul_left, pow-le-pow_right}
 use lib.Pow.{pow-add}
 use mathlib.Core.Path.{◌≡◌, refl, sym, ap, ◌∙◌}
 use mathlib.Core.Bool.{true, true≢false}
@@ -19,8 +19,8 @@ use Rattle.lesson_words.specs.declared.Fault.TheVariants as fault
 use Rattle.lesson_words.specs.declared.times.Unit.{Unit}
 use Rattle.lesson_words.specs.declared.times.Fraction.{Fraction}
 use Rattle.lesson_words.specs.Words.{small}
-use Rattle.lesson_words.specs.Times.{one_letter, part_of_second, two_letters, three_letters, unit_of, fraction_of, no_fraction, as_fraction}
-use Rattle.lesson_words.specs.Times.{product_of, quotient_of, in_nanos, most_digits, of_decimal}
+use Rattle.lesson_words.specs.Times.{most64, one_letter, part_of_second, two_letters, three_letters, unit_of, fraction_of, no_fraction, as_fraction}
+use Rattle.lesson_words.specs.Times.{product_of, quotient_of, in_nanos, most_digits, of_decimal, with_unit}
 use borrow.Author.Tests.{le-leb, lt-leb, eq-eqb, ne_eqb}
 
 -- A unit by how many bytes it has.
@@ -111,6 +111,19 @@ unit_small (a ∷ b ∷ []) = two_small (small a) (small b)
 unit_small (a ∷ b ∷ c ∷ []) = three_small (small a) (small b) (small c)
 unit_small (a ∷ b ∷ c ∷ d ∷ bs) = tt
 
+-- A product, by a test that needs no wider number.
+module _ (n by : ℕ) (some : 0 < by) where
+  pub product_fits : n ≤ most64 / by → n * by ≤ most64
+  product_fits few = (le-div_iff_mul-le some).0 few
+
+  pub product_is : n ≤ most64 / by → Ok (n * by) ≡ product_of n by
+  unfolding product_of
+  product_is few = rw (le-leb (n * by) most64 (product_fits few))
+
+  pub product_is_far : most64 / by < n → Err fault.Far ≡ product_of n by
+  unfolding product_of
+  product_is_far many = rw (lt-leb (n * by) most64 ((div-lt_iff_lt-mul some).0 many))
+
 -- Digits before and after a point as one number have as many digits as both.
 pub digits_fit : (w e f k : ℕ) → w < 10 ^ e → f < 10 ^ k → w * 10 ^ k + f < 10 ^ (e + k)
 digits_fit w e f k whole part =
@@ -199,7 +212,10 @@ module _ (word : List ℕ) (end : ℕ) (within : end ≤ length word) where
       rw (is ∙ sym (fraction_at_point point refl)) (record { inside = fits.inside; few = fits.few; small = fits.small }))
       (λ other. rw (is ∙ sym (no_fraction_at_another other)) (record { inside = within; few = omega arith; small = omega arith }))
 
--- Powers of ten.
+-- Powers of ten: by one more, and what bounds them.
+pub one_power_more : (i : ℕ) → 10 ^ i * 10 ≡ 10 ^ (i + 1)
+one_power_more i = sym (pow-add 10 i 1)
+
 pub power_at_most : (i m : ℕ) → i ≤ m → 10 ^ i ≤ 10 ^ m
 power_at_most i m few = pow-le-pow_right {n = 10} (omega arith) few
 
@@ -236,11 +252,20 @@ module _ (whole : Digits) (f : Fraction) (u : Unit) where
   unfolding of_decimal
   digits_in_nanos some few = rw (ne_eqb count 0 some, le-leb count most_digits few)
 
+-- Where the bytes after the digits are no unit, the word is no time.
+pub no_unit : (word : List ℕ) → None ≡ unit_of (drop (fraction_of word (front_of word 0).end).end word) → Err fault.Time ≡ with_unit word
+no_unit word none = rw (sym none)
+
 -- A unit's factor, and digits times it, fit.
 pub factor_fits : (by k : ℕ) → by ≤ 36 → k ≤ 11 → by * 10 ^ k ≤ 36 * 10 ^ 11
 factor_fits by k small few =
     let first : by * 10 ^ k ≤ 36 * 10 ^ k = mul-le-mul_right (10 ^ k) small in
     omega (arith, power_at_most k 11 few)
+
+pub factor_positive : (by k : ℕ) → 0 < by → 0 < by * 10 ^ k
+factor_positive by k some =
+    let first : 1 * 10 ^ k ≤ by * 10 ^ k = mul-le-mul_right (10 ^ k) (omega arith) in
+    omega (arith, power_positive k)
 
 pub digits_times_unit : (digits by : ℕ) → digits < 10 ^ 17 → by ≤ 36 → digits * by ≤ 10 ^ 17 * 36
 digits_times_unit digits by few small =

@@ -3,7 +3,7 @@ use Rattle.std.proofs.Common.{Result, Ok, Err}
 use Rattle.settings.specs.declared.refusal.Refusal.{Refusal}
 use Rattle.settings.specs.declared.refusal.Refusal.TheVariants.{AddressLength, GroupAddress}
 use Rattle.settings.specs.Refusal.{number_of, numbered}
-use Rattle.std.specs.Result.{is_err}
+use Rattle.std.specs.Result.{IsErrAnd, is_err}
 use Prim.Native.Nat.{ℕ, ◌+◌, ◌*◌, ◌^◌, ◌<◌, ◌≤◌}
 use mathlib.Core.Path.{◌≡◌, refl, sym, ap, ◌∙◌}
 use mathlib.Core.Bool.{Bool, true, false, cond, true≢false}
@@ -81,28 +81,58 @@ module _ (address : List ℕ) where
   pub checked_accepts : {accepted : Unit {0}} → Ok accepted ≡ checked address → address_refusal address ≡ 0
   checked_accepts is = sym (ap numbered is ∙ checked_is_numbered)
 
-  -- What a slice names.
-  pub refused_names_no_modem : {refusal : Refusal} → Err refusal ≡ checked address → Err refusal ≡ identified address
-  unfolding identified
-  refused_names_no_modem is = rw (sym is)
+-- The outcome of the check, as the code comes to it: a refusal, or none.
+by_check : {Q : Type 0} (check : Result (Unit {0}) Refusal) → ((accepted : Unit {0}) → Ok accepted ≡ check → Q)
+    → ((refusal : Refusal) → Err refusal ≡ check → Q) → Q
+by_check (Ok accepted) passed refused = passed accepted refl
+by_check (Err refusal) passed refused = refused refusal refl
 
-  pub not_refused_names_a_modem : {accepted : Unit {0}} → Ok accepted ≡ checked address → Ok (identity_of address) ≡ identified address
+-- What a slice names, by the check: its refusal, or the modem of its identity.
+module _ (address : List ℕ) where
+  pub checked_names_no_modem : {refusal : Refusal} → Err refusal ≡ checked address → Err refusal ≡ identified address
   unfolding identified
-  not_refused_names_a_modem is = rw (sym is)
+  checked_names_no_modem is = rw (sym is)
 
--- A call by address, as the code comes to it: it tells the number of its address and changes no word, or it is the limiter's call.
-module _ (address ws : List ℕ) where
-  pub address_number_is_told : {refusal : Refusal} → Err refusal ≡ checked address → (accepted : Outcome Reply (List ℕ))
-      → outcome (Refused (number_of refusal)) ws ≡ unless_refused (address_refusal address) ws accepted
+  pub checked_names_a_modem : {accepted : Unit {0}} → Ok accepted ≡ checked address → Ok (identity_of address) ≡ identified address
+  unfolding identified
+  checked_names_a_modem is = rw (sym is)
+
+-- What a slice names, by the number that it is refused as: no modem, for the refusal of that number, or the modem of its identity.
+module _ (address : List ℕ) {told : ℕ} (is : told ≡ address_refusal address) where
+  pub refused_names_no_modem : (told ≡ 0 → ⊥) → IsErrAnd (identified address) (λ refusal. number_of refusal ≡ told)
+  refused_names_no_modem some =
+      by_check (checked address)
+      (λ accepted passed. absurd (some (is ∙ checked_accepts address passed)))
+      (λ refusal refused. rw (sym (checked_names_no_modem address refused)) (ap numbered refused ∙ checked_is_numbered address ∙ sym is))
+
+  pub not_refused_names_a_modem : told ≡ 0 → Ok (identity_of address) ≡ identified address
+  not_refused_names_a_modem none =
+      by_check (checked address)
+      (λ accepted passed. checked_names_a_modem address passed)
+      (λ refusal refused. absurd (refused_has_a_number address refused (ap numbered refused ∙ checked_is_numbered address ∙ sym is ∙ none)))
+
+-- A call by address, by the number of its address: it tells that number and changes no word, or it is the limiter's call.
+module _ (address ws : List ℕ) {told : ℕ} (is : told ≡ address_refusal address) where
+  pub address_number_is_told : (accepted : Outcome Reply (List ℕ)) → (told ≡ 0 → ⊥)
+      → outcome (Refused told) ws ≡ unless_refused (address_refusal address) ws accepted
   unfolding unless_refused
-  address_number_is_told {refusal = r} is accepted =
-      let number : number_of r ≡ address_refusal address = ap numbered is ∙ checked_is_numbered address in
-      rw (sym number, ne_eqb _ _ (refused_has_a_number address is))
+  address_number_is_told accepted some = rw (sym is, ne_eqb _ _ some)
 
-  pub limiters_call_is_made : {done : Unit {0}} → Ok done ≡ checked address → {accepted : Outcome Reply (List ℕ)} {made : Outcome Reply (List ℕ)}
+  pub limiters_call_is_made : {accepted : Outcome Reply (List ℕ)} {made : Outcome Reply (List ℕ)} → told ≡ 0
       → made ≡ accepted → made ≡ unless_refused (address_refusal address) ws accepted
   unfolding unless_refused
-  limiters_call_is_made is gave = rw (checked_accepts address is) gave
+  limiters_call_is_made none gave = rw (sym is, eq-eqb _ _ none) gave
+
+-- The same by the check, as the code comes to it.
+module _ (address ws : List ℕ) where
+  pub checked_number_is_told : {refusal : Refusal} → Err refusal ≡ checked address → (accepted : Outcome Reply (List ℕ))
+      → outcome (Refused (number_of refusal)) ws ≡ unless_refused (address_refusal address) ws accepted
+  checked_number_is_told is accepted =
+      address_number_is_told address ws (ap numbered is ∙ checked_is_numbered address) accepted (refused_has_a_number address is)
+
+  pub checked_call_is_made : {done : Unit {0}} → Ok done ≡ checked address → {accepted : Outcome Reply (List ℕ)} {made : Outcome Reply (List ℕ)}
+      → made ≡ accepted → made ≡ unless_refused (address_refusal address) ws accepted
+  checked_call_is_made is gave = limiters_call_is_made address ws refl (checked_accepts address is) gave
 
 -- Making the key from place i on takes the byte there, and goes on from the next place; past the last byte it is the number reached.
 pub key_takes_next_byte : (high : ℕ) (bytes : List ℕ) (i : ℕ) → i < length bytes

@@ -61,6 +61,32 @@ pub checks_in_turn : (r : Rate) → rate_refusal r
 unfolding rate_refusal
 checks_in_turn r = check_and_rest _ _ 1 _ (omega arith) ∙ ap (first_refusal _) (check_and_rest _ _ 2 _ (omega arith))
 
+-- The three checks in turn. Each law counts on the checks before its own being passed.
+module _ (r : Rate) where
+  pub outside_amount_is_refused_1 : Outside r.amount most_tokens → rate_refusal r ≡ 1
+  outside_amount_is_refused_1 outside =
+      let first = outside_is_refused _ most_tokens 1 0 outside in
+      checks_in_turn r ∙ first_refusal_stands _ _ (λ none. omega (arith, first, none)) ∙ first
+
+  module _ (amount : Within r.amount most_tokens) where
+    amount_is_passed : rate_refusal r ≡ first_refusal (unless_within r.period.0 longest_period 2 0) (unless_within (burst_of r) most_tokens 3 0)
+    amount_is_passed = checks_in_turn r ∙ no_refusal_hands_on _ _ (within_is_passed _ most_tokens 1 0 amount)
+
+    pub outside_period_is_refused_2 : Outside r.period.0 longest_period → rate_refusal r ≡ 2
+    outside_period_is_refused_2 outside =
+        let second = outside_is_refused _ longest_period 2 0 outside in
+        amount_is_passed ∙ first_refusal_stands _ _ (λ none. omega (arith, second, none)) ∙ second
+
+    module _ (period : Within r.period.0 longest_period) where
+      period_is_passed : rate_refusal r ≡ unless_within (burst_of r) most_tokens 3 0
+      period_is_passed = amount_is_passed ∙ no_refusal_hands_on _ _ (within_is_passed _ longest_period 2 0 period)
+
+      pub outside_burst_is_refused_3 : Outside (burst_of r) most_tokens → rate_refusal r ≡ 3
+      outside_burst_is_refused_3 outside = period_is_passed ∙ outside_is_refused _ _ _ _ outside
+
+      pub within_all_is_accepted : Within (burst_of r) most_tokens → rate_refusal r ≡ 0
+      within_all_is_accepted burst = period_is_passed ∙ within_is_passed _ _ _ _ burst
+
 -- A rate that is not refused makes a configuration that every function of the bucket takes.
 pub accepted_rate : (r : Rate) → rate_refusal r ≡ 0 → Accepted (config_of r)
 unfolding rate_refusal

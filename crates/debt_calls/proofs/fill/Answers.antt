@@ -2,7 +2,7 @@
 use Rattle.std.proofs.Common.{◌≡◌, ◌<◌, length, take, refl, sym, ap, ◌∙◌, arith}
 use Rattle.rules.specs.Debts.{listed}
 use Rattle.debt_calls.specs.code.Listing.{ledger_in, listed_from}
-use Rattle.debt_calls.proofs.ListingLaws.{listed_from_first, writes_first, writes_next, writes_none, writes_all}
+use Rattle.debt_calls.proofs.ListingLaws.{listed_from_first, writes_first, writes_next, writes_none, writes_over_first}
 use Rattle.std.proofs.Math.Seq.{length-take-le}
 use Rattle.debt_calls.proofs.fill.Goals as goal
 
@@ -35,6 +35,6 @@ returns c =
     let all : c.loop-record.record-index ≡ a.n =
     omega (arith, c.loop-record-test.false, c.loop-record.auto.record-index-end, length-take-le a.n a.records.now c.requires.1) in
     let same = rw all at c.loop-record.invariant.same in
-    writes_all a.n a.records.now (listed a.at led) c.requires.0.enough c.requires.1
+    writes_over_first a.n a.records.now (listed a.at led) c.requires.0.enough c.requires.1
     (sym (writes_none a.n c.loop-record.record-items (listed_from a.at led c.loop-record.from))
     ∙ same ∙ writes_first a.n (take a.n a.records.now) a.at led)
